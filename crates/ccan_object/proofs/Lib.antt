@@ -1,0 +1,5 @@
+pub mod Parts
+pub mod Flags
+pub mod Words
+pub mod Eight
+pub mod ReadBack

@@ -1,0 +1,10 @@
+pub mod Bits
+pub mod Number
+pub mod Record
+pub mod Command
+pub mod Groups
+pub mod Transfer
+pub mod Registers
+pub mod Interface
+pub mod Packing
+pub mod Laws

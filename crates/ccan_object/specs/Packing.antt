@@ -1,0 +1,29 @@
+-- Records packed into three words of 64 bits. Source: this project's own; word 0 has the Arbitration registers below the
+-- Mask registers, word 1 Message Control, word 2 the data.
+use Rattle.std.specs.Prelude.{ℕ, ◌≢◌, ◌≤◌, ◌+◌, ◌^◌, ◌⊎◌, false, IsTrue, List, [], ◌∷◌, slice_index}
+use Rattle.std.specs.Int.{from_le_bytes, to_le_bytes, w64}
+use Rattle.ccan_object.specs.declared.record.Record.{Record}
+use Rattle.ccan_object.specs.Bits.{bit, part, at}
+use Rattle.ccan_object.specs.Registers.{arbitration, masks, control}
+use Rattle.ccan_object.specs.Interface.{with_control}
+
+-- id 28 to 0, dir 29, xtd 30, valid 31, mask 60 to 32, mdir 62, mxtd 63; Message Control; byte i at 8i
+abbrev pub packed : Record → List ℕ
+packed r = (at 32 (masks r) + arbitration r) ∷ control r ∷ from_le_bytes w64 r.bytes ∷ []
+
+-- the record in three words, whatever stands at the places that no field has
+abbrev pub unpacked : ℕ → ℕ → ℕ → Record
+unpacked identifiers control content =
+    with_control control
+      record {
+        id = part identifiers 0 29; dir = bit identifiers 29; xtd = bit identifiers 30; valid = bit identifiers 31;
+        mask = part identifiers 32 29; mdir = bit identifiers 62; mxtd = bit identifiers 63;
+        newdat = false; msglst = false; intpnd = false; umask = false; txie = false; rxie = false; rmten = false;
+        txrqst = false; eob = false; dlc = 0;
+        bytes = to_le_bytes w64 content;
+      }
+
+-- a bit is set at a place that no field has: bit 61 of word 0, bits 6 to 4 and 63 to 16 of word 1
+abbrev pub HasReserved : List ℕ → Type 0
+HasReserved words =
+    (IsTrue (bit (slice_index words 0) 61)) ⊎ (part (slice_index words 1) 4 3 ≢ 0) ⊎ (2 ^ 16 ≤ slice_index words 1)

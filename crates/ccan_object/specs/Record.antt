@@ -1,0 +1,27 @@
+-- The record of a message object. Source: C_CAN User's Manual 1.2, section 3.4 (Message Object in the Message Memory);
+-- that a record opens as zero is this project's own.
+use Rattle.std.specs.Prelude.{ℕ, ◌≡◌, ◌≤◌, ◌<◌, ◌^◌, false, All, length, replicate, min}
+use Rattle.ccan_object.specs.declared.record.Record.{Record}
+
+-- 29 bits of identifier and of mask, a data length code of four bits, and eight bytes
+pub record IsRecord (r : Record) : Type 0 where
+  pub id : r.id < 2 ^ 29
+  pub mask : r.mask < 2 ^ 29
+  pub dlc : r.dlc ≤ 15
+  pub length_is : length r.bytes ≡ 8
+  pub bytes : All (λ byte. byte < 2 ^ 8) r.bytes
+
+-- an object that nobody has written
+abbrev pub zero_record : Record
+zero_record =
+    record {
+      valid = false; xtd = false; dir = false; id = 0;
+      mxtd = false; mdir = false; mask = 0;
+      newdat = false; msglst = false; intpnd = false; umask = false; txie = false;
+      rxie = false; rmten = false; txrqst = false; eob = false; dlc = 0;
+      bytes = replicate 8 0;
+    }
+
+-- how many bytes a data length code means: 0 to 8 that many, 9 to 15 mean 8. Source: ISO 11898-1, data length code
+abbrev pub byte_count : ℕ → ℕ
+byte_count code = min code 8
