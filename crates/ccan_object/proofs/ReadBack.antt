@@ -37,9 +37,22 @@ module _ (w : ℕ) (fits : w < 2 ^ 16) where
 
   kept : (bytes : List ℕ) → length bytes ≡ 8 → Kept bytes
   kept = by_eight Kept (λ a b c d e f g h. record {
-    a1 = written; a2 = written; b1 = written; b2 = written;
-    a1-a2 = refl; a1-b1 = refl; a1-b2 = refl; a2-a1 = refl; a2-b1 = refl; a2-b2 = refl;
-    b1-a1 = refl; b1-a2 = refl; b1-b2 = refl; b2-a1 = refl; b2-a2 = refl; b2-b1 = refl;
+    a1 = written;
+    a2 = written;
+    b1 = written;
+    b2 = written;
+    a1-a2 = refl;
+    a1-b1 = refl;
+    a1-b2 = refl;
+    a2-a1 = refl;
+    a2-b1 = refl;
+    a2-b2 = refl;
+    b1-a1 = refl;
+    b1-a2 = refl;
+    b1-b2 = refl;
+    b2-a1 = refl;
+    b2-a2 = refl;
+    b2-b1 = refl;
   })
 
   module _ (i : Registers) (is : IsRecord i.buffer) where

@@ -37,10 +37,22 @@ by_groups c first second =
     let data_a = (if selects c DataA then first else second) in
     let data_b = (if selects c DataB then first else second) in
     record {
-      valid = arb.valid; xtd = arb.xtd; dir = arb.dir; id = arb.id;
-      mxtd = mask.mxtd; mdir = mask.mdir; mask = mask.mask;
-      newdat = control.newdat; msglst = control.msglst; intpnd = control.intpnd; umask = control.umask;
-      txie = control.txie; rxie = control.rxie; rmten = control.rmten; txrqst = control.txrqst;
-      eob = control.eob; dlc = control.dlc;
+      valid = arb.valid;
+      xtd = arb.xtd;
+      dir = arb.dir;
+      id = arb.id;
+      mxtd = mask.mxtd;
+      mdir = mask.mdir;
+      mask = mask.mask;
+      newdat = control.newdat;
+      msglst = control.msglst;
+      intpnd = control.intpnd;
+      umask = control.umask;
+      txie = control.txie;
+      rxie = control.rxie;
+      rmten = control.rmten;
+      txrqst = control.txrqst;
+      eob = control.eob;
+      dlc = control.dlc;
       bytes = take 4 data_a.bytes ++ drop 4 data_b.bytes;
     }

@@ -28,8 +28,16 @@ shown register i = register_of register i.buffer
 abbrev pub with_control : ℕ → Record → Record
 with_control w r =
     record r {
-      newdat = bit w 15; msglst = bit w 14; intpnd = bit w 13; umask = bit w 12; txie = bit w 11; rxie = bit w 10;
-      rmten = bit w 9; txrqst = bit w 8; eob = bit w 7; dlc = part w 0 4
+      newdat = bit w 15;
+      msglst = bit w 14;
+      intpnd = bit w 13;
+      umask = bit w 12;
+      txie = bit w 11;
+      rxie = bit w 10;
+      rmten = bit w 9;
+      txrqst = bit w 8;
+      eob = bit w 7;
+      dlc = part w 0 4;
     }
 
 -- two neighbouring bytes, the first from the low half

@@ -19,8 +19,8 @@ abbrev pub WritesByGroups : Type 0
 WritesByGroups =
     (command : CommandMask) (buffer old : Record) → IsRecord buffer → IsRecord old
     → ((group : Group) → fields_of group (merged command buffer old) ≡ (if selects command group then fields_of group buffer else fields_of group old))
-      × ((merged command buffer old).txrqst
-        ≡ (if has_txrqst_newdat command then true else (if selects command Control then buffer.txrqst else old.txrqst)))
+    × ((merged command buffer old).txrqst
+    ≡ (if has_txrqst_newdat command then true else (if selects command Control then buffer.txrqst else old.txrqst)))
 
 -- a number less the reserved bits of a register: bits 15 to 8 of the Command Mask, bit 13 of Mask 2, bits 6 to 4 of
 -- Message Control
@@ -35,4 +35,4 @@ abbrev pub RegistersReadBack : Type 0
 RegistersReadBack =
     (register other : Reg) (w : ℕ) (i : Registers) → w < 2 ^ 16 → IsRecord i.buffer
     → (shown register (set_register register w i) ≡ without_reserved register w)
-      × (other ≢ register → shown other (set_register register w i) ≡ shown other i)
+    × (other ≢ register → shown other (set_register register w i) ≡ shown other i)

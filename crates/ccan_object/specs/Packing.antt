@@ -15,13 +15,26 @@ packed r = (at 32 (masks r) + arbitration r) ∷ control r ∷ from_le_bytes w64
 abbrev pub unpacked : ℕ → ℕ → ℕ → Record
 unpacked identifiers control content =
     with_control control
-      record {
-        id = part identifiers 0 29; dir = bit identifiers 29; xtd = bit identifiers 30; valid = bit identifiers 31;
-        mask = part identifiers 32 29; mdir = bit identifiers 62; mxtd = bit identifiers 63;
-        newdat = false; msglst = false; intpnd = false; umask = false; txie = false; rxie = false; rmten = false;
-        txrqst = false; eob = false; dlc = 0;
-        bytes = to_le_bytes w64 content;
-      }
+    record {
+      id = part identifiers 0 29;
+      dir = bit identifiers 29;
+      xtd = bit identifiers 30;
+      valid = bit identifiers 31;
+      mask = part identifiers 32 29;
+      mdir = bit identifiers 62;
+      mxtd = bit identifiers 63;
+      newdat = false;
+      msglst = false;
+      intpnd = false;
+      umask = false;
+      txie = false;
+      rxie = false;
+      rmten = false;
+      txrqst = false;
+      eob = false;
+      dlc = 0;
+      bytes = to_le_bytes w64 content;
+    }
 
 -- a bit is set at a place that no field has: bit 61 of word 0, bits 6 to 4 and 63 to 16 of word 1
 abbrev pub HasReserved : List ℕ → Type 0

@@ -15,10 +15,23 @@ pub record IsRecord (r : Record) : Type 0 where
 abbrev pub zero_record : Record
 zero_record =
     record {
-      valid = false; xtd = false; dir = false; id = 0;
-      mxtd = false; mdir = false; mask = 0;
-      newdat = false; msglst = false; intpnd = false; umask = false; txie = false;
-      rxie = false; rmten = false; txrqst = false; eob = false; dlc = 0;
+      valid = false;
+      xtd = false;
+      dir = false;
+      id = 0;
+      mxtd = false;
+      mdir = false;
+      mask = 0;
+      newdat = false;
+      msglst = false;
+      intpnd = false;
+      umask = false;
+      txie = false;
+      rxie = false;
+      rmten = false;
+      txrqst = false;
+      eob = false;
+      dlc = 0;
       bytes = replicate 8 0;
     }
 

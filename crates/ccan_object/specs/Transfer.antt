@@ -18,5 +18,5 @@ abbrev pub cleared : CommandMask → Record → Record
 cleared c old =
     record old {
       intpnd = (if clears_intpnd c then false else old.intpnd);
-      newdat = (if has_txrqst_newdat c then false else old.newdat)
+      newdat = (if has_txrqst_newdat c then false else old.newdat);
     }

@@ -3,16 +3,14 @@ ghost use Rattle.ccan_object.specs.Interface.{with_bytes, with_control, with_reg
 ghost use Rattle.ccan_object.specs.Bits.{part};
 ghost use Rattle.ccan_object.specs.Registers.{two_bytes};
 
-use std::marker::Model;
-
-use bitflags::Flags;
-
 use crate::bits::bit;
 use crate::command::CommandMask;
 use crate::identifier::DataLength;
 use crate::record::Record;
 use crate::register::Reg;
 use crate::transfer::by_groups;
+use bitflags::Flags;
+use std::marker::Model;
 
 /// An interface register set, IF1 or IF2 (User's Manual, section 3.3): the Command Mask register, and the message
 /// buffer that the other nine registers show. Reserved bits have no place in it.
@@ -78,14 +76,16 @@ impl Iface {
     pub fn command(&self) -> CommandMask
         ensures { result ≡ self.now.command }
     {
-        self.command
+        let Iface { command, .. } = *self;
+        command
     }
 
     /// The record in the message buffer registers.
     pub fn buffer(&self) -> Record
         ensures { result ≡ self.now.buffer }
     {
-        self.buffer
+        let Iface { buffer, .. } = *self;
+        buffer
     }
 
     /// What a transfer leaves in the registers: after a write the whole object as it was written, after a read the

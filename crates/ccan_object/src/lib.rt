@@ -11,10 +11,9 @@ pub mod number;
 pub mod packing;
 pub mod record;
 pub mod register;
-pub mod transfer;
-
 #[cfg(test)]
 mod tests;
+pub mod transfer;
 
 pub use command::CommandMask;
 pub use identifier::{DataLength, Identifier};

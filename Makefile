@@ -1,0 +1,27 @@
+# What a newcomer needs: `make run` (the program on an example) and `make test` (the gate).
+SCRIPT ?= examples/first_write.json
+PREFIX ?= /usr/local
+
+.PHONY: run try test install bench clean
+
+# Proves and builds the program, and runs it on a script. The first build takes minutes and shows how far it is.
+run:
+	@cd crates/ccan && rt run < ../../$(SCRIPT)
+
+# The same lines in under a minute, without the proofs.
+try:
+	@echo "make try: this build is NOT proved; 'make run' is" >&2
+	@cd crates/ccan && rt try < ../../$(SCRIPT)
+
+# The gate: each example against its expected output, then every proof, must-fail edit, test and program from nothing.
+test:
+	@cd crates/ccan && rt try --cases ../../examples
+	rt ci
+
+# Installs the proved program.
+install:
+	@cd crates/ccan && rt run < ../../$(SCRIPT) > /dev/null
+	install -D crates/ccan/out/ccan $(PREFIX)/bin/ccan
+
+clean:
+	rm -rf crates/*/out
