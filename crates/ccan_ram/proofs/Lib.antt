@@ -1,3 +1,5 @@
 pub mod Calls
 pub mod Histories
 pub mod Arrays
+pub mod FlagTable
+pub mod LostMessages

@@ -6,3 +6,5 @@ pub mod Attempt
 pub mod Access
 pub mod Scan
 pub mod Array
+pub mod Flags
+pub mod Laws

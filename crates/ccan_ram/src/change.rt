@@ -1,5 +1,6 @@
 ghost use Rattle.std.specs.Prelude.{◌≡◌};
 
+use ccan_accept::{Frame, accepts, finished, ready, started, stored};
 use ccan_object::{CommandMask, Record, cleared, merged};
 
 /// A change of an object's record: one read, modification and write, which nothing divides.
@@ -9,6 +10,12 @@ pub enum Change {
     Write(CommandMask, Record),
     /// A transfer from the message RAM, which clears IntPnd or NewDat or neither.
     Clear(CommandMask),
+    /// The message handler stores a received frame (section 4.2). It fits a record that accepts the frame.
+    Store(Frame),
+    /// The message handler starts a transmission. It fits a record that is valid and requested.
+    Start,
+    /// The message handler ends a transmission.
+    Finish,
 }
 
 impl Change {
@@ -19,7 +26,9 @@ impl Change {
         ensures { result ≡ fits self.now object.now }
     {
         match self {
-            Change::Write(_, _) | Change::Clear(_) => true,
+            Change::Store(frame) => accepts(object, frame),
+            Change::Start => ready(object),
+            Change::Write(_, _) | Change::Clear(_) | Change::Finish => true,
         }
     }
 
@@ -30,6 +39,9 @@ impl Change {
         match self {
             Change::Write(command, buffer) => merged(*command, buffer, object),
             Change::Clear(command) => cleared(*command, object),
+            Change::Store(frame) => stored(object, frame),
+            Change::Start => started(object),
+            Change::Finish => finished(object),
         }
     }
 }
@@ -46,7 +58,7 @@ pub enum Changed {
         /// Its number.
         number: u64,
     },
-    /// The record that was found does not fit, and nothing was changed.
+    /// The record that was found does not fit, and nothing was changed. Only a store and a start can find one.
     NotNow(Record),
 }
 

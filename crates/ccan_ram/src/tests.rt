@@ -1,8 +1,11 @@
 use super::*;
+
+mod handler;
+
 use ccan_object::{Iface, ObjectNo, Record, Reg};
 
 /// Four tries for each change.
-fn tries() -> Tries {
+fn four_tries() -> Tries {
     match Tries::new(4) {
         Some(tries) => tries,
         None => unreachable!(),
@@ -27,7 +30,7 @@ fn transfer<A: Access>(
     } else {
         Change::Clear(command)
     };
-    let changed = ram.change(object, &change, tries())?;
+    let changed = ram.change(object, &change, four_tries())?;
     if let Changed::Done { before, after, .. } = &changed {
         registers.fill(command, if command.is_write() { after } else { before });
     }
@@ -160,7 +163,7 @@ fn spends_a_quota_of_one(rt: HostRuntime) {
         number(ram.change(
             ObjectNo::from_request(2),
             &Change::Clear(registers.command()),
-            tries()
+            four_tries()
         )),
         65537
     );
@@ -179,7 +182,7 @@ fn numbers_the_changes_of_each_port(rt: HostRuntime) {
     ] {
         ram.at(port);
         for expected in numbers {
-            assert_eq!(rt; number(ram.change(object, &clear, tries())), expected);
+            assert_eq!(rt; number(ram.change(object, &clear, four_tries())), expected);
         }
     }
     assert_eq!(rt; Tries::new(0), None);
