@@ -163,13 +163,18 @@ fn numbers_a_store_that_changes_no_field(rt: HostRuntime) -> Result<(), Fail> {
     ram.at(PortName::Bus);
     let object = ObjectNo::from_request(1);
     let shown = ram.record_of(object);
-    let answer = ram.change(object, &Change::Store(requests), four_tries());
-    let done = Changed::Done {
-        before: shown,
-        after: shown,
-        number: 131073,
-    };
-    assert_eq!(rt; answer, Ok(done));
+    match ram.change(object, &Change::Store(requests), four_tries()) {
+        Ok(Changed::Done {
+            before,
+            after,
+            number,
+        }) => {
+            assert_eq!(rt; before, shown);
+            assert_eq!(rt; after, shown);
+            assert_eq!(rt; number, 131073);
+        }
+        other => assert!(rt; false, "{other:?}"),
+    }
     Ok(())
 }
 
