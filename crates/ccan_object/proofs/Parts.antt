@@ -1,5 +1,5 @@
 -- The parts of a command, by their masks and by their places.
-use Rattle.std.proofs.Common.{ℕ, ◌≡◌, ◌==◌, ◌*◌, ◌^◌, ◌<◌, Bool, true, false, refl, ap, ◌∙◌, arith, zero, suc}
+use Rattle.std.proofs.Common.{ℕ, ◌≡◌, ◌==◌, ◌*◌, ◌^◌, ◌<◌, ap, ◌∙◌, arith, zero, suc}
 use Rattle.std.specs.Int.{bit_at}
 use Rattle.std.specs.Int.RustNames.{bit_and}
 use Rattle.std.proofs.lemmas.Nat.Bits.{and_pow, bit_at-lt}

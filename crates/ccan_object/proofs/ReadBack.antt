@@ -1,13 +1,11 @@
 -- A register reads back as it was written, and every other as before.
-use Rattle.std.proofs.Common.{ℕ, ◌≡◌, ◌≢◌, ◌≤◌, ◌<◌, ◌+◌, ◌*◌, ◌/◌, ◌%◌, ◌^◌, Bool, List, [], ◌∷◌, length, refl, ap, ◌∙◌, arith}
-use Rattle.std.specs.Int.{bit_at}
-use Rattle.ccan_object.specs.declared.record.Record.{Record}
+use Rattle.std.proofs.Common.{ℕ, ◌≡◌, ◌≢◌, ◌<◌, ◌+◌, ◌^◌, List, length, refl, arith}
 use Rattle.ccan_object.specs.declared.register.Reg.{Reg}
 use Rattle.ccan_object.specs.declared.register.Reg.TheVariants.{CMask, Mask1, Mask2, Arb1, Arb2, Ctrl, DataA1, DataA2, DataB1, DataB2}
-use Rattle.ccan_object.specs.Bits.{bit, part, flag, at}
+use Rattle.ccan_object.specs.Bits.{bit, part, at}
 use Rattle.ccan_object.specs.Record.{IsRecord}
-use Rattle.ccan_object.specs.Registers.{register_of, two_bytes}
-use Rattle.ccan_object.specs.Interface.{Registers, shown, set_register, with_register, with_bytes}
+use Rattle.ccan_object.specs.Registers.{two_bytes}
+use Rattle.ccan_object.specs.Interface.{Registers, shown, set_register, with_bytes}
 use Rattle.ccan_object.specs.Laws.{without_reserved, RegistersReadBack}
 use Rattle.ccan_object.proofs.Flags.{flag-le, flag-bit}
 use Rattle.ccan_object.proofs.Eight.{by_eight}

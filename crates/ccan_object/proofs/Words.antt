@@ -1,5 +1,5 @@
 -- Packed words, and the fields that stand in them.
-use Rattle.std.proofs.Common.{ℕ, ◌≡◌, ◌≤◌, ◌<◌, ◌+◌, ◌*◌, ◌/◌, ◌%◌, ◌^◌, Bool, true, false, List, [], ◌∷◌, refl, sym, ap, ◌∙◌, arith, All, length, get_or, ◌⊎◌, inl, inr}
+use Rattle.std.proofs.Common.{ℕ, ◌≡◌, ◌≤◌, ◌<◌, ◌+◌, ◌^◌, Bool, true, false, List, [], ◌∷◌, refl, sym, ◌∙◌, arith, All, length, get_or, ◌⊎◌, inl, inr}
 use Rattle.std.specs.Int.{bit_at, w64, from_le_bytes, to_le_bytes}
 use Rattle.std.proofs.lemmas.Nat.{le_bytes_8, from_le_bytes-to_le_bytes_8}
 use Rattle.std.proofs.lemmas.Bool.{cases_lt}

@@ -1,17 +1,17 @@
 -- Laws of the definitions, in the words of the manual.
-use Rattle.std.specs.Prelude.{ℕ, ◌≡◌, ◌≢◌, ◌<◌, ◌+◌, ◌^◌, Bool, true, if◌then◌else◌}
+use Rattle.std.specs.Prelude.{ℕ, ◌≡◌, ◌≢◌, ◌<◌, ◌+◌, ◌^◌, true, false, if◌then◌else◌}
 use Rattle.ccan_object.specs.declared.record.Record.{Record}
 use Rattle.ccan_object.specs.declared.command.CommandMask.{CommandMask}
 use Rattle.ccan_object.specs.declared.register.Reg.{Reg}
-use Rattle.ccan_object.specs.declared.register.Reg.TheVariants.{CMask, Mask1, Mask2, Arb1, Arb2, Ctrl, DataA1, DataA2, DataB1, DataB2}
+use Rattle.ccan_object.specs.declared.register.Reg.TheVariants.{CMask, Mask2, Ctrl}
 use Rattle.ccan_object.specs.Bits.{part, at}
-use Rattle.ccan_object.specs.Command.{has_txrqst_newdat}
+use Rattle.ccan_object.specs.Command.{has_txrqst_newdat, is_write}
 use Rattle.ccan_object.specs.declared.command.Group.{Group}
 use Rattle.ccan_object.specs.declared.command.Group.TheVariants.{Control}
 use Rattle.ccan_object.specs.Groups.{selects, fields_of}
 use Rattle.ccan_object.specs.Record.{IsRecord}
 use Rattle.ccan_object.specs.Transfer.{merged}
-use Rattle.ccan_object.specs.Interface.{Registers, shown, set_register}
+use Rattle.ccan_object.specs.Interface.{Registers, shown, set_register, filled}
 
 -- a masked write makes each selected group the buffer's and leaves each other group as it was; TxRqst is 1 by bit 2, and
 -- else goes with Control
@@ -21,6 +21,14 @@ WritesByGroups =
     → ((group : Group) → fields_of group (merged command buffer old) ≡ (if selects command group then fields_of group buffer else fields_of group old))
     × ((merged command buffer old).txrqst
     ≡ (if has_txrqst_newdat command then true else (if selects command Control then buffer.txrqst else old.txrqst)))
+
+-- a read shows each selected group of the object in the interface buffer and leaves each other group of the buffer; TxRqst
+-- goes with Control
+abbrev pub ReadsByGroups : Type 0
+ReadsByGroups =
+    (command : CommandMask) (object : Record) (i : Registers) → IsRecord object → IsRecord i.buffer → is_write command ≡ false
+    → ((group : Group) → fields_of group (filled command object i).buffer ≡ (if selects command group then fields_of group object else fields_of group i.buffer))
+    × ((filled command object i).buffer.txrqst ≡ (if selects command Control then object.txrqst else i.buffer.txrqst))
 
 -- a number less the reserved bits of a register: bits 15 to 8 of the Command Mask, bit 13 of Mask 2, bits 6 to 4 of
 -- Message Control

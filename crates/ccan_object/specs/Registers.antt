@@ -1,10 +1,10 @@
 -- The registers that show a record: each is the number with every field at its places. Source: C_CAN User's Manual 1.2,
 -- sections 3.3.3 (IFx Message Buffer Registers) and 3.4. Reserved bits read as 0, which is this project's own.
-use Rattle.std.specs.Prelude.{ℕ, ◌+◌, ◌*◌, ◌^◌, List, slice_index}
+use Rattle.std.specs.Prelude.{ℕ, ◌+◌, List, slice_index}
 use Rattle.ccan_object.specs.declared.record.Record.{Record}
 use Rattle.ccan_object.specs.declared.register.Reg.{Reg}
 use Rattle.ccan_object.specs.declared.register.Reg.TheVariants.{CMask, Mask1, Mask2, Arb1, Arb2, Ctrl, DataA1, DataA2, DataB1, DataB2}
-use Rattle.ccan_object.specs.Bits.{bit, part, flag, at}
+use Rattle.ccan_object.specs.Bits.{part, flag, at}
 
 -- Arbitration 2 above Arbitration 1: MsgVal 31, Xtd 30, Dir 29, ID28 to ID0 below
 abbrev pub arbitration : Record → ℕ

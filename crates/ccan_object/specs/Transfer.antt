@@ -1,7 +1,7 @@
 -- What a masked write and a clearing read make of a record. Source: C_CAN User's Manual 1.2, sections 3.3.2 (IFx Command
 -- Mask Registers) and 4.3 (data transfer between IFx registers and message memory). That TxRqst comes from the buffer
 -- where Control is selected without bit 2, and that bit 2 of a write leaves NewDat, are this project's own.
-use Rattle.std.specs.Prelude.{Bool, true, false, if◌then◌else◌}
+use Rattle.std.specs.Prelude.{true, false, if◌then◌else◌}
 use Rattle.ccan_object.specs.declared.record.Record.{Record}
 use Rattle.ccan_object.specs.declared.command.CommandMask.{CommandMask}
 use Rattle.ccan_object.specs.Command.{clears_intpnd, has_txrqst_newdat}

@@ -175,5 +175,6 @@ fn halves_of_an_identifier(rt: HostRuntime) {
     );
     assert_eq!(rt; DataLength::of(0x1235).get(), 5);
     laws::writes_go_by_groups();
+    laws::reads_go_by_groups();
     laws::registers_read_back();
 }
