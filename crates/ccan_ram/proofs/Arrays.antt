@@ -21,6 +21,7 @@ use Rattle.ccan_ram.specs.Attempt.{Attempt}
 use Rattle.ccan_ram.specs.Access.{Passes, Goes}
 use Rattle.ccan_ram.specs.Array.{Explains, record_of}
 use Rattle.ccan_ram.proofs.Calls.{Goes-weaker}
+use Rattle.ccan_ram.proofs.Histories.{nobody}
 
 -- nothing was seen of a new memory
 blank : (n i : ℕ) → slice_index_or (replicate n zero_record) i zero_record ≡ zero_record
@@ -95,7 +96,7 @@ module _ (records : List Record) (used : List ℕ) (terms : Terms) (object : ℕ
       record {
         same = refl;
         each = λ seen h.
-            (look_at terms.port object shown ∷ [], Explains-look records used terms.port object low high shown is seen h, ([], refl, refl));
+            (look_at terms.port object shown ∷ [], Explains-look records used terms.port object low high shown is seen h, ([], nobody terms, refl));
       }
 
   -- a change that does not fit
@@ -143,9 +144,9 @@ module _ (records : List Record) (used : List ℕ) (terms : Terms) (object : ℕ
                 within = some;
                 whole = refl;
                 lose = refl;
-                look = ([], refl, refl);
+                look = ([], nobody terms, refl);
                 fit = fit;
-                make = ([], refl, refl);
+                make = ([], nobody terms, refl);
                 left = left;
                 numbered = numbered ∙ ap (λ n. change_number terms.port (n + 1)) (sym (h.counts terms.port));
               }),
