@@ -3,3 +3,4 @@ pub mod Histories
 pub mod Arrays
 pub mod FlagTable
 pub mod LostMessages
+pub mod Alone

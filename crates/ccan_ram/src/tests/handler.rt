@@ -229,5 +229,7 @@ fn ends_a_transmission(rt: HostRuntime) -> Result<(), Fail> {
     assert_eq!(rt; handle(&mut ram, 0x0002, &Change::Start), None);
     crate::laws::flags_change_by_the_table();
     crate::laws::lost_messages_are_marked();
+    crate::laws::looks_alone_show_the_memory();
+    crate::laws::attempts_alone_are_determined();
     Ok(())
 }
