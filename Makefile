@@ -23,5 +23,9 @@ install:
 	@cd crates/ccan && rt run < ../../$(SCRIPT) > /dev/null
 	install -D crates/ccan/out/ccan $(PREFIX)/bin/ccan
 
+# Times the program on a made script of 2,000 lines. No gate depends on it.
+bench:
+	@cd crates/ccan_bench && rt run -- measure
+
 clean:
 	rm -rf crates/*/out

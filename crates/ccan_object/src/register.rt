@@ -1,7 +1,8 @@
 /// A register of an interface register set, of 16 bits (User's Manual, section 3.3).
-#[derive(Clone, Copy, PartialEq, Eq, Debug)]
+#[derive(Clone, Copy, PartialEq, Eq, Debug, Default)]
 pub enum Reg {
     /// Command Mask: what the next transfer moves, and which way.
+    #[default]
     CMask,
     /// Msk15 to Msk0.
     Mask1,

@@ -1,0 +1,6 @@
+use Rattle.std.proofs.Common.{rules}
+use Rattle.ccan_confine.proofs.Calls.{listed_tec}
+use Rattle.ccan_confine.proofs.counters.Counters.tec.Goals as goal
+
+pub returns-clause-listed : goal.returns-clause-listed
+returns-clause-listed c = λ host events held. listed_tec host events c.args.self _ (search rules) held

@@ -1,0 +1,5 @@
+use Rattle.ccan_confine.proofs.NodeLaws.{bounded_law}
+use Rattle.ccan_confine.proofs.laws.counters_are_bounded.Goals as goal
+
+pub returns : goal.returns
+returns c = bounded_law

@@ -1,0 +1,73 @@
+//! Laws of the error counters and of the Status register. The functions do nothing.
+
+ghost use Rattle.ccan_confine.specs.Laws.{BackWithTheGroups, BackWithTheGroupsAfterInit, CountersAreBounded, EachCauseMakesPending, EnablingMakesNothingPending, GroupsCountOnlyWhileRecovering, NotBackBeforeInit, NotBackBeforeTheGroups, NotBackBeforeTheGroupsAfterInit, OffNodesKeepTheirCounters, OnlySendFaultsLeadOff, OnlyTheFirstClearingCounts, PendingOnlyAfterACause, ReadsClear};
+
+/// No counter leaves its range, and TEC of a node that is on is below 256.
+pub fn counters_are_bounded()
+    ensures { CountersAreBounded }
+{}
+
+/// Bus events don't change the counters of a node that is off.
+pub fn off_nodes_keep_their_counters()
+    ensures { OffNodesKeepTheirCounters }
+{}
+
+/// A node that went off isn't back before 128 groups of recessive bits.
+pub fn not_back_before_the_groups()
+    ensures { NotBackBeforeTheGroups }
+{}
+
+/// The controller isn't back before Init was cleared.
+pub fn not_back_before_init()
+    ensures { NotBackBeforeInit }
+{}
+
+/// For the controller groups before the clearing of Init don't count.
+pub fn not_back_before_the_groups_after_init()
+    ensures { NotBackBeforeTheGroupsAfterInit }
+{}
+
+/// Another node is back, as new, with the group that makes 128.
+pub fn back_with_the_groups()
+    ensures { BackWithTheGroups }
+{}
+
+/// The controller is back, as new, with the group that makes 128 since Init was first cleared.
+pub fn back_with_the_groups_after_init()
+    ensures { BackWithTheGroupsAfterInit }
+{}
+
+/// Groups of recessive bits change nothing of a node that isn't recovering.
+pub fn groups_count_only_while_recovering()
+    ensures { GroupsCountOnlyWhileRecovering }
+{}
+
+/// Only the first clearing of Init since the controller went off begins the count.
+pub fn only_the_first_clearing_counts()
+    ensures { OnlyTheFirstClearingCounts }
+{}
+
+/// A node in whose own frames no error was found never goes off, as one that is alone on the bus.
+pub fn only_send_faults_lead_off()
+    ensures { OnlySendFaultsLeadOff }
+{}
+
+/// The status interrupt is pending only after an event that could make it so.
+pub fn pending_only_after_a_cause()
+    ensures { PendingOnlyAfterACause }
+{}
+
+/// Each event that could make it so makes it pending, until a read.
+pub fn each_cause_makes_pending()
+    ensures { EachCauseMakesPending }
+{}
+
+/// After a read it isn't pending before the next event.
+pub fn reads_clear()
+    ensures { ReadsClear }
+{}
+
+/// Writing SIE and EIE by itself makes nothing pending.
+pub fn enabling_makes_nothing_pending()
+    ensures { EnablingMakesNothingPending }
+{}
