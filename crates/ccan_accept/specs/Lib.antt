@@ -1,0 +1,5 @@
+pub mod Frame
+pub mod Accept
+pub mod Store
+pub mod Send
+pub mod Laws
