@@ -1,4 +1,4 @@
--- Which frames a message object accepts, place by place. Source: C_CAN User's Manual 1.2, sections 3.4 (Msk28-0, MXtd,
+-- Which frames a message object accepts, place by place. Source: C_CAN User's Manual 1.2, sections 3.3.4 (Msk28-0, MXtd,
 -- MDir, UMask) and 4.2 (acceptance filtering of received messages). This project's own: a locked object is passed over for
 -- frames of both kinds, a masked object without MDir takes both kinds, and only places 28 to 18 are compared where the
 -- object or the frame is standard.

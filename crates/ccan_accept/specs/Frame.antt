@@ -1,5 +1,5 @@
 -- Frames, and where their identifiers stand. Source: CAN Specification 2.0, part B, section 3 (message transfer: data frame,
--- remote frame); C_CAN User's Manual 1.2, section 3.4 (a standard identifier stands in ID28 to ID18). That the eight bytes
+-- remote frame); C_CAN User's Manual 1.2, section 3.3.4 (a standard identifier stands in ID28 to ID18). That the eight bytes
 -- are 0 where no data byte stands is this project's own.
 use Rattle.std.specs.Prelude.{ℕ, Bool, ◌≡◌, ◌≤◌, ◌<◌, ◌-◌, ◌^◌, ◌++◌, List, All, length, take, replicate, if◌then◌else◌}
 use Rattle.ccan_object.specs.Bits.{at}

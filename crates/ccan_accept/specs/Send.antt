@@ -1,5 +1,5 @@
 -- What a message object sends, and what the start and the end of a transmission leave of it. Source: after the C_CAN User's
--- Manual 1.2, sections 3.4 (MsgVal, TxRqst, NewDat, TxIE) and 4.2 (transmission of messages); this project's own as a whole.
+-- Manual 1.2, sections 3.3.4 (MsgVal, TxRqst, NewDat, TxIE) and 4.2 (transmission of messages); this project's own as a whole.
 use Rattle.std.specs.Prelude.{ℕ, Bool, true, false, ◌&&◌, not, if◌then◌else◌}
 use Rattle.ccan_object.specs.declared.record.Record.{Record}
 use Rattle.ccan_object.specs.Bits.{part}

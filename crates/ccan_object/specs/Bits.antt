@@ -1,5 +1,5 @@
 -- Numbers by the places of their bits, place 0 the lowest. Source: the bit numbers in the register pictures of the
--- C_CAN User's Manual 1.2, section 3.
+-- C_CAN User's Manual 1.2, section 3 (Programmer's Model).
 use Rattle.std.specs.Prelude.{ℕ, Bool, true, false, ◌==◌, ◌*◌, ◌/◌, ◌%◌, ◌^◌}
 use Rattle.std.specs.Int.{bit_at}
 

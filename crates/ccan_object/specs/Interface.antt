@@ -1,5 +1,5 @@
 -- An interface register set: the Command Mask register, and the message buffer that the other nine registers show.
--- Source: C_CAN User's Manual 1.2, section 3.3 (Message Interface Register Sets) and section 4.3.
+-- Source: C_CAN User's Manual 1.2, section 3.3 (Message Interface Register Sets) and section 4.2.1.
 use Rattle.std.specs.Prelude.{ℕ, ◌+◌, ◌++◌, List, ◌∷◌, take, drop, if◌then◌else◌}
 use Rattle.ccan_object.specs.declared.record.Record.{Record}
 use Rattle.ccan_object.specs.declared.command.CommandMask.{CommandMask}

@@ -1,4 +1,4 @@
--- The record of a message object. Source: C_CAN User's Manual 1.2, section 3.4 (Message Object in the Message Memory);
+-- The record of a message object. Source: C_CAN User's Manual 1.2, section 3.3.4 (Message Object in the Message Memory);
 -- that a record opens as zero is this project's own.
 use Rattle.std.specs.Prelude.{ℕ, ◌≡◌, ◌≤◌, ◌<◌, ◌^◌, false, All, length, replicate, min}
 use Rattle.ccan_object.specs.declared.record.Record.{Record}

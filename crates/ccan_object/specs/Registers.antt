@@ -1,5 +1,5 @@
 -- The registers that show a record: each is the number with every field at its places. Source: C_CAN User's Manual 1.2,
--- sections 3.3.3 (IFx Message Buffer Registers) and 3.4. Reserved bits read as 0, which is this project's own.
+-- sections 3.3.3 (IFx Message Buffer Registers) and 3.3.4. Reserved bits read as 0, which is this project's own.
 use Rattle.std.specs.Prelude.{ℕ, ◌+◌, List, slice_index}
 use Rattle.ccan_object.specs.declared.record.Record.{Record}
 use Rattle.ccan_object.specs.declared.register.Reg.{Reg}

@@ -6,7 +6,7 @@ use std::marker::Model;
 
 /// The 29 bits of a message identifier, or of an identifier mask. Contracts see the number.
 ///
-/// An extended identifier takes all of them, a standard one the upper eleven, ID28 to ID18 (User's Manual, section 3.4).
+/// An extended identifier takes all of them, a standard one the upper eleven, ID28 to ID18 (User's Manual, section 3.3.4).
 #[derive(Clone, Copy, PartialEq, Eq, Debug)]
 pub struct Identifier {
     bits: u32,

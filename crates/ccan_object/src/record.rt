@@ -3,7 +3,7 @@ ghost use Rattle.std.specs.Prelude.{◌≡◌, ◌≤◌, ◌<◌, ◌^◌};
 use crate::bits::flag;
 use crate::identifier::{DataLength, Identifier};
 
-/// The record of a message object (User's Manual, section 3.4).
+/// The record of a message object (User's Manual, section 3.3.4).
 ///
 /// The identifiers have 29 bits and the data length code four, by their types.
 #[derive(Clone, Copy, PartialEq, Eq, Debug)]

@@ -1,4 +1,4 @@
-use Rattle.std.proofs.Common.{◌≡◌, ◌<◌, ◌∙◌, refl, sym, ap, slice_index, arith}
+use Rattle.std.proofs.Common.{◌<◌, ◌∙◌, refl, sym, ap, slice_index, arith}
 use Rattle.ccan_ram.specs.Port.{port_index}
 use Rattle.ccan_ram.specs.Array.{array_terms}
 use Rattle.ccan_ram.proofs.Arrays.{not_now, makes}
