@@ -2,7 +2,7 @@
 SCRIPT ?= examples/first_write.json
 PREFIX ?= /usr/local
 
-.PHONY: run try test install bench clean
+.PHONY: run try test install bench sweep clean
 
 # Proves and builds the program, and runs it on a script. The first build takes minutes and shows how far it is.
 run:
@@ -26,6 +26,11 @@ install:
 # Times the program on a made script of 2,000 lines. No gate depends on it.
 bench:
 	@cd crates/ccan_bench && rt run -- measure
+
+# Refuses each request for memory of the built program in turn. Needs a C compiler; no gate depends on it.
+sweep:
+	@cd crates/ccan && rt run < ../../examples/spent_quota.json > /dev/null
+	tools/refuse_memory crates/ccan/out/ccan examples/spent_quota.json examples/spent_quota.json.stdout
 
 clean:
 	rm -rf crates/*/out

@@ -1,0 +1,15 @@
+pub mod Digits
+pub mod Words
+pub mod Names
+pub mod Registers
+pub mod ListFaults
+pub mod Unless
+pub mod Parts
+pub mod Texts
+pub mod Writes
+pub mod OneMeaning
+pub mod NeverBusy
+pub mod Rows
+pub mod Printed
+pub mod RunText
+pub mod OneText

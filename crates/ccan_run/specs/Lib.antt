@@ -1,0 +1,13 @@
+pub mod Refusal
+pub mod Status
+pub mod Json
+pub mod Lines
+pub mod Places
+pub mod Faults
+pub mod Read
+pub mod Text
+pub mod Stream
+pub mod Transfer
+pub mod Meaning
+pub mod Run
+pub mod Laws

@@ -1,0 +1,25 @@
+ghost use Rattle.std.specs.Prelude.{OnOk, IfErr};
+ghost use Rattle.ccan_run.specs.Run.{Runs, StopsStream};
+
+use crate::error::RunError;
+use crate::input::read_all;
+use crate::ordered::run_ordered;
+use crate::reader::read_script;
+use std::alloc::Global;
+use std::io::{Read, Write};
+
+/// Reads a script to the end of the input, runs it in order, and writes its text.
+///
+/// Before a refusal of the input or the script nothing is written.
+pub fn run_stream<R: Read, W: Write>(
+    alloc: Global,
+    reader: &mut R,
+    writer: &mut W,
+) -> Result<(), RunError>
+    ensures ok { OnOk result (Runs (R.remaining reader.old) (R.remaining reader.new) (W.contents writer.old) (W.contents writer.new)) }
+    ensures err { IfErr result (StopsStream (R.remaining reader.old) (R.remaining reader.new) (W.contents writer.old) (W.contents writer.new)) }
+{
+    let input = read_all(alloc, reader)?;
+    let script = read_script(alloc, &input)?;
+    run_ordered(alloc, &script, writer)
+}
