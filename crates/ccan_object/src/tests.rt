@@ -95,6 +95,8 @@ fn writes_a_part_and_shows_the_whole(rt: HostRuntime) {
     registers.set(Reg::Ctrl, 0x0000);
     let command = registers.command();
     assert!(rt; command.is_write() && command.has_txrqst_newdat() && !command.is_pure_read());
+    assert!(rt; command.selects(command::Group::DataA) && command.selects(command::Group::DataB));
+    assert!(rt; !command.selects(command::Group::Arb) && !command.selects(command::Group::Control));
     let second = merged(command, &registers.buffer(), &first);
     registers.fill(command, &second);
     assert_eq!(rt; registers.get(Reg::Arb2), 0xa48c);

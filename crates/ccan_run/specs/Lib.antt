@@ -11,3 +11,4 @@ pub mod Transfer
 pub mod Meaning
 pub mod Run
 pub mod Laws
+pub mod Names

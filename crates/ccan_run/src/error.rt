@@ -18,6 +18,11 @@ pub enum ListName {
 }
 
 impl fmt::Display for ListName {
+    ghost use Rattle.std.specs.Prelude.{Some};
+    ghost use Rattle.ccan_run.specs.Names.{list_text};
+
+    ghost output = { λ list. Some (list_text list) };
+
     fn fmt<W: fmt::Write>(&self, f: &mut fmt::Formatter<W>) -> fmt::Result {
         f.write_str(match self {
             ListName::Top => "top",

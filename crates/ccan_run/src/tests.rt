@@ -1,7 +1,7 @@
 use super::*;
 use arrayvec::ArrayVec;
 use ccan_object::{Identifier, ObjectNo, Record};
-use ccan_ram::PortName;
+use ccan_ram::{PortName, Tries};
 use std::alloc::{AllocError, Global};
 use std::io;
 use std::io::{ErrorKind, Read, Write};
@@ -140,6 +140,27 @@ fn prints_worked_scripts(rt: HostRuntime) -> Result<(), Fail> {
             assert!(rt; out.taken.as_slice() == want.as_bytes(), "at {script}");
         }
     }
+    Ok(())
+}
+
+#[test]
+fn runs_a_script_in_order(rt: HostRuntime) -> Result<(), Fail> {
+    let mut if1 = Vec::new(rt.alloc());
+    let set = RegisterSet::new();
+    if1.push(HostLine::Transfer { request: 3, set })
+        .map_err(AllocError::from)?;
+    let script = Script {
+        quota: 1,
+        tries: Tries::new(1).ok_or("no tries")?,
+        if1,
+    };
+    let mut out = new_sheet(512, 512, Full::Fails);
+    run_ordered(rt.alloc(), &script, &mut out)?;
+    let want = "if1 read 03 00000000 00000000 0000 0000000000000000\n";
+    assert!(rt; out.taken.as_slice() == want.as_bytes());
+    laws::one_meaning();
+    laws::one_text();
+    laws::no_line_is_busy();
     Ok(())
 }
 
