@@ -31,7 +31,8 @@ locked-open false true last new unlocked = cc
 locked-open false false last new unlocked = cc
 
 -- without a mask the places that both identifiers have are compared
-compared_from : (umask masked high x y : Bool) → umask ≡ false → x ≡ y → (high || y) ≡ true → ((not umask || masked) && (high || (x && y))) ≡ true
+compared_from : (umask masked high x y : Bool) → umask ≡ false → x ≡ y → (high || y) ≡ true
+    → ((not umask || masked) && (high || (x && y))) ≡ true
 compared_from true masked high x y u e has = cc
 compared_from false masked true x y u e has = refl
 compared_from false masked false true true u e has = refl
@@ -63,7 +64,8 @@ module _ (r : Record) (f : Frame) where
         (Decides-eqb (bit_at r.id place) (bit_at (identifier_of f) place)).0
         (unless (is_compared r f place) _ (each_below (agrees_at r f) 29 all place low) on),
     λ same. all_below (agrees_at r f) 29 (λ place low.
-        unless_from (is_compared r f place) _ (λ on. (Decides-eqb (bit_at r.id place) (bit_at (identifier_of f) place)).1 (same place low on))),
+        unless_from (is_compared r f place) _
+        (λ on. (Decides-eqb (bit_at r.id place) (bit_at (identifier_of f) place)).1 (same place low on))),
   )
 
   -- the word of the compared places that differ is 0 exactly where the identifiers agree

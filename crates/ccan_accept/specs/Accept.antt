@@ -11,13 +11,25 @@ use Rattle.ccan_object.specs.Bits.{bit}
 use Rattle.ccan_accept.specs.declared.frame.Frame.{Frame}
 use Rattle.ccan_accept.specs.Frame.{identifier_of}
 
--- the object holds a message that nobody has read, and a FIFO buffer goes on behind it
+-- the object holds new data, whose NewDat was not cleared yet, and a FIFO buffer goes on behind it
 abbrev pub is_locked : Record → Bool
 is_locked r = not r.eob && r.newdat
 
--- a place of the identifier is compared: the mask says so, where it is used, and the place exists in both identifiers
+-- an object's mask compares a place of the identifier; without UMask every place
+abbrev pub is_masked : Record → ℕ → Bool
+is_masked r place = not r.umask || bit r.mask place
+
+-- an identifier has a place: an extended one places 28 to 0, a standard one places 28 to 18
+abbrev pub has_place : Bool → ℕ → Bool
+has_place xtd place = nat_le 18 place || xtd
+
+-- a place is compared: the mask compares it, and it exists in both identifiers
 abbrev pub is_compared : Record → Frame → ℕ → Bool
-is_compared r f place = (not r.umask || bit r.mask place) && (nat_le 18 place || (r.xtd && f.xtd))
+is_compared r f place = is_masked r place && has_place (r.xtd && f.xtd) place
+
+-- a word has bit 1 at the places of an identifier that pass a test, and bit 0 at its other places
+abbrev pub HasPlaces : (ℕ → Bool) → ℕ → Type 0
+HasPlaces test word = (place : ℕ) → place < 29 → bit word place ≡ test place
 
 -- Xtd is compared
 abbrev pub compares_xtd : Record → Bool

@@ -3,7 +3,7 @@
 -- are 0 where no data byte stands is this project's own.
 use Rattle.std.specs.Prelude.{ℕ, Bool, ◌≡◌, ◌≤◌, ◌<◌, ◌-◌, ◌^◌, ◌++◌, List, All, length, take, replicate, if◌then◌else◌}
 use Rattle.ccan_object.specs.Bits.{at}
-use Rattle.ccan_object.specs.Record.{byte_count}
+use Rattle.ccan_object.specs.DataLength.{byte_count}
 
 -- the identifier as a number, whether it is an extended one, whether the frame is a remote frame, the data length code,
 -- and eight bytes
@@ -17,6 +17,10 @@ pub record FrameFields : Type 0 where
 -- how many bits an identifier has
 abbrev pub identifier_bits : Bool → ℕ
 identifier_bits xtd = if xtd then 29 else 11
+
+-- an identifier fits its kind
+abbrev pub FitsKind : Bool → ℕ → Type 0
+FitsKind xtd id = id < 2 ^ identifier_bits xtd
 
 -- how many data bytes a frame carries: a data frame as many as its code means, a remote frame none
 abbrev pub data_count : Bool → ℕ → ℕ

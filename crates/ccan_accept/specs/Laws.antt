@@ -1,9 +1,17 @@
 -- Laws of the definitions, in the words of the manual.
-use Rattle.std.specs.Prelude.{◌≡◌, ◌↔◌, true, false, IsTrue}
+use Rattle.std.specs.Prelude.{◌≡◌, ◌↔◌, ◌+◌, true, false, IsTrue}
+use Rattle.ccan_object.specs.declared.command.CommandMask.{CommandMask}
+use Rattle.ccan_object.specs.declared.group.Group.TheVariants.{Arb, Control, DataA, DataB}
+use Rattle.ccan_object.specs.declared.register.Reg.TheVariants.{Arb1, Arb2, Ctrl, DataA1, DataA2, DataB1, DataB2}
+use Rattle.ccan_object.specs.Bits.{at, bit, part}
+use Rattle.ccan_object.specs.Command.{is_write}
+use Rattle.ccan_object.specs.Group.{selects}
+use Rattle.ccan_object.specs.Interface.{Registers, filled, shown}
+use Rattle.ccan_object.specs.Register.{two_bytes}
 use Rattle.ccan_object.specs.declared.record.Record.{Record}
 use Rattle.ccan_object.specs.Record.{IsRecord}
 use Rattle.ccan_accept.specs.declared.frame.Frame.{Frame}
-use Rattle.ccan_accept.specs.Frame.{IsFrame}
+use Rattle.ccan_accept.specs.Frame.{IsFrame, identifier_of}
 use Rattle.ccan_accept.specs.Accept.{Accepts, accepts, is_locked}
 use Rattle.ccan_accept.specs.Store.{stored}
 use Rattle.ccan_accept.specs.Send.{number_of, frame_of}
@@ -22,11 +30,38 @@ UnmaskedAcceptsItsOwn =
 abbrev pub LockedAcceptsNothing : Type 0
 LockedAcceptsNothing = (r : Record) (f : Frame) → r.eob ≡ false → r.newdat ≡ true → accepts r f ≡ false
 
--- a stored data frame reads back as it was sent: it is the frame of the record, once that transmits
-abbrev pub StoredReadsBack : Type 0
-StoredReadsBack =
+-- a stored data frame goes out again as it came, once Dir is turned to 1
+abbrev pub StoredGoesOutAgain : Type 0
+StoredGoesOutAgain =
     (r : Record) (f : Frame) → IsFrame f → f.rtr ≡ false
     → let kept = stored r f in frame_of record kept { dir = true } ≡ f
+
+-- the interface registers show a data frame: its identifier in ID28 to ID0, its width in Xtd, Dir 0, its length in DLC,
+-- NewDat, and its bytes
+pub record ShowsFrame (f : Frame) (i : Registers) : Type 0 where
+  pub identifier : at 16 (part (shown Arb2 i) 0 13) + shown Arb1 i ≡ identifier_of f
+  pub xtd : bit (shown Arb2 i) 14 ≡ f.xtd
+  pub dir : bit (shown Arb2 i) 13 ≡ false
+  pub newdat : bit (shown Ctrl i) 15 ≡ true
+  pub length : part (shown Ctrl i) 0 4 ≡ f.dlc
+  pub bytes_0_1 : shown DataA1 i ≡ two_bytes f.bytes 0
+  pub bytes_2_3 : shown DataA2 i ≡ two_bytes f.bytes 2
+  pub bytes_4_5 : shown DataB1 i ≡ two_bytes f.bytes 4
+  pub bytes_6_7 : shown DataB2 i ≡ two_bytes f.bytes 6
+
+-- a command is a read of all groups but Mask, which may be selected or not
+pub record ReadsMessage (command : CommandMask) : Type 0 where
+  pub reads : is_write command ≡ false
+  pub arb : selects command Arb ≡ true
+  pub control : selects command Control ≡ true
+  pub data_a : selects command DataA ≡ true
+  pub data_b : selects command DataB ≡ true
+
+-- a stored data frame is shown by the registers of a host that reads the object then
+abbrev pub StoredReadsBack : Type 0
+StoredReadsBack =
+    (r : Record) (f : Frame) (command : CommandMask) (i : Registers) → IsFrame f → f.rtr ≡ false → ReadsMessage command
+    → ShowsFrame f (filled command (stored r f) i)
 
 -- the fields that say what an object is are the same in two records
 pub record SameSettings (before after : Record) : Type 0 where

@@ -1,4 +1,5 @@
 pub mod Frame
+pub mod FrameError
 pub mod Accept
 pub mod Store
 pub mod Send

@@ -3,11 +3,11 @@
 -- In each table a field that isn't named stays as it was.
 use Rattle.std.specs.Prelude.{true, false, ◌&&◌, not, if◌then◌else◌}
 use Rattle.ccan_object.specs.declared.record.Record.{Record}
-use Rattle.ccan_object.specs.Record.{byte_count}
+use Rattle.ccan_object.specs.DataLength.{byte_count}
 use Rattle.ccan_accept.specs.declared.frame.Frame.{Frame}
 use Rattle.ccan_accept.specs.Frame.{first_bytes, identifier_of}
 
--- a data frame: the message is stored, and lost is one that was received before and not read
+-- a data frame: the message is stored, and a message that was received before is lost unless NewDat was cleared since
 abbrev pub stored_data : Record → Frame → Record
 stored_data r f =
     record r {

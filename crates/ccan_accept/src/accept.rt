@@ -1,6 +1,5 @@
-ghost use Rattle.std.specs.Prelude.{◌≡◌, ◌<◌, ◌^◌, ◌↔◌, ◌&&◌, ◌||◌, not, nat_le, ℕ, IsTrue};
-ghost use Rattle.ccan_object.specs.Bits.{bit};
-ghost use Rattle.ccan_accept.specs.Accept.{Accepts, accepts, agrees_in_kind, agrees_in_places, agrees_in_width, is_compared, is_locked};
+ghost use Rattle.std.specs.Prelude.{◌≡◌, ◌<◌, ◌^◌, ◌↔◌, ◌&&◌, IsTrue};
+ghost use Rattle.ccan_accept.specs.Accept.{Accepts, HasPlaces, accepts, agrees_in_kind, agrees_in_places, agrees_in_width, has_place, is_compared, is_locked, is_masked};
 
 use crate::frame::Frame;
 use ccan_object::Record;
@@ -13,7 +12,7 @@ const STANDARD_PLACES: u32 = (1 << 29) - (1 << 18);
 
 /// The places that an object's mask compares, as a mask: all of them where it isn't used.
 fn masked_places(object: &Record) -> u32
-    ensures places { (place : ℕ) → place < 29 → bit result place ≡ (not object.now.umask || bit object.now.mask place) }
+    ensures places { HasPlaces (is_masked object.now) result }
     ensures within { result < 2 ^ 29 }
 {
     if object.umask {
@@ -25,7 +24,7 @@ fn masked_places(object: &Record) -> u32
 
 /// The places that an identifier has, as a mask.
 fn places_of(xtd: bool) -> u32
-    ensures places { (place : ℕ) → place < 29 → bit result place ≡ (nat_le 18 place || xtd) }
+    ensures places { HasPlaces (has_place xtd) result }
     ensures within { result < 2 ^ 29 }
 {
     if xtd {
@@ -35,7 +34,7 @@ fn places_of(xtd: bool) -> u32
     }
 }
 
-/// Whether both identifiers are extended ones.
+/// Whether both identifiers are extended ones. It is a function of its own, so that the proof of the places sees one flag.
 fn both_extended(object: &Record, frame: &Frame) -> bool
     ensures { result ≡ (object.now.xtd && frame.now.xtd) }
 {
@@ -44,7 +43,7 @@ fn both_extended(object: &Record, frame: &Frame) -> bool
 
 /// The places of the identifier that are compared, as a mask.
 fn compared_places(object: &Record, frame: &Frame) -> u32
-    ensures places { (place : ℕ) → place < 29 → bit result place ≡ is_compared object.now frame.now place }
+    ensures places { HasPlaces (is_compared object.now frame.now) result }
     ensures within { result < 2 ^ 29 }
 {
     masked_places(object) & places_of(both_extended(object, frame))
@@ -72,7 +71,7 @@ fn agrees_in_kind(object: &Record, frame: &Frame) -> bool
     (object.umask && !object.mdir) || object.dir == frame.rtr()
 }
 
-/// Whether an object holds a message that nobody has read, and a FIFO buffer goes on behind it.
+/// Whether an object holds new data, whose NewDat was not cleared yet, and a FIFO buffer goes on behind it.
 fn is_locked(object: &Record) -> bool
     ensures { result ≡ is_locked object.now }
 {
@@ -80,6 +79,8 @@ fn is_locked(object: &Record) -> bool
 }
 
 /// Whether a message object accepts a frame (User's Manual, section 4.2).
+///
+/// `test` is the same as an answer of true or false, which definitions over whole histories compute with.
 #[tactic(auto, unfolding(crate::specs::Accept::accepts))]
 pub fn accepts(object: &Record, frame: &Frame) -> bool
     ensures test { result ≡ accepts object.now frame.now }

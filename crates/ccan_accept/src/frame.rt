@@ -1,21 +1,13 @@
 ghost use Rattle.std.specs.Prelude.{◌≡◌, ◌≤◌, ◌<◌, ◌^◌, ◌↔◌, IsOk, IfOk};
-ghost use Rattle.ccan_accept.specs.Frame.{IsFrame, framed, first_bytes, identifier_bits, identifier_of};
+ghost use Rattle.ccan_accept.specs.Frame.{FitsKind, IsFrame, framed, first_bytes, identifier_bits, identifier_of};
 
+use crate::frame_error::FrameError;
 use ccan_object::{DataLength, Identifier};
 use std::marker::Model;
 
-/// Why there is no frame of these parts.
-#[derive(Clone, Copy, PartialEq, Eq, Debug)]
-pub enum FrameError {
-    /// The identifier has more bits than a standard one (11) or an extended one (29).
-    IdRange,
-    /// The data length code is above 15.
-    DlcRange,
-}
-
 /// A data frame or a remote frame, without what the bus adds (CAN Specification 2.0, part B, section 3). Contracts see
 /// its fields: the identifier as a number of 11 or 29 bits, and eight bytes, which are 0 where no data byte stands.
-#[derive(Clone, Copy, PartialEq, Eq, Debug)]
+#[derive(Clone, Copy, PartialEq, Eq, Hash, Debug, Default)]
 pub struct Frame {
     id: u32,
     xtd: bool,
@@ -40,9 +32,9 @@ impl Frame {
     /// The frame of these parts. Bytes past the length, and all bytes of a remote frame, become 0. An identifier out of
     /// range is reported first.
     pub fn new(id: u32, xtd: bool, rtr: bool, dlc: u8, bytes: [u8; 8]) -> Result<Frame, FrameError>
-        ensures known { IsOk result ↔ ((id < 2 ^ identifier_bits xtd) × (dlc ≤ 15)) }
+        ensures known { IsOk result ↔ (FitsKind xtd id × (dlc ≤ 15)) }
         ensures id_range { (result ≡ Err FrameError.IdRange) ↔ (2 ^ identifier_bits xtd ≤ id) }
-        ensures dlc_range { (result ≡ Err FrameError.DlcRange) ↔ ((id < 2 ^ identifier_bits xtd) × (15 < dlc)) }
+        ensures dlc_range { (result ≡ Err FrameError.DlcRange) ↔ (FitsKind xtd id × (15 < dlc)) }
         ensures value { IfOk result (λ frame. frame ≡ framed id xtd rtr dlc bytes) }
         ensures is_frame { IfOk result IsFrame }
     {
@@ -58,7 +50,7 @@ impl Frame {
 
     /// The frame of an identifier that fits, a length and eight bytes.
     pub(crate) fn made(id: u32, xtd: bool, rtr: bool, dlc: DataLength, bytes: &[u8; 8]) -> Frame
-        requires { id < 2 ^ identifier_bits xtd }
+        requires { FitsKind xtd id }
         ensures value { result ≡ framed id xtd rtr dlc bytes.now }
         ensures is_frame { IsFrame result }
     {

@@ -1,6 +1,6 @@
 //! Laws of the definitions. The functions do nothing: their contracts are the laws.
 
-ghost use Rattle.ccan_accept.specs.Laws.{AcceptedPlaceByPlace, LockedAcceptsNothing, StoredReadsBack, StoringKeepsSettings, UnmaskedAcceptsItsOwn};
+ghost use Rattle.ccan_accept.specs.Laws.{AcceptedPlaceByPlace, LockedAcceptsNothing, StoredGoesOutAgain, StoredReadsBack, StoringKeepsSettings, UnmaskedAcceptsItsOwn};
 
 /// The test of acceptance answers what acceptance says of each place of the identifier.
 pub fn accepted_place_by_place()
@@ -17,7 +17,12 @@ pub fn locked_accepts_nothing()
     ensures { LockedAcceptsNothing }
 {}
 
-/// A stored data frame reads back as it was sent.
+/// A stored data frame goes out again as it came, once Dir is turned to 1.
+pub fn stored_goes_out_again()
+    ensures { StoredGoesOutAgain }
+{}
+
+/// A host that reads the object after a data frame was stored finds that frame in its interface registers.
 pub fn stored_reads_back()
     ensures { StoredReadsBack }
 {}

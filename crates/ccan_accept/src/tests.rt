@@ -1,5 +1,6 @@
 use super::*;
 use ccan_object::{CommandMask, Record, cleared, unpack};
+use std::alloc::AllocError;
 use std::process::Abort;
 
 /// The bytes that a driver writes into an object.
@@ -66,6 +67,18 @@ fn frames_have_ranges(rt: HostRuntime) {
     assert!(rt; remote.rtr());
     assert_eq!(rt; remote.dlc().get(), 4);
     assert_eq!(rt; remote.bytes(), [0; 8]);
+}
+
+#[test]
+fn frame_errors_have_texts(rt: HostRuntime) -> Result<(), AllocError> {
+    for (error, want) in [
+        (FrameError::IdRange, "identifier out of range"),
+        (FrameError::DlcRange, "data length code above 15"),
+    ] {
+        let text = format!(in rt.alloc(); "{error}")?;
+        assert_eq!(rt; text.as_str(), want);
+    }
+    Ok(())
 }
 
 #[test]
@@ -295,13 +308,21 @@ fn sends_once(rt: HostRuntime) {
     assert!(rt; !ready(&done));
     // a host writes new data between the start and the end
     let again = record(&rt, 0xa48c0000, 0, 0x8188, [0x99; 8]);
-    assert_eq!(rt; finished(&again), again);
+    assert_eq!(rt;
+        shown(&finished(&again)),
+        (0xa48c0000, 0, 0x8188, [0x99; 8])
+    );
     let receiving = record(&rt, 0x848c0000, 0, 0x0984, WRITTEN);
     assert_eq!(rt; frame_of(&receiving), request(&rt));
     assert_eq!(rt; finished(&receiving).control(), 0x2884);
+}
+
+#[test]
+fn laws_hold(_rt: HostRuntime) {
     laws::accepted_place_by_place();
     laws::unmasked_accepts_its_own();
     laws::locked_accepts_nothing();
+    laws::stored_goes_out_again();
     laws::stored_reads_back();
     laws::storing_keeps_settings();
 }

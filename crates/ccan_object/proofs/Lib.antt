@@ -3,3 +3,4 @@ pub mod Flags
 pub mod Words
 pub mod Eight
 pub mod ReadBack
+pub mod RoundTrip

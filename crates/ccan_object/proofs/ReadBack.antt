@@ -1,10 +1,10 @@
 -- A register reads back as it was written, and every other as before.
-use Rattle.std.proofs.Common.{ℕ, ◌≡◌, ◌≢◌, ◌<◌, ◌+◌, ◌^◌, List, length, refl, arith}
+use Rattle.std.proofs.Common.{ℕ, ◌≡◌, ◌≢◌, ◌≤◌, ◌<◌, ◌+◌, ◌^◌, List, length, refl, arith}
 use Rattle.ccan_object.specs.declared.register.Reg.{Reg}
 use Rattle.ccan_object.specs.declared.register.Reg.TheVariants.{CMask, Mask1, Mask2, Arb1, Arb2, Ctrl, DataA1, DataA2, DataB1, DataB2}
-use Rattle.ccan_object.specs.Bits.{bit, part, at}
+use Rattle.ccan_object.specs.Bits.{bit, flag, part, at}
 use Rattle.ccan_object.specs.Record.{IsRecord}
-use Rattle.ccan_object.specs.Registers.{two_bytes}
+use Rattle.ccan_object.specs.Register.{two_bytes}
 use Rattle.ccan_object.specs.Interface.{Registers, shown, set_register, with_bytes}
 use Rattle.ccan_object.specs.Laws.{without_reserved, RegistersReadBack}
 use Rattle.ccan_object.proofs.Flags.{flag-le, flag-bit}
@@ -54,14 +54,21 @@ module _ (w : ℕ) (fits : w < 2 ^ 16) where
   })
 
   module _ (i : Registers) (is : IsRecord i.buffer) where
+    mask_flags : (flag i.buffer.mxtd ≤ 1) × (flag i.buffer.mdir ≤ 1)
+    mask_flags = (flag-le i.buffer.mxtd, flag-le i.buffer.mdir)
+
+    arbitration_flags : (flag i.buffer.valid ≤ 1) × (flag i.buffer.xtd ≤ 1) × (flag i.buffer.dir ≤ 1)
+    arbitration_flags = (flag-le i.buffer.valid, flag-le i.buffer.xtd, flag-le i.buffer.dir)
+
     own : (register : Reg) → shown register (set_register register w i) ≡ without_reserved register w
     own CMask = refl
-    own Mask1 = (let m = flag-le i.buffer.mxtd in let d = flag-le i.buffer.mdir in omega (arith, is.mask, m, d))
+    own Mask1 = omega (arith, is.mask, mask_flags)
     own Mask2 = rw (flag-bit w 15, flag-bit w 14) (omega (arith, is.mask))
-    own Arb1 = (let m = flag-le i.buffer.valid in let d = flag-le i.buffer.xtd in let e = flag-le i.buffer.dir in omega (arith, is.id, m, d, e))
+    own Arb1 = omega (arith, is.id, arbitration_flags)
     own Arb2 = rw (flag-bit w 15, flag-bit w 14, flag-bit w 13) (omega (arith, is.id))
     own Ctrl =
-        rw (flag-bit w 15, flag-bit w 14, flag-bit w 13, flag-bit w 12, flag-bit w 11, flag-bit w 10, flag-bit w 9, flag-bit w 8, flag-bit w 7) (omega arith)
+        rw (flag-bit w 15, flag-bit w 14, flag-bit w 13, flag-bit w 12, flag-bit w 11, flag-bit w 10, flag-bit w 9)
+        (rw (flag-bit w 8, flag-bit w 7) (omega arith))
     own DataA1 = (kept i.buffer.bytes is.length_is).a1
     own DataA2 = (kept i.buffer.bytes is.length_is).a2
     own DataB1 = (kept i.buffer.bytes is.length_is).b1
@@ -71,18 +78,17 @@ module _ (w : ℕ) (fits : w < 2 ^ 16) where
     others CMask CMask differ = absurd (differ refl)
     others CMask other differ = refl
     others Mask1 Mask1 differ = absurd (differ refl)
-    others Mask1 Mask2 differ = (let m = flag-le i.buffer.mxtd in let d = flag-le i.buffer.mdir in omega (arith, is.mask, m, d))
+    others Mask1 Mask2 differ = omega (arith, is.mask, mask_flags)
     others Mask1 other differ = refl
     others Mask2 Mask2 differ = absurd (differ refl)
-    others Mask2 Mask1 differ = (let m = flag-le i.buffer.mxtd in let d = flag-le i.buffer.mdir in omega (arith, is.mask, m, d, flag-le (bit w 15), flag-le (bit w 14)))
+    others Mask2 Mask1 differ = omega (arith, is.mask, mask_flags, flag-le (bit w 15), flag-le (bit w 14))
     others Mask2 other differ = refl
     others Arb1 Arb1 differ = absurd (differ refl)
-    others Arb1 Arb2 differ = (let m = flag-le i.buffer.valid in let d = flag-le i.buffer.xtd in let e = flag-le i.buffer.dir in omega (arith, is.id, m, d, e))
+    others Arb1 Arb2 differ = omega (arith, is.id, arbitration_flags)
     others Arb1 other differ = refl
     others Arb2 Arb2 differ = absurd (differ refl)
     others Arb2 Arb1 differ =
-        (let m = flag-le i.buffer.valid in let d = flag-le i.buffer.xtd in let e = flag-le i.buffer.dir in
-        omega (arith, is.id, m, d, e, flag-le (bit w 15), flag-le (bit w 14), flag-le (bit w 13)))
+        omega (arith, is.id, arbitration_flags, flag-le (bit w 15), flag-le (bit w 14), flag-le (bit w 13))
     others Arb2 other differ = refl
     others Ctrl Ctrl differ = absurd (differ refl)
     others Ctrl other differ = refl

@@ -1,37 +1,55 @@
 -- Packed words, and the fields that stand in them.
-use Rattle.std.proofs.Common.{ℕ, ◌≡◌, ◌≤◌, ◌<◌, ◌+◌, ◌^◌, Bool, true, false, List, [], ◌∷◌, refl, sym, ◌∙◌, arith, All, length, get_or, ◌⊎◌, inl, inr}
+use Rattle.std.proofs.Common.{ℕ, ◌≡◌, ◌≤◌, ◌<◌, ◌+◌, ◌^◌, ◌==◌, nat_le, Bool, true, false, ◌||◌, not, ap, List, [], ◌∷◌, refl, sym, ◌∙◌, arith, All, length, get_or, ◌⊎◌, inl, inr}
 use Rattle.std.specs.Int.{bit_at, w64, from_le_bytes, to_le_bytes}
 use Rattle.std.proofs.lemmas.Nat.{le_bytes_8, from_le_bytes-to_le_bytes_8}
 use Rattle.std.proofs.lemmas.Bool.{cases_lt}
+use Rattle.std.proofs.lemmas.Bool.Decides.{leb_tells}
 use Rattle.std.proofs.lemmas.List.{get_or_past}
 use Rattle.ccan_object.specs.declared.record.Record.{Record}
 use Rattle.ccan_object.specs.Bits.{bit, part, flag, at}
 use Rattle.ccan_object.specs.Record.{IsRecord}
-use Rattle.ccan_object.specs.Registers.{arbitration, masks, control}
-use Rattle.ccan_object.specs.Packing.{packed, unpacked}
+use Rattle.ccan_object.specs.Register.{arbitration, masks, control}
+use Rattle.ccan_object.specs.Packing.{packed, unpacked, has_reserved}
 use Rattle.ccan_object.proofs.Flags.{flag-le, flag-bit, bit-flag}
 
 -- a word is the sum of its parts
 module _ (w : ℕ) (fits : w < 2 ^ 64) (none : bit_at w 61 ≡ 0) where
-  whole : at 32 (at 31 (bit_at w 63) + at 30 (bit_at w 62) + part w 32 29) + (at 31 (bit_at w 31) + at 30 (bit_at w 30) + at 29 (bit_at w 29) + part w 0 29) ≡ w
+  whole : at 32 (at 31 (bit_at w 63) + at 30 (bit_at w 62) + part w 32 29)
+      + (at 31 (bit_at w 31) + at 30 (bit_at w 30) + at 29 (bit_at w 29) + part w 0 29)
+      ≡ w
   whole = omega arith
 
 -- Message Control is the sum of its bits
 module _ (w : ℕ) (fits : w < 2 ^ 16) (none : part w 4 3 ≡ 0) where
-  whole_control : at 15 (bit_at w 15) + at 14 (bit_at w 14) + at 13 (bit_at w 13) + at 12 (bit_at w 12) + at 11 (bit_at w 11) + at 10 (bit_at w 10) + at 9 (bit_at w 9) + at 8 (bit_at w 8) + at 7 (bit_at w 7) + part w 0 4 ≡ w
+  whole_control : at 15 (bit_at w 15) + at 14 (bit_at w 14) + at 13 (bit_at w 13) + at 12 (bit_at w 12)
+      + at 11 (bit_at w 11) + at 10 (bit_at w 10) + at 9 (bit_at w 9) + at 8 (bit_at w 8) + at 7 (bit_at w 7) + part w 0 4
+      ≡ w
   whole_control = omega arith
 
 is_zero : (on : Bool) → on ≡ false → flag on ≡ 0
 is_zero true h = absurd cc
 is_zero false h = refl
 
+or_false : (a b c : Bool) → a ≡ false → b ≡ false → c ≡ false → (a || b || c) ≡ false
+or_false true b c p q r = cc
+or_false false true c p q r = cc
+or_false false false c p q r = r
+
+-- a limit is not reached below it
+above : (limit n : ℕ) → n < limit → nat_le limit n ≡ false
+above limit n low = elim (leb_tells limit n) [
+  | inl h ↦ absurd (omega (arith, h.1))
+  | inr h ↦ h.0
+]
+
 -- the words of three numbers that have no reserved bit
 pub packed-unpacked : (w c d : ℕ) → w < 2 ^ 64 → c < 2 ^ 16 → d < 2 ^ 64 → bit w 61 ≡ false → part c 4 3 ≡ 0
     → packed (unpacked w c d) ≡ w ∷ c ∷ d ∷ []
 packed-unpacked w c d small short fits none clear =
     let zero : bit_at w 61 ≡ 0 = sym (flag-bit w 61) ∙ is_zero (bit w 61) none in
-    rw (flag-bit w 63, flag-bit w 62, flag-bit w 31, flag-bit w 30, flag-bit w 29, flag-bit c 15, flag-bit c 14, flag-bit c 13, flag-bit c 12, flag-bit c 11, flag-bit c 10, flag-bit c 9, flag-bit c 8, flag-bit c 7)
-    (rw (whole w small zero, whole_control c short clear, from_le_bytes-to_le_bytes_8 d fits) refl)
+    rw (flag-bit w 63, flag-bit w 62, flag-bit w 31, flag-bit w 30, flag-bit w 29)
+    (rw (flag-bit c 15, flag-bit c 14, flag-bit c 13, flag-bit c 12, flag-bit c 11, flag-bit c 10, flag-bit c 9, flag-bit c 8, flag-bit c 7)
+    (rw (whole w small zero, whole_control c short clear, from_le_bytes-to_le_bytes_8 d fits) refl))
 
 -- each byte of a list of bytes, and what stands past its end
 byte_fits : (bytes : List ℕ) → All (λ byte. byte < 2 ^ 8) bytes → (i : ℕ) → get_or bytes i 0 < 256
@@ -75,8 +93,19 @@ module _ (r : Record) (w c d : ℕ) (is : IsRecord r) (words : packed r ≡ w �
   mask : part w 32 29 ≡ r.mask
   mask = omega (arith, identifiers, is.id, is.mask, limits)
 
-  control_limits : (flag r.newdat ≤ 1) × (flag r.msglst ≤ 1) × (flag r.intpnd ≤ 1) × (flag r.umask ≤ 1) × (flag r.txie ≤ 1) × (flag r.rxie ≤ 1) × (flag r.rmten ≤ 1) × (flag r.txrqst ≤ 1) × (flag r.eob ≤ 1)
-  control_limits = (flag-le r.newdat, flag-le r.msglst, flag-le r.intpnd, flag-le r.umask, flag-le r.txie, flag-le r.rxie, flag-le r.rmten, flag-le r.txrqst, flag-le r.eob)
+  control_limits : (flag r.newdat ≤ 1) × (flag r.msglst ≤ 1) × (flag r.intpnd ≤ 1) × (flag r.umask ≤ 1) × (flag r.txie ≤ 1)
+      × (flag r.rxie ≤ 1) × (flag r.rmten ≤ 1) × (flag r.txrqst ≤ 1) × (flag r.eob ≤ 1)
+  control_limits = (
+    flag-le r.newdat,
+    flag-le r.msglst,
+    flag-le r.intpnd,
+    flag-le r.umask,
+    flag-le r.txie,
+    flag-le r.rxie,
+    flag-le r.rmten,
+    flag-le r.txrqst,
+    flag-le r.eob,
+  )
 
   newdat : bit c 15 ≡ r.newdat
   newdat = bit-flag c 15 r.newdat (omega (arith, message_control, is.dlc, control_limits))
@@ -113,7 +142,24 @@ module _ (r : Record) (w c d : ℕ) (is : IsRecord r) (words : packed r ≡ w �
 
   -- a record is read back from its words
   pub unpacked-packed : unpacked w c d ≡ r
-  unpacked-packed = rw (valid, xtd, dir, id, mxtd, mdir, mask, newdat, msglst, intpnd, umask, txie, rxie, rmten, txrqst, eob, dlc, bytes) refl
+  unpacked-packed =
+      rw (valid, xtd, dir, id, mxtd, mdir, mask, bytes)
+      (rw (newdat, msglst, intpnd, umask, txie, rxie, rmten, txrqst, eob, dlc) refl)
+
+  -- its words have no reserved bit
+  free_identifiers : bit_at w 61 ≡ 0
+  free_identifiers = omega (arith, identifiers, is.id, is.mask, limits)
+
+  free_control : part c 4 3 ≡ 0
+  free_control = omega (arith, message_control, is.dlc, control_limits)
+
+  short_control : c < 2 ^ 16
+  short_control = omega (arith, message_control, is.dlc, control_limits)
+
+  pub not_reserved : has_reserved (w ∷ c ∷ d ∷ []) ≡ false
+  not_reserved =
+      or_false (bit w 61) (not (part c 4 3 == 0)) (nat_le (2 ^ 16) c)
+      (ap (λ n. n == 1) free_identifiers) (ap (λ n. not (n == 0)) free_control) (above (2 ^ 16) c short_control)
 
 -- a list of three, place by place
 pub three : (words : List ℕ) → length words ≡ 3 → get_or words 0 0 ∷ get_or words 1 0 ∷ get_or words 2 0 ∷ [] ≡ words

@@ -7,9 +7,9 @@ use Rattle.ccan_object.specs.declared.register.Reg.{Reg}
 use Rattle.ccan_object.specs.declared.register.Reg.TheVariants.{CMask, Mask1, Mask2, Arb1, Arb2, Ctrl, DataA1, DataA2, DataB1, DataB2}
 use Rattle.ccan_object.specs.Bits.{bit, part, at}
 use Rattle.ccan_object.specs.Command.{bits_of, command_in, is_write}
-use Rattle.ccan_object.specs.Groups.{by_groups}
+use Rattle.ccan_object.specs.Group.{by_groups}
 use Rattle.ccan_object.specs.Record.{zero_record}
-use Rattle.ccan_object.specs.Registers.{register_of}
+use Rattle.ccan_object.specs.Register.{register_of}
 
 pub record Registers : Type 0 where
   pub command : CommandMask

@@ -1,10 +1,12 @@
 pub mod Bits
+pub mod Profile
 pub mod Number
+pub mod DataLength
 pub mod Record
 pub mod Command
-pub mod Groups
+pub mod Group
 pub mod Transfer
-pub mod Registers
+pub mod Register
 pub mod Interface
 pub mod Packing
 pub mod Laws

@@ -1,12 +1,12 @@
 -- Which message object a request names. Source: C_CAN User's Manual 1.2, section 3.3.1 (IFx Command Request Registers);
--- that the ten upper bits of the request are ignored is this project's own.
-use Rattle.std.specs.Prelude.{ℕ, ◌-◌, ◌==◌, nat_le, if◌then◌else◌}
+-- that the ten upper bits of the request are ignored, and the second profile, are this project's own.
+use Rattle.std.specs.Prelude.{ℕ, ◌%◌, ◌==◌, if◌then◌else◌}
+use Rattle.ccan_object.specs.declared.profile.Profile.{Profile}
 use Rattle.ccan_object.specs.Bits.{part}
+use Rattle.ccan_object.specs.Profile.{objects_in}
 
--- the low six bits count: 0x01 to 0x20 are the number itself, 0x00 is object 32, and 0x21 to 0x3f are objects 1 to 31
-abbrev pub requested : ℕ → ℕ
-requested word =
-    let low = part word 0 6 in
-    if low == 0x00 then 32
-    else (if nat_le low 0x20 then low
-    else low - 0x20)
+-- the low six bits count, and beyond the last object the numbers begin anew; a number 0 names the last object
+abbrev pub requested : Profile → ℕ → ℕ
+requested profile word =
+    let number = part word 0 6 % objects_in profile in
+    if number == 0 then objects_in profile else number

@@ -1,6 +1,6 @@
 -- The record of a message object. Source: C_CAN User's Manual 1.2, section 3.3.4 (Message Object in the Message Memory);
 -- that a record opens as zero is this project's own.
-use Rattle.std.specs.Prelude.{ℕ, ◌≡◌, ◌≤◌, ◌<◌, ◌^◌, false, All, length, replicate, min}
+use Rattle.std.specs.Prelude.{◌≡◌, ◌≤◌, ◌<◌, ◌^◌, false, All, length, replicate}
 use Rattle.ccan_object.specs.declared.record.Record.{Record}
 
 -- 29 bits of identifier and of mask, a data length code of four bits, and eight bytes
@@ -34,7 +34,3 @@ zero_record =
       dlc = 0;
       bytes = replicate 8 0;
     }
-
--- how many bytes a data length code means: 0 to 8 that many, 9 to 15 mean 8. Source: ISO 11898-1, data length code
-abbrev pub byte_count : ℕ → ℕ
-byte_count code = min code 8

@@ -5,7 +5,7 @@ use Rattle.std.specs.Prelude.{true, false, if◌then◌else◌}
 use Rattle.ccan_object.specs.declared.record.Record.{Record}
 use Rattle.ccan_object.specs.declared.command.CommandMask.{CommandMask}
 use Rattle.ccan_object.specs.Command.{clears_intpnd, has_txrqst_newdat}
-use Rattle.ccan_object.specs.Groups.{by_groups}
+use Rattle.ccan_object.specs.Group.{by_groups}
 
 -- the selected groups come from the buffer, the others stay; bit 2 requests a transmission
 abbrev pub merged : CommandMask → Record → Record → Record

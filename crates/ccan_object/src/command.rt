@@ -1,26 +1,16 @@
 ghost use Rattle.std.specs.Prelude.{⊤, ◌≡◌, ◌==◌, ◌<◌, ◌^◌, [], ◌∷◌, codes};
 ghost use Rattle.std.specs.Int.RustNames.{bit_and};
 
+use crate::group::Group;
 use bitflags::{Flag, Flags, bitflag_items};
 
-/// Fields of an object that a transfer moves together (User's Manual, section 3.3.2).
-#[derive(Clone, Copy, PartialEq, Eq, Debug)]
-pub enum Group {
-    /// The identifier mask, MDir and MXtd.
-    Mask,
-    /// The identifier, Dir, Xtd and MsgVal.
-    Arb,
-    /// The fields of Message Control.
-    Control,
-    /// Data bytes 0 to 3.
-    DataA,
-    /// Data bytes 4 to 7.
-    DataB,
-}
-
 /// What a transfer moves, and which way: the low byte of a Command Mask register (User's Manual, section 3.3.2).
-/// Definitions read its bits as a number.
-#[derive(Clone, Copy, PartialEq, Eq, Debug)]
+///
+/// ```text
+///   bit   7      6     5    4        3          2              1       0
+///         WR/RD  Mask  Arb  Control  ClrIntPnd  TxRqst/NewDat  Data A  Data B
+/// ```
+#[derive(Clone, Copy, PartialEq, Eq, Hash, Default, Debug)]
 pub struct CommandMask(u8);
 
 bitflag_items! {
@@ -41,7 +31,8 @@ impl Flags for CommandMask {
 
     ghost exact = { ⊤ };
 
-    ghost table = { (codes "WRITE", 128) ∷ (codes "MASK", 64) ∷ (codes "ARB", 32) ∷ (codes "CONTROL", 16) ∷ (codes "CLR_INT_PND", 8) ∷ (codes "TXRQST_NEWDAT", 4) ∷ (codes "DATA_A", 2) ∷ (codes "DATA_B", 1) ∷ [] };
+    ghost table = { (codes "WRITE", 128) ∷ (codes "MASK", 64) ∷ (codes "ARB", 32) ∷ (codes "CONTROL", 16)
+        ∷ (codes "CLR_INT_PND", 8) ∷ (codes "TXRQST_NEWDAT", 4) ∷ (codes "DATA_A", 2) ∷ (codes "DATA_B", 1) ∷ [] };
 
     ghost set_of = { λ c. c.0 };
 
@@ -61,7 +52,7 @@ impl Flags for CommandMask {
 #[tactic(auto, using(crate::proofs::Parts::parts))]
 impl CommandMask {
     ghost use Rattle.ccan_object.specs.Command.{command_in, is_write, clears_intpnd, has_txrqst_newdat, is_pure_read};
-    ghost use Rattle.ccan_object.specs.Groups.{selects};
+    ghost use Rattle.ccan_object.specs.Group.{selects};
 
     /// The command in a Command Mask register, whose reserved bits 15 to 8 are dropped.
     pub fn of(register: u16) -> CommandMask
@@ -70,7 +61,7 @@ impl CommandMask {
         CommandMask((register % 256) as u8)
     }
 
-    /// Whether it has all bits of a part.
+    /// Whether it has all bits of a part. A method of its own, so that the prover goes from masks to places once.
     fn has(self, part: CommandMask) -> bool
         ensures { result ≡ (bit_and self.0 part.0 == part.0) }
     {

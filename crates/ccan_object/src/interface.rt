@@ -1,11 +1,11 @@
 ghost use Rattle.std.specs.Prelude.{◌≡◌, ◌<◌, ◌≤◌, ◌+◌, ◌^◌};
 ghost use Rattle.ccan_object.specs.Interface.{with_bytes, with_control, with_register};
 ghost use Rattle.ccan_object.specs.Bits.{part};
-ghost use Rattle.ccan_object.specs.Registers.{two_bytes};
+ghost use Rattle.ccan_object.specs.Register.{two_bytes};
 
 use crate::bits::bit;
 use crate::command::CommandMask;
-use crate::identifier::DataLength;
+use crate::data_length::DataLength;
 use crate::record::Record;
 use crate::register::Reg;
 use crate::transfer::by_groups;
@@ -14,7 +14,9 @@ use std::marker::Model;
 
 /// An interface register set, IF1 or IF2 (User's Manual, section 3.3): the Command Mask register, and the message
 /// buffer that the other nine registers show. Reserved bits have no place in it.
-#[derive(Clone, Copy, PartialEq, Eq, Debug)]
+///
+/// It is kept as what it shows, and not as ten words, so that no register can hold what a record can't.
+#[derive(Clone, Copy, PartialEq, Eq, Hash, Default, Debug)]
 pub struct Iface {
     command: CommandMask,
     buffer: Record,
@@ -76,16 +78,14 @@ impl Iface {
     pub fn command(&self) -> CommandMask
         ensures { result ≡ self.now.command }
     {
-        let Iface { command, .. } = *self;
-        command
+        self.command
     }
 
     /// The record in the message buffer registers.
     pub fn buffer(&self) -> Record
         ensures { result ≡ self.now.buffer }
     {
-        let Iface { buffer, .. } = *self;
-        buffer
+        self.buffer
     }
 
     /// What a transfer leaves in the registers: after a write the whole object as it was written, after a read the
@@ -101,7 +101,7 @@ impl Iface {
     }
 }
 
-/// The record once a register of the buffer is written.
+/// The record once a register of the buffer is written. The Command Mask register is no part of the buffer.
 fn with_register(buffer: &Record, register: Reg, value: u16) -> Record
     ensures { result ≡ with_register register value buffer.now }
 {
@@ -162,6 +162,7 @@ fn with_bytes(buffer: &Record, first: usize, value: u16) -> Record
     ensures { result ≡ record buffer.now { bytes = with_bytes first value buffer.now.bytes } }
 {
     let mut bytes = buffer.bytes;
+    // by arithmetic: the prover takes the bytes of `to_le_bytes` less readily than these
     bytes[first] = (value % 256) as u8;
     bytes[first + 1] = (value >> 8) as u8;
     Record { bytes, ..*buffer }
@@ -172,7 +173,7 @@ fn two_bytes(bytes: &[u8; 8], first: usize) -> u16
     requires { first + 2 ≤ 8 }
     ensures { result ≡ two_bytes bytes.now first }
 {
-    u16::from(bytes[first]) + (u16::from(bytes[first + 1]) << 8)
+    u16::from_le_bytes([bytes[first], bytes[first + 1]])
 }
 
 /// The register above another in a word of 32 bits.

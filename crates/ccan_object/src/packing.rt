@@ -1,8 +1,8 @@
-ghost use Rattle.std.specs.Prelude.{◌≡◌, ◌<◌, ◌^◌, ◌↔◌, IfSome, IsNone, All, length};
+ghost use Rattle.std.specs.Prelude.{◌≡◌, ◌<◌, ◌^◌, ◌↔◌, IfSome, IsNone, IsTrue, All, length};
 ghost use Rattle.std.specs.Int.{from_le_bytes, w64};
 ghost use Rattle.ccan_object.specs.declared.record.Record.{Record};
 ghost use Rattle.ccan_object.specs.Record.{IsRecord};
-ghost use Rattle.ccan_object.specs.Packing.{packed, unpacked, HasReserved};
+ghost use Rattle.ccan_object.specs.Packing.{packed, unpacked, unpacked_from, has_reserved};
 
 use crate::bits::{bit, part};
 use crate::identifier::Identifier;
@@ -23,7 +23,7 @@ pub fn pack(object: &Record) -> [u64; 3]
     ]
 }
 
-/// The data as a word, byte 0 lowest.
+/// The data as a word, byte 0 lowest. It is a function of its own for its clauses, which `pack` tells its callers.
 fn content_word(bytes: &[u8; 8]) -> u64
     ensures word { result ≡ from_le_bytes w64 bytes.now }
     ensures length { length bytes.now ≡ 8 }
@@ -35,10 +35,11 @@ fn content_word(bytes: &[u8; 8]) -> u64
 /// The record that packs to these words. There is none where a bit is 1 that no field has: bit 61 of the first word,
 /// or one of bits 6 to 4 and 63 to 16 of the second.
 pub fn unpack(words: [u64; 3]) -> Option<Record>
+    ensures value { result ≡ unpacked_from words }
     ensures packs { IfSome result (λ object. packed object ≡ words) }
     ensures is_record { IfSome result IsRecord }
-    ensures every { (object : Record) → IsRecord object → packed object ≡ words → result ≡ Some object }
-    ensures none { IsNone result ↔ HasReserved words }
+    ensures every { (o : Record) → IsRecord o → packed o ≡ words → result ≡ Some o }
+    ensures none { IsNone result ↔ IsTrue (has_reserved words) }
 {
     let [identifiers, control, content] = words;
     if bit(identifiers, 61) || part(control, 4, 3) != 0 || control >= 1 << 16 {

@@ -1,12 +1,13 @@
 ghost use Rattle.std.specs.Prelude.{◌≡◌, ◌≤◌, ◌<◌, ◌^◌};
 
 use crate::bits::flag;
-use crate::identifier::{DataLength, Identifier};
+use crate::data_length::DataLength;
+use crate::identifier::Identifier;
 
 /// The record of a message object (User's Manual, section 3.3.4).
 ///
 /// The identifiers have 29 bits and the data length code four, by their types.
-#[derive(Clone, Copy, PartialEq, Eq, Debug)]
+#[derive(Clone, Copy, PartialEq, Eq, Hash, Default, Debug)]
 pub struct Record {
     /// MsgVal: the object takes part.
     pub valid: bool,
@@ -22,9 +23,9 @@ pub struct Record {
     pub mdir: bool,
     /// Msk28 to Msk0: 1 compares that bit of the identifier.
     pub mask: Identifier,
-    /// NewDat: the data is newer than the last look at it.
+    /// NewDat: a frame or a host wrote data here, and nobody has cleared this flag since.
     pub newdat: bool,
-    /// MsgLst: a message was written over before it was read.
+    /// MsgLst: a message was written over before NewDat was cleared.
     pub msglst: bool,
     /// IntPnd: the object asks for an interrupt.
     pub intpnd: bool,
@@ -48,7 +49,7 @@ pub struct Record {
 
 impl Record {
     ghost use Rattle.ccan_object.specs.Record.{zero_record};
-    ghost use Rattle.ccan_object.specs.Registers.{arbitration, masks, control};
+    ghost use Rattle.ccan_object.specs.Register.{arbitration, masks, control};
 
     /// The record of an object that nobody has written.
     pub fn zero() -> Record
@@ -99,6 +100,7 @@ impl Record {
         ensures word { result ≡ control self.now }
         ensures length { self.now.dlc ≤ 15 }
     {
+        // in three sums, each short enough for the prover to see that it doesn't wrap
         let state = flag(self.newdat, 15) + flag(self.msglst, 14) + flag(self.intpnd, 13);
         let enables = flag(self.umask, 12)
             + flag(self.txie, 11)

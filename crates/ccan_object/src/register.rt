@@ -1,5 +1,5 @@
 /// A register of an interface register set, of 16 bits (User's Manual, section 3.3).
-#[derive(Clone, Copy, PartialEq, Eq, Debug, Default)]
+#[derive(Clone, Copy, PartialEq, Eq, PartialOrd, Ord, Hash, Default, Debug)]
 pub enum Reg {
     /// Command Mask: what the next transfer moves, and which way.
     #[default]

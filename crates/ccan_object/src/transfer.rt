@@ -1,8 +1,9 @@
 ghost use Rattle.std.specs.Prelude.{◌≡◌, ◌++◌, take, drop, if◌then◌else◌};
-ghost use Rattle.ccan_object.specs.Groups.{by_groups};
+ghost use Rattle.ccan_object.specs.Group.{by_groups};
 ghost use Rattle.ccan_object.specs.Transfer.{merged, cleared};
 
-use crate::command::{CommandMask, Group};
+use crate::command::CommandMask;
+use crate::group::Group;
 use crate::record::Record;
 
 /// One of two records.
@@ -16,6 +17,7 @@ fn chosen(is_first: bool, first: &Record, second: &Record) -> Record
 fn joined(first: &[u8; 8], last: &[u8; 8]) -> [u8; 8]
     ensures { result ≡ take 4 first.now ++ drop 4 last.now }
 {
+    // written out: the prover then sees each byte at its place
     [
         first[0], first[1], first[2], first[3], last[4], last[5], last[6], last[7],
     ]

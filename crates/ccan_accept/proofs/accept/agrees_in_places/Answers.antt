@@ -3,5 +3,6 @@ use Rattle.ccan_accept.proofs.accept.agrees_in_places.Goals as goal
 
 pub returns : goal.returns
 returns c =
-    let word = agrees-word c.args.object.now c.args.frame.now c.compared_places.result c.compared_places.ensures.within c.compared_places.ensures.places in
+    let compared = c.compared_places.ensures in
+    let word = agrees-word c.args.object.now c.args.frame.now c.compared_places.result compared.within compared.places in
     rw (c.get.ensures.bits, c.get-2.ensures.bits, c.identifier.ensures.identifier) word

@@ -7,7 +7,8 @@ pub returns-clause-packs : goal.returns-clause-packs
 returns-clause-packs c =
     let words : length c.args.words ≡ 3 = search rules in
     ap packed c.unpacked.ensures
-    ∙ (packed-unpacked _ _ _ c.element_fits.fits c.if-control.false c.element_fits3.fits (sym c.bit.ensures ∙ c.if-bit.false) (sym c.part.ensures.value ∙ c.if-part-ne0.false)
+    ∙ (packed-unpacked _ _ _ c.element_fits.fits c.if-control.false c.element_fits3.fits
+    (sym c.bit.ensures ∙ c.if-bit.false) (sym c.part.ensures.value ∙ c.if-part-ne0.false)
     ∙ three c.args.words words)
 
 pub returns-clause-every : goal.returns-clause-every

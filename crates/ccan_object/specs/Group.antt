@@ -3,8 +3,8 @@
 use Rattle.std.specs.Prelude.{ℕ, Bool, List, [], ◌∷◌, ◌++◌, take, drop, if◌then◌else◌}
 use Rattle.ccan_object.specs.declared.record.Record.{Record}
 use Rattle.ccan_object.specs.declared.command.CommandMask.{CommandMask}
-use Rattle.ccan_object.specs.declared.command.Group.{Group}
-use Rattle.ccan_object.specs.declared.command.Group.TheVariants.{Mask, Arb, Control, DataA, DataB}
+use Rattle.ccan_object.specs.declared.group.Group.{Group}
+use Rattle.ccan_object.specs.declared.group.Group.TheVariants.{Mask, Arb, Control, DataA, DataB}
 use Rattle.ccan_object.specs.Bits.{bit, flag}
 use Rattle.ccan_object.specs.Command.{bits_of}
 
@@ -24,7 +24,8 @@ abbrev pub fields_of : Group → Record → List ℕ
 fields_of Mask r = r.mask ∷ flag r.mdir ∷ flag r.mxtd ∷ []
 fields_of Arb r = r.id ∷ flag r.dir ∷ flag r.xtd ∷ flag r.valid ∷ []
 fields_of Control r =
-    flag r.newdat ∷ flag r.msglst ∷ flag r.intpnd ∷ flag r.umask ∷ flag r.txie ∷ flag r.rxie ∷ flag r.rmten ∷ flag r.eob ∷ r.dlc ∷ []
+    flag r.newdat ∷ flag r.msglst ∷ flag r.intpnd ∷ flag r.umask ∷ flag r.txie ∷ flag r.rxie
+    ∷ flag r.rmten ∷ flag r.eob ∷ r.dlc ∷ []
 fields_of DataA r = take 4 r.bytes
 fields_of DataB r = drop 4 r.bytes
 
