@@ -1,16 +1,15 @@
 -- Each call of the counters against the list of events: from what it makes of the value, the value of the longer list.
 use Rattle.std.proofs.Common.{◌≡◌, ℕ, ◌+◌, ◌<◌, ◌≤◌, Bool, true, false, ◌&&◌, ◌||◌, not, cond, nat_le, List, ◌∷◌, refl, sym, ap, subst, ◌∙◌, ◌⊎◌, inl, inr, zero-add, arith}
-use Rattle.ccan_confine.specs.Laws.{GroupsCountOnlyWhileRecovering, OnlyTheFirstClearingCounts}
 use Rattle.std.proofs.lemmas.Bool.{lt-leb, le-leb}
-use Rattle.ccan_confine.specs.declared.event.BusEvent.{BusEvent}
-use Rattle.ccan_confine.specs.declared.event.NodeState.{NodeState}
-use Rattle.ccan_confine.specs.Levels.{is_off, levels_after, state_of}
-use Rattle.ccan_confine.specs.Node.{NodeEvent, Bus, Groups, ClearInit, clears_init, levels_after_all, is_recovering_after, life_of, since_off}
-use Rattle.ccan_confine.specs.Counters.{Counts, counts_of, AreAfter, new_counts, is_recovering}
+use Rattle.ccan_confine.specs.declared.bus_event.BusEvent.{BusEvent}
+use Rattle.ccan_confine.specs.declared.node_state.NodeState.{NodeState}
+use Rattle.ccan_confine.specs.Counters.{is_off, state_of, NodeEvent, Bus, Groups, ClearInit, clears_init, levels_after_all, is_recovering_after, groups_to_return, life_of, since_off, Counts, counts_of, AreAfter, AddsEvent, new_counts, counts_after, counts_cleared, is_recovering}
+use Rattle.ccan_confine.specs.Laws.{GroupsCountOnlyWhileRecovering, OnlyTheFirstClearingCounts}
 use Rattle.ccan_confine.proofs.Steps.{with_event, same_counts, counts-back, counts-there, groups-below}
 
 -- the readers
-pub listed_levels : (host : Bool) (events : List NodeEvent) (self : Counts) → AreAfter host events self → self.levels ≡ levels_after_all host events
+pub listed_levels : (host : Bool) (events : List NodeEvent) (self : Counts)
+    → AreAfter host events self → self.levels ≡ levels_after_all host events
 unfolding counts_of
 listed_levels host events self held = ap (λ c. c.levels) held
 
@@ -22,19 +21,20 @@ pub listed_rec : (host : Bool) (events : List NodeEvent) (self : Counts) (result
     → AreAfter host events self → result ≡ (levels_after_all host events).rec
 listed_rec host events self result value held = value ∙ ap (λ l. l.rec) (listed_levels host events self held)
 
-pub listed_state : (host : Bool) (events : List NodeEvent) (self : Counts) (result : NodeState) → result ≡ state_of self.levels
-    → AreAfter host events self → result ≡ state_of (levels_after_all host events)
+pub listed_state : (host : Bool) (events : List NodeEvent) (self : Counts) (result : NodeState)
+    → result ≡ state_of self.levels → AreAfter host events self → result ≡ state_of (levels_after_all host events)
 listed_state host events self result value held = value ∙ ap state_of (listed_levels host events self held)
 
 recovering_by : (host cleared off : Bool) → (off && (not host || (host && cleared))) ≡ (off && (not host || cleared))
 recovering_by false cleared off = refl
 recovering_by true cleared off = refl
 
-pub listed_recovering : (host : Bool) (events : List NodeEvent) (self : Counts) (result : Bool) → result ≡ is_recovering self
-    → AreAfter host events self → result ≡ is_recovering_after host events
+pub listed_recovering : (host : Bool) (events : List NodeEvent) (self : Counts) (result : Bool)
+    → result ≡ is_recovering self → AreAfter host events self → result ≡ is_recovering_after host events
 unfolding counts_of
 listed_recovering host events self result value held =
-    value ∙ (ap is_recovering held ∙ recovering_by host (clears_init (since_off (life_of host events))) (is_off (levels_after_all host events)))
+    let cleared : Bool = clears_init (since_off (life_of host events)) in
+    value ∙ (ap is_recovering held ∙ recovering_by host cleared (is_off (levels_after_all host events)))
 
 -- a bus event
 or_false : (b : Bool) → (b || false) ≡ b
@@ -45,73 +45,78 @@ pub no_more : (b : Bool) (n : ℕ) → cond b 0 0 + n ≡ n
 no_more true n = zero-add n
 no_more false n = zero-add n
 
-with_bus : (event : BusEvent) (k : Counts) → with_event (Bus event) k ≡ record k { levels = levels_after event k.levels }
-with_bus event k = same_counts k.host _ _ _ _ _ _ refl (or_false k.init_cleared) (no_more (is_recovering k) k.groups)
+with_bus : (event : BusEvent) (k : Counts) → with_event (Bus event) k ≡ counts_after event k
+with_bus event k = same_counts _ _ refl refl (or_false k.init_cleared) (no_more (is_recovering k) k.groups)
 
-pub listed_after : (host : Bool) (events : List NodeEvent) (event : BusEvent) (self result : Counts)
-    → result ≡ record self { levels = levels_after event self.levels }
-    → AreAfter host events self → AreAfter host (Bus event ∷ events) result
-listed_after host events event self result changed held =
-    let k = counts_of host events in
-    let there : nat_le 128 (with_event (Bus event) k).groups ≡ false = ap (λ c. nat_le 128 c.groups) (with_bus event k) ∙ groups-below host events in
-    changed ∙ (ap (λ (c : Counts). record c { levels = levels_after event c.levels }) held ∙ (sym (with_bus event k) ∙ sym (counts-there host (Bus event) events there)))
+-- where a value answers as a list with an event added, the node isn't back with that event
+there_with : (host : Bool) (events : List NodeEvent) (event : NodeEvent) (made : Counts → Counts)
+    → with_event event (counts_of host events) ≡ made (counts_of host events)
+    → nat_le groups_to_return (made (counts_of host events)).groups ≡ false
+    → counts_of host (event ∷ events) ≡ made (counts_of host events)
+there_with host events event made with_it below =
+    counts-there host event events (ap (λ c. nat_le groups_to_return c.groups) with_it ∙ below) ∙ with_it
+
+pub listed_after : (event : BusEvent) (self result : Counts)
+    → result ≡ counts_after event self → AddsEvent (Bus event) self result
+listed_after event self result changed host events held =
+    changed ∙ (ap (counts_after event) held
+    ∙ sym (there_with host events (Bus event) (counts_after event) (with_bus event _) (groups-below host events)))
 
 -- a clearing of Init
-with_clearing : (k : Counts) → with_event ClearInit k ≡ record k { init_cleared = k.init_cleared || (k.host && is_off k.levels) }
-with_clearing k = same_counts k.host _ _ _ _ _ _ refl refl (no_more (is_recovering k) k.groups)
+with_clearing : (k : Counts) → with_event ClearInit k ≡ counts_cleared k
+with_clearing k = same_counts _ _ refl refl refl (no_more (is_recovering k) k.groups)
 
-pub listed_clear : (host : Bool) (events : List NodeEvent) (self result : Counts)
-    → result ≡ record self { init_cleared = self.init_cleared || (self.host && is_off self.levels) }
-    → AreAfter host events self → AreAfter host (ClearInit ∷ events) result
-listed_clear host events self result changed held =
-    let k = counts_of host events in
-    let there : nat_le 128 (with_event ClearInit k).groups ≡ false = ap (λ c. nat_le 128 c.groups) (with_clearing k) ∙ groups-below host events in
-    changed ∙ (ap (λ (c : Counts). record c { init_cleared = c.init_cleared || (c.host && is_off c.levels) }) held ∙ (sym (with_clearing k) ∙ sym (counts-there host ClearInit events there)))
+pub listed_clear : (self result : Counts) → result ≡ counts_cleared self → AddsEvent ClearInit self result
+listed_clear self result changed host events held =
+    changed ∙ (ap counts_cleared held
+    ∙ sym (there_with host events ClearInit counts_cleared (with_clearing _) (groups-below host events)))
 
 -- groups of recessive bits
+abbrev pub counts_more : ℕ → Counts → Counts
+counts_more number k = record k { groups = k.groups + number }
+
 with_ignored : (number : ℕ) (k : Counts) → is_recovering k ≡ false → with_event (Groups number) k ≡ k
-with_ignored number k ignored =
-    same_counts k.host _ _ _ _ _ _ refl (or_false k.init_cleared) (rw ignored (zero-add k.groups))
+with_ignored number k ignored = same_counts _ _ refl refl (or_false k.init_cleared) (rw ignored (zero-add k.groups))
 
-with_counted : (number : ℕ) (k : Counts) → is_recovering k ≡ true → with_event (Groups number) k ≡ record k { groups = k.groups + number }
-with_counted number k counts =
-    same_counts k.host _ _ _ _ _ _ refl (or_false k.init_cleared) (rw counts (omega arith))
+with_counted : (number : ℕ) (k : Counts) → is_recovering k ≡ true → with_event (Groups number) k ≡ counts_more number k
+with_counted number k counts = same_counts _ _ refl refl (or_false k.init_cleared) (rw counts (omega arith))
 
-pub listed_ignored : (host : Bool) (events : List NodeEvent) (number : ℕ) (self : Counts) → is_recovering self ≡ false
-    → AreAfter host events self → AreAfter host (Groups number ∷ events) self
-listed_ignored host events number self ignored held =
+pub listed_ignored : (number : ℕ) (self : Counts) → is_recovering self ≡ false → AddsEvent (Groups number) self self
+listed_ignored number self ignored host events held =
+    let with_it = with_ignored number (counts_of host events) (sym (ap is_recovering held) ∙ ignored) in
+    held ∙ sym (there_with host events (Groups number) (λ c. c) with_it (groups-below host events))
+
+pub listed_counted : (number : ℕ) (self : Counts) → is_recovering self ≡ true → self.groups + number < groups_to_return
+    → AddsEvent (Groups number) self (counts_more number self)
+listed_counted number self recovers below host events held =
     let k = counts_of host events in
-    let ignored_there : is_recovering k ≡ false = sym (ap is_recovering held) ∙ ignored in
-    let with_it : with_event (Groups number) k ≡ k = with_ignored number k ignored_there in
-    let there : nat_le 128 (with_event (Groups number) k).groups ≡ false = ap (λ c. nat_le 128 c.groups) with_it ∙ groups-below host events in
-    held ∙ (sym with_it ∙ sym (counts-there host (Groups number) events there))
+    let with_it = with_counted number k (sym (ap is_recovering held) ∙ recovers) in
+    let fewer : k.groups + number < groups_to_return = subst (λ (c : Counts). c.groups + number < groups_to_return) held below in
+    ap (counts_more number) held
+    ∙ sym (there_with host events (Groups number) (counts_more number) with_it (lt-leb groups_to_return (k.groups + number) fewer))
 
-pub listed_counted : (host : Bool) (events : List NodeEvent) (number : ℕ) (self result : Counts) → is_recovering self ≡ true
-    → self.groups + number < 128 → result ≡ record self { groups = self.groups + number }
-    → AreAfter host events self → AreAfter host (Groups number ∷ events) result
-listed_counted host events number self result recovers below changed held =
-    let k = counts_of host events in
-    let with_it : with_event (Groups number) k ≡ record k { groups = k.groups + number } = with_counted number k (sym (ap is_recovering held) ∙ recovers) in
-    let fewer : k.groups + number < 128 = subst (λ (c : Counts). c.groups + number < 128) held below in
-    let there : nat_le 128 (with_event (Groups number) k).groups ≡ false = ap (λ c. nat_le 128 c.groups) with_it ∙ lt-leb 128 (k.groups + number) fewer in
-    changed ∙ (ap (λ (c : Counts). record c { groups = c.groups + number }) held ∙ (sym with_it ∙ sym (counts-there host (Groups number) events there)))
-
-pub listed_back : (host : Bool) (events : List NodeEvent) (number : ℕ) (self result : Counts) → is_recovering self ≡ true
-    → 128 ≤ self.groups + number → result ≡ new_counts self.host
-    → AreAfter host events self → AreAfter host (Groups number ∷ events) result
+pub listed_back : (number : ℕ) (self : Counts) → is_recovering self ≡ true → groups_to_return ≤ self.groups + number
+    → AddsEvent (Groups number) self (new_counts self.host)
 unfolding counts_of
-listed_back host events number self result recovers enough changed held =
+listed_back number self recovers enough host events held =
     let k = counts_of host events in
-    let with_it : with_event (Groups number) k ≡ record k { groups = k.groups + number } = with_counted number k (sym (ap is_recovering held) ∙ recovers) in
-    let more : 128 ≤ k.groups + number = subst (λ (c : Counts). 128 ≤ c.groups + number) held enough in
-    let back : nat_le 128 (with_event (Groups number) k).groups ≡ true = ap (λ c. nat_le 128 c.groups) with_it ∙ le-leb 128 (k.groups + number) more in
-    changed ∙ (ap (λ c. new_counts c.host) held ∙ sym (counts-back host (Groups number) events back))
+    let with_it = with_counted number k (sym (ap is_recovering held) ∙ recovers) in
+    let more : groups_to_return ≤ k.groups + number = subst (λ (c : Counts). groups_to_return ≤ c.groups + number) held enough in
+    let back : nat_le groups_to_return (with_event (Groups number) k).groups ≡ true =
+    ap (λ c. nat_le groups_to_return c.groups) with_it ∙ le-leb groups_to_return (k.groups + number) more in
+    ap (λ c. new_counts c.host) held ∙ sym (counts-back host (Groups number) events back)
+
+-- a result that is known to equal such a value
+pub adds_result : (event : NodeEvent) (old made result : Counts)
+    → result ≡ made → AddsEvent event old made → AddsEvent event old result
+adds_result event old made result same adds host events held = same ∙ adds host events held
 
 -- the laws of what changes nothing
 pub ignored_law : GroupsCountOnlyWhileRecovering
 ignored_law host events number ignored =
     let k = counts_of host events in
-    sym (listed_ignored host events number k (listed_recovering host events k (is_recovering k) refl refl ∙ ignored) refl)
+    let idle : is_recovering k ≡ false = listed_recovering host events k (is_recovering k) refl refl ∙ ignored in
+    sym (listed_ignored number k idle host events refl)
 
 init_kept : (host off cleared : Bool) → (off ≡ false) ⊎ ((host ≡ false) ⊎ ((off && (not host || cleared)) ≡ true))
     → (cleared || (host && off)) ≡ cleared
@@ -137,5 +142,5 @@ first_clearing_law host events idle =
         | inr recovers ↦ inr (listed_recovering host events k (is_recovering k) refl refl ∙ recovers)
       ])
     ]) in
-    let same : record k { init_cleared = k.init_cleared || (k.host && is_off k.levels) } ≡ k = rw kept refl in
-    sym (listed_clear host events k _ refl refl) ∙ same
+    let same : counts_cleared k ≡ k = rw kept refl in
+    sym (listed_clear k _ refl host events refl) ∙ same

@@ -1,5 +1,5 @@
 pub mod Steps
 pub mod Calls
-pub mod Registers
-pub mod NodeLaws
-pub mod RegisterLaws
+pub mod CounterLaws
+pub mod StatusCalls
+pub mod StatusLaws

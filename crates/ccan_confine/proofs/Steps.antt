@@ -2,13 +2,7 @@
 use Rattle.std.proofs.Common.{◌≡◌, ℕ, ◌+◌, Bool, true, false, ◌&&◌, ◌||◌, not, cond, nat_le, List, [], ◌∷◌, refl, sym, ap, ◌∙◌, inl, inr, zero-add}
 use Rattle.std.proofs.lemmas.Bool.{cases_Bool, or_parts}
 use Rattle.std.proofs.lemmas.List.Sums.{sum_by-cons}
-use Rattle.ccan_confine.specs.Levels.{Levels, is_off, levels_after}
-use Rattle.ccan_confine.specs.Node.{NodeEvent, Bus, Groups, ClearInit, groups_of, groups_in, clears_init, is_clearing, levels_of, since_off, since_clearing, counted, is_back, life_of}
-use Rattle.ccan_confine.specs.Counters.{Counts, counts_in_life, counts_of, new_counts, is_recovering}
-
-abbrev pub made : Bool → Levels → Bool → ℕ → Counts
-made host levels init_cleared groups =
-    record { host = host; levels = levels; init_cleared = init_cleared; groups = groups }
+use Rattle.ccan_confine.specs.Counters.{Levels, is_off, levels_after, NodeEvent, Bus, Groups, ClearInit, groups_of, groups_in, clears_init, is_clearing, levels_of, since_off, since_clearing, counted, groups_to_return, is_back, life_of, Counts, counts_in_life, counts_of, new_counts, is_recovering}
 
 -- what an event makes of the levels of a life
 abbrev pub levels_by : NodeEvent → Levels → Levels
@@ -27,7 +21,8 @@ with_event event counts =
     }
 
 -- a node that is off keeps its levels
-pub levels-off : (event : NodeEvent) (life : List NodeEvent) → is_off (levels_of life) ≡ true → levels_of (event ∷ life) ≡ levels_of life
+pub levels-off : (event : NodeEvent) (life : List NodeEvent)
+    → is_off (levels_of life) ≡ true → levels_of (event ∷ life) ≡ levels_of life
 unfolding levels_of
 levels-off (Bus event) life off = rw off refl
 levels-off (Groups _) life off = refl
@@ -39,7 +34,9 @@ unfolding since_off
 since_off-on [] on = refl
 since_off-on (event ∷ life) on =
     elim (cases_Bool (is_off (levels_of life))) [
-      | inl off ↦ absurd (let e : is_off (levels_of (event ∷ life)) ≡ is_off (levels_of life) = ap is_off (levels-off event life off) in cc)
+      | inl off ↦ absurd (
+          let same : is_off (levels_of (event ∷ life)) ≡ is_off (levels_of life) = ap is_off (levels-off event life off) in
+          cc)
       | inr before ↦ rw before refl
     ]
 
@@ -63,9 +60,15 @@ groups-more true event since =
       | inr none ↦ rw (none, since_clearing-none since none) refl
     ]
 
-pub same_counts : (host : Bool) (l l' : Levels) (i i' : Bool) (g g' : ℕ) → l ≡ l' → i ≡ i' → g ≡ g'
-    → made host l i g ≡ made host l' i' g'
-same_counts host l l' i i' g g' levels init groups = rw (levels, init, groups) refl
+-- values with the same parts are the same
+pub same_counts : (k k' : Counts) → k.host ≡ k'.host → k.levels ≡ k'.levels → k.init_cleared ≡ k'.init_cleared
+    → k.groups ≡ k'.groups → k ≡ k'
+same_counts k k' host levels init groups =
+    let made : Bool → Levels → Bool → ℕ → Counts =
+    λ h l i g. record { host = h; levels = l; init_cleared = i; groups = g } in
+    let same : made k.host k.levels k.init_cleared k.groups ≡ made k'.host k'.levels k'.init_cleared k'.groups =
+    rw (host, levels, init, groups) refl in
+    same
 
 pub levels-more : (event : NodeEvent) (life : List NodeEvent) → levels_of (event ∷ life) ≡ levels_by event (levels_of life)
 unfolding levels_of
@@ -94,6 +97,41 @@ pub recovers-off : (host cleared off : Bool) → off ≡ true
 recovers-off false cleared off e = rw e refl
 recovers-off true cleared off e = rw e refl
 
+-- the groups that count, in the part of a life since the node went off
+abbrev pub groups_since : Bool → List NodeEvent → ℕ
+groups_since host since = groups_in (cond host (since_clearing since) since)
+
+-- an event adds its groups to those of a life, where the node is off
+groups-off : (host : Bool) (event : NodeEvent) (life : List NodeEvent) → is_off (levels_of life) ≡ true
+    → since_off (event ∷ life) ≡ event ∷ since_off life
+    → groups_in (counted host (event ∷ life)) ≡ (with_event event (counts_in_life host life)).groups
+groups-off host event life off since =
+    let cleared : Bool = clears_init (since_off life) in
+    ap (groups_since host) since
+    ∙ (groups-more host event (since_off life)
+    ∙ ap (λ b. cond b (groups_of event) 0 + groups_since host (since_off life)) (sym (recovers-off host cleared _ off)))
+
+-- and none where it is on
+groups-on : (host : Bool) (event : NodeEvent) (life : List NodeEvent) → is_off (levels_of life) ≡ false
+    → since_off (event ∷ life) ≡ since_off life
+    → groups_in (counted host (event ∷ life)) ≡ (with_event event (counts_in_life host life)).groups
+groups-on host event life on since =
+    let cleared : Bool = not host || (host && clears_init (since_off life)) in
+    ap (groups_since host) since
+    ∙ (sym (zero-add (groups_in (counted host life)))
+    ∙ ap (λ b. cond (b && cleared) (groups_of event) 0 + groups_in (counted host life)) (sym on))
+
+-- Init after an event, where the node is on
+init-since : (host : Bool) (event : NodeEvent) (life : List NodeEvent) → is_off (levels_of life) ≡ false
+    → since_off (event ∷ life) ≡ [] → since_off life ≡ []
+    → (host && clears_init (since_off (event ∷ life)))
+    ≡ ((host && clears_init (since_off life)) || (is_clearing event && (host && is_off (levels_of life))))
+init-since host event life on since before =
+    let off : Bool = is_off (levels_of life) in
+    ap (λ s. host && clears_init s) since
+    ∙ (init-on host (is_clearing event) off on
+    ∙ ap (λ s. (host && clears_init s) || (is_clearing event && (host && off))) (sym before))
+
 -- the counters of a life with an event added
 pub life-more : (host : Bool) (event : NodeEvent) (life : List NodeEvent)
     → counts_in_life host (event ∷ life) ≡ with_event event (counts_in_life host life)
@@ -102,23 +140,15 @@ life-more host event life =
     elim (cases_Bool (is_off (levels_of life))) [
       | inl off ↦
           let since : since_off (event ∷ life) ≡ event ∷ since_off life = rw off refl in
-          same_counts host _ _ _ _ _ _
-          (levels-more event life)
+          same_counts _ _ refl (levels-more event life)
           (ap (λ s. host && clears_init s) since ∙ init-off host (is_clearing event) (clears_init (since_off life)) _ off)
-          (ap (λ s. groups_in (cond host (since_clearing s) s)) since
-          ∙ (groups-more host event (since_off life)
-          ∙ ap (λ b. cond b (groups_of event) 0 + groups_in (cond host (since_clearing (since_off life)) (since_off life)))
-          (sym (recovers-off host (clears_init (since_off life)) _ off))))
+          (groups-off host event life off since)
       | inr on ↦
           let since : since_off (event ∷ life) ≡ [] = rw on refl in
           let before : since_off life ≡ [] = since_off-on life on in
-          same_counts host _ _ _ _ _ _
-          (levels-more event life)
-          (ap (λ s. host && clears_init s) since ∙ (init-on host (is_clearing event) _ on ∙ ap (λ s. (host && clears_init s) || (is_clearing event && (host && is_off (levels_of life)))) (sym before)))
-          (ap (λ s. groups_in (cond host (since_clearing s) s)) since
-          ∙ (ap (λ s. groups_in (cond host (since_clearing s) s)) (sym before)
-          ∙ (sym (zero-add (groups_in (counted host life)))
-          ∙ ap (λ b. cond (b && (not host || (host && clears_init (since_off life)))) (groups_of event) 0 + groups_in (counted host life)) (sym on))))
+          same_counts _ _ refl (levels-more event life)
+          (init-since host event life on since before)
+          (groups-on host event life on (since ∙ sym before))
     ]
 
 -- no life of a list is over
@@ -144,22 +174,24 @@ counts-none false = refl
 
 -- the counters after a list with an event added, where that brings the node back, and where it doesn't
 pub counts-back : (host : Bool) (event : NodeEvent) (events : List NodeEvent)
-    → nat_le 128 (with_event event (counts_of host events)).groups ≡ true → counts_of host (event ∷ events) ≡ new_counts host
+    → nat_le groups_to_return (with_event event (counts_of host events)).groups ≡ true
+    → counts_of host (event ∷ events) ≡ new_counts host
 unfolding counts_of life_of
 counts-back host event events back =
-    let over : is_back host (event ∷ life_of host events) ≡ true = ap (λ c. nat_le 128 c.groups) (life-more host event (life_of host events)) ∙ back in
+    let over : is_back host (event ∷ life_of host events) ≡ true =
+    ap (λ c. nat_le groups_to_return c.groups) (life-more host event (life_of host events)) ∙ back in
     rw over (counts-none host)
 
 pub counts-there : (host : Bool) (event : NodeEvent) (events : List NodeEvent)
-    → nat_le 128 (with_event event (counts_of host events)).groups ≡ false
+    → nat_le groups_to_return (with_event event (counts_of host events)).groups ≡ false
     → counts_of host (event ∷ events) ≡ with_event event (counts_of host events)
 unfolding counts_of life_of
 counts-there host event events there =
     let more = life-more host event (life_of host events) in
-    let lives : is_back host (event ∷ life_of host events) ≡ false = ap (λ c. nat_le 128 c.groups) more ∙ there in
+    let lives : is_back host (event ∷ life_of host events) ≡ false = ap (λ c. nat_le groups_to_return c.groups) more ∙ there in
     rw lives more
 
--- what counts so far is below 128
-pub groups-below : (host : Bool) (events : List NodeEvent) → nat_le 128 (counts_of host events).groups ≡ false
+-- what counts so far doesn't bring the node back
+pub groups-below : (host : Bool) (events : List NodeEvent) → nat_le groups_to_return (counts_of host events).groups ≡ false
 unfolding counts_of
 groups-below host events = is_back-life host events

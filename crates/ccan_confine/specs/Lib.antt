@@ -1,5 +1,5 @@
-pub mod Levels
-pub mod Node
+pub mod NodeState
+pub mod StatusEvent
 pub mod Counters
-pub mod Register
+pub mod Status
 pub mod Laws

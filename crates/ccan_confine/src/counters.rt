@@ -1,20 +1,27 @@
-ghost use Rattle.std.specs.Prelude.{◌≡◌, ℕ, ◌+◌, ◌-◌, ◌<◌, ◌≤◌, Bool, true, false, ◌&&◌, ◌||◌, nat_lt, List, [], ◌∷◌, if◌then◌else◌};
-ghost use Rattle.ccan_confine.specs.Levels.{reaches, is_off, by_table, levels_after, state_of};
-ghost use Rattle.ccan_confine.specs.Node.{NodeEvent, Bus, Groups, ClearInit, levels_after_all, is_recovering_after};
-ghost use Rattle.ccan_confine.specs.Counters.{AreAfter, AddsEvent, new_counts, is_recovering};
+ghost use Rattle.std.specs.Prelude.{◌≡◌, ℕ, ◌+◌, ◌-◌, ◌<◌, ◌≤◌, Bool, true, false, nat_le, List, [], ◌∷◌, if◌then◌else◌};
+ghost use Rattle.ccan_confine.specs.Counters.{NodeEvent, Bus, Groups, ClearInit, reaches, is_off, by_table, state_of, passive_limit, rec_after_passive, groups_to_return, levels_after_all, is_recovering_after, AreAfter, AddsEvent, new_counts, counts_after, counts_cleared, is_recovering};
 
-use crate::event::{BusEvent, NodeState};
+use crate::bus_event::BusEvent;
+use crate::node_state::NodeState;
 use std::marker::Model;
 
-/// From this many errors on a node is error passive, and a counter sets EPass.
+/// From this count of either counter on a node is error passive, and the Status register shows EPass.
 pub(crate) const PASSIVE: u16 = 128;
-/// From this many errors on a node is bus off.
+/// From this transmit error count on a node is bus off.
 const OFF: u16 = 256;
+/// What an error in a node's own frame adds to its transmit error counter.
+const SEND_FAULT_STEP: u16 = 8;
+/// What a received frame makes of a receive error counter that is above 127.
+const REC_AFTER_PASSIVE: u8 = 119;
 /// So many groups of eleven recessive bits bring a node back.
 const GROUPS_TO_RETURN: u32 = 128;
 
-/// The error counters of one node, with what its way back from bus off needs. Contracts see the record of its parts.
-#[derive(Clone, Copy, Debug, PartialEq, Eq)]
+/// The error counters of one node, with what its way back from bus off needs.
+///
+/// The transmit error counter (TEC) is 0 to 263, the receive error counter (REC) 0 to 255, in units of the standard: an
+/// error in an own frame adds 8, one in a frame of another node 1. A call takes the counters and answers those after
+/// it, as they are `Copy`. Contracts see the record of the parts.
+#[derive(Clone, Copy, Debug, PartialEq, Eq, Hash)]
 pub struct Counters {
     host: bool,
     tec: u16,
@@ -24,8 +31,8 @@ pub struct Counters {
 }
 
 impl Model for Counters {
-    ghost use Rattle.std.specs.Prelude.{◌<◌};
-    ghost use Rattle.ccan_confine.specs.Counters.{Counts};
+    ghost use Rattle.std.specs.Prelude.{◌+◌, ◌<◌};
+    ghost use Rattle.ccan_confine.specs.Counters.{Counts, off_limit, send_fault_step, groups_to_return};
 
     ghost Value = { Counts };
 
@@ -36,8 +43,9 @@ impl Model for Counters {
       groups = c.groups;
     } };
 
-    ghost invariant = { λ c. (c.tec < 264) × (c.groups < 128) };
+    ghost invariant = { λ c. (c.tec < off_limit + send_fault_step) × (c.groups < groups_to_return) };
 
+    // The fields back from the value: a `Copy` type with a model states it.
     ghost inverse = { λ c. record {
       host = c.host;
       tec = c.levels.tec;
@@ -48,7 +56,8 @@ impl Model for Counters {
 }
 
 impl Counters {
-    /// Both counters 0; `host` says whether the node is the controller.
+    /// A node as it opens: both counters 0, error active. `host` says whether it is the controller, whose host has to
+    /// clear Init before it comes back from bus off.
     pub fn new(host: bool) -> Counters
         ensures opened { result ≡ new_counts host }
         ensures listed { AreAfter host [] result }
@@ -62,7 +71,7 @@ impl Counters {
         }
     }
 
-    /// The transmit error counter.
+    /// The transmit error counter (TEC), 0 to 263; from 256 on the node is bus off.
     pub fn tec(self) -> u16
         ensures value { result ≡ self.levels.tec }
         ensures listed { (host : Bool) (events : List NodeEvent)
@@ -71,7 +80,7 @@ impl Counters {
         self.tec
     }
 
-    /// The receive error counter.
+    /// The receive error counter (REC), 0 to 255.
     pub fn rec(self) -> u8
         ensures value { result ≡ self.levels.rec }
         ensures listed { (host : Bool) (events : List NodeEvent)
@@ -80,7 +89,8 @@ impl Counters {
         self.rec
     }
 
-    /// The state that the counters mean.
+    /// The state that the counters mean: off where TEC is at least 256, else passive where a counter is at least 128,
+    /// else active.
     pub fn state(self) -> NodeState
         ensures value { result ≡ state_of self.levels }
         ensures listed { (host : Bool) (events : List NodeEvent)
@@ -105,10 +115,10 @@ impl Counters {
         self.is_off() && (!self.host || self.init_cleared)
     }
 
-    /// The counters after a bus event.
+    /// The counters after a bus event (`BusEvent` has the table). Those of a node that is off stay.
     #[must_use]
     pub fn after(self, event: BusEvent) -> Counters
-        ensures changed { result ≡ record self { levels = levels_after event self.levels } }
+        ensures changed { result ≡ counts_after event self }
         ensures listed { AddsEvent (Bus event) self result }
     {
         if self.is_off() {
@@ -118,13 +128,15 @@ impl Counters {
         }
     }
 
-    /// The counters after so many groups of eleven recessive bits. Groups count only while the node is recovering.
+    /// The counters after so many groups of eleven recessive bits. Groups count only while the node is recovering; with
+    /// the one that makes 128 it is back, as it opened.
     #[must_use]
     pub fn recessive_groups(self, groups: u16) -> Counters
         ensures ignored { is_recovering self ≡ false → result ≡ self }
-        ensures counted { is_recovering self ≡ true → self.groups + groups < 128
+        ensures counted { is_recovering self ≡ true → self.groups + groups < groups_to_return
             → result ≡ record self { groups = self.groups + groups } }
-        ensures back { is_recovering self ≡ true → 128 ≤ self.groups + groups → result ≡ new_counts self.host }
+        ensures back { is_recovering self ≡ true → groups_to_return ≤ self.groups + groups
+            → result ≡ new_counts self.host }
         ensures listed { AddsEvent (Groups groups) self result }
     {
         if !self.recovering() {
@@ -141,10 +153,11 @@ impl Counters {
         }
     }
 
-    /// The counters after Init was cleared, which begins the way back of a controller that is off.
+    /// The counters after the host cleared Init (C_CAN User's Manual 1.2, "CAN Control Register"). The first clearing
+    /// since the controller went off begins the count of groups; each other one does nothing.
     #[must_use]
     pub fn clear_init(self) -> Counters
-        ensures changed { result ≡ record self { init_cleared = self.init_cleared || (self.host && is_off self.levels) } }
+        ensures changed { result ≡ counts_cleared self }
         ensures listed { AddsEvent ClearInit self result }
     {
         if self.host && self.is_off() {
@@ -172,12 +185,12 @@ impl Counters {
                 ..self
             },
             BusEvent::SendFault => Counters {
-                tec: self.tec + 8,
+                tec: self.tec + SEND_FAULT_STEP,
                 ..self
             },
             BusEvent::SendNoAck if self.reaches(PASSIVE) => self,
             BusEvent::SendNoAck => Counters {
-                tec: self.tec + 8,
+                tec: self.tec + SEND_FAULT_STEP,
                 ..self
             },
             BusEvent::ReceiveFault => Counters {
@@ -204,10 +217,10 @@ impl Counters {
 
 // The receive error counter after a frame was received.
 fn received(rec: u8) -> u8
-    ensures { result ≡ (if nat_lt 127 rec then 119 else rec - 1) }
+    ensures { result ≡ (if nat_le passive_limit rec then rec_after_passive else rec - 1) }
 {
-    if rec > 127 {
-        119
+    if u16::from(rec) >= PASSIVE {
+        REC_AFTER_PASSIVE
     } else {
         rec.saturating_sub(1)
     }

@@ -1,6 +1,7 @@
-//! Laws of the error counters and of the Status register. The functions do nothing.
+//! Laws of the error counters and of the Status register, each proved of every list of events. The functions do
+//! nothing: their contracts are the laws.
 
-ghost use Rattle.ccan_confine.specs.Laws.{BackWithTheGroups, BackWithTheGroupsAfterInit, CountersAreBounded, EachCauseMakesPending, EnablingMakesNothingPending, GroupsCountOnlyWhileRecovering, NotBackBeforeInit, NotBackBeforeTheGroups, NotBackBeforeTheGroupsAfterInit, OffNodesKeepTheirCounters, OnlySendFaultsLeadOff, OnlyTheFirstClearingCounts, PendingOnlyAfterACause, ReadsClear};
+ghost use Rattle.ccan_confine.specs.Laws.{BackWithTheGroups, BackWithTheGroupsAfterInit, CountersAreBounded, EnablingMakesNothingPending, GroupsCountOnlyWhileRecovering, NotBackBeforeInit, NotBackBeforeTheGroups, NotBackBeforeTheGroupsAfterInit, OffNodesKeepTheirCounters, OnWithoutSendFaults, OnlySendFaultsLeadOff, OnlyTheFirstClearingCounts, ReadsClear};
 
 /// No counter leaves its range, and TEC of a node that is on is below 256.
 pub fn counters_are_bounded()
@@ -47,19 +48,15 @@ pub fn only_the_first_clearing_counts()
     ensures { OnlyTheFirstClearingCounts }
 {}
 
-/// A node in whose own frames no error was found never goes off, as one that is alone on the bus.
+/// The event at which a node goes off is an error in a frame that it sent. A missing acknowledgement leads no node off,
+/// be it active or passive.
 pub fn only_send_faults_lead_off()
     ensures { OnlySendFaultsLeadOff }
 {}
 
-/// The status interrupt is pending only after an event that could make it so.
-pub fn pending_only_after_a_cause()
-    ensures { PendingOnlyAfterACause }
-{}
-
-/// Each event that could make it so makes it pending, until a read.
-pub fn each_cause_makes_pending()
-    ensures { EachCauseMakesPending }
+/// A node in whose own frames no error was ever found is on, as one that is alone on the bus.
+pub fn on_without_send_faults()
+    ensures { OnWithoutSendFaults }
 {}
 
 /// After a read it isn't pending before the next event.

@@ -1,14 +1,16 @@
-ghost use Rattle.std.specs.Prelude.{◌≡◌, ℕ, ◌<◌, ◌↔◌, IsTrue, false, ◌&&◌, ◌||◌, List, [], ◌∷◌, if◌then◌else◌};
-ghost use Rattle.ccan_confine.specs.Register.{StatusStep, Happened, Enabled, WasRead, HasFaultCode, is_transfer_or_error, differ, IsPending, IsHeldAfter, AddsStep, nothing_held, held_after, word_of, word_after};
+ghost use Rattle.std.specs.Prelude.{◌≡◌, ℕ, ◌<◌, ◌↔◌, IsTrue, false, List, [], ◌∷◌, if◌then◌else◌};
+ghost use Rattle.ccan_confine.specs.StatusEvent.{HasFaultCode};
+ghost use Rattle.ccan_confine.specs.Counters.{Levels, is_off, reaches};
+ghost use Rattle.ccan_confine.specs.Status.{StatusStep, Happened, Enabled, WasRead, IsPending, IsHeldAfter, AddsStep, nothing_held, warning_limit, raises, held_after, word_held, word_after};
 
 use crate::counters::{Counters, PASSIVE};
-use crate::event::StatusEvent;
+use crate::status_event::StatusEvent;
 use std::marker::Model;
 
-/// From this many errors on a counter sets EWarn.
+/// From this count of either counter on the register shows EWarn.
 const WARNING: u16 = 96;
 
-// The places of the flags in the word.
+// The flags of the word, each at its place.
 const BOFF: u16 = 1 << 7;
 
 const EWARN: u16 = 1 << 6;
@@ -19,8 +21,14 @@ const RX_OK: u16 = 1 << 4;
 
 const TX_OK: u16 = 1 << 3;
 
-/// The Status register of the controller with its interrupt. Contracts see the record of its parts.
-#[derive(Clone, Copy, Debug, PartialEq, Eq)]
+/// The Status register of the controller, with its interrupt and the two bits of the Control register that enable it.
+///
+/// The word has BOff (bus off) at bit 7, EWarn (a counter is at least 96) at 6, EPass (a counter is at least 128) at 5,
+/// RxOk (a frame was received) at 4, TxOk (a frame was sent) at 3, and LEC, the last error code, at 2 to 0: 0 none,
+/// 1 stuff, 2 form, 3 acknowledgement, 4 bit 1, 5 bit 0, 6 CRC. BOff, EWarn and EPass are those of the error counters
+/// at the read, so that each call is given the `Counters` of the controller. Nothing clears RxOk and TxOk. Contracts
+/// see the record of the parts.
+#[derive(Clone, Copy, Debug, PartialEq, Eq, Hash)]
 pub struct Status {
     tx_ok: bool,
     rx_ok: bool,
@@ -34,7 +42,7 @@ pub struct Status {
 
 impl Model for Status {
     ghost use Rattle.std.specs.Prelude.{◌≤◌};
-    ghost use Rattle.ccan_confine.specs.Register.{Held};
+    ghost use Rattle.ccan_confine.specs.Status.{Held};
 
     ghost Value = { Held };
 
@@ -51,6 +59,7 @@ impl Model for Status {
 
     ghost invariant = { λ s. s.lec ≤ 6 };
 
+    // The fields back from the value: a `Copy` type with a model states it.
     ghost inverse = { λ s. record {
       tx_ok = s.tx_ok;
       rx_ok = s.rx_ok;
@@ -64,7 +73,7 @@ impl Model for Status {
 }
 
 impl Status {
-    /// Nothing happened yet; SIE and EIE are 0.
+    /// The register as it opens: nothing happened yet, and SIE and EIE are 0.
     pub fn new() -> Status
         ensures opened { result ≡ nothing_held }
         ensures listed { IsHeldAfter [] result }
@@ -81,23 +90,24 @@ impl Status {
         }
     }
 
-    /// An event, with the error counters of the controller after it.
+    /// An event, with the error counters of the controller after it. It makes the status interrupt pending where SIE is
+    /// 1 and it is a transfer or an error, or where EIE is 1 and BOff or EWarn differs from the event before (from 0
+    /// before the first). The code of a `Fault` has to be 1 to 6.
     pub fn after(&mut self, event: StatusEvent, counters: &Counters)
         requires { HasFaultCode event }
         ensures changed { self.new ≡ held_after event counters.now.levels self.old }
         ensures listed { AddsStep (Happened event counters.now.levels) self.old self.new }
     {
-        let boff = counters.is_off();
-        let ewarn = counters.reaches(WARNING);
-        self.pending = self.pending || self.is_raised(event, boff, ewarn);
-        self.tx_ok = self.tx_ok || matches!(event, StatusEvent::Sent);
-        self.rx_ok = self.rx_ok || matches!(event, StatusEvent::Received);
+        self.pending = self.pending || self.is_raised(event, counters);
+        self.tx_ok = self.tx_ok || event == StatusEvent::Sent;
+        self.rx_ok = self.rx_ok || event == StatusEvent::Received;
         self.lec = event.code().unwrap_or(self.lec);
-        self.boff = boff;
-        self.ewarn = ewarn;
+        self.boff = counters.is_off();
+        self.ewarn = counters.reaches(WARNING);
     }
 
-    /// Writes SIE (an interrupt for each transfer and error) and EIE (one for each change of BOff or EWarn).
+    /// Writes SIE (an interrupt for each transfer and error) and EIE (one for each change of BOff or EWarn), the bits 2
+    /// and 3 of the Control register (C_CAN User's Manual 1.2, "CAN Control Register"). It leaves an interrupt pending.
     pub fn enable(&mut self, sie: bool, eie: bool)
         ensures changed { self.new ≡ record self.old { sie = sie; eie = eie } }
         ensures listed { AddsStep (Enabled sie eie) self.old self.new }
@@ -106,10 +116,9 @@ impl Status {
         self.eie = eie;
     }
 
-    /// Reads the register: BOff 7, EWarn 6, EPass 5, RxOk 4, TxOk 3, LEC 2 to 0. The status interrupt is then no longer
-    /// pending.
+    /// Reads the register, a word below 256. The status interrupt is then no longer pending; the flags stay.
     pub fn read(&mut self, counters: &Counters) -> u16
-        ensures word { result ≡ word_of self.old.tx_ok self.old.rx_ok self.old.lec counters.now.levels }
+        ensures word { result ≡ word_held self.old counters.now.levels }
         ensures in_range { result < 256 }
         ensures changed { self.new ≡ record self.old { pending = false } }
         ensures answers { (steps : List StatusStep) → IsHeldAfter steps self.old
@@ -120,7 +129,7 @@ impl Status {
         self.word(counters)
     }
 
-    /// Whether the status interrupt is pending.
+    /// Whether the status interrupt is pending: it is so from its cause to the next read.
     pub fn pending(&self) -> bool
         ensures value { result ≡ self.now.pending }
         ensures listed { (steps : List StatusStep) → IsHeldAfter steps self.now
@@ -129,8 +138,10 @@ impl Status {
         self.pending
     }
 
+    // The flags stand at places of their own and above LEC, so that their sum is their union; a sum is what the prover
+    // reads best.
     fn word(&self, counters: &Counters) -> u16
-        ensures word { result ≡ word_of self.now.tx_ok self.now.rx_ok self.now.lec counters.now.levels }
+        ensures word { result ≡ word_held self.now counters.now.levels }
         ensures in_range { result < 256 }
     {
         bit(BOFF, counters.is_off())
@@ -142,12 +153,12 @@ impl Status {
     }
 
     // Whether this event makes the interrupt pending.
-    fn is_raised(&self, event: StatusEvent, boff: bool, ewarn: bool) -> bool
-        ensures { result ≡ ((self.now.sie && is_transfer_or_error event)
-            || (self.now.eie && (differ self.now.boff boff || differ self.now.ewarn ewarn))) }
+    fn is_raised(&self, event: StatusEvent, counters: &Counters) -> bool
+        ensures { result ≡ raises self.now event counters.now.levels }
     {
         self.sie && event.is_transfer_or_error()
-            || self.eie && (boff != self.boff || ewarn != self.ewarn)
+            || self.eie
+                && (counters.is_off() != self.boff || counters.reaches(WARNING) != self.ewarn)
     }
 }
 
@@ -156,4 +167,12 @@ fn bit(mask: u16, set: bool) -> u16
     ensures { result ≡ (if set then mask else 0) }
 {
     if set { mask } else { 0 }
+}
+
+impl Default for Status {
+    ghost is_default = { λ s. s ≡ nothing_held };
+
+    fn default() -> Status {
+        Status::new()
+    }
 }

@@ -1,8 +1,10 @@
-//! Worked examples, with numbers from outside.
+//! Worked examples, with numbers from the rules and not from the program.
 
-use crate::{BusEvent, Counters, NodeState, Status, StatusEvent};
+use crate::{BusEvent, Counters, NodeState, Status, StatusEvent, laws};
 
-fn repeated(mut counters: Counters, event: BusEvent, times: u16) -> Counters {
+/// The counters after so many equal events.
+fn repeated(counters: Counters, event: BusEvent, times: u16) -> Counters {
+    let mut counters = counters;
     for _ in 0..times {
         counters = counters.after(event);
     }
@@ -11,73 +13,31 @@ fn repeated(mut counters: Counters, event: BusEvent, times: u16) -> Counters {
 
 #[test]
 fn counters_follow_the_table(rt: HostRuntime) {
+    use BusEvent::{ReceiveFault, Received, SendFault, SendNoAck, Sent};
+    use NodeState::{Active, Off, Passive};
+
     let rows = [
-        (
-            [(BusEvent::ReceiveFault, 130), (BusEvent::Received, 0)],
-            0,
-            130,
-            NodeState::Passive,
-        ),
-        (
-            [(BusEvent::ReceiveFault, 130), (BusEvent::Received, 1)],
-            0,
-            119,
-            NodeState::Active,
-        ),
-        (
-            [(BusEvent::ReceiveFault, 300), (BusEvent::Received, 0)],
-            0,
-            255,
-            NodeState::Passive,
-        ),
-        (
-            [(BusEvent::ReceiveFault, 32), (BusEvent::Received, 1)],
-            0,
-            31,
-            NodeState::Active,
-        ),
-        (
-            [(BusEvent::SendNoAck, 16), (BusEvent::Sent, 0)],
-            128,
-            0,
-            NodeState::Passive,
-        ),
-        (
-            [(BusEvent::SendNoAck, 17), (BusEvent::Sent, 0)],
-            128,
-            0,
-            NodeState::Passive,
-        ),
-        (
-            [(BusEvent::SendFault, 1), (BusEvent::Sent, 1)],
-            7,
-            0,
-            NodeState::Active,
-        ),
-        (
-            [(BusEvent::SendFault, 1), (BusEvent::Received, 1)],
-            8,
-            0,
-            NodeState::Active,
-        ),
-        (
-            [(BusEvent::SendFault, 32), (BusEvent::SendFault, 1)],
-            256,
-            0,
-            NodeState::Off,
-        ),
-        (
-            [(BusEvent::SendFault, 32), (BusEvent::Received, 1)],
-            256,
-            0,
-            NodeState::Off,
-        ),
+        (ReceiveFault, 130, Received, 0, 0, 130, Passive),
+        (ReceiveFault, 130, Received, 1, 0, 119, Active),
+        (ReceiveFault, 127, Received, 1, 0, 126, Active),
+        (ReceiveFault, 128, Received, 1, 0, 119, Active),
+        (ReceiveFault, 300, Received, 0, 0, 255, Passive),
+        (ReceiveFault, 32, Received, 1, 0, 31, Active),
+        (SendNoAck, 16, Sent, 0, 128, 0, Passive),
+        (SendNoAck, 17, Sent, 0, 128, 0, Passive),
+        (SendFault, 31, SendNoAck, 9, 248, 0, Passive),
+        (SendFault, 1, Sent, 1, 7, 0, Active),
+        (SendFault, 1, Sent, 9, 0, 0, Active),
+        (SendFault, 1, Received, 1, 8, 0, Active),
+        (SendFault, 32, Received, 1, 256, 0, Off),
+        (SendFault, 32, ReceiveFault, 1, 256, 0, Off),
     ];
-    for (events, tec, rec, state) in rows {
-        let mut counters = Counters::new(false);
-        for (event, times) in events {
-            counters = repeated(counters, event, times);
-        }
+    for (first, firsts, second, seconds, tec, rec, state) in rows {
+        let counters = repeated(
+            repeated(Counters::new(false), first, firsts),
+            second,
+            seconds,
+        );
         assert_eq!(rt; counters.tec(), tec);
         assert_eq!(rt; counters.rec(), rec);
         assert_eq!(rt; counters.state(), state);
@@ -85,31 +45,93 @@ fn counters_follow_the_table(rt: HostRuntime) {
 }
 
 #[test]
+fn node_goes_off_at_the_32nd_fault(rt: HostRuntime) {
+    // TEC after each of 33 errors in own frames, and the state that it means.
+    let rows = [
+        (8, NodeState::Active),
+        (16, NodeState::Active),
+        (24, NodeState::Active),
+        (32, NodeState::Active),
+        (40, NodeState::Active),
+        (48, NodeState::Active),
+        (56, NodeState::Active),
+        (64, NodeState::Active),
+        (72, NodeState::Active),
+        (80, NodeState::Active),
+        (88, NodeState::Active),
+        (96, NodeState::Active),
+        (104, NodeState::Active),
+        (112, NodeState::Active),
+        (120, NodeState::Active),
+        (128, NodeState::Passive),
+        (136, NodeState::Passive),
+        (144, NodeState::Passive),
+        (152, NodeState::Passive),
+        (160, NodeState::Passive),
+        (168, NodeState::Passive),
+        (176, NodeState::Passive),
+        (184, NodeState::Passive),
+        (192, NodeState::Passive),
+        (200, NodeState::Passive),
+        (208, NodeState::Passive),
+        (216, NodeState::Passive),
+        (224, NodeState::Passive),
+        (232, NodeState::Passive),
+        (240, NodeState::Passive),
+        (248, NodeState::Passive),
+        (256, NodeState::Off),
+        (256, NodeState::Off),
+    ];
+    for host in [true, false] {
+        let mut counters = Counters::new(host);
+        for (tec, state) in rows {
+            counters = counters.after(BusEvent::SendFault);
+            assert_eq!(rt; counters.tec(), tec);
+            assert_eq!(rt; counters.rec(), 0);
+            assert_eq!(rt; counters.state(), state);
+            assert_eq!(rt; counters.recovering(), state == NodeState::Off && !host);
+        }
+    }
+}
+
+#[test]
 fn controller_returns_after_init_and_groups(rt: HostRuntime) {
     let off = repeated(Counters::new(true), BusEvent::SendFault, 33);
     assert_eq!(rt; off.tec(), 256);
+    assert_eq!(rt; off.state(), NodeState::Off);
     assert!(rt; !off.recovering());
     let waiting = off.recessive_groups(500);
     assert_eq!(rt; waiting.state(), NodeState::Off);
-    let counting = waiting
-        .clear_init()
+    let cleared = waiting.clear_init();
+    assert!(rt; cleared.recovering());
+    let counting = cleared
         .recessive_groups(100)
         .clear_init()
         .recessive_groups(27);
     assert_eq!(rt; counting.state(), NodeState::Off);
+    assert_eq!(rt; counting.tec(), 256);
     assert!(rt; counting.recovering());
     let back = counting.recessive_groups(1);
     assert_eq!(rt; back.state(), NodeState::Active);
+    assert_eq!(rt; back.tec(), 0);
+    assert_eq!(rt; back.rec(), 0);
     assert_eq!(rt; back, Counters::new(true));
+    // A second time Init has to be cleared again.
+    let off = repeated(back, BusEvent::SendFault, 32);
+    assert_eq!(rt; off.recessive_groups(128).state(), NodeState::Off);
 }
 
 #[test]
 fn another_node_returns_after_groups(rt: HostRuntime) {
     let off = repeated(Counters::new(false), BusEvent::SendFault, 32);
+    assert_eq!(rt; off.tec(), 256);
     assert!(rt; off.recovering());
     let counting = off.recessive_groups(127);
     assert_eq!(rt; counting.state(), NodeState::Off);
-    assert_eq!(rt; counting.recessive_groups(1), Counters::new(false));
+    let back = counting.recessive_groups(1);
+    assert_eq!(rt; back.state(), NodeState::Active);
+    assert_eq!(rt; back.tec(), 0);
+    assert_eq!(rt; back.rec(), 0);
 }
 
 #[test]
@@ -119,6 +141,7 @@ fn status_words_follow_the_events(rt: HostRuntime) {
         (BusEvent::SendFault, StatusEvent::Fault(6), 32, 0x00e6),
         (BusEvent::SendFault, StatusEvent::Fault(4), 1, 0x0004),
         (BusEvent::ReceiveFault, StatusEvent::Fault(1), 1, 0x0001),
+        (BusEvent::ReceiveFault, StatusEvent::Fault(1), 96, 0x0041),
         (BusEvent::Sent, StatusEvent::Sent, 1, 0x0008),
         (BusEvent::Received, StatusEvent::Received, 1, 0x0010),
     ];
@@ -131,6 +154,17 @@ fn status_words_follow_the_events(rt: HostRuntime) {
         }
         assert_eq!(rt; status.read(&counters), word);
     }
+}
+
+#[test]
+fn read_shows_the_counters_of_the_moment(rt: HostRuntime) {
+    let passive = repeated(Counters::new(true), BusEvent::SendFault, 16);
+    let mut status = Status::default();
+    status.after(StatusEvent::Fault(5), &passive);
+    let off = repeated(passive, BusEvent::SendFault, 16);
+    assert_eq!(rt; status.read(&passive), 0x0065);
+    assert_eq!(rt; status.read(&off), 0x00e5);
+    assert_eq!(rt; status.read(&Counters::new(true)), 0x0005);
 }
 
 #[test]
@@ -167,12 +201,53 @@ fn warning_interrupts_once(rt: HostRuntime) {
     let mut counters = Counters::new(true);
     let mut status = Status::new();
     status.enable(false, true);
-    for fault in 1..14 {
+    for _ in 0..11 {
         counters = counters.after(BusEvent::SendNoAck);
         status.after(StatusEvent::Fault(3), &counters);
-        assert_eq!(rt; status.pending(), fault == 12);
-        if fault == 12 {
-            assert_eq!(rt; status.read(&counters), 0x0043);
-        }
+        assert!(rt; !status.pending());
     }
+    assert_eq!(rt; counters.tec(), 88);
+    counters = counters.after(BusEvent::SendNoAck);
+    status.after(StatusEvent::Fault(3), &counters);
+    assert_eq!(rt; counters.tec(), 96);
+    assert!(rt; status.pending());
+    assert_eq!(rt; status.read(&counters), 0x0043);
+    assert!(rt; !status.pending());
+    counters = counters.after(BusEvent::SendNoAck);
+    status.after(StatusEvent::Fault(3), &counters);
+    assert_eq!(rt; counters.tec(), 104);
+    assert!(rt; !status.pending());
+}
+
+#[test]
+fn states_print_in_order(rt: HostRuntime) -> Result<(), std::alloc::AllocError> {
+    let rows = [
+        (NodeState::default(), "active"),
+        (NodeState::Passive, "passive"),
+        (NodeState::Off, "off"),
+    ];
+    for (state, text) in rows {
+        let printed = state.to_string(rt.alloc())?;
+        assert_eq!(rt; printed.as_str(), text);
+    }
+    assert!(rt; NodeState::Active < NodeState::Passive && NodeState::Passive < NodeState::Off);
+    Ok(())
+}
+
+/// The laws do nothing: they are called so that each is seen to stand.
+#[test]
+fn laws_stand(_rt: HostRuntime) {
+    laws::counters_are_bounded();
+    laws::off_nodes_keep_their_counters();
+    laws::only_send_faults_lead_off();
+    laws::on_without_send_faults();
+    laws::not_back_before_the_groups();
+    laws::not_back_before_init();
+    laws::not_back_before_the_groups_after_init();
+    laws::back_with_the_groups();
+    laws::back_with_the_groups_after_init();
+    laws::groups_count_only_while_recovering();
+    laws::only_the_first_clearing_counts();
+    laws::reads_clear();
+    laws::enabling_makes_nothing_pending();
 }

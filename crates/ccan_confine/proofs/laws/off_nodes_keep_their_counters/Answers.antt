@@ -1,4 +1,4 @@
-use Rattle.ccan_confine.proofs.NodeLaws.{off_law}
+use Rattle.ccan_confine.proofs.CounterLaws.{off_law}
 use Rattle.ccan_confine.proofs.laws.off_nodes_keep_their_counters.Goals as goal
 
 pub returns : goal.returns

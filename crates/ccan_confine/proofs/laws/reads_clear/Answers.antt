@@ -1,4 +1,4 @@
-use Rattle.ccan_confine.proofs.RegisterLaws.{read_law}
+use Rattle.ccan_confine.proofs.StatusLaws.{read_law}
 use Rattle.ccan_confine.proofs.laws.reads_clear.Goals as goal
 
 pub returns : goal.returns

@@ -1,11 +1,15 @@
 -- The Status register of the controller and its interrupt, over the whole list of what happened to it: C_CAN User's
 -- Manual 1.2, "Status Register" and "CAN Control Register" (SIE and EIE). That a group of recessive bits makes nothing
 -- pending by itself and that EPass follows the counters in bus off too are this project's own.
-use Rattle.std.specs.Prelude.{ℕ, ◌≡◌, ◌+◌, ◌≤◌, ◌↔◌, Bool, true, false, ◌&&◌, ◌||◌, not, IsTrue, Option, Some, None, unwrap_or, List, ◌∷◌, ◌++◌, slice_get, if◌then◌else◌}
+use Rattle.std.specs.Prelude.{ℕ, ◌≡◌, ◌≢◌, ◌+◌, ◌^◌, ◌↔◌, Bool, true, false, ◌&&◌, ◌||◌, not, IsTrue, ◌⊎◌, Option, Some, None, unwrap_or, List, ◌∷◌, ◌++◌, slice_get, if◌then◌else◌}
 use Rattle.std.specs.List.{list_any, filter_map}
-use Rattle.ccan_confine.specs.declared.event.StatusEvent.{StatusEvent}
-use Rattle.ccan_confine.specs.declared.event.StatusEvent.TheVariants.{Sent, Received, Fault, Recovery, Level}
-use Rattle.ccan_confine.specs.Levels.{Levels, no_errors, reaches, is_off}
+use Rattle.ccan_confine.specs.declared.status_event.StatusEvent.{StatusEvent}
+use Rattle.ccan_confine.specs.StatusEvent.{code_of, is_sent, is_received, is_transfer_or_error}
+use Rattle.ccan_confine.specs.Counters.{Levels, no_errors, reaches, is_off, passive_limit}
+
+-- from this count of either counter on EWarn is set
+abbrev pub warning_limit : ℕ
+warning_limit = 96
 
 -- what happens to the register, in a list with the newest first
 pub data StatusStep : Type 0 where
@@ -14,43 +18,6 @@ pub data StatusStep : Type 0 where
   -- SIE and EIE were written
   Enabled : Bool → Bool → StatusStep
   WasRead : StatusStep
-
--- the codes are 1 stuff, 2 form, 3 acknowledgement, 4 bit 1, 5 bit 0, 6 CRC
-abbrev pub HasFaultCode : StatusEvent → Type 0
-HasFaultCode (Fault code) = (1 ≤ code) × (code ≤ 6)
-HasFaultCode _ = Unit {0}
-
--- the last error code that an event sets: 0 for a frame without error, 5 for a group of recessive bits
-abbrev pub code_of : StatusEvent → Option ℕ
-code_of Sent = Some 0
-code_of Received = Some 0
-code_of (Fault code) = Some code
-code_of Recovery = Some 5
-code_of Level = None
-
-abbrev pub is_sent : StatusEvent → Bool
-is_sent Sent = true
-is_sent _ = false
-
-abbrev pub is_received : StatusEvent → Bool
-is_received Received = true
-is_received _ = false
-
--- a message transfer ended, or a bus error
-abbrev pub is_transfer_or_error : StatusEvent → Bool
-is_transfer_or_error Sent = true
-is_transfer_or_error Received = true
-is_transfer_or_error (Fault _) = true
-is_transfer_or_error Recovery = false
-is_transfer_or_error Level = false
-
-abbrev pub differ : Bool → Bool → Bool
-differ a b = if a then not b else b
-
--- an event makes the status interrupt pending: SIE for transfers and errors, EIE for changes of BOff and EWarn
-abbrev pub raises : Bool → Bool → Bool → Bool → StatusEvent → Levels → Bool
-raises sie eie boff ewarn event levels =
-    (sie && is_transfer_or_error event) || (eie && (differ boff (is_off levels) || differ ewarn (reaches 96 levels)))
 
 -- what the newest step gives that gives something, else a value of the opening
 abbrev pub newest : {A : Type 0} → (StatusStep → Option A) → A → List StatusStep → A
@@ -114,7 +81,18 @@ abbrev pub boff_of : List StatusStep → Bool
 boff_of steps = is_off (newest levels_given no_errors steps)
 
 abbrev pub ewarn_of : List StatusStep → Bool
-ewarn_of steps = reaches 96 (newest levels_given no_errors steps)
+ewarn_of steps = reaches warning_limit (newest levels_given no_errors steps)
+
+-- an event changes BOff or EWarn, as they were at the last event before it
+abbrev pub ChangesLevel : Levels → List StatusStep → Type 0
+ChangesLevel levels earlier = (is_off levels ≢ boff_of earlier) ⊎ (reaches warning_limit levels ≢ ewarn_of earlier)
+
+-- an event makes the status interrupt pending: with SIE a message transfer or a bus error, with EIE a change of BOff
+-- or EWarn
+abbrev pub IsCause : StatusEvent → Levels → List StatusStep → Type 0
+IsCause event levels earlier =
+    (IsTrue (sie_of earlier) × IsTrue (is_transfer_or_error event))
+    ⊎ (IsTrue (eie_of earlier) × ChangesLevel levels earlier)
 
 -- since the last read stands an event that made the status interrupt pending, as things were before it
 pub record IsPending (steps : List StatusStep) : Type 0 where
@@ -124,13 +102,17 @@ pub record IsPending (steps : List StatusStep) : Type 0 where
   pub earlier : List StatusStep
   pub stands : steps ≡ later ++ Happened event levels ∷ earlier
   pub unread : list_any is_read later ≡ false
-  pub raised : raises (sie_of earlier) (eie_of earlier) (boff_of earlier) (ewarn_of earlier) event levels ≡ true
+  pub cause : IsCause event levels earlier
+
+-- a flag at its place in the word
+abbrev pub flag : ℕ → Bool → ℕ
+flag place set = if set then 2 ^ place else 0
 
 -- the word: BOff 7, EWarn 6, EPass 5, RxOk 4, TxOk 3, LEC 2 to 0
 abbrev pub word_of : Bool → Bool → ℕ → Levels → ℕ
 word_of tx_ok rx_ok lec levels =
-    (if is_off levels then 128 else 0) + (if reaches 96 levels then 64 else 0) + (if reaches 128 levels then 32 else 0)
-    + (if rx_ok then 16 else 0) + (if tx_ok then 8 else 0) + lec
+    flag 7 (is_off levels) + flag 6 (reaches warning_limit levels) + flag 5 (reaches passive_limit levels)
+    + flag 4 rx_ok + flag 3 tx_ok + lec
 
 -- the word that a read answers after a list, with the counters as they are then
 abbrev pub word_after : List StatusStep → Levels → ℕ
@@ -177,7 +159,16 @@ nothing_held =
       pending = false;
     }
 
--- what an event makes of it
+abbrev pub differ : Bool → Bool → Bool
+differ a b = if a then not b else b
+
+-- an event makes the status interrupt pending, where this is held
+abbrev pub raises : Held → StatusEvent → Levels → Bool
+raises held event levels =
+    (held.sie && is_transfer_or_error event)
+    || (held.eie && (differ held.boff (is_off levels) || differ held.ewarn (reaches warning_limit levels)))
+
+-- what an event makes of what is held
 abbrev pub held_after : StatusEvent → Levels → Held → Held
 held_after event levels held =
     record {
@@ -187,6 +178,10 @@ held_after event levels held =
       sie = held.sie;
       eie = held.eie;
       boff = is_off levels;
-      ewarn = reaches 96 levels;
-      pending = held.pending || raises held.sie held.eie held.boff held.ewarn event levels;
+      ewarn = reaches warning_limit levels;
+      pending = held.pending || raises held event levels;
     }
+
+-- the word of what is held
+abbrev pub word_held : Held → Levels → ℕ
+word_held held levels = word_of held.tx_ok held.rx_ok held.lec levels
