@@ -4,3 +4,7 @@ pub mod Arrays
 pub mod FlagTable
 pub mod LostMessages
 pub mod Alone
+pub mod Undisturbed
+pub mod Attempts
+pub mod NeverBusy
+pub mod Steps

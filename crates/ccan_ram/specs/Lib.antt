@@ -1,10 +1,15 @@
 pub mod Port
+pub mod Tries
 pub mod Change
 pub mod History
 pub mod Terms
 pub mod Attempt
 pub mod Access
-pub mod Scan
+pub mod Answer
+pub mod SharedRam
+pub mod Draft
+pub mod Ending
 pub mod Array
 pub mod Flags
 pub mod Laws
+pub mod ErrorText

@@ -1,9 +1,10 @@
-ghost use Rattle.ccan_ram.specs.Access.{Goes};
-ghost use Rattle.ccan_ram.specs.Attempt.{Attempt, IsLook};
+ghost use Rattle.ccan_object.specs.Profile.{Holds};
+ghost use Rattle.ccan_ram.specs.Access.{AddsAttempt, AddsLook};
+ghost use Rattle.ccan_ram.specs.Answer.{FewTries, Tells};
 
 use crate::change::{Change, Changed, Refused};
 use crate::tries::Tries;
-use ccan_object::{ObjectNo, Record};
+use ccan_object::{ObjectNo, Profile, Record};
 
 /// A message RAM, as one of its ports sees it. All upper layers use this trait alone.
 ///
@@ -12,18 +13,20 @@ use ccan_object::{ObjectNo, Record};
 /// and gives one of the value after: the old history, and the events that the call added in front of it. Among these are
 /// events of other ports, but of the caller's own exactly those that the clause names.
 pub trait Access {
-    ghost use Rattle.std.specs.Prelude.{◌≤◌, List};
-    ghost use Rattle.ccan_ram.specs.declared.event.Event.{Event};
-    ghost use Rattle.ccan_ram.specs.declared.port.PortName.{PortName};
-    ghost use Rattle.ccan_ram.specs.Access.{Passes};
-    ghost use Rattle.ccan_ram.specs.History.{IsLegal, changes_by};
+    ghost use Rattle.std.specs.Prelude.{◌≡◌};
+    ghost use Rattle.ccan_ram.specs.Access.{Passes, SeesLegal, SeesWithin};
 
     /// What the port works under, and which histories may be all that it has seen.
     ghost passes: { Self → Passes };
 
+    /// How many objects the memory has.
+    fn profile(&self) -> Profile
+        ensures { result ≡ (passes self.now).terms.profile };
+
     /// The record of an object, by one look.
     fn look(&mut self, object: ObjectNo) -> Record
-        ensures { Goes (passes self.old) (passes self.new) (λ terms seen added. IsLook terms object result added) };
+        requires held { Holds (passes self.old).terms.profile object }
+        ensures { AddsLook (passes self.old) (passes self.new) object result };
 
     /// Makes a change, in at most so many tries.
     ///
@@ -36,11 +39,15 @@ pub trait Access {
         change: &Change,
         tries: Tries,
     ) -> Result<Changed, Refused>
-        ensures { Goes (passes self.old) (passes self.new) (λ terms seen added. Attempt terms object change.now tries seen added result) };
+        requires held { Holds (passes self.old).terms.profile object }
+        ensures attempts { AddsAttempt (passes self.old) (passes self.new)
+            object change.now tries result }
+        ensures tells { Tells change.now tries result }
+        ensures few { FewTries (passes self.old).terms.quota tries result };
 
     /// What a port has seen is a legal history.
-    ghost legal: { (access : Self) (seen : List Event) → (passes access).has_seen seen → IsLegal seen };
+    ghost legal: { (access : Self) → SeesLegal (passes access) };
 
     /// No port makes more changes than its quota.
-    ghost within: { (access : Self) (seen : List Event) (port : PortName) → (passes access).has_seen seen → changes_by port seen ≤ (passes access).terms.quota };
+    ghost within: { (access : Self) → SeesWithin (passes access) };
 }
