@@ -1,0 +1,5 @@
+pub mod Scans
+pub mod Watches
+pub mod Own
+pub mod Fitting
+pub mod Rows

@@ -1,0 +1,25 @@
+//! The message handler: what it finds by looking at the message objects one after another, over any access.
+//!
+//! A scan takes the objects in rising order and makes one change, a start or a store, at the first whose record it
+//! fits. It asks for no lock, so the hosts go on writing while it runs:
+//!
+//! ```text
+//!        object 1      object 2               object 3
+//! bus    look (no)     look (ready)  look     look (ready)  look  start
+//! IF1                         makes 2 invalid
+//!                                    (no more: on to 3)
+//! ```
+//!
+//! What is found is therefore said of the places of the looks in the one history, not of one moment. Nothing here knows
+//! which memory is behind: everything goes through `Access`.
+#![tactic(auto)]
+
+pub mod laws;
+mod objects;
+pub mod scan;
+#[cfg(test)]
+mod tests;
+pub mod watch;
+
+pub use scan::{ScanRefused, Stored, choose, choose_from, receive, receive_from};
+pub use watch::{flags, interrupt, until};
