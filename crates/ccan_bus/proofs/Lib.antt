@@ -1,0 +1,12 @@
+pub mod Order
+pub mod Leads
+pub mod Pasts
+pub mod Loads
+pub mod Least
+pub mod Rounds
+pub mod Transfers
+pub mod Loops
+pub mod Senders
+pub mod RoundLaws
+pub mod LoadLaws
+pub mod ArbitrationLaws

@@ -1,0 +1,5 @@
+use Rattle.ccan_bus.proofs.RoundLaws.{lines_unheard}
+use Rattle.ccan_bus.proofs.laws.lines_are_unheard_in_loop_back.Goals as goal
+
+pub returns : goal.returns
+returns c = lines_unheard

@@ -1,0 +1,13 @@
+pub mod Arbitration
+pub mod Lead
+pub mod RoundLine
+pub mod Nodes
+pub mod Past
+pub mod Bus
+pub mod Contenders
+pub mod Load
+pub mod LoopBack
+pub mod Round
+pub mod Course
+pub mod Transfer
+pub mod Laws

@@ -1,0 +1,196 @@
+//! What comes of the frames of a round, before any memory step.
+
+ghost use Rattle.std.specs.Prelude.{ℕ, ◌≡◌, ◌<◌, ◌≤◌, true, false, ◌∷◌, ◌≢◌, ◌==◌, if◌then◌else◌};
+ghost use Rattle.std.specs.List.{filter};
+ghost use Rattle.arrayvec.specs.ArrayVec.{array_vec_len};
+ghost use Rattle.ccan_confine.specs.declared.bus_event.BusEvent.{BusEvent};
+ghost use Rattle.ccan_confine.specs.Status.{AddsStep, Happened};
+ghost use Rattle.ccan_confine.specs.StatusEvent.{HasFaultCode};
+ghost use Rattle.ccan_bus.specs.Nodes.{IsSharedOut};
+ghost use Rattle.ccan_bus.specs.Contenders.{IsWonBy, contenders, own_frame};
+ghost use Rattle.ccan_bus.specs.Course.{RunsSo};
+
+use crate::arbitration::{Outcome, arbitrate};
+use crate::bus::Bus;
+use crate::contenders::Contenders;
+use crate::nodes::{counted, is_off, only};
+use crate::round_line::RoundLine;
+use ccan_accept::{Frame, frame_of};
+use ccan_confine::{BusEvent, Counters, Status, StatusEvent};
+
+/// What comes of the frames of a round.
+#[derive(Clone, Copy, PartialEq, Eq, Debug)]
+pub(crate) enum Course {
+    Idle,
+    Collision,
+    Fault,
+    NoAck,
+    /// This node's frame was sent and acknowledged.
+    Success(u8, Frame),
+}
+
+fn success(winner: u8, frame: &Frame) -> Course
+    ensures { result ≡ Course.Success winner frame.now }
+{
+    Course::Success(winner, *frame)
+}
+
+/// The Status register's event where a frame is sent and acknowledged.
+fn transfer_of(winner: u8) -> StatusEvent
+    ensures value { result ≡ (if winner == 0 then StatusEvent.Sent else StatusEvent.Received) }
+    ensures known { HasFaultCode result }
+{
+    if winner == 0 {
+        StatusEvent::Sent
+    } else {
+        StatusEvent::Received
+    }
+}
+
+/// The last error code of a collision.
+fn collision_code(controller: bool) -> u8
+    ensures value { result ≡ (if controller then 4 else 1) }
+    ensures least { 1 ≤ result }
+    ensures most { result ≤ 6 }
+{
+    if controller { 4 } else { 1 }
+}
+
+/// The Status register after an event, which reaches it where the controller is on.
+fn noted(mut status: Status, is_on: bool, event: StatusEvent, controller: &Counters) -> Status
+    requires { HasFaultCode event }
+    ensures on { is_on ≡ true → AddsStep (Happened event controller.now.levels) status result }
+    ensures off { is_on ≡ false → result ≡ status }
+{
+    if is_on {
+        status.after(event, controller);
+    }
+    status
+}
+
+impl Bus {
+    ghost use Rattle.ccan_bus.specs.Bus.{GoesOn, IsSameBus, is_on_now};
+    ghost use Rattle.ccan_bus.specs.Past.{happens};
+
+    /// Whether a node is on.
+    pub(crate) fn is_on(&self, node: u8) -> bool
+        requires { node < 9 }
+        ensures { result ≡ is_on_now self.now node }
+    {
+        node <= self.others && !is_off(self.nodes[usize::from(node)])
+    }
+
+    /// Whether a node other than this one is on.
+    fn another_is_on(&self, winner: u8) -> bool
+        ensures listener { result ≡ true
+            → (node : ℕ) × (node ≢ winner) × (is_on_now self.now node ≡ true) }
+        ensures alone { result ≡ false
+            → (node : ℕ) → is_on_now self.now node ≡ true → node ≡ winner }
+    {
+        for node in 0..9 {
+            if node != winner && self.is_on(node) {
+                return true;
+            }
+        }
+        false
+    }
+
+    /// A transfer or its fault ends: each node that is on has its event, the Status register its own, and nothing is
+    /// loaded any more.
+    fn happen(
+        &mut self,
+        senders: &[bool; 9],
+        sending: BusEvent,
+        listening: BusEvent,
+        event: StatusEvent,
+    )
+        requires { HasFaultCode event }
+        ensures same { IsSameBus self.old self.new }
+        ensures goes_on { (each : ℕ → BusEvent) → IsSharedOut senders.now sending listening each
+            → GoesOn self.old self.new (λ past after. after ≡ happens each event past) }
+    {
+        let is_on = self.is_on(0);
+        self.nodes = counted(self.nodes, senders, sending, listening);
+        let controller = self.nodes[0];
+        self.status = noted(self.status, is_on, event, &controller);
+        self.loaded = None;
+    }
+
+    /// The loaded frame, where the controller is on.
+    fn own_contender(&self) -> Contenders
+        ensures items { result.all.items
+            ≡ filter (λ c. is_on_now self.now c.0) (own_frame self.now.loaded) }
+        ensures len { array_vec_len result.all ≤ 1 }
+    {
+        let mut found = Contenders::none();
+        if let Some((_, started)) = self.loaded {
+            found.add(self.is_on(0), 0, &frame_of(&started));
+        }
+        found
+    }
+
+    /// The frames of the nodes that are on: the loaded one, and those of the line.
+    fn contenders(&self, line: &RoundLine) -> Contenders
+        ensures { result.all.items
+            ≡ contenders (is_on_now self.now) self.now.loaded line.now.send.items }
+    {
+        let mut found = self.own_contender();
+        let sends = line.sends();
+        for place in 0..sends.len() {
+            let (node, frame) = sends[place];
+            found.add(self.is_on(node), node, &frame);
+        }
+        found
+    }
+
+    /// Lets a winner's frame end: with a fault, without an acknowledgement, or well.
+    fn conclude(&mut self, line: &RoundLine, winner: u8, frame: &Frame) -> Course
+        requires within { winner < 9 }
+        requires won { IsWonBy (contenders (is_on_now self.old) self.old.loaded line.now.send.items)
+            winner frame.now }
+        ensures same { IsSameBus self.old self.new }
+        ensures goes_on { GoesOn self.old self.new
+            (λ past after. RunsSo line.now past after result) }
+    {
+        let senders = only(winner);
+        if let Some(code) = line.fault().code() {
+            let (sending, listening) = (BusEvent::SendFault, BusEvent::ReceiveFault);
+            self.happen(&senders, sending, listening, StatusEvent::Fault(code));
+            return Course::Fault;
+        }
+        if self.another_is_on(winner) {
+            let event = transfer_of(winner);
+            self.happen(&senders, BusEvent::Sent, BusEvent::Received, event);
+            success(winner, frame)
+        } else {
+            let unheard = BusEvent::SendNoAck;
+            self.happen(&senders, unheard, unheard, StatusEvent::Fault(3));
+            Course::NoAck
+        }
+    }
+
+    /// Lets the frames contend.
+    pub(crate) fn run(&mut self, line: &RoundLine) -> Course
+        ensures same { IsSameBus self.old self.new }
+        ensures goes_on { GoesOn self.old self.new
+            (λ past after. RunsSo line.now past after result) }
+    {
+        let contenders = self.contenders(line);
+        if contenders.is_empty() {
+            return Course::Idle;
+        }
+        match arbitrate(contenders.frames()) {
+            Outcome::Collision => {
+                let senders = contenders.colliding();
+                let code = collision_code(senders[0]);
+                let (sending, listening) = (BusEvent::SendFault, BusEvent::ReceiveFault);
+                self.happen(&senders, sending, listening, StatusEvent::Fault(code));
+                Course::Collision
+            }
+            Outcome::Winner(place) => {
+                let (winner, frame) = contenders.at(place);
+                self.conclude(line, winner, &frame)
+            }
+        }
+    }
+}

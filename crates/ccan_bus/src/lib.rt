@@ -1,0 +1,39 @@
+//! The bus of a C_CAN controller: arbitration, rounds, and the error counters and the Status register over them, for any
+//! access to the message RAM.
+//!
+//! A `Bus` is the controller (node 0) and up to eight other nodes. In a round it loads an object, lets the frames of all
+//! nodes that are on contend, gives each node the event that comes of it, and makes the memory step that follows:
+//!
+//! ```text
+//!   message RAM                     bus                              nodes
+//!   object, TxRqst --start--> loaded frame --+
+//!                                            +--> arbitration --> a bus event for each node that is on,
+//!                    frames of a RoundLine --+         |          a status event for the controller
+//!   object <--finish-- the controller's frame won <----+
+//!   object <--store--- another node's frame won <------+
+//! ```
+//!
+//! A `Bus` stores no list of what happened. Contracts speak of its past: each past that may have led to the value before a
+//! call goes on to one that leads to the value after it.
+#![tactic(auto)]
+
+pub mod answer;
+pub mod arbitration;
+pub mod bus;
+mod contenders;
+mod course;
+pub mod laws;
+mod lead;
+mod load;
+mod loop_back;
+mod nodes;
+mod round;
+pub mod round_line;
+#[cfg(test)]
+mod tests;
+mod transfer;
+
+pub use answer::{LoadAnswer, RoundAnswer};
+pub use arbitration::{Bits, Outcome, arbitrate, arbitration_bits};
+pub use bus::Bus;
+pub use round_line::{Fault, RoundLine};

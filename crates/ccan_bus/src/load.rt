@@ -1,0 +1,73 @@
+//! Loads: what the controller is about to send.
+
+ghost use Rattle.std.specs.Prelude.{◌≡◌, None, Some};
+ghost use Rattle.ccan_bus.specs.Load.{Loads, refusal_of_load};
+
+use crate::answer::LoadAnswer;
+use crate::bus::Bus;
+use ccan_handler::{ScanRefused, choose};
+use ccan_object::{ObjectNo, Record};
+use ccan_ram::{Access, Refused, Tries};
+
+/// What is loaded, and the answer that tells it.
+fn loaded(object: ObjectNo, started: &Record) -> Option<(ObjectNo, Record)>
+    ensures { result ≡ Some (object, started.now) }
+{
+    Some((object, *started))
+}
+
+fn loaded_answer(object: ObjectNo, started: &Record) -> LoadAnswer
+    ensures { result ≡ LoadAnswer.Loaded object started.now }
+{
+    LoadAnswer::Loaded(object, *started)
+}
+
+/// The answer of a load that was refused.
+fn refusal_of_load(refused: ScanRefused) -> LoadAnswer
+    ensures { result ≡ refusal_of_load refused.at refused.why }
+{
+    match refused.why {
+        Refused::Busy { .. } => LoadAnswer::Busy(refused.at),
+        Refused::Spent => LoadAnswer::Spent(refused.at),
+    }
+}
+
+impl Bus {
+    ghost use Rattle.ccan_bus.specs.Bus.{GoesOnWith, IsSameBus};
+
+    /// Chooses and starts an object, where the controller is on and nothing is loaded.
+    pub fn load<A: Access>(&mut self, access: &mut A, tries: Tries) -> LoadAnswer
+        requires { (A.passes access.old).terms.profile ≡ self.old.profile }
+        ensures same { IsSameBus self.old self.new }
+        ensures goes_on { GoesOnWith (A.passes access.old) (A.passes access.new) self.old self.new
+            (λ terms seen added past after. Loads terms tries seen added past after result) }
+    {
+        match self.loaded {
+            Some((object, _)) => LoadAnswer::Held(object),
+            None => self.load_next(access, tries),
+        }
+    }
+
+    /// The same where nothing is loaded.
+    fn load_next<A: Access>(&mut self, access: &mut A, tries: Tries) -> LoadAnswer
+        requires empty { self.old.loaded ≡ None }
+        requires same_profile { (A.passes access.old).terms.profile ≡ self.old.profile }
+        ensures same { IsSameBus self.old self.new }
+        ensures goes_on { GoesOnWith (A.passes access.old) (A.passes access.new) self.old self.new
+            (λ terms seen added past after. Loads terms tries seen added past after result) }
+    {
+        let is_on = self.is_on(0);
+        if is_on {
+            match choose(access, tries) {
+                Ok(Some((object, started))) => {
+                    self.loaded = loaded(object, &started);
+                    loaded_answer(object, &started)
+                }
+                Ok(None) => LoadAnswer::Nothing,
+                Err(refused) => refusal_of_load(refused),
+            }
+        } else {
+            LoadAnswer::Nothing
+        }
+    }
+}

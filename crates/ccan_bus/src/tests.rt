@@ -1,0 +1,7 @@
+use super::*;
+
+mod arbitrations;
+mod bench;
+mod contention;
+mod loops;
+mod rounds;
