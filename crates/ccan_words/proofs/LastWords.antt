@@ -1,0 +1,189 @@
+-- The words at the end.
+use Rattle.std.proofs.Common.{◌≡◌, ◌≢◌, ℕ, zero, suc, ◌+◌, ◌-◌, ◌<◌, ◌≤◌, ◌++◌, Bool, List, [], ◌∷◌, length, map, get_or, set, replicate, Some, None, sym, refl, ap, ◌∙◌, subst, arith, add-zero, lit<, lit≤}
+use Rattle.std.proofs.lemmas.List.{get_or-replicate, get_or-set_same, get_or-set_other}
+use Rattle.std.specs.List.{range_with_len}
+use mathlib.Core.Logic.{dite}
+use native.Mathlib.Decide.{ℕ_discrete}
+use mathlib.Core.Option.{some, some-injective, some-ne-none}
+use lib.ListN.{get_elem?}
+use Rattle.atomic_table.specs.Table.{State}
+use Rattle.ccan_object.specs.declared.profile.Profile.{Profile}
+use Rattle.ccan_object.specs.declared.profile.Profile.TheVariants.{One, Two}
+use Rattle.ccan_object.specs.declared.record.Record.{Record}
+use Rattle.ccan_object.specs.Profile.{objects_in, Holds}
+use Rattle.ccan_object.specs.Record.{IsRecord, zero_record}
+use Rattle.ccan_object.specs.Packing.{packed}
+use Rattle.ccan_ram.specs.declared.port.PortName.{PortName}
+use Rattle.ccan_ram.specs.declared.port.PortName.TheVariants.{If1, If2, Bus}
+use Rattle.ccan_ram.specs.declared.ending.Final.{Final}
+use Rattle.ccan_ram.specs.History.{IsLegal, record_at, events_of, last_number, BeginsWith}
+use Rattle.ccan_ram.specs.SharedRam.{Pass}
+use Rattle.ccan_ram.specs.Ending.{IsPart, Ends, final_records}
+use Rattle.ccan_words.specs.declared.view.Held.{Held}
+use Rattle.ccan_words.specs.declared.view.View.{View}
+use Rattle.ccan_words.specs.View.{History, only, together}
+use Rattle.ccan_words.specs.Layout.{Form, Lies, Shows, IsNumber}
+use Rattle.ccan_words.specs.Rule.{Settles, Keeps}
+use Rattle.ccan_words.specs.Plays.{Knows}
+use Rattle.ccan_words.specs.Version.{IsSeatOf}
+use Rattle.ccan_words.specs.Port.{IsPort}
+use Rattle.ccan_words.specs.Ending.{AreWordsOf, LeaveRecords, ShowRecord}
+use Rattle.ccan_words.proofs.Histories.{latest, stands_records, record_is}
+use Rattle.ccan_words.proofs.Reading.{of_three, three_words}
+use Rattle.ccan_words.proofs.Ports.{last_is_number}
+
+pub at_read : (l : List ℕ) (i x : ℕ) → get_elem? l i ≡ some x → get_or l i 0 ≡ x
+at_read [] i x e = absurd (some-ne-none x (sym e))
+at_read (y ∷ l) zero x e = some-injective y x e
+at_read (y ∷ l) (suc i) x e = at_read l i x e
+
+-- ---- the record of an object
+
+module _ {profile : Profile} {most : ℕ} {contends : ℕ → ℕ → Bool} (F : Form profile most contends) (lies : Lies F) (shows : Shows F)
+    (ws : List ℕ) (k n : ℕ) (object : Holds profile k) (is : get_or ws (F.cell k) 0 ≡ n) where
+  module _ (log : History) (t : Settles F ws log) where
+    is_last : n ≡ last_number contends k log
+    is_last = sym is ∙ t.heads k object
+
+    pub end_number : n ≢ 0 → IsNumber most n
+    end_number nz = subst (IsNumber most) (sym is_last) (last_is_number contends most k log t.sound.few (λ z. nz (is_last ∙ z)))
+
+  pub end_none : n ≡ 0 → ShowRecord F ws k zero_record
+  end_none z log t = sym ((latest contends k log).none (sym (is_last log t) ∙ z) k (lies.itself k))
+
+  pub end_some : (first : ℕ) (three : List ℕ) (r : Record) → n ≢ 0 → first ≡ F.offset k → AreWordsOf F ws n first three
+      → ((s : Record) → IsRecord s → packed s ≡ three → r ≡ s) → ShowRecord F ws k r
+  end_some first three r nz first_is w unpacks log t =
+      let s = (latest contends k log).some (λ z. nz (is_last log t ∙ z)) in
+      let inside = shows.inside k object in
+      let good = record_is k s.0 (stands_records log (last_number contends k log) s.0 t.sound.records s.1) in
+      let word : (j m : ℕ) → j < 3 → F.offset k + j ≡ m → get_or (packed (record_at k s.0)) j 0 ≡ get_or ws (F.place n m) 0 =
+      λ j m l e.
+      sym (shows.value k j s.0 object s.2 l)
+      ∙ (sym (t.versions (last_number contends k log) (F.offset k + j) s.0 s.1 (omega arith))
+      ∙ (λ i. get_or ws (F.place (sym (is_last log t) i) (e i)) 0)) in
+      unpacks (record_at k s.0) good
+      (three_words (record_at k s.0) w.a w.b w.c
+      (of_three (λ j. get_or (packed (record_at k s.0)) j 0 ≡ get_or (w.a ∷ w.b ∷ w.c ∷ []) j 0)
+      (word 0 first (lit< tt) (omega arith) ∙ w.a_is)
+      (word 1 (first + 1) (lit< tt) (omega arith) ∙ w.b_is)
+      (word 2 (first + 2) (lit< tt) (omega arith) ∙ w.c_is)) ∙ sym w.all)
+      ∙ s.3 k (lies.itself k)
+
+-- ---- all records
+
+-- records that are known place by place, and then others
+listed_from : (f : ℕ → Record) (n m start : ℕ) (r d : Record) (records : List Record) → length records ≡ n + m
+    → ((k : ℕ) → k < n → get_or records k d ≡ f (start + k)) → ((k : ℕ) → n ≤ k → k < n + m → get_or records k d ≡ r)
+    → records ≡ map f (range_with_len start n) ++ replicate m r
+listed_from f zero zero start r d [] count each rest = refl
+listed_from f zero zero start r d (x ∷ xs) count each rest = absurd (omega arith)
+listed_from f zero (suc m) start r d [] count each rest = absurd (omega arith)
+listed_from f zero (suc m) start r d (x ∷ xs) count each rest =
+    let first : x ≡ r = rest 0 (omega arith) (omega arith) in
+    let more =
+    listed_from f zero m start r d xs (omega arith) (λ k l. absurd (omega arith)) (λ k l u. rest (suc k) (omega arith) (omega arith)) in
+    λ i. first i ∷ more i
+listed_from f (suc n) m start r d [] count each rest = absurd (omega arith)
+listed_from f (suc n) m start r d (x ∷ xs) count each rest =
+    let first : x ≡ f start = each 0 (omega arith) ∙ ap f (add-zero start) in
+    let next : (k : ℕ) → start + suc k ≡ start + 1 + k = λ k. omega arith in
+    let more =
+    listed_from f n m (start + 1) r d xs (omega arith) (λ k l. each (suc k) (omega arith) ∙ ap f (next k))
+    (λ k l u. rest (suc k) (omega arith) (omega arith)) in
+    λ i. first i ∷ more i
+
+most_objects : (profile : Profile) → objects_in profile ≤ 64
+most_objects One = lit≤ tt
+most_objects Two = lit≤ tt
+
+-- the records of a memory's objects, and then zero records
+pub record AreListed (n : ℕ) (log : History) (records : List Record) : Type 0 where
+  pub each : (k : ℕ) → k < n → get_or records k zero_record ≡ record_at (k + 1) log
+  pub rest : (k : ℕ) → n ≤ k → k < 64 → get_or records k zero_record ≡ zero_record
+
+pub listed : (profile : Profile) (log : History) (records : List Record) → length records ≡ 64
+    → AreListed (objects_in profile) log records → records ≡ final_records profile log
+listed profile log records count all =
+    let most = most_objects profile in
+    let sum : objects_in profile + (64 - objects_in profile) ≡ 64 = omega arith in
+    listed_from (λ k. record_at k log) (objects_in profile) (64 - objects_in profile) 1 zero_record zero_record records (count ∙ sym sum)
+    (λ k l. all.each k l ∙ ap (λ (n : ℕ). record_at n log) (let e : k + 1 ≡ 1 + k = omega arith in e))
+    (λ k l u. all.rest k l (omega arith))
+
+pub listed_none : (log : History) → AreListed 0 log (replicate 64 zero_record)
+listed_none log = record { each = λ k l. absurd (omega arith); rest = λ k l u. get_or-replicate 64 k zero_record zero_record u }
+
+-- one record more
+pub listed_more : (i : ℕ) (log : History) (r : Record) (records : List Record) → length records ≡ 64 → i < 64 → r ≡ record_at (i + 1) log
+    → AreListed i log records → AreListed (i + 1) log (set records i r)
+listed_more i log r records count few is all = record {
+  each = λ k l.
+      dite (ℕ_discrete k i)
+      (λ e.
+      ap (λ (n : ℕ). get_or (set records i r) n zero_record) e
+      ∙ (get_or-set_same records i r zero_record (omega arith) ∙ (is ∙ ap (λ (n : ℕ). record_at (n + 1) log) (sym e))))
+      (λ n. get_or-set_other records i k r zero_record n ∙ all.each k (omega arith));
+  rest = λ k l u. get_or-set_other records i k r zero_record (λ e. absurd (omega arith)) ∙ all.rest k (omega arith) u;
+}
+
+-- ---- three ports in one seat, at the end
+
+name_is : {profile : Profile} (p n : PortName) (used quota : ℕ) (m : Knows) (i : IsPort m profile p used quota) → p ≡ n
+    → IsSeatOf n i.held m
+name_is p n used quota m i e = i.view ∙ (λ j. (only (e j) (Some i.held), []))
+
+abbrev three_held : Held → Held → Held → View
+three_held a b c = record { if1 = Some a; if2 = Some b; bus = Some c }
+
+pub three : (ma mb mc m1 m2 : Knows) (a b c : Held) → IsSeatOf If1 a ma → IsSeatOf If2 b mb → IsSeatOf Bus c mc
+    → m1 ≡ (together ma.0 mb.0, ma.1) → m2 ≡ (together m1.0 mc.0, m1.1) → m2.0 ≡ three_held a b c
+three ma mb mc m1 m2 a b c va vb vc e f =
+    let first : m1.0 ≡ record { if1 = Some a; if2 = Some b; bus = None } = ap (λ (m : Knows). m.0) e ∙ (λ i. together (va i).0 (vb i).0) in
+    ap (λ (m : Knows). m.0) f ∙ (λ i. together (first i) (vc i).0)
+
+pub settled : {profile : Profile} {most : ℕ} {contends : ℕ → ℕ → Bool} (F : Form profile most contends) (s : State (Unit {0}) View)
+    (r : Keeps F s)
+    → Settles F s.words r.log
+settled F s r = record {
+  sound = record { legal = r.sound.legal; records = r.sound.records; few = λ q. (let a = r.sound.few q in let t = r.top in omega arith) };
+  wide = r.wide;
+  heads = r.heads;
+  versions = r.versions;
+}
+
+-- the port of this name has seen this
+pub record HasSeen (p : PortName) (x : Held) (a : Pass) : Type 0 where
+  pub port_is : a.port ≡ p
+  pub seen_is : a.seen ≡ x.seen
+
+part_at : (p : PortName) (x : Held) (a : Pass) (log : History) → HasSeen p x a → BeginsWith log x.seen
+    → events_of p log ≡ events_of p x.seen
+    → IsPart a log
+part_at p x a log is begins own = record {
+  begins = subst (BeginsWith log) (sym is.seen_is) begins;
+  own = ap (λ (q : PortName). events_of q log) is.port_is ∙ (own ∙ (λ i. events_of (sym is.port_is i) (sym is.seen_is i)));
+}
+
+pub ended : {profile : Profile} {most : ℕ} {contends : ℕ → ℕ → Bool} (F : Form profile most contends) (s : State (Unit {0}) View)
+    (r : Keeps F s)
+    (ws : List ℕ) (id : ℕ) (v : View) (a b c : Pass) (xa xb xc : Held) (final : Final) → get_elem? s.views id ≡ some v → s.words ≡ ws
+    → v ≡ three_held xa xb xc → HasSeen If1 xa a → HasSeen If2 xb b → HasSeen Bus xc c → final.profile ≡ profile
+    → final.profile ≡ a.memory.profile
+    → LeaveRecords F ws final.records → Ends a b c final
+ended {profile} F s r ws id v a b c xa xb xc final at same is ha hb hc whole own value =
+    let here = subst (λ (u : View). get_elem? s.views id ≡ some u) is at in
+    let w : View = three_held xa xb xc in
+    let fa = r.seats id If1 w xa here refl in
+    let fb = r.seats id If2 w xb here refl in
+    let fc = r.seats id Bus w xc here refl in
+    let left : final.records ≡ final_records profile r.log = value r.log (subst (λ (l : List ℕ). Settles F l r.log) same (settled F s r)) in
+    record {
+      profile_is = own;
+      history = r.log;
+      legal = subst (λ (q : Profile). IsLegal q r.log) (sym whole) r.sound.legal;
+      part_if1 = part_at If1 xa a r.log ha fa.part fa.own;
+      part_if2 = part_at If2 xb b r.log hb fb.part fb.own;
+      part_bus = part_at Bus xc c r.log hc fc.part fc.own;
+      left = left ∙ ap (λ (q : Profile). final_records q r.log) (sym whole);
+    }

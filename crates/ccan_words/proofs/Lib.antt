@@ -1,0 +1,15 @@
+pub mod Histories
+pub mod Views
+pub mod Notes
+pub mod Keeping
+pub mod Exchanging
+pub mod Parting
+pub mod Tables
+pub mod Seats
+pub mod Reading
+pub mod Making
+pub mod Ports
+pub mod Looking
+pub mod Committing
+pub mod Meeting
+pub mod LastWords

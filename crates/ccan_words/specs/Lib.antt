@@ -1,0 +1,11 @@
+pub mod View
+pub mod Layout
+pub mod Rule
+pub mod OneWordEach
+pub mod OneWord
+pub mod Laws
+pub mod Plays
+pub mod Version
+pub mod Port
+pub mod Words
+pub mod Ending

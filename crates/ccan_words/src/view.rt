@@ -1,0 +1,20 @@
+//! What a seat knows. Histories and views exist in the proofs alone; no value of these types is made.
+use ccan_ram::Event;
+use std::collections::LinkedList;
+
+/// What a seat knows for a port that it holds.
+pub struct Held {
+    /// All that the port has seen, the newest event first.
+    pub seen: LinkedList<Event>,
+    /// The first words of the port's next version, which is not published.
+    pub note: LinkedList<u64>,
+    /// How many changes a port of this memory may make.
+    pub quota: u64,
+}
+
+/// What a seat knows for each port.
+pub struct View {
+    pub if1: Option<Held>,
+    pub if2: Option<Held>,
+    pub bus: Option<Held>,
+}

@@ -1,0 +1,255 @@
+//! Worked examples with a forced order of the ports' steps.
+ghost use Rattle.std.specs.Prelude.{◌≡◌};
+
+use super::*;
+
+const P: (u32, u32, u16, [u8; 8]) = (
+    0xa48c0000,
+    0,
+    0x0088,
+    [0x11, 0x22, 0x33, 0x44, 0x55, 0x66, 0x77, 0x88],
+);
+
+/// A start of an object that was made invalid after the look is lost, and the scan goes on to the next that is ready.
+fn start_of_an_invalid_object<R: SharedRam + Drop>(rt: &impl Abort, alloc: std::alloc::Global) {
+    let Ok((ram, mut if1, if2, mut bus)) = R::open_ram(alloc, Profile::One, 64) else {
+        panic!(rt; "no memory")
+    };
+    let five = ObjectNo::from_request(ram.profile(), 5);
+    let nine = ObjectNo::from_request(ram.profile(), 9);
+    let first = ram.change(&mut if1, five, &message(0x0188), tries(1));
+    assert_eq!(rt; number(&first), Some(1));
+    let second = ram.change(&mut if1, nine, &message(0x0188), tries(1));
+    assert_eq!(rt; number(&second), Some(2));
+    let draft = ram.prepare(&mut bus, five);
+    let invalid = change_of(&[(Reg::CMask, 0x00a0), (Reg::Arb2, 0x048c)]);
+    let third = ram.change(&mut if1, five, &invalid, tries(1));
+    assert_eq!(rt; number(&third), Some(3));
+    let lost = ram.commit(&mut bus, draft, &Change::Start);
+    assert_eq!(rt; lost, Err(CommitError::Lost { now: 3 }));
+    let mut handler = On::new(&ram, bus);
+    let not_now = handler.change(five, &Change::Start, tries(1));
+    assert!(rt; matches!(&not_now, Ok(Changed::NotNow(_))));
+    let started = handler.change(nine, &Change::Start, tries(1));
+    assert_eq!(rt; number(&started), Some(131073));
+    let bus = handler.into_port();
+    assert_eq!(rt; (ram.used(&if1), ram.used(&if2), ram.used(&bus)), (3, 0, 1));
+}
+
+/// What comes of a commit of IF1 at object 4 after a change of IF2 at another object or the same, and what a change of IF1
+/// then leaves.
+fn commit_after<R: SharedRam + Drop>(
+    rt: &impl Abort,
+    alloc: std::alloc::Global,
+    request: u16,
+) -> (Result<Changed, CommitError>, Record) {
+    let Ok((ram, mut if1, mut if2, _bus)) = R::open_ram(alloc, Profile::One, 64) else {
+        panic!(rt; "no memory")
+    };
+    let four = ObjectNo::from_request(ram.profile(), 4);
+    let other = ObjectNo::from_request(ram.profile(), request);
+    let draft = ram.prepare(&mut if1, four);
+    let theirs = ram.change(&mut if2, other, &data(0x9999), tries(1));
+    assert_eq!(rt; number(&theirs), Some(65537));
+    let committed = ram.commit(&mut if1, draft, &control(0x0088));
+    let changed = ram.change(&mut if1, four, &control(0x0088), tries(1));
+    let Some((after, _)) = done(&changed) else {
+        panic!(rt; "the change was not made")
+    };
+    (committed, after)
+}
+
+#[test]
+fn a_start_of_an_invalid_object_is_lost(rt: HostRuntime) {
+    start_of_an_invalid_object::<WordRam>(&rt, rt.alloc());
+    start_of_an_invalid_object::<RootRam>(&rt, rt.alloc());
+}
+
+#[test]
+fn changes_contend_by_the_layout(rt: HostRuntime) {
+    let (same, both) = commit_after::<WordRam>(&rt, rt.alloc(), 4);
+    assert_eq!(rt; same, Err(CommitError::Lost { now: 65537 }));
+    assert_eq!(rt; shown(&both), (0, 0, 0x0088, [0x99; 8]));
+    let (other, mine) = commit_after::<WordRam>(&rt, rt.alloc(), 6);
+    assert_eq!(rt; number(&other), Some(1));
+    assert_eq!(rt; shown(&mine), (0, 0, 0x0088, [0; 8]));
+    let (same, both) = commit_after::<RootRam>(&rt, rt.alloc(), 4);
+    assert_eq!(rt; same, Err(CommitError::Lost { now: 65537 }));
+    assert_eq!(rt; shown(&both), (0, 0, 0x0088, [0x99; 8]));
+    let (other, mine) = commit_after::<RootRam>(&rt, rt.alloc(), 6);
+    assert_eq!(rt; other, Err(CommitError::Lost { now: 65537 }));
+    assert_eq!(rt; shown(&mine), (0, 0, 0x0088, [0; 8]));
+}
+
+#[test]
+fn quotas_have_a_range(rt: HostRuntime) {
+    assert!(rt;
+        matches!(
+            RootRam::open_ram(rt.alloc(), Profile::One, 65),
+            Err(OpenError::QuotaRange)
+        )
+    );
+    assert!(rt;
+        matches!(
+            RootRam::open_ram(rt.alloc(), Profile::One, 0),
+            Err(OpenError::QuotaRange)
+        )
+    );
+    assert!(rt; matches!(RootRam::open_ram(rt.alloc(), Profile::One, 64), Ok(_)));
+    assert!(rt;
+        matches!(
+            WordRam::open_ram(rt.alloc(), Profile::Two, 4097),
+            Err(OpenError::QuotaRange)
+        )
+    );
+    assert!(rt; matches!(WordRam::open_ram(rt.alloc(), Profile::Two, 4096), Ok(_)));
+    assert!(rt; matches!(WordRam::open_ram(rt.alloc(), Profile::Two, 65), Ok(_)));
+}
+
+/// What another port sees of a write.
+fn write_is_seen<R: SharedRam + Drop>(rt: &impl Abort, alloc: std::alloc::Global) {
+    let Ok((ram, mut if1, mut if2, _bus)) = R::open_ram(alloc, Profile::One, 64) else {
+        panic!(rt; "no memory")
+    };
+    let one = ObjectNo::from_request(ram.profile(), 1);
+    assert_eq!(rt; ram.look(&mut if1, one), Record::zero());
+    let written = ram.change(&mut if2, one, &message(0x0088), tries(1));
+    assert_eq!(rt; number(&written), Some(65537));
+    let draft = ram.prepare(&mut if1, one);
+    assert_eq!(rt; shown(&draft.held()), P);
+    assert_eq!(rt; (draft.object(), draft.number()), (one, 65537));
+    assert_eq!(rt; shown(&ram.look(&mut if2, one)), P);
+    ram.meet(&mut if1, &mut if2);
+    assert_eq!(rt; shown(&ram.look(&mut if1, one)), P);
+}
+
+#[test]
+fn a_write_is_seen_by_others(rt: HostRuntime) {
+    write_is_seen::<WordRam>(&rt, rt.alloc());
+    write_is_seen::<RootRam>(&rt, rt.alloc());
+}
+
+#[test]
+fn a_port_is_spent_after_its_quota(rt: HostRuntime) {
+    let Ok((ram, _if1, _if2, mut bus)) = WordRam::open_ram(rt.alloc(), Profile::One, 4096) else {
+        panic!(rt; "no memory")
+    };
+    let one = ObjectNo::from_request(ram.profile(), 1);
+    let clear = change_of(&[(Reg::CMask, 0x000c)]);
+    let mut last = None;
+    let mut handler = On::new(&ram, bus);
+    for _ in 0..4096u32 {
+        last = number(&handler.change(one, &clear, tries(1)));
+    }
+    assert_eq!(rt; last, Some(135168));
+    assert_eq!(rt; handler.change(one, &clear, tries(1)), Err(Refused::Spent));
+    assert_eq!(rt; handler.look(one), Record::zero());
+    bus = handler.into_port();
+    assert_eq!(rt; ram.used(&bus), 4096);
+}
+
+/// A store whose every try is lost is busy, with its tries and the number of the last change that contends.
+fn store_is_busy<R: SharedRam + Drop>(rt: &impl Abort, alloc: std::alloc::Global) {
+    let Ok((ram, mut if1, _if2, bus)) = R::open_ram(alloc, Profile::One, 64) else {
+        panic!(rt; "no memory")
+    };
+    let three = ObjectNo::from_request(ram.profile(), 3);
+    let receiver = change_of(&[
+        (Reg::CMask, 0x00f3),
+        (Reg::Arb2, 0x848c),
+        (Reg::Ctrl, 0x0088),
+    ]);
+    let first = ram.change(&mut if1, three, &receiver, tries(1));
+    assert_eq!(rt; number(&first), Some(1));
+    let Ok(frame) = Frame::new(0x123, false, false, 1, [1, 0, 0, 0, 0, 0, 0, 0]) else {
+        panic!(rt; "no frame")
+    };
+    let again = change_of(&[(Reg::CMask, 0x0082)]);
+    let mut disturbed = Contended::new(&ram, bus, if1, again, 64);
+    let busy = disturbed.change(three, &Change::Store(frame), tries(2));
+    assert_eq!(rt; busy, Err(Refused::Busy { tries: 2, now: 3 }));
+    let (bus, mut if1) = disturbed.into_ports();
+    assert_eq!(rt; ram.used(&bus), 0);
+    let mut handler = On::new(&ram, bus);
+    let stored = handler.change(three, &Change::Store(frame), tries(2));
+    let Some((after, _)) = done(&stored) else {
+        panic!(rt; "the frame was not stored")
+    };
+    assert_eq!(rt;
+        shown(&after),
+        (0x848c0000, 0, 0x8081, [1, 0, 0, 0, 0, 0, 0, 0])
+    );
+    let draft = ram.prepare(&mut if1, three);
+    assert_eq!(rt; draft.number(), 131073);
+}
+
+#[test]
+fn a_disturbed_store_is_busy(rt: HostRuntime) {
+    store_is_busy::<WordRam>(&rt, rt.alloc());
+    store_is_busy::<RootRam>(&rt, rt.alloc());
+}
+
+/// Drafts of three ports at one object, one of them twice, and what comes of each.
+fn three_ports_at_one_object<R: SharedRam>(rt: &impl Abort, alloc: std::alloc::Global) {
+    let Ok((ram, mut if1, mut if2, mut bus)) = R::open_ram(alloc, Profile::One, 64) else {
+        panic!(rt; "no memory")
+    };
+    let four = ObjectNo::from_request(ram.profile(), 4);
+    let own = ram.prepare(&mut if1, four);
+    let other = ram.prepare(&mut if2, four);
+    let first = ram.prepare(&mut bus, four);
+    let second = prepare_beside(&ram, &mut bus, four, &first);
+    let written = ram.commit(&mut if1, own, &message(0x0088));
+    assert_eq!(rt; number(&written), Some(1));
+    let clear = change_of(&[(Reg::CMask, 0x000c)]);
+    let lost = ram.commit(&mut if2, other, &clear);
+    assert_eq!(rt; lost, Err(CommitError::Lost { now: 1 }));
+    let again = ram.prepare(&mut if2, four);
+    let cleared = ram.commit(&mut if2, again, &clear);
+    assert!(rt;
+        matches!(&cleared, Ok(Changed::Done { before, after, number: 65537 }) if after == before)
+    );
+    let lost = commit_beside(&ram, &mut bus, first, &Change::Finish, &second);
+    assert_eq!(rt; lost, Err(CommitError::Lost { now: 65537 }));
+    let not_now = ram.commit(&mut bus, second, &Change::Start);
+    assert_eq!(rt; not_now, Ok(Changed::NotNow(Record::zero())));
+    let third = ram.prepare(&mut bus, four);
+    let not_now = ram.commit(&mut bus, third, &Change::Start);
+    assert!(rt; matches!(&not_now, Ok(Changed::NotNow(object)) if shown(object) == P));
+    let fourth = ram.prepare(&mut bus, four);
+    let finished = ram.commit(&mut bus, fourth, &Change::Finish);
+    assert_eq!(rt; number(&finished), Some(131073));
+    assert_eq!(rt; (ram.used(&if1), ram.used(&if2), ram.used(&bus)), (1, 1, 1));
+    let last = ram.close(if1, if2, bus);
+    assert_eq!(rt; shown(&last.records[3]), P);
+}
+
+#[test]
+fn three_ports_share_one_object(rt: HostRuntime) {
+    three_ports_at_one_object::<WordRam>(&rt, rt.alloc());
+    three_ports_at_one_object::<RootRam>(&rt, rt.alloc());
+}
+
+/// The same record again is not the same version: a draft that was made before is lost.
+fn same_record_again<R: SharedRam + Drop>(rt: &impl Abort, alloc: std::alloc::Global) {
+    let Ok((ram, mut if1, mut if2, _bus)) = R::open_ram(alloc, Profile::One, 64) else {
+        panic!(rt; "no memory")
+    };
+    let four = ObjectNo::from_request(ram.profile(), 4);
+    let first = ram.change(&mut if1, four, &message(0x0088), tries(1));
+    assert_eq!(rt; number(&first), Some(1));
+    let draft = ram.prepare(&mut if2, four);
+    let second = ram.change(&mut if1, four, &data(0x9999), tries(1));
+    assert_eq!(rt; number(&second), Some(2));
+    let third = ram.change(&mut if1, four, &message(0x0088), tries(1));
+    assert_eq!(rt; number(&third), Some(3));
+    assert_eq!(rt; draft.held(), ram.look(&mut if1, four));
+    let lost = ram.commit(&mut if2, draft, &control(0x0001));
+    assert_eq!(rt; lost, Err(CommitError::Lost { now: 3 }));
+}
+
+#[test]
+fn the_same_record_again_is_another_version(rt: HostRuntime) {
+    same_record_again::<WordRam>(&rt, rt.alloc());
+    same_record_again::<RootRam>(&rt, rt.alloc());
+}
