@@ -3,10 +3,11 @@
 //! With the word `measure` it prints medians of several runs, in microseconds; without a word it prints nothing.
 #![tactic(auto)]
 
-use anyhow::Result;
-use ccan_object::{ObjectNo, Record};
+use anyhow::{Result, bail};
+use ccan_object::{ObjectNo, Profile, Record};
 use ccan_ram::PortName;
-use ccan_run::{LineAnswer, print_line, run_stream};
+use ccan_run::{RunError, run_stream};
+use ccan_script::{LineAnswer, ListName, ScriptError, print_line};
 use std::alloc::{AllocError, Global};
 use std::env;
 use std::fmt::Write;
@@ -24,8 +25,13 @@ fn push_transfer(script: &mut String, index: u32) -> Result<(), AllocError> {
     let request = index % 32 + 1;
     write!(
         script,
-        "{{\"op\":\"transfer\",\"request\":\"{request:04x}\",\"set\":{{\"cmask\":\"00f3\",\"arb2\":\"a48c\",\"ctrl\":\"0088\",\"dataa1\":\"{index:04x}\",\"dataa2\":\"4433\",\"datab1\":\"6655\",\"datab2\":\"8877\"}}}},\n"
-    )
+        "{{\"op\":\"transfer\",\"request\":\"{request:04x}\",\"set\":{{\"cmask\":\"00f3\","
+    )?;
+    write!(
+        script,
+        "\"arb2\":\"a48c\",\"ctrl\":\"0088\",\"dataa1\":\"{index:04x}\",\"dataa2\":\"4433\","
+    )?;
+    script.push_str("\"datab1\":\"6655\",\"datab2\":\"8877\"}},\n")
 }
 
 /// A script of so many transfers, and then a line of this operation.
@@ -49,14 +55,22 @@ fn median(mut times: Vec<u64>) -> Result<u64, AllocError> {
     Ok(times.get(times.len() / 2).copied().unwrap_or(0))
 }
 
-/// How long it takes to read a script and, where it is one, to run and print it.
-fn stream_micros(clock: &impl Clock, alloc: Global, script: &[u8]) -> Result<u64> {
+/// How long it takes to answer a script: to read it and, where it is one, to run and print it. Another answer than the one
+/// that is wanted is an error.
+fn stream_micros(
+    clock: &impl Clock,
+    alloc: Global,
+    script: &[u8],
+    want: Result<(), RunError>,
+) -> Result<u64> {
     let mut times = Vec::new(alloc);
     for _ in 0..RUNS {
         let start = Instant::now(clock)?;
         let mut input = script;
         let mut output: Vec<u8> = Vec::new(alloc);
-        let _answer = run_stream(alloc, &mut input, &mut output);
+        if run_stream(alloc, &mut input, &mut output) != want {
+            bail!("another answer than the one wanted");
+        }
         times.push(micros(start.elapsed(clock)?))?;
     }
     Ok(median(times)?)
@@ -64,7 +78,7 @@ fn stream_micros(clock: &impl Clock, alloc: Global, script: &[u8]) -> Result<u64
 
 /// How long it takes to print the answers.
 fn print_micros(clock: &impl Clock, alloc: Global) -> Result<u64> {
-    let answer = LineAnswer::Write(ObjectNo::from_request(1), Record::zero());
+    let answer = LineAnswer::Write(ObjectNo::from_request(Profile::One, 1), Record::zero());
     let mut times = Vec::new(alloc);
     for _ in 0..RUNS {
         let start = Instant::now(clock)?;
@@ -82,8 +96,12 @@ fn print_micros(clock: &impl Clock, alloc: Global) -> Result<u64> {
 fn measure(rt: &(impl Clock + Print), alloc: Global) -> Result<()> {
     let script = made_script(alloc, "transfer")?;
     let faulty = made_script(alloc, "none")?;
-    let whole = stream_micros(rt, alloc, script.as_bytes())?;
-    let reading = stream_micros(rt, alloc, faulty.as_bytes())?;
+    let refused = RunError::Script(ScriptError::Shape {
+        list: ListName::If1,
+        index: 1999,
+    });
+    let whole = stream_micros(rt, alloc, script.as_bytes(), Ok(()))?;
+    let reading = stream_micros(rt, alloc, faulty.as_bytes(), Err(refused))?;
     let printing = print_micros(rt, alloc)?;
     let running = whole.saturating_sub(reading).saturating_sub(printing);
     let bytes = script.len();

@@ -1,56 +1,51 @@
--- The text of the answers so far, of one more, and what is written of it.
-use Rattle.std.proofs.Common.{◌≡◌, ◌<◌, ◌≤◌, ◌+◌, ◌-◌, ℕ, List, [], ◌∷◌, ◌++◌, Option, length, take, drop, map, get_or, refl, ap, sym, subst, ◌∙◌, append_assoc, append-nil, take-append-drop, arith, add-zero, add-suc, add-one, zero, suc}
-use Rattle.std.proofs.KnownBytes.{Appends-nil, Appends-trans}
+-- The text of the answers so far, and of the objects so far.
+use Rattle.std.proofs.Common.{◌≡◌, ◌<◌, ◌≤◌, ◌+◌, ◌-◌, ℕ, List, [], ◌∷◌, ◌++◌, length, take, map, get_or, cond, refl, ap, sym, ◌∙◌, append_assoc, append-nil, arith}
 use Rattle.std.proofs.lemmas.List.{take_more}
+use Rattle.std.proofs.lemmas.List.Sums.{sum_by-cons}
 use Rattle.std.proofs.lemmas.List.Concat.{flat_map-append}
 use Rattle.std.proofs.lemmas.List.Folds.{concat-append}
 use Rattle.std.proofs.lemmas.List.FromFn.{map-range_with_len_more}
 use Rattle.std.specs.List.{concat, range_with_len}
-use Rattle.std.specs.Io.KnownBytes.{Appends}
-use Rattle.ccan_ram.specs.declared.port.PortName.TheVariants.{If1}
-use Rattle.ccan_run.specs.declared.print.LineAnswer.{LineAnswer}
-use Rattle.ccan_run.specs.Stream.{WritesPart}
-use Rattle.ccan_run.specs.Text.{line_text}
-use Rattle.ccan_run.specs.Meaning.{answers_text, final_part, final_parts}
 use Rattle.ccan_object.specs.declared.record.Record.{Record}
+use Rattle.ccan_object.specs.declared.profile.Profile.{Profile}
+use Rattle.ccan_object.specs.declared.profile.Profile.TheVariants.{One, Two}
+use Rattle.ccan_object.specs.Profile.{objects_in}
+use Rattle.ccan_ram.specs.declared.port.PortName.{PortName}
+use Rattle.ccan_ram.specs.declared.port.PortName.TheVariants.{If1, If2, Bus}
 use Rattle.ccan_ram.specs.declared.event.Event.{Event}
-use Rattle.ccan_ram.specs.History.{record_at}
+use Rattle.ccan_ram.specs.Port.{same_port}
+use Rattle.ccan_ram.specs.History.{IsLegal, record_at}
+use Rattle.ccan_script.specs.declared.line_answer.LineAnswer.{LineAnswer}
+use Rattle.ccan_script.specs.Script.{ScriptFields}
+use Rattle.ccan_script.specs.Order.{times}
+use Rattle.ccan_script.specs.Print.{line_text}
+use Rattle.ccan_run.specs.Ordered.{LinesRun, HasText, answers_text, final_part, final_parts, finals_text}
 
--- a part that is written after a front, with more to come
-pub part_between : (a b c : Option (List ℕ)) (whole front middle rest : List ℕ) → whole ≡ (front ++ middle) ++ rest → Appends a b front → WritesPart b c middle → WritesPart a c whole
-part_between a b c whole front middle rest is so_far part = record {
-  front = front ++ part.front;
-  rest = part.rest ++ rest;
-  is = is ∙ ap (λ (t : List ℕ). (front ++ t) ++ rest) part.is ∙ simp append_assoc;
-  written = Appends-trans a b c front part.front so_far part.written;
-}
+abbrev reply_text : PortName × LineAnswer → List ℕ
+reply_text reply = line_text reply.0 reply.1
 
-more : (answers : List LineAnswer) (i : ℕ) (d : LineAnswer) → i < length answers → answers_text (take (i + 1) answers) ≡ answers_text (take i answers) ++ line_text If1 (get_or answers i d)
+pub answers_none : (old : List ℕ) → old ≡ old ++ answers_text []
 unfolding answers_text
-more answers i d h = ap answers_text (take_more answers i d h) ∙ flat_map-append (line_text If1) (take i answers) (get_or answers i d ∷ [])
-    ∙ ap (λ (t : List ℕ). answers_text (take i answers) ++ t) (append-nil (line_text If1 (get_or answers i d)))
+answers_none old = sym (append-nil old)
 
-split : (answers : List LineAnswer) (n : ℕ) → answers_text answers ≡ answers_text (take n answers) ++ answers_text (drop n answers)
+answers_more : (answers : List (PortName × LineAnswer)) (i : ℕ) (d : PortName × LineAnswer) → i < length answers
+    → answers_text (take (i + 1) answers) ≡ answers_text (take i answers) ++ reply_text (get_or answers i d)
 unfolding answers_text
-split answers n = ap answers_text (sym (take-append-drop n answers)) ∙ flat_map-append (line_text If1) (take n answers) (drop n answers)
+answers_more answers i d h = ap answers_text (take_more answers i d h) ∙ flat_map-append reply_text (take i answers) (get_or answers i d ∷ [])
+    ∙ ap (λ (t : List ℕ). answers_text (take i answers) ++ t) (append-nil (reply_text (get_or answers i d)))
 
-pub answers_start : (a : Option (List ℕ)) (answers : List LineAnswer) → Appends a a (answers_text (take 0 answers))
-unfolding answers_text
-answers_start a answers = Appends-nil a
-
-pub answers_go_on : (a b c : Option (List ℕ)) (answers : List LineAnswer) (i : ℕ) (d : LineAnswer) (text : List ℕ) → i < length answers → text ≡ line_text If1 (get_or answers i d)
-    → Appends a b (answers_text (take i answers)) → Appends b c text → Appends a c (answers_text (take (i + 1) answers))
-answers_go_on a b c answers i d text h is so_far written =
-    subst (Appends a c) (ap (λ (t : List ℕ). answers_text (take i answers) ++ t) is ∙ sym (more answers i d h)) (Appends-trans a b c _ text so_far written)
-
-pub answers_break : (a b c : Option (List ℕ)) (answers : List LineAnswer) (i : ℕ) (d : LineAnswer) (text : List ℕ) → i < length answers → text ≡ line_text If1 (get_or answers i d)
-    → Appends a b (answers_text (take i answers)) → WritesPart b c text → WritesPart a c (answers_text answers)
-answers_break a b c answers i d text h is so_far part =
-    part_between a b c (answers_text answers) (answers_text (take i answers)) text (answers_text (drop (i + 1) answers))
-    (split answers (i + 1) ∙ ap (λ (t : List ℕ). t ++ answers_text (drop (i + 1) answers)) (more answers i d h ∙ ap (λ (t : List ℕ). answers_text (take i answers) ++ t) (sym is)))
-    so_far part
+pub answers_go_on : (old text line : List ℕ) (answers : List (PortName × LineAnswer)) (i : ℕ) (reply : PortName × LineAnswer) → i < length answers
+    → reply ≡ get_or answers i reply → line ≡ line_text reply.0 reply.1 → text ≡ old ++ answers_text (take i answers)
+    → text ++ line ≡ old ++ answers_text (take (i + 1) answers)
+answers_go_on old text line answers i reply h is printed so_far =
+    ap (λ t. t ++ line) so_far ∙ append_assoc old (answers_text (take i answers)) line
+    ∙ ap (λ t. old ++ t) (ap (λ t. answers_text (take i answers) ++ t) (printed ∙ ap reply_text is) ∙ sym (answers_more answers i reply h))
 
 -- ---- the objects at the end
+
+pub few_objects : (profile : Profile) → objects_in profile ≤ 64
+few_objects One = omega arith
+few_objects Two = omega arith
 
 module _ (history : List Event) where
   finals_more : (n : ℕ) → final_parts history (n + 1) ≡ final_parts history n ++ final_part (1 + n) (record_at (1 + n) history)
@@ -60,41 +55,50 @@ module _ (history : List Event) where
       ap concat (map-range_with_len_more part 1 n (1 + n) refl) ∙ concat-append (map part (range_with_len 1 n)) (part (1 + n) ∷ [])
       ∙ ap (λ (t : List ℕ). concat (map part (range_with_len 1 n)) ++ t) (append-nil (part (1 + n)))
 
-  -- the lines of more objects begin with those of fewer
-  finals_split : (n k : ℕ) → (rest : List ℕ) × (final_parts history (n + k) ≡ final_parts history n ++ rest)
-  finals_split n zero = ([], ap (final_parts history) (add-zero n) ∙ sym (append-nil (final_parts history n)))
-  finals_split n (suc k) =
-      let before = finals_split n k in
-      let last = final_part (1 + (n + k)) (record_at (1 + (n + k)) history) in (
-        before.0 ++ last,
-        ap (final_parts history) (add-suc n k ∙ sym (add-one (n + k))) ∙ finals_more (n + k) ∙ ap (λ (t : List ℕ). t ++ last) before.1 ∙ append_assoc (final_parts history n) before.0 last,
-      )
-
-  pub finals_start : (a : Option (List ℕ)) → Appends a a (final_parts history 0)
+  pub finals_none : (old : List ℕ) → old ≡ old ++ final_parts history 0
   unfolding final_parts
-  finals_start a = Appends-nil a
+  finals_none old = sym (append-nil old)
 
-  module _ (a b c : Option (List ℕ)) (number object : ℕ) (low : 1 ≤ number) (is : object ≡ number) (left : Record) (at : left ≡ record_at object history)
-      (so_far : Appends a b (final_parts history (number - 1))) where
-    here : final_parts history number ≡ final_parts history (number - 1) ++ final_part object left
-    here =
-        let next : number - 1 + 1 ≡ number = omega arith in
-        let same : 1 + (number - 1) ≡ object = omega arith in
-        ap (final_parts history) (sym next) ∙ finals_more (number - 1)
-        ∙ ap (λ (n : ℕ). final_parts history (number - 1) ++ final_part n (record_at n history)) same
-        ∙ ap (λ (r : Record). final_parts history (number - 1) ++ final_part object r) (sym at)
+  pub finals_go_on : (old text : List ℕ) (number object : ℕ) (left : Record) → 1 ≤ number → object ≡ number → left ≡ record_at object history
+      → text ≡ old ++ final_parts history (number - 1) → text ++ final_part object left ≡ old ++ final_parts history (number + 1 - 1)
+  finals_go_on old text number object left low is at so_far =
+      let next : number + 1 - 1 ≡ number - 1 + 1 = omega arith in
+      let same : 1 + (number - 1) ≡ object = omega arith in
+      let here : final_parts history (number + 1 - 1) ≡ final_parts history (number - 1) ++ final_part object left =
+      ap (final_parts history) next ∙ finals_more (number - 1)
+      ∙ ap (λ (n : ℕ). final_parts history (number - 1) ++ final_part n (record_at n history)) same
+      ∙ ap (λ (r : Record). final_parts history (number - 1) ++ final_part object r) (sym at) in
+      ap (λ t. t ++ final_part object left) so_far ∙ append_assoc old (final_parts history (number - 1)) (final_part object left)
+      ∙ ap (λ t. old ++ t) (sym here)
 
-    pub finals_go_on : Appends b c (final_part object left) → Appends a c (final_parts history (number + 1 - 1))
-    finals_go_on written =
-        let next : number + 1 - 1 ≡ number = omega arith in
-        subst (Appends a c) (sym (ap (final_parts history) next ∙ here)) (Appends-trans a b c _ _ so_far written)
+  pub finals_end : (old text : List ℕ) (number count : ℕ) → number ≡ count + 1 → text ≡ old ++ final_parts history (number - 1)
+      → text ≡ old ++ final_parts history count
+  finals_end old text number count is so_far = let same : number - 1 ≡ count = omega arith in so_far ∙ ap (λ n. old ++ final_parts history n) same
 
-    pub finals_break : number < 33 → WritesPart b c (final_part object left) → WritesPart a c (final_parts history 32)
-    finals_break high part =
-        let all : number + (32 - number) ≡ 32 = omega arith in
-        let rest = finals_split number (32 - number) in
-        part_between a b c (final_parts history 32) (final_parts history (number - 1)) (final_part object left) rest.0
-        (ap (final_parts history) (sym all) ∙ rest.1 ∙ ap (λ (t : List ℕ). t ++ rest.0) here) so_far part
+-- ---- the whole text
 
-  pub finals_end : (a b : Option (List ℕ)) (number : ℕ) → number ≡ 33 → Appends a b (final_parts history (number - 1)) → Appends a b (final_parts history 32)
-  finals_end a b number is written = subst (λ (n : ℕ). Appends a b (final_parts history (n - 1))) is written
+one_of_three : (port : PortName) → cond (same_port If1 port) 1 0 + cond (same_port If2 port) 1 0 + cond (same_port Bus port) 1 0 ≡ 1
+one_of_three If1 = refl
+one_of_three If2 = refl
+one_of_three Bus = refl
+
+times_more : (name port : PortName) (order : List PortName) → times name (port ∷ order) ≡ cond (same_port name port) 1 0 + times name order
+times_more name port order = sum_by-cons (λ p. cond (same_port name p) 1 0) port order
+
+-- an order has as many names as the ports have together
+pub names_of_all : (order : List PortName) → length order ≡ times If1 order + times If2 order + times Bus order
+names_of_all [] = refl
+names_of_all (port ∷ order) =
+    omega (arith, names_of_all order, one_of_three port, times_more If1 port order, times_more If2 port order, times_more Bus port order)
+
+pub whole_text : (script : ScriptFields) (answers logged : List (PortName × LineAnswer)) (profile : Profile) (empty first text written : List ℕ)
+    → profile ≡ script.profile → empty ≡ [] → answers ≡ logged → first ≡ empty ++ answers_text answers → written ≡ text
+    → (history : List Event) → IsLegal profile history → LinesRun script history logged → text ≡ first ++ finals_text profile history
+    → HasText script written
+whole_text script answers logged profile empty first text written same none log front out history legal lines is = record {
+  history = history;
+  answers = logged;
+  runs = record { legal = rw (sym same) legal; lines = lines };
+  is = out ∙ is ∙ ap (λ t. t ++ finals_text profile history) (front ∙ ap (λ t. t ++ answers_text answers) none ∙ ap answers_text log)
+      ∙ ap (λ p. answers_text logged ++ finals_text p history) same;
+}

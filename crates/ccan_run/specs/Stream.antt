@@ -1,25 +1,39 @@
--- What whole reads and broken writes leave. Source: this project's own.
-use Rattle.std.specs.Prelude.{◌≡◌, ◌<◌, ℕ, List, ◌++◌, length, Option, IfSome}
-use Rattle.std.specs.Io.KnownBytes.{Appends, Consumes, IsAtEnd}
-use Rattle.ccan_run.specs.declared.error.RunError.{RunError}
-use Rattle.ccan_run.specs.declared.error.RunError.TheVariants.{Read, TooLong, Memory}
-use Rattle.ccan_run.specs.declared.input.TheConstants.{MAX_INPUT}
+-- What a run of a stream leaves in its reader and its writer. Source: this project's own.
+use Rattle.std.specs.Prelude.{ℕ, List, Option, Ok}
+use Rattle.std.specs.Io.KnownBytes.{Keeps}
+use Rattle.ccan_run.specs.declared.run_error.RunError.{RunError}
+use Rattle.ccan_run.specs.declared.run_error.RunError.TheVariants.{Script, Write}
+use Rattle.ccan_script.specs.declared.script_error.ScriptError.{ScriptError}
+use Rattle.ccan_script.specs.Script.{ScriptFields}
+use Rattle.ccan_script.specs.Reader.{Shows, RefusesText}
+use Rattle.ccan_run.specs.Input.{ReadsWhole, RefusesInput}
+use Rattle.ccan_run.specs.Ordered.{Prints, PrintsPart}
 
--- the reader gave these bytes, and has no more
-pub record ReadsWhole (old new : Option (List ℕ)) (input : List ℕ) : Type 0 where
-  pub given : Consumes old new input
-  pub ended : IsAtEnd new
+module _ (input_old input_new output_old output_new : Option (List ℕ)) where
+  -- the input was read to its end and is a script, whose text was written
+  pub record Runs : Type 0 where
+    pub input : List ℕ
+    pub whole : ReadsWhole input_old input_new input
+    pub script : ScriptFields
+    pub shows : Shows input (Ok script)
+    pub prints : Prints script output_old output_new
 
--- why input is not taken: a read failed, it is longer than its limit, or memory ran out
-abbrev pub RefusesInput : Option (List ℕ) → RunError → Type 0
-RefusesInput old Read = Unit {0}
-RefusesInput old TooLong = IfSome old (λ bytes. MAX_INPUT < length bytes)
-RefusesInput old Memory = Unit {0}
-RefusesInput old _ = ⊥
+  -- the same, but only a prefix of the text was written
+  pub record RunsInPart : Type 0 where
+    pub input : List ℕ
+    pub whole : ReadsWhole input_old input_new input
+    pub script : ScriptFields
+    pub shows : Shows input (Ok script)
+    pub prints : PrintsPart script output_old output_new
 
--- a prefix of the text went out
-pub record WritesPart (old new : Option (List ℕ)) (text : List ℕ) : Type 0 where
-  pub front : List ℕ
-  pub rest : List ℕ
-  pub is : text ≡ front ++ rest
-  pub written : Appends old new front
+  -- what was read to its end is refused as a script
+  pub record RefusesScript (e : ScriptError) : Type 0 where
+    pub input : List ℕ
+    pub whole : ReadsWhole input_old input_new input
+    pub refuses : RefusesText input e
+
+  -- when each error comes; after each but Write nothing was written
+  abbrev pub StopsStream : RunError → Type 0
+  StopsStream Write = RunsInPart
+  StopsStream (Script e) = RefusesScript e × Keeps output_old output_new
+  StopsStream e = RefusesInput input_old e × Keeps output_old output_new

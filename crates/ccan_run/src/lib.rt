@@ -1,29 +1,44 @@
-//! Runs of register scripts: a script in JSON is read, its transfers run on the message RAM, and the answers and the
-//! final objects are printed as text.
+//! Runs of register scripts: bytes to printed lines.
+//!
+//! ```text
+//!   input --> read_all --> ccan_script::read_script --> Script
+//!                                                         |
+//!     order: if1 if2 bus if1 ..    each name takes the next line of that port
+//!                                                         v
+//!                    IF1: registers ---+
+//!                    IF2: registers ---+--> Access --> one history of the message RAM
+//!                    bus: ccan_bus::Bus+                  |
+//!                                                         v
+//!                      answers, and the objects at the end --> text --> output
+//! ```
+//!
+//! What a line stands for is said once, for hosts and for the bus, over any access: which events it adds, what it answers,
+//! and how it leaves what the next line of its port finds ([`Side`], [`run_lines`]). The text of a script is a relation
+//! between a script and a text, over a one-thread memory, in which the program does not appear; [`laws`] say that a script
+//! has one text. [`run_ordered`] and [`run_stream`] are proved to write that text.
 #![tactic(auto)]
 
-pub mod error;
-mod host;
+pub mod bus_port;
+pub mod cli_error;
+pub mod host;
 mod input;
-mod json;
 pub mod laws;
-mod line;
 pub mod ordered;
 mod output;
-pub mod print;
-mod reader;
-mod script;
+pub mod port;
+mod ports;
+pub mod run_error;
+pub mod run_mode;
+pub mod side;
 pub mod stream;
-#[cfg(test)]
-mod tests;
 mod text;
 mod transfer;
 
-pub use error::{ListName, RunError, ScriptError};
+pub use cli_error::CliError;
 pub use input::MAX_INPUT;
-pub use line::{HostLine, RegisterSet};
 pub use ordered::run_ordered;
-pub use print::{LineAnswer, print_final, print_line};
-pub use script::{MAX_LINES, MAX_QUOTA, Script};
+pub use port::run_port;
+pub use run_error::RunError;
+pub use run_mode::{RunMode, mode};
+pub use side::{Side, run_lines};
 pub use stream::run_stream;
-pub use text::Line;

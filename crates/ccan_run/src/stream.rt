@@ -1,10 +1,10 @@
 ghost use Rattle.std.specs.Prelude.{OnOk, IfErr};
-ghost use Rattle.ccan_run.specs.Run.{Runs, StopsStream};
+ghost use Rattle.ccan_run.specs.Stream.{Runs, StopsStream};
 
-use crate::error::RunError;
 use crate::input::read_all;
 use crate::ordered::run_ordered;
-use crate::reader::read_script;
+use crate::run_error::RunError;
+use ccan_script::read_script;
 use std::alloc::Global;
 use std::io::{Read, Write};
 
@@ -16,8 +16,10 @@ pub fn run_stream<R: Read, W: Write>(
     reader: &mut R,
     writer: &mut W,
 ) -> Result<(), RunError>
-    ensures ok { OnOk result (Runs (R.remaining reader.old) (R.remaining reader.new) (W.contents writer.old) (W.contents writer.new)) }
-    ensures err { IfErr result (StopsStream (R.remaining reader.old) (R.remaining reader.new) (W.contents writer.old) (W.contents writer.new)) }
+    ensures ok { OnOk result (Runs (R.remaining reader.old) (R.remaining reader.new)
+        (W.contents writer.old) (W.contents writer.new)) }
+    ensures err { IfErr result (StopsStream (R.remaining reader.old) (R.remaining reader.new)
+        (W.contents writer.old) (W.contents writer.new)) }
 {
     let input = read_all(alloc, reader)?;
     let script = read_script(alloc, &input)?;

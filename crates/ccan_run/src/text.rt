@@ -1,88 +1,63 @@
-ghost use Rattle.std.specs.Prelude.{◌≡◌, ◌+◌, ◌*◌, ◌<◌, ◌≤◌, ◌++◌, length, false};
-ghost use Rattle.std.specs.Fmt.{digit_glyph};
-ghost use Rattle.arrayvec.specs.ArrayString.{array_string_len};
-ghost use Rattle.ccan_run.specs.Text.{hex, two_digits, hex_bytes, record_text, verb_text};
+ghost use Rattle.std.specs.Prelude.{◌≡◌, ◌+◌, ◌*◌, ◌≤◌, ◌++◌, List, length, vec_len, vec_capacity};
+ghost use Rattle.ccan_object.specs.Profile.{objects_in};
+ghost use Rattle.ccan_ram.specs.declared.event.Event.{Event};
+ghost use Rattle.ccan_run.specs.Ordered.{answers_text, final_part, finals_text};
 
-use arrayvec::ArrayString;
 use ccan_object::{ObjectNo, Record};
+use ccan_ram::{Access, Array, PortName};
+use ccan_script::{LineAnswer, PrintedLine, print_final, print_line};
 
-/// A line of the output. It has fewer than 80 bytes, its end included.
-pub type Line = ArrayString<80>;
+/// The most bytes that a printed line has.
+pub(crate) const MAX_LINE: usize = 80;
 
-fn digit(value: u32) -> char
-    requires { value < 16 }
-    ensures glyph { result ≡ digit_glyph false value }
-    ensures ascii { result < 128 }
+/// Appends a line to a text that has room for it.
+fn push_line(text: &mut Vec<u8>, line: &PrintedLine)
+    requires { vec_len text.old + 80 ≤ vec_capacity text.old }
+    ensures items { text.new.items ≡ text.old.items ++ line.now.bytes }
+    ensures len { vec_len text.new ≤ vec_len text.old + 80 }
+    ensures capacity { vec_capacity text.old ≤ vec_capacity text.new }
 {
-    if value < 10 {
-        (b'0' + value as u8) as char
-    } else {
-        (b'a' + (value as u8 - 10)) as char
+    if text.extend_from_slice(line.as_str().as_bytes()).is_err() {
+        unreachable!();
     }
 }
 
-/// Appends a number in hexadecimal, with so many digits.
-#[tactic(auto, unfolding(crate::specs::Text::hex))]
-fn push_hex(line: &mut Line, digits: u32, value: u32)
-    requires digits { digits ≤ 8 }
-    requires room { array_string_len line.old + digits ≤ 80 }
-    ensures bytes { line.new.bytes ≡ line.old.bytes ++ hex digits value }
-    ensures len { array_string_len line.new ≡ array_string_len line.old + digits }
+/// Appends a line for each answer.
+pub(crate) fn push_answers(text: &mut Vec<u8>, answers: &[(PortName, LineAnswer)])
+    requires { vec_len text.old + 80 * length answers.now ≤ vec_capacity text.old }
+    ensures items { text.new.items ≡ text.old.items ++ answers_text answers.now }
+    ensures len { vec_len text.new ≤ vec_len text.old + 80 * length answers.now }
+    ensures capacity { vec_capacity text.old ≤ vec_capacity text.new }
 {
-    for place in (0..digits).rev() {
-        line.push(digit((value >> (4 * place)) % 16));
+    for (port, answer) in answers {
+        push_line(text, &print_line(*port, answer));
     }
 }
 
-/// Appends an object's number in two decimal digits.
-#[tactic(auto, unfolding(crate::specs::Text::two_digits))]
-fn push_object(line: &mut Line, object: ObjectNo)
-    requires { array_string_len line.old + 2 ≤ 80 }
-    ensures bytes { line.new.bytes ≡ line.old.bytes ++ two_digits object }
-    ensures len { array_string_len line.new ≡ array_string_len line.old + 2 }
+/// Appends the line of an object at the end, if it has one.
+#[tactic(auto, unfolding(crate::specs::Ordered::final_part))]
+fn push_final(text: &mut Vec<u8>, object: ObjectNo, left: &Record)
+    requires { vec_len text.old + 80 ≤ vec_capacity text.old }
+    ensures items { text.new.items ≡ text.old.items ++ final_part object left.now }
+    ensures len { vec_len text.new ≤ vec_len text.old + 80 }
+    ensures capacity { vec_capacity text.old ≤ vec_capacity text.new }
 {
-    let number = object.get();
-    line.push(digit(u32::from(number / 10)));
-    line.push(digit(u32::from(number % 10)));
-}
-
-/// Appends two hexadecimal digits for each byte.
-#[tactic(auto, unfolding(crate::specs::Text::hex_bytes))]
-fn push_bytes(line: &mut Line, bytes: &[u8])
-    requires { array_string_len line.old + 2 * length bytes.now ≤ 80 }
-    ensures bytes { line.new.bytes ≡ line.old.bytes ++ hex_bytes bytes.now }
-    ensures len { array_string_len line.new ≡ array_string_len line.old + 2 * length bytes.now }
-{
-    for byte in bytes {
-        push_hex(line, 2, u32::from(*byte));
+    if let Some(line) = print_final(object, left) {
+        push_line(text, &line);
     }
 }
 
-/// Appends the four fields of a record, a space before each.
-#[tactic(auto, unfolding(crate::specs::Text::record_text))]
-pub(crate) fn push_record(line: &mut Line, object: &Record)
-    requires { array_string_len line.old + 40 ≤ 80 }
-    ensures bytes { line.new.bytes ≡ line.old.bytes ++ record_text object.now }
-    ensures len { array_string_len line.new ≡ array_string_len line.old + 40 }
+/// Appends the lines of the objects at the end, in rising order.
+pub(crate) fn push_finals(text: &mut Vec<u8>, memory: &Array)
+    requires { let passes = ⟦<Array as Access>⟧.passes memory.now in
+        vec_len text.old + 80 * objects_in passes.terms.profile ≤ vec_capacity text.old }
+    ensures { let passes = ⟦<Array as Access>⟧.passes memory.now in
+        (history : List Event) → passes.has_seen history
+        → text.new.items ≡ text.old.items ++ finals_text passes.terms.profile history }
 {
-    line.push_str(" ");
-    push_hex(line, 8, object.arbitration());
-    line.push_str(" ");
-    push_hex(line, 8, object.masks());
-    line.push_str(" ");
-    push_hex(line, 4, u32::from(object.control()));
-    line.push_str(" ");
-    push_bytes(line, &object.bytes);
-}
-
-/// Appends a word and the number of an object, a space between them.
-#[tactic(auto, unfolding(crate::specs::Text::verb_text))]
-pub(crate) fn push_verb(line: &mut Line, verb: &str, object: ObjectNo)
-    requires { array_string_len line.old + length verb.now + 3 ≤ 80 }
-    ensures bytes { line.new.bytes ≡ line.old.bytes ++ verb_text verb.now object }
-    ensures len { array_string_len line.new ≡ array_string_len line.old + length verb.now + 3 }
-{
-    line.push_str(verb);
-    line.push_str(" ");
-    push_object(line, object);
+    let objects = memory.profile().objects();
+    for number in 1..objects + 1 {
+        let object = ObjectNo::new(number).unwrap();
+        push_final(text, object, &memory.record_of(object));
+    }
 }

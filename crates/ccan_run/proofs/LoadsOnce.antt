@@ -1,0 +1,80 @@
+-- A load, where nobody else acts: what is loaded, whether the controller is on and its scan decide what it adds and answers.
+use Rattle.std.proofs.Common.{◌≡◌, ◌≤◌, ℕ, Bool, true, false, List, [], ◌++◌, ◌⊎◌, inl, inr, Option, Some, None, refl, sym, ap, ap₂, ◌∙◌, true≢false}
+use Rattle.ccan_object.specs.declared.record.Record.{Record}
+use Rattle.ccan_ram.specs.declared.change.Change.TheVariants.{Start}
+use Rattle.ccan_ram.specs.declared.change.Refused.{Refused}
+use Rattle.ccan_ram.specs.declared.change.Refused.TheVariants.{Busy, Spent}
+use Rattle.ccan_ram.specs.declared.event.Event.{Event}
+use Rattle.ccan_ram.specs.History.{IsLegal}
+use Rattle.ccan_ram.specs.Terms.{Terms}
+use Rattle.ccan_handler.specs.Scan.{Scan, ScanEnd, Nowhere, MadeAt, RefusedAt}
+use Rattle.ccan_bus.specs.declared.answer.LoadAnswer.{LoadAnswer}
+use Rattle.ccan_bus.specs.declared.answer.LoadAnswer.TheVariants as load
+use Rattle.ccan_bus.specs.Past.{BusPast, is_on}
+use Rattle.ccan_bus.specs.Load.{Loads, refusal_of_load}
+use Rattle.ccan_run.proofs.ScansOnce.{scans_once}
+
+same_pair : (x y : ℕ × Record) → Some x ≡ Some y → x ≡ y
+same_pair x y h = cc
+
+pub one_loaded : (past : BusPast) (object object' : ℕ) (started started' : Record) → past.loaded ≡ Some (object, started)
+    → past.loaded ≡ Some (object', started') → (object ≡ object') × (started ≡ started')
+one_loaded past object object' started started' is is' =
+    let pair = same_pair (object, started) (object', started') (sym is ∙ is') in
+    (ap (λ (p : ℕ × Record). p.0) pair, ap (λ (p : ℕ × Record). p.1) pair)
+
+pub some_none : {A : Type 0} (o : Option A) (x : A) → o ≡ Some x → o ≡ None → ⊥
+some_none o x is none = let both : Some x ≡ None = sym is ∙ none in absurd cc
+
+-- the answer of a load whose scan ends so, and the past that it leaves
+abbrev load_of : ScanEnd → LoadAnswer
+load_of Nowhere = load.Nothing
+load_of (MadeAt object before started number) = load.Loaded object started
+load_of (RefusedAt object why) = refusal_of_load object why
+
+abbrev left_by : BusPast → ScanEnd → BusPast
+left_by past Nowhere = past
+left_by past (MadeAt object before started number) = record past { loaded = Some (object, started) }
+left_by past (RefusedAt object why) = past
+
+-- a load is one of three things
+data Case (terms : Terms) (tries : ℕ) (seen added : List Event) (past after : BusPast) (loading : LoadAnswer) : Type 0 where
+  held : (object : ℕ) (started : Record) → past.loaded ≡ Some (object, started) → loading ≡ load.Held object → added ≡ [] → after ≡ past
+      → Case terms tries seen added past after loading
+  off : past.loaded ≡ None → is_on past 0 ≡ false → loading ≡ load.Nothing → added ≡ [] → after ≡ past
+      → Case terms tries seen added past after loading
+  scanned : (end : ScanEnd) → past.loaded ≡ None → is_on past 0 ≡ true → Scan terms Start 1 tries seen added end → loading ≡ load_of end
+      → after ≡ left_by past end → Case terms tries seen added past after loading
+
+module _ (terms : Terms) (tries : ℕ) (seen : List Event) (past : BusPast) where
+  case_of : (added : List Event) (after : BusPast) (loading : LoadAnswer) → Loads terms tries seen added past after loading
+      → Case terms tries seen added past after loading
+  case_of added after (load.Loaded object started) h = scanned (MadeAt object h.before started h.number) h.scan.empty h.scan.on h.scan.scan refl h.now_loaded
+  case_of added after (load.Held object) h = held object h.started h.held refl h.quiet h.same
+  case_of added after load.Nothing (inl h) = off h.empty h.off refl h.quiet h.same
+  case_of added after load.Nothing (inr h) = scanned Nowhere h.scan.empty h.scan.on h.scan.scan refl h.same
+  case_of added after (load.Busy object) (told, now, h) = scanned (RefusedAt object (Busy told now)) h.scan.empty h.scan.on h.scan.scan refl h.same
+  case_of added after (load.Spent object) h = scanned (RefusedAt object Spent) h.scan.empty h.scan.on h.scan.scan refl h.same
+
+  abbrev Same : List Event → List Event → BusPast → BusPast → LoadAnswer → LoadAnswer → Type 0
+  Same added added' after after' loading loading' = (added ≡ added') × (after ≡ after') × (loading ≡ loading')
+
+  module _ (alone : terms.alone ≡ true) (some : 1 ≤ tries) (added added' : List Event) (after after' : BusPast) (loading loading' : LoadAnswer)
+      (legal : IsLegal terms.profile (added ++ seen)) (legal' : IsLegal terms.profile (added' ++ seen)) where
+    cases_once : Case terms tries seen added past after loading → Case terms tries seen added' past after' loading' → Same added added' after after' loading loading'
+    cases_once (held object started is told none same) (held object' started' is' told' none' same') =
+        (none ∙ sym none', same ∙ sym same', told ∙ ap load.Held (one_loaded past object object' started started' is is').0 ∙ sym told')
+    cases_once (held object started is told none same) (off is' _ _ _ _) = absurd (some_none past.loaded _ is is')
+    cases_once (held object started is told none same) (scanned _ is' _ _ _ _) = absurd (some_none past.loaded _ is is')
+    cases_once (off is _ _ _ _) (held object' started' is' _ _ _) = absurd (some_none past.loaded _ is' is)
+    cases_once (off is _ told none same) (off is' _ told' none' same') = (none ∙ sym none', same ∙ sym same', told ∙ sym told')
+    cases_once (off is out _ _ _) (scanned _ is' on _ _ _) = absurd (true≢false (sym on ∙ out))
+    cases_once (scanned _ is _ _ _ _) (held object' started' is' _ _ _) = absurd (some_none past.loaded _ is' is)
+    cases_once (scanned _ is on _ _ _) (off is' out _ _ _) = absurd (true≢false (sym on ∙ out))
+    cases_once (scanned end is on scan told same) (scanned end' is' on' scan' told' same') =
+        let once = scans_once terms alone Start tries some 1 seen added added' legal legal' end end' scan scan' in
+        (once.0, same ∙ ap (left_by past) once.1 ∙ sym same', told ∙ ap load_of once.1 ∙ sym told')
+
+    pub loads_once : Loads terms tries seen added past after loading → Loads terms tries seen added' past after' loading'
+        → Same added added' after after' loading loading'
+    loads_once h h' = cases_once (case_of added after loading h) (case_of added' after' loading' h')

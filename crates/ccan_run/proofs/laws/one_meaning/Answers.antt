@@ -1,5 +1,0 @@
-use Rattle.ccan_run.proofs.OneMeaning.{one_meaning}
-use Rattle.ccan_run.proofs.laws.one_meaning.Goals as goal
-
-pub returns : goal.returns
-returns c = one_meaning

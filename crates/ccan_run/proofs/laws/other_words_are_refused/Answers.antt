@@ -1,0 +1,5 @@
+use Rattle.ccan_run.proofs.CommandWords.{other_words}
+use Rattle.ccan_run.proofs.laws.other_words_are_refused.Goals as goal
+
+pub returns : goal.returns
+returns c = other_words

@@ -1,0 +1,129 @@
+-- The meaning of a script in its order: its lines run one after another over a one-thread memory, and its text tells their
+-- answers and what they left. Source: this project's own.
+use Rattle.std.specs.Prelude.{ℕ, ◌≡◌, List, [], ◌∷◌, ◌++◌, Option, map, unwrap_or}
+use Rattle.std.specs.List.{concat, flat_map, range_with_len}
+use Rattle.std.specs.Io.KnownBytes.{Appends, Keeps}
+use Rattle.ccan_object.specs.declared.record.Record.{Record}
+use Rattle.ccan_object.specs.declared.profile.Profile.{Profile}
+use Rattle.ccan_object.specs.Interface.{Registers, zero_registers}
+use Rattle.ccan_object.specs.Profile.{objects_in}
+use Rattle.ccan_ram.specs.declared.port.PortName.{PortName}
+use Rattle.ccan_ram.specs.declared.port.PortName.TheVariants.{If1, If2, Bus}
+use Rattle.ccan_ram.specs.declared.event.Event.{Event}
+use Rattle.ccan_ram.specs.History.{IsLegal, record_at}
+use Rattle.ccan_ram.specs.Terms.{Terms, one_thread_terms}
+use Rattle.ccan_bus.specs.Past.{BusPast, opened}
+use Rattle.ccan_script.specs.declared.host_line.HostLine.{HostLine}
+use Rattle.ccan_script.specs.declared.bus_line.BusLine.{BusLine}
+use Rattle.ccan_script.specs.declared.line_answer.LineAnswer.{LineAnswer}
+use Rattle.ccan_script.specs.Script.{ScriptFields}
+use Rattle.ccan_script.specs.Print.{line_text, final_line}
+use Rattle.ccan_run.specs.declared.run_error.RunError.{RunError}
+use Rattle.ccan_run.specs.declared.run_error.RunError.TheVariants.{Memory, Write}
+use Rattle.ccan_run.specs.Lines.{Run}
+use Rattle.ccan_run.specs.Host.{HostLineMeans}
+use Rattle.ccan_run.specs.BusPort.{BusLineMeans}
+use Rattle.ccan_run.specs.Output.{WritesPart}
+
+-- ---- the lines in their order
+
+-- a line of some port
+pub data PortLine : Type 0 where
+  of_if1 : HostLine → PortLine
+  of_if2 : HostLine → PortLine
+  of_bus : BusLine → PortLine
+
+-- the lines of the three ports in an order: each name takes that port's next line
+abbrev pub joined : List PortName → List HostLine → List HostLine → List BusLine → List PortLine
+joined [] if1 if2 bus = []
+joined (If1 ∷ order) [] if2 bus = joined order [] if2 bus
+joined (If1 ∷ order) (line ∷ if1) if2 bus = of_if1 line ∷ joined order if1 if2 bus
+joined (If2 ∷ order) if1 [] bus = joined order if1 [] bus
+joined (If2 ∷ order) if1 (line ∷ if2) bus = of_if2 line ∷ joined order if1 if2 bus
+joined (Bus ∷ order) if1 if2 [] = joined order if1 if2 []
+joined (Bus ∷ order) if1 if2 (line ∷ bus) = of_bus line ∷ joined order if1 if2 bus
+
+abbrev pub lines_of : ScriptFields → List PortLine
+lines_of script = joined script.order script.if1 script.if2 script.bus
+
+-- what the lines of the three ports work on
+pub record Three : Type 0 where
+  pub first : Registers
+  pub second : Registers
+  pub bus : BusPast
+
+-- as a run begins: registers that read 0, and a bus to which nothing happened
+abbrev pub opening : ℕ → Three
+opening nodes = record { first = zero_registers; second = zero_registers; bus = opened nodes }
+
+-- a line of some port works on what is that port's, under its terms, and the rest stays; its answer is told with the port
+abbrev pub PortLineMeans : (PortName → Terms) → ℕ → PortLine → Three → List Event → List Event → PortName × LineAnswer
+    → Three → Type 0
+PortLineMeans terms tries (of_if1 line) three seen added reply left =
+    (after : Registers) × (reply.0 ≡ If1) × HostLineMeans (terms If1) tries line three.first seen added reply.1 after
+    × (left ≡ record three { first = after })
+PortLineMeans terms tries (of_if2 line) three seen added reply left =
+    (after : Registers) × (reply.0 ≡ If2) × HostLineMeans (terms If2) tries line three.second seen added reply.1 after
+    × (left ≡ record three { second = after })
+PortLineMeans terms tries (of_bus line) three seen added reply left =
+    (after : BusPast) × (reply.0 ≡ Bus) × BusLineMeans (terms Bus) tries line three.bus seen added reply.1 after
+    × (left ≡ record three { bus = after })
+
+-- the terms of a script's ports over a plain memory, where nothing contends and nobody else acts
+abbrev pub terms_of : ScriptFields → PortName → Terms
+terms_of script port = one_thread_terms script.profile port script.quota
+
+-- the lines of a script in its order stand for this history, with these answers
+abbrev pub LinesRun : ScriptFields → List Event → List (PortName × LineAnswer) → Type 0
+LinesRun script history answers =
+    Run (PortLineMeans (terms_of script) script.tries) (opening script.nodes) (lines_of script) [] history answers
+
+-- and the history is legal
+pub record RunsInOrder (script : ScriptFields) (history : List Event) (answers : List (PortName × LineAnswer)) : Type 0 where
+  pub legal : IsLegal script.profile history
+  pub lines : LinesRun script history answers
+
+-- ---- the text of a script
+
+-- a line for each answer
+unfoldable pub answers_text : List (PortName × LineAnswer) → List ℕ
+answers_text answers = flat_map (λ reply. line_text reply.0 reply.1) answers
+
+-- the line of an object, if it has one
+unfoldable pub final_part : ℕ → Record → List ℕ
+final_part object r = unwrap_or (final_line object r) []
+
+-- the lines of so many objects from object 1 on, with their records after the history
+unfoldable pub final_parts : List Event → ℕ → List ℕ
+final_parts history count = concat (map (λ object. final_part object (record_at object history)) (range_with_len 1 count))
+
+-- the lines of all objects
+abbrev pub finals_text : Profile → List Event → List ℕ
+finals_text profile history = final_parts history (objects_in profile)
+
+-- a text of a script: the answers to its lines in their order, and then what their history leaves in the objects
+pub record HasText (script : ScriptFields) (text : List ℕ) : Type 0 where
+  pub history : List Event
+  pub answers : List (PortName × LineAnswer)
+  pub runs : RunsInOrder script history answers
+  pub is : text ≡ answers_text answers ++ finals_text script.profile history
+
+-- ---- what a run writes
+
+-- the script's text was written
+pub record Prints (script : ScriptFields) (old new : Option (List ℕ)) : Type 0 where
+  pub text : List ℕ
+  pub has_text : HasText script text
+  pub written : Appends old new text
+
+-- a prefix of the script's text was written, and not all of it
+pub record PrintsPart (script : ScriptFields) (old new : Option (List ℕ)) : Type 0 where
+  pub text : List ℕ
+  pub has_text : HasText script text
+  pub written : WritesPart old new text
+
+-- a run stops where memory runs out, before it writes anything, or where a write fails
+abbrev pub StopsRun : ScriptFields → Option (List ℕ) → Option (List ℕ) → RunError → Type 0
+StopsRun script old new Memory = Keeps old new
+StopsRun script old new Write = PrintsPart script old new
+StopsRun script old new _ = ⊥

@@ -1,0 +1,61 @@
+use ccan_script::ScriptError;
+use std::alloc::AllocError;
+use thiserror::Error;
+
+/// Why a run stopped. It prints as the line that the program writes on standard error.
+#[derive(Clone, Copy, PartialEq, Eq, PartialOrd, Ord, Hash, Debug, Error)]
+pub enum RunError {
+    /// A read failed.
+    #[error("ccan: input could not be read")]
+    Read,
+    /// The input has more bytes than it may have.
+    #[error("ccan: input too long")]
+    TooLong,
+    /// The input is no script.
+    #[error(transparent)]
+    Script(ScriptError),
+    /// Memory ran out.
+    #[error("ccan: out of memory")]
+    Memory,
+    /// A write failed, or took no byte.
+    #[error("ccan: output could not be written")]
+    Write,
+}
+
+impl RunError {
+    ghost use Rattle.std.specs.Prelude.{◌≡◌};
+    ghost use Rattle.ccan_run.specs.RunError.{exit_status};
+
+    /// The exit status of the program.
+    pub fn status(&self) -> u8
+        ensures { result ≡ exit_status self.now }
+    {
+        match self {
+            RunError::Script(ScriptError::Memory) | RunError::Memory => 3,
+            RunError::TooLong | RunError::Script(_) => 1,
+            RunError::Read | RunError::Write => 4,
+        }
+    }
+}
+
+impl From<AllocError> for RunError {
+    ghost use Rattle.std.specs.Prelude.{◌≡◌};
+    ghost use Rattle.ccan_run.specs.declared.run_error.RunError.TheVariants.{Memory};
+
+    ghost from_gives = { λ _ e. e ≡ Memory };
+
+    fn from(_refused: AllocError) -> RunError {
+        RunError::Memory
+    }
+}
+
+impl From<ScriptError> for RunError {
+    ghost use Rattle.std.specs.Prelude.{◌≡◌};
+    ghost use Rattle.ccan_run.specs.declared.run_error.RunError.TheVariants.{Script};
+
+    ghost from_gives = { λ from e. e ≡ Script from };
+
+    fn from(refusal: ScriptError) -> RunError {
+        RunError::Script(refusal)
+    }
+}

@@ -1,0 +1,33 @@
+ghost use Rattle.std.specs.Prelude.{◌≡◌};
+ghost use Rattle.serde_json.specs.View.{view};
+ghost use Rattle.ccan_script.specs.FaultName.{fault_named, fault_in};
+
+use ccan_bus::Fault;
+use serde_json::Value;
+
+/// What spoils a frame, by its name.
+#[tactic(auto, unfolding(crate::specs::FaultName::fault_named))]
+fn fault_named(word: &str) -> Option<Fault>
+    ensures { result ≡ fault_named word.now }
+{
+    match word {
+        "none" => Some(Fault::Quiet),
+        "stuff" => Some(Fault::Stuff),
+        "form" => Some(Fault::Form),
+        "bit1" => Some(Fault::Bit1),
+        "bit0" => Some(Fault::Bit0),
+        "crc" => Some(Fault::Crc),
+        _ => None,
+    }
+}
+
+/// What the member `fault` of a round names, nothing where there is no such member.
+#[tactic(auto, unfolding(crate::specs::FaultName::fault_in))]
+pub(crate) fn fault_in(line: &Value) -> Option<Fault>
+    ensures { result ≡ fault_in (view line.now) }
+{
+    match line.get("fault") {
+        Some(member) => fault_named(member.as_str()?),
+        None => Some(Fault::Quiet),
+    }
+}

@@ -1,0 +1,64 @@
+ghost use Rattle.std.specs.Prelude.{◌≡◌, ◌≤◌, ◌<◌, ◌*◌, ◌%◌, true, Some, None, IfSome, length, option_map, if◌then◌else◌};
+ghost use Rattle.std.specs.Char.{digit_value, is_ascii_hexdigit};
+ghost use Rattle.std.specs.List.{list_all};
+ghost use Rattle.serde_json.specs.View.{view};
+ghost use Rattle.ccan_script.specs.FrameLine.{is_data_text, data_in, eight_bytes};
+
+use crate::json::are_hexadecimal;
+use serde_json::Value;
+
+/// Whether the text has two hexadecimal digits for each byte.
+#[tactic(auto, unfolding(crate::specs::FrameLine::is_data_text))]
+fn is_data_text(text: &str) -> bool
+    ensures { result ≡ is_data_text text.now }
+{
+    text.len() % 2 == 0 && are_hexadecimal(text.as_bytes())
+}
+
+/// The text, where it is data.
+fn data_text(text: &str) -> Option<&str>
+    ensures value { option_map (λ digits. digits.now) result
+        ≡ (if is_data_text text.now then Some text.now else None) }
+    ensures data { IfSome result (λ digits. is_data_text digits.now ≡ true) }
+{
+    if is_data_text(text) { Some(text) } else { None }
+}
+
+/// The text of the member `data` of a frame, empty where there is no such member, `None` where it is no data.
+#[tactic(auto, unfolding(crate::specs::FrameLine::data_in, crate::specs::FrameLine::is_data_text))]
+pub(crate) fn data_in(frame: &Value) -> Option<&str>
+    ensures value { option_map (λ digits. digits.now) result ≡ data_in (view frame.now) }
+    ensures data { IfSome result (λ digits. is_data_text digits.now ≡ true) }
+{
+    match frame.get("data") {
+        Some(member) => data_text(member.as_str()?),
+        None => Some(""),
+    }
+}
+
+/// The value of a hexadecimal digit.
+fn digit_value(digit: u8) -> u8
+    requires { is_ascii_hexdigit digit ≡ true }
+    ensures value { result ≡ digit_value digit }
+    ensures within { result < 16 }
+{
+    match digit {
+        b'0'..=b'9' => digit - b'0',
+        b'a'..=b'f' => digit - b'a' + 10,
+        _ => digit - b'A' + 10,
+    }
+}
+
+/// The bytes of a text of at most sixteen digits, and 0 past them.
+pub(crate) fn eight_bytes(text: &str) -> [u8; 8]
+    requires short { length text.now ≤ 16 }
+    requires digits { is_data_text text.now ≡ true }
+    ensures { result ≡ eight_bytes text.now }
+{
+    let digits = text.as_bytes();
+    let mut bytes = [0; 8];
+    for place in 0..digits.len() / 2 {
+        bytes[place] = digit_value(digits[2 * place]) * 16 + digit_value(digits[2 * place + 1]);
+    }
+    bytes
+}

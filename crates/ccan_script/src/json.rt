@@ -1,0 +1,126 @@
+ghost use Rattle.std.specs.Prelude.{◌≡◌, ◌≤◌, ◌∷◌, [], ◌&&◌, map, Some, None, codes, is_some, option_map, string_bytes, IfOk, if◌then◌else◌};
+ghost use Rattle.std.specs.List.{list_all, list_any};
+ghost use Rattle.std.specs.Char.{is_ascii_hexdigit};
+ghost use Rattle.std.specs.Str.{bytes_eq};
+ghost use Rattle.std.specs.BTreeMap.{keys};
+ghost use Rattle.std.specs.Str.Parse.{digits_value};
+ghost use Rattle.serde_json.specs.View.{view};
+ghost use Rattle.ccan_script.specs.Json.{is_four_digits, word_in, whole_in, whole_or_zero, has_only, is_bare, has_number, is_within, number_in};
+ghost use Rattle.ccan_script.specs.LineFault.{shape_check, shape_then_range, ReadsLine};
+
+use crate::line_fault::LineFault;
+use serde_json::{Map, Value};
+
+/// Whether the text is four hexadecimal digits.
+#[tactic(auto, unfolding(crate::specs::Json::is_four_digits))]
+fn is_four_digits(text: &str) -> bool
+    ensures { result ≡ is_four_digits text.now }
+{
+    text.len() == 4 && are_hexadecimal(text.as_bytes())
+}
+
+/// Whether each byte is a hexadecimal digit, of either case.
+pub(crate) fn are_hexadecimal(bytes: &[u8]) -> bool
+    ensures { result ≡ list_all is_ascii_hexdigit bytes.now }
+{
+    bytes.iter().all(|byte| byte.is_ascii_hexdigit())
+}
+
+/// The number of a text of exactly four hexadecimal digits.
+fn four_digits(text: &str) -> Option<u16>
+    ensures { result
+        ≡ (if is_four_digits text.now then Some (digits_value 16 text.now) else None) }
+{
+    if !is_four_digits(text) {
+        return None;
+    }
+    u16::from_str_radix(text, 16).ok()
+}
+
+/// The number of a value that is a text of four hexadecimal digits.
+#[tactic(auto, unfolding(crate::specs::Json::word_in))]
+pub(crate) fn word_in(value: &Value) -> Option<u16>
+    ensures { result ≡ word_in (view value.now) }
+{
+    four_digits(value.as_str()?)
+}
+
+/// The whole number of a member, if it has one.
+#[tactic(auto, unfolding(crate::specs::Json::whole_in))]
+pub(crate) fn whole_in(line: &Value, name: &str) -> Option<u64>
+    ensures { result ≡ whole_in name.now (view line.now) }
+{
+    line.get(name)?.as_u64()
+}
+
+/// The same, and 0 where there is no such member.
+#[tactic(auto, unfolding(crate::specs::Json::whole_or_zero))]
+pub(crate) fn whole_or_zero(line: &Value, name: &str) -> Option<u64>
+    ensures { result ≡ whole_or_zero name.now (view line.now) }
+{
+    match line.get(name) {
+        Some(member) => member.as_u64(),
+        None => Some(0),
+    }
+}
+
+fn is_among(name: &str, known: &[&str]) -> bool
+    ensures { result ≡ list_any (λ word. bytes_eq word.now name.now) known.now }
+{
+    known.iter().any(|word| *word == name)
+}
+
+fn are_among(members: &Map<String, Value>, known: &[&str]) -> bool
+    ensures { result
+        ≡ list_all (λ name. list_any (λ word. bytes_eq word.now (string_bytes name)) known.now)
+        (keys members.now) }
+{
+    members.keys().all(|name| is_among(name.as_str(), known))
+}
+
+/// Whether the value is an object with no other members than these.
+#[tactic(auto, unfolding(crate::specs::Json::has_only))]
+pub(crate) fn has_only(value: &Value, known: &[&str]) -> bool
+    ensures { result ≡ has_only (map (λ name. name.now) known.now) (view value.now) }
+{
+    match value.as_object() {
+        Some(members) => are_among(members, known),
+        None => false,
+    }
+}
+
+/// Checks that a line has no member but its operation.
+pub(crate) fn check_bare(line: &Value) -> Result<(), LineFault>
+    ensures { ReadsLine (shape_check (is_bare (view line.now))) (λ _. Unit {0}) result }
+{
+    if has_only(line, &["op"]) {
+        Ok(())
+    } else {
+        Err(LineFault::Shape)
+    }
+}
+
+/// The number of a line whose one member besides its operation is a whole number in a range.
+#[tactic(auto, unfolding(crate::specs::Json::has_number))]
+pub(crate) fn sole_number(
+    line: &Value,
+    name: &str,
+    least: u64,
+    greatest: u64,
+) -> Result<u64, LineFault>
+    ensures reads { let d = view line.now in
+        ReadsLine (shape_then_range (has_number name.now d)
+        (is_within least greatest (whole_in name.now d))) (λ n. n ≡ number_in name.now d) result }
+    ensures within { IfOk result (λ n. (least ≤ n) × (n ≤ greatest)) }
+{
+    if !has_only(line, &["op", name]) {
+        return Err(LineFault::Shape);
+    }
+    let Some(number) = whole_in(line, name) else {
+        return Err(LineFault::Shape);
+    };
+    if number < least || greatest < number {
+        return Err(LineFault::Range);
+    }
+    Ok(number)
+}

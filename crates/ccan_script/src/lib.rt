@@ -1,0 +1,65 @@
+//! Scripts of a CAN controller: JSON to what the two hosts and the bus do, and answers to printed lines.
+//!
+//! A script is one JSON object: a few numbers, a list of lines for each port, and the order in which the ports run.
+//!
+//! ```text
+//!   bytes --> JSON value --> Script { profile, quota, tries, nodes, if1, if2, bus, order }
+//!                |
+//!                +--> the first fault in the order of the checks, with the list and the line where it stands
+//!
+//!   LineAnswer --> one printed line        Record --> the final line of an object
+//! ```
+//!
+//! What a value means is defined apart from the reader, in `specs/`: its faults are a set, each at a place, and the fault
+//! of least place is told; where there is none, the value says what the script is. A [`Script`] holds all that its lines
+//! have to keep as an invariant, so that a run checks none of it again.
+#![tactic(auto)]
+
+pub mod bus_line;
+mod bus_op;
+mod fault_name;
+mod flag_line;
+mod flag_name;
+mod frame_data;
+mod frame_line;
+pub mod host_line;
+mod host_op;
+mod json;
+pub mod laws;
+pub mod limits;
+pub mod line_answer;
+mod line_context;
+mod line_counts;
+mod line_fault;
+pub mod list_name;
+mod list_reader;
+mod number;
+mod order;
+mod port_line;
+pub mod print;
+mod print_answer;
+mod print_bus;
+pub mod printed_line;
+pub mod reader;
+pub mod register_set;
+mod round;
+pub mod script;
+pub mod script_error;
+mod script_line;
+#[cfg(test)]
+mod tests;
+
+pub use bus_line::BusLine;
+pub use host_line::HostLine;
+pub use limits::{
+    DEFAULT_NODES, DEFAULT_PROFILE, DEFAULT_QUOTA, DEFAULT_TRIES, MAX_FRAMES, MAX_GROUPS,
+    MAX_LINES, MAX_NAMES, MAX_NODES, MAX_PROFILE, MAX_QUOTA, MAX_TRIES, MAX_TURNS,
+};
+pub use line_answer::LineAnswer;
+pub use list_name::ListName;
+pub use print::{print_final, print_line};
+pub use printed_line::PrintedLine;
+pub use reader::read_script;
+pub use register_set::RegisterSet;
+pub use script::Script;
+pub use script_error::ScriptError;

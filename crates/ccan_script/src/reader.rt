@@ -1,0 +1,64 @@
+ghost use Rattle.serde_json.specs.View.{view};
+ghost use Rattle.ccan_script.specs.Reader.{ReadsValue, ReadsScript};
+
+use crate::json::has_only;
+use crate::limits::{
+    DEFAULT_NODES, DEFAULT_PROFILE, DEFAULT_QUOTA, DEFAULT_TRIES, MAX_NODES, MAX_PROFILE,
+    MAX_QUOTA, MAX_TRIES,
+};
+use crate::line_context::LineContext;
+use crate::line_counts::LineCounts;
+use crate::list_name::ListName;
+use crate::list_reader::port_lines;
+use crate::number::{TOP_SHAPE, number_member, profile_numbered, tries_of};
+use crate::order::read_order;
+use crate::script::Script;
+use crate::script_error::ScriptError;
+use serde_json::Value;
+use std::alloc::Global;
+
+/// The script that a value means.
+fn script_of(alloc: Global, value: &Value) -> Result<Script, ScriptError>
+    ensures { ReadsValue (view value.now) result }
+{
+    if !has_only(
+        value,
+        &[
+            "profile", "quota", "tries", "nodes", "if1", "if2", "bus", "order",
+        ],
+    ) {
+        return Err(TOP_SHAPE);
+    }
+    let profile = number_member(value, "profile", 1, MAX_PROFILE, DEFAULT_PROFILE)?;
+    let quota = number_member(value, "quota", 1, MAX_QUOTA, DEFAULT_QUOTA)?;
+    let tries = number_member(value, "tries", 1, MAX_TRIES, DEFAULT_TRIES)?;
+    let nodes = number_member(value, "nodes", 0, MAX_NODES, DEFAULT_NODES)?;
+    let context = LineContext {
+        profile: profile_numbered(profile),
+        nodes: nodes as u8,
+    };
+    let if1 = port_lines(alloc, ListName::If1, value, "if1", context)?;
+    let if2 = port_lines(alloc, ListName::If2, value, "if2", context)?;
+    let bus = port_lines(alloc, ListName::Bus, value, "bus", context)?;
+    let counts = LineCounts::of(&if1, &if2, &bus);
+    let order = read_order(alloc, value, counts, context)?;
+    Ok(Script {
+        profile: context.profile,
+        quota,
+        tries: tries_of(tries),
+        nodes: context.nodes,
+        if1,
+        if2,
+        bus,
+        order,
+    })
+}
+
+/// The script that the bytes of a JSON text are, or why they are none: want of memory, or the first fault in the order
+/// of the checks.
+pub fn read_script(alloc: Global, bytes: &[u8]) -> Result<Script, ScriptError>
+    ensures { ReadsScript bytes.now result }
+{
+    let value = Value::from_slice(alloc, bytes)?;
+    script_of(alloc, &value)
+}

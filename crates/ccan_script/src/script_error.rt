@@ -1,0 +1,52 @@
+use crate::list_name::ListName;
+use ccan_ram::PortName;
+use std::alloc::AllocFailed;
+use thiserror::Error;
+
+/// Why bytes are no script. It prints as the line that the program writes on standard error.
+#[derive(Clone, Copy, PartialEq, Eq, PartialOrd, Ord, Hash, Debug, Error)]
+pub enum ScriptError {
+    /// The bytes are no JSON value, or no UTF-8.
+    #[error("ccan: script: not JSON")]
+    NotJson,
+    /// A value isn't of its shape. The index is that of the line in its list, from 0.
+    #[error("ccan: script: shape, {list} {index}")]
+    Shape { list: ListName, index: usize },
+    /// A number is out of its range. The index is that of the line in its list, from 0.
+    #[error("ccan: script: range, {list} {index}")]
+    Range { list: ListName, index: usize },
+    /// A list has more lines than a script may have.
+    #[error("ccan: script: too many, {list}")]
+    TooMany { list: ListName },
+    /// The order names a port oftener or seldomer than it has lines.
+    #[error("ccan: script: order, {port}")]
+    Order { port: PortName },
+    /// Memory ran out.
+    #[error("ccan: out of memory")]
+    Memory,
+}
+
+impl<T: Drop> From<AllocFailed<T>> for ScriptError {
+    ghost use Rattle.std.specs.Prelude.{◌≡◌};
+    ghost use Rattle.ccan_script.specs.declared.script_error.ScriptError.TheVariants.{Memory};
+
+    ghost from_gives = { λ _ e. e ≡ Memory };
+
+    fn from(_refused: AllocFailed<T>) -> ScriptError {
+        ScriptError::Memory
+    }
+}
+
+impl From<serde_json::Error> for ScriptError {
+    ghost use Rattle.ccan_script.specs.ScriptError.{IsRefusalOf};
+
+    ghost from_gives = { λ from e. IsRefusalOf from e };
+
+    fn from(error: serde_json::Error) -> ScriptError {
+        if error.is_memory() {
+            ScriptError::Memory
+        } else {
+            ScriptError::NotJson
+        }
+    }
+}

@@ -1,0 +1,368 @@
+use super::super::*;
+use ccan_ram::PortName;
+use std::alloc::{AllocError, Global};
+use std::process::Abort;
+use std::test::Fail;
+
+/// What a script is refused as.
+fn refusal(rt: &impl Abort, alloc: Global, script: &[u8]) -> ScriptError {
+    match read_script(alloc, script) {
+        Ok(_) => panic!(rt; "not refused"),
+        Err(fault) => fault,
+    }
+}
+
+fn shape(list: ListName, index: usize) -> ScriptError {
+    ScriptError::Shape { list, index }
+}
+
+fn range(list: ListName, index: usize) -> ScriptError {
+    ScriptError::Range { list, index }
+}
+
+#[test]
+fn refuses_wrong_members_and_numbers(rt: HostRuntime) {
+    let top = ListName::Top;
+    for (script, want) in [
+        ("[]", shape(top, 0)),
+        (r#"{"foo":1,"quota":0}"#, shape(top, 0)),
+        (r#"{"profile":3}"#, range(top, 0)),
+        (r#"{"profile":0}"#, range(top, 0)),
+        (r#"{"profile":"2"}"#, shape(top, 0)),
+        (r#"{"profile":3,"quota":"x"}"#, range(top, 0)),
+        (r#"{"profile":"2","quota":0}"#, shape(top, 0)),
+        (r#"{"quota":0,"tries":"x"}"#, range(top, 0)),
+        (r#"{"quota":-1}"#, shape(top, 0)),
+        (r#"{"quota":1.0}"#, shape(top, 0)),
+        (r#"{"quota":4097}"#, range(top, 0)),
+        (r#"{"tries":0}"#, range(top, 0)),
+        (r#"{"tries":1001}"#, range(top, 0)),
+        (r#"{"tries":1001,"nodes":"x"}"#, range(top, 0)),
+        (r#"{"nodes":9}"#, range(top, 0)),
+        (r#"{"nodes":true}"#, shape(top, 0)),
+        (r#"{"nodes":9,"if1":{}}"#, range(top, 0)),
+    ] {
+        assert_eq!(rt;
+            refusal(&rt, rt.alloc(), script.as_bytes()),
+            want,
+            "at {script}"
+        );
+    }
+}
+
+#[test]
+fn refuses_wrong_host_lines(rt: HostRuntime) {
+    let if1 = ListName::If1;
+    let if2 = ListName::If2;
+    for (script, want) in [
+        (r#"{"if1":{}}"#, shape(if1, 0)),
+        (r#"{"if1":[],"if2":0}"#, shape(if2, 0)),
+        (r#"{"if1":[{"op":"load"}]}"#, shape(if1, 0)),
+        (r#"{"if1":[0]}"#, shape(if1, 0)),
+        (
+            r#"{"if1":[{"op":"transfer","request":"1"}]}"#,
+            shape(if1, 0),
+        ),
+        (
+            r#"{"if1":[{"op":"transfer","request":"+001"}]}"#,
+            shape(if1, 0),
+        ),
+        (
+            r#"{"if1":[{"op":"transfer","request":"0001","set":{"foo":"0001"}}]}"#,
+            shape(if1, 0),
+        ),
+        (
+            r#"{"if1":[{"op":"transfer","request":"0001","more":1}]}"#,
+            shape(if1, 0),
+        ),
+        (
+            r#"{"if1":[{"op":"interrupt"},{"op":"interrupt","flag":"newdat"}]}"#,
+            shape(if1, 1),
+        ),
+        (
+            r#"{"if1":[{"op":"until","object":33,"flag":"newdat","turns":0}]}"#,
+            range(if1, 0),
+        ),
+        (
+            r#"{"if1":[{"op":"until","object":33,"flag":"newdat","turns":1}]}"#,
+            range(if1, 0),
+        ),
+        (
+            r#"{"profile":2,"if2":[{"op":"until","object":65,"flag":"newdat","turns":1}]}"#,
+            range(if2, 0),
+        ),
+        (
+            r#"{"if1":[{"op":"until","object":1,"flag":"newdat","turns":0}]}"#,
+            range(if1, 0),
+        ),
+        (
+            r#"{"if1":[{"op":"until","object":1,"flag":"newdat","turns":1000001}]}"#,
+            range(if1, 0),
+        ),
+        (
+            r#"{"if1":[{"op":"until","object":0,"flag":"NewDat","turns":0}]}"#,
+            shape(if1, 0),
+        ),
+        (r#"{"if2":[{"op":"flags"}]}"#, shape(if2, 0)),
+        (
+            r#"{"if2":[{"op":"flags","flag":"dir"}],"bus":0}"#,
+            shape(if2, 0),
+        ),
+    ] {
+        assert_eq!(rt;
+            refusal(&rt, rt.alloc(), script.as_bytes()),
+            want,
+            "at {script}"
+        );
+    }
+}
+
+#[test]
+fn refuses_wrong_bus_lines(rt: HostRuntime) {
+    let bus = ListName::Bus;
+    for (script, want) in [
+        (
+            r#"{"bus":[{"op":"until","object":1,"flag":"newdat","turns":1}]}"#,
+            shape(bus, 0),
+        ),
+        (r#"{"bus":[{"op":"load","node":1}]}"#, shape(bus, 0)),
+        (r#"{"bus":[{"op":"control","sie":1}]}"#, shape(bus, 0)),
+        (
+            r#"{"bus":[{"op":"control","sie":2,"eie":"x"}]}"#,
+            shape(bus, 0),
+        ),
+        (
+            r#"{"bus":[{"op":"control","sie":2,"eie":0}]}"#,
+            range(bus, 0),
+        ),
+        (
+            r#"{"bus":[{"op":"init"},{"op":"counters","node":1}]}"#,
+            range(bus, 1),
+        ),
+        (r#"{"bus":[{"op":"counters"}]}"#, shape(bus, 0)),
+        (r#"{"bus":[{"op":"recessive","groups":0}]}"#, range(bus, 0)),
+        (
+            r#"{"bus":[{"op":"recessive","groups":10001}]}"#,
+            range(bus, 0),
+        ),
+        (r#"{"bus":[{"op":"loopback","on":2}]}"#, range(bus, 0)),
+        (r#"{"bus":[{"op":"loopback","on":true}]}"#, shape(bus, 0)),
+        (r#"{"bus":[{"op":"round","send":0}]}"#, shape(bus, 0)),
+        (r#"{"bus":[{"op":"round","fault":"ack"}]}"#, shape(bus, 0)),
+        (
+            r#"{"bus":[{"op":"round","send":[0,0,0,0,0,0,0,0,0]}]}"#,
+            shape(bus, 0),
+        ),
+        (
+            r#"{"bus":[{"op":"round","send":[{"node":1,"id":1}]}]}"#,
+            range(bus, 0),
+        ),
+        (
+            r#"{"bus":[{"op":"round","send":[{"node":1,"id":1}],"fault":"x"}]}"#,
+            shape(bus, 0),
+        ),
+        (
+            r#"{"nodes":1,"bus":[{"op":"round","send":[{"node":1,"id":1},{"node":1,"id":2}]}]}"#,
+            shape(bus, 0),
+        ),
+        (
+            r#"{"nodes":1,"bus":[{"op":"round","send":[{"node":1,"id":1},{"node":1,"id":2048}]}]}"#,
+            range(bus, 0),
+        ),
+    ] {
+        assert_eq!(rt;
+            refusal(&rt, rt.alloc(), script.as_bytes()),
+            want,
+            "at {script}"
+        );
+    }
+}
+
+#[test]
+fn refuses_wrong_frames(rt: HostRuntime) -> Result<(), Fail> {
+    let bus = ListName::Bus;
+    for (frame, want) in [
+        (r#"{"node":1}"#, shape(bus, 0)),
+        (r#"{"id":1}"#, shape(bus, 0)),
+        (r#"{"node":0,"id":1}"#, range(bus, 0)),
+        (r#"{"node":2,"id":1}"#, range(bus, 0)),
+        (r#"{"node":1,"id":2048}"#, range(bus, 0)),
+        (r#"{"node":1,"id":536870912,"xtd":1}"#, range(bus, 0)),
+        (r#"{"node":1,"id":1,"xtd":2}"#, range(bus, 0)),
+        (r#"{"node":1,"id":1,"rtr":2}"#, range(bus, 0)),
+        (r#"{"node":1,"id":1,"dlc":16}"#, range(bus, 0)),
+        (r#"{"node":1,"id":1,"dlc":16,"data":"0"}"#, shape(bus, 0)),
+        (r#"{"node":1,"id":1,"dlc":16,"data":"01"}"#, range(bus, 0)),
+        (r#"{"node":1,"id":1,"dlc":2,"data":"01"}"#, shape(bus, 0)),
+        (r#"{"node":1,"id":1,"dlc":1,"data":"0g"}"#, shape(bus, 0)),
+        (r#"{"node":1,"id":1,"data":1}"#, shape(bus, 0)),
+        (
+            r#"{"node":1,"id":1,"rtr":1,"dlc":1,"data":"01"}"#,
+            shape(bus, 0),
+        ),
+        (r#"{"node":1,"id":1,"extra":1}"#, shape(bus, 0)),
+    ] {
+        let script = format!(in rt.alloc();
+            "{{\"nodes\":1,\"bus\":[{{\"op\":\"round\",\"send\":[{frame}]}}]}}"
+        )?;
+        assert_eq!(rt;
+            refusal(&rt, rt.alloc(), script.as_bytes()),
+            want,
+            "at {frame}"
+        );
+    }
+    Ok(())
+}
+
+#[test]
+fn refuses_wrong_orders(rt: HostRuntime) {
+    let order = ListName::Order;
+    let port = |port| ScriptError::Order { port };
+    for (script, want) in [
+        (r#"{"order":{}}"#, shape(order, 0)),
+        (r#"{"order":["if3"]}"#, shape(order, 0)),
+        (r#"{"order":["if1",1]}"#, shape(order, 1)),
+        (r#"{"order":["bus"]}"#, port(PortName::Bus)),
+        (r#"{"order":["bus","if2","if1"]}"#, port(PortName::If1)),
+        (r#"{"order":["bus","if2"]}"#, port(PortName::If2)),
+        (
+            r#"{"if1":[{"op":"interrupt"}],"order":["if1","if1"]}"#,
+            port(PortName::If1),
+        ),
+        (
+            r#"{"if2":[{"op":"interrupt"}],"order":[]}"#,
+            port(PortName::If2),
+        ),
+        (
+            r#"{"order":["if3"],"bus":[{"op":"counters","node":1}]}"#,
+            range(ListName::Bus, 0),
+        ),
+    ] {
+        assert_eq!(rt;
+            refusal(&rt, rt.alloc(), script.as_bytes()),
+            want,
+            "at {script}"
+        );
+    }
+}
+
+/// The bytes of a script that are cut, spoiled or nested too deep.
+#[test]
+fn refuses_what_is_no_json(rt: HostRuntime) -> Result<(), Fail> {
+    let want = ScriptError::NotJson;
+    let bytes = super::scripts::WRITE.as_bytes();
+    for length in 0..bytes.len() {
+        let front = bytes.get(..length).ok_or("too short")?;
+        assert_eq!(rt; refusal(&rt, rt.alloc(), front), want, "at {length} bytes");
+    }
+    let mut no_utf8: Vec<u8> = Vec::new(rt.alloc());
+    no_utf8.extend_from_slice(br#"{"if1":[{"op":"transfer","request":"000"#)?;
+    no_utf8.push(0xff)?;
+    no_utf8.extend_from_slice(br#""}]}"#)?;
+    assert_eq!(rt; refusal(&rt, rt.alloc(), &no_utf8), want);
+    let mut nested = String::new(rt.alloc());
+    for bracket in ["[", "]"] {
+        for _ in 0..200 {
+            nested.push_str(bracket)?;
+        }
+    }
+    assert_eq!(rt; refusal(&rt, rt.alloc(), nested.as_bytes()), want);
+    Ok(())
+}
+
+/// A script with a list of so many items.
+fn many(alloc: Global, name: &str, item: &str, count: usize) -> Result<String, AllocError> {
+    let mut script = String::new(alloc);
+    script.push_str("{\"")?;
+    script.push_str(name)?;
+    script.push_str("\":[")?;
+    for index in 0..count {
+        if index > 0 {
+            script.push_str(",")?;
+        }
+        script.push_str(item)?;
+    }
+    script.push_str("]}")?;
+    Ok(script)
+}
+
+#[test]
+fn holds_its_limits(rt: HostRuntime) -> Result<(), Fail> {
+    let interrupt = r#"{"op":"interrupt"}"#;
+    for (name, list) in [
+        ("if1", ListName::If1),
+        ("if2", ListName::If2),
+        ("bus", ListName::Bus),
+    ] {
+        let most = many(rt.alloc(), name, interrupt, 2_000)?;
+        assert!(rt;
+            read_script(rt.alloc(), most.as_bytes()).is_ok(),
+            "at {name}"
+        );
+        let more = many(rt.alloc(), name, interrupt, 2_001)?;
+        let want = ScriptError::TooMany { list };
+        assert_eq!(rt; refusal(&rt, rt.alloc(), more.as_bytes()), want);
+    }
+    let most = many(rt.alloc(), "order", "\"bus\"", 6_000)?;
+    let want = ScriptError::Order {
+        port: PortName::Bus,
+    };
+    assert_eq!(rt; refusal(&rt, rt.alloc(), most.as_bytes()), want);
+    let more = many(rt.alloc(), "order", "\"bus\"", 6_001)?;
+    let want = ScriptError::TooMany {
+        list: ListName::Order,
+    };
+    assert_eq!(rt; refusal(&rt, rt.alloc(), more.as_bytes()), want);
+    Ok(())
+}
+
+#[test]
+fn tells_each_refusal(rt: HostRuntime) -> Result<(), Fail> {
+    for (fault, want) in [
+        (ScriptError::NotJson, "ccan: script: not JSON"),
+        (shape(ListName::If1, 12), "ccan: script: shape, if1 12"),
+        (shape(ListName::Bus, 1999), "ccan: script: shape, bus 1999"),
+        (shape(ListName::Order, 3), "ccan: script: shape, order 3"),
+        (range(ListName::Top, 0), "ccan: script: range, top 0"),
+        (
+            ScriptError::TooMany {
+                list: ListName::If2,
+            },
+            "ccan: script: too many, if2",
+        ),
+        (
+            ScriptError::Order {
+                port: PortName::If1,
+            },
+            "ccan: script: order, if1",
+        ),
+        (
+            ScriptError::Order {
+                port: PortName::If2,
+            },
+            "ccan: script: order, if2",
+        ),
+        (
+            ScriptError::Order {
+                port: PortName::Bus,
+            },
+            "ccan: script: order, bus",
+        ),
+        (ScriptError::Memory, "ccan: out of memory"),
+    ] {
+        let text = format!(in rt.alloc(); "{fault}")?;
+        assert_eq!(rt; text.as_str(), want);
+    }
+    Ok(())
+}
+
+/// Where an allocation is refused, that is told, and nothing else.
+#[test]
+fn tells_want_of_memory(rt: HostRuntime) {
+    let script =
+        r#"{"nodes":1,"if1":[{"op":"interrupt"}],"if2":[{"op":"transfer","request":"0001","set":{"cmask":"0073"}}],"bus":[{"op":"round","send":[{"node":1,"id":1,"dlc":1,"data":"01"}]}],"order":["bus","if2","if1"]}"#;
+    match read_script(rt.alloc(), script.as_bytes()) {
+        Ok(read) => assert_eq!(rt; read.order.len(), 3),
+        Err(fault) => assert_eq!(rt; fault, ScriptError::Memory),
+    }
+}
