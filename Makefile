@@ -1,36 +1,37 @@
-# What a newcomer needs: `make run` (the program on an example) and `make test` (the gate).
+# `make` alone prints this list. The times are of four processors, the first time and later.
 SCRIPT ?= examples/first_write.json
 PREFIX ?= /usr/local
+export SCRIPT PREFIX
 
-.PHONY: run try test install bench sweep clean
+.PHONY: help run try test install bench sweep schema clean
 
-# Proves and builds the program, and runs it on a script. The first build takes minutes and shows how far it is.
+help:
+	@tools/targets
+
 run:
-	@cd crates/ccan && rt run < ../../$(SCRIPT)
+	@tools/run "$$SCRIPT"
 
-# The same lines in under a minute, without the proofs.
 try:
-	@echo "make try: this build is NOT proved; 'make run' is" >&2
-	@cd crates/ccan && rt try < ../../$(SCRIPT)
+	@tools/try "$$SCRIPT"
 
-# The gate: each example against its expected output, then every proof, must-fail edit, test and program from nothing.
 test:
-	@cd crates/ccan && rt try --cases ../../examples
-	rt ci
+	tools/gate
 
-# Installs the proved program.
 install:
-	@cd crates/ccan && rt run < ../../$(SCRIPT) > /dev/null
-	install -D crates/ccan/out/ccan $(PREFIX)/bin/ccan
+	@tools/build
+	install -D crates/ccan/out/ccan "$$PREFIX/bin/ccan"
+	install -D -m 644 docs/ccan.1 "$$PREFIX/share/man/man1/ccan.1"
 
-# Times the program on a made script of 2,000 lines. No gate depends on it.
 bench:
 	@cd crates/ccan_bench && rt run -- measure
 
-# Refuses each request for memory of the built program in turn. Needs a C compiler; no gate depends on it.
 sweep:
-	@cd crates/ccan && rt run < ../../examples/spent_quota.json > /dev/null
+	@tools/build
 	tools/refuse_memory crates/ccan/out/ccan examples/spent_quota.json examples/spent_quota.json.stdout
 
+schema:
+	tools/check_schema
+	tools/check_guide
+
 clean:
-	rm -rf crates/*/out
+	rm -rf out crates/*/out
