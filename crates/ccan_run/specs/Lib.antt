@@ -9,6 +9,7 @@ pub mod Lines
 pub mod Transfer
 pub mod Host
 pub mod BusPort
+pub mod Gate
 pub mod Port
 pub mod Ordered
 pub mod Stream

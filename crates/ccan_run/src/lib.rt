@@ -20,10 +20,12 @@
 
 pub mod bus_port;
 pub mod cli_error;
+pub mod gate;
 pub mod host;
 mod input;
 pub mod laws;
 pub mod ordered;
+pub mod outcome;
 mod output;
 pub mod port;
 mod ports;
@@ -35,8 +37,10 @@ mod text;
 mod transfer;
 
 pub use cli_error::CliError;
+pub use gate::{FreeGate, Gate};
 pub use input::MAX_INPUT;
 pub use ordered::run_ordered;
+pub use outcome::Outcome;
 pub use port::run_port;
 pub use run_error::RunError;
 pub use run_mode::{RunMode, mode};
