@@ -12,3 +12,6 @@ pub mod RoundsOnce
 pub mod OneText
 pub mod CommandLine
 pub mod CommandWords
+pub mod ScansApart
+pub mod RoundsApart
+pub mod LinesApart
