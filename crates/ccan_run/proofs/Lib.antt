@@ -15,3 +15,4 @@ pub mod CommandWords
 pub mod ScansApart
 pub mod RoundsApart
 pub mod LinesApart
+pub mod Meetings

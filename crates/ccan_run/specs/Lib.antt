@@ -12,5 +12,6 @@ pub mod BusPort
 pub mod Port
 pub mod Ordered
 pub mod Stream
+pub mod Trio
 pub mod Ports
 pub mod Laws

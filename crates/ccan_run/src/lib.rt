@@ -33,6 +33,7 @@ pub mod side;
 pub mod stream;
 mod text;
 mod transfer;
+mod trio;
 
 pub use cli_error::CliError;
 pub use input::MAX_INPUT;
