@@ -22,6 +22,7 @@ pub mod bus_port;
 pub mod cli_error;
 pub mod host;
 mod input;
+mod lane;
 pub mod laws;
 pub mod ordered;
 mod output;
