@@ -16,3 +16,4 @@ pub mod ScansApart
 pub mod RoundsApart
 pub mod LinesApart
 pub mod Meetings
+pub mod Apart
