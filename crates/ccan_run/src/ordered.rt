@@ -34,6 +34,8 @@ fn run_lines_in_order<R: SharedRam>(
     ensures count { length log.new.items ≡ length script.now.order.items }
     ensures runs { RunsTo (fields_of script.now) log.new.items result }
 {
+    // The number of tries is read so that the check knows that it is at least 1.
+    let _tries = script.tries.get();
     let mut ports = Ports::new(script);
     let mut trio = trio;
     for port in &script.order {
