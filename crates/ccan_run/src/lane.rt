@@ -37,9 +37,7 @@ impl<S: Side> Lane<S> {
             S.means terms tries line state seen added result.0 left)) }
     {
         let mut access = On::new(ram, port);
-        let answer = self
-            .side
-            .run_line(&mut access, &lines[self.next], tries);
+        let answer = self.side.run_line(&mut access, &lines[self.next], tries);
         self.next += 1;
         (answer, access.into_port())
     }
