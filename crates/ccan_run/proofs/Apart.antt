@@ -42,11 +42,13 @@ both_empty [] ys h = (refl, h)
 both_empty (event ∷ xs) ys h = absurd (let k : event ∷ (xs ++ ys) ≡ [] = h in cc)
 
 -- where a history that has at least these events of a port goes on to one that has just them, nothing of the port came to it
-pub no_others : (name : PortName) (last first own : List Event) → BeginsWith (events_of name first) own → events_of name (last ++ first) ≡ own
+pub no_others : (name : PortName) (last first own : List Event) → BeginsWith (events_of name first) own
+    → events_of name (last ++ first) ≡ own
     → (events_of name last ≡ []) × (events_of name first ≡ own)
 no_others name last first own (more, is) whole =
     let all : (events_of name last ++ more) ++ own ≡ own =
-    append_assoc (events_of name last) more own ∙ ap (λ es. events_of name last ++ es) (sym is) ∙ sym (events_of-append name last first) ∙ whole in
+    append_assoc (events_of name last) more own ∙ ap (λ es. events_of name last ++ es) (sym is)
+    ∙ sym (events_of-append name last first) ∙ whole in
     let none = both_empty (events_of name last) more (none_before _ own all) in
     (none.0, is ∙ ap (λ es. es ++ own) none.1)
 
@@ -61,18 +63,22 @@ module _ (contends : ℕ → ℕ → Bool) (memory : Memory) (script : ScriptFie
   single_is : (name : PortName) → one_thread_terms memory.profile name memory.quota ≡ terms_of script name
   single_is name = ap₂ (λ profile quota. one_thread_terms profile name quota) same.profile_is same.quota_is
 
-  pub port_line_apart : (line : PortLine) (three : Three) (seen added : List Event) (reply : PortName × LineAnswer) (left : Three) → NobodyElse reply.0 added
+  pub port_line_apart : (line : PortLine) (three : Three) (seen added : List Event) (reply : PortName × LineAnswer) (left : Three)
+      → NobodyElse reply.0 added
       → PortLineMeans (shared.terms_of contends memory) script.tries line three seen added reply left
       → PortLineMeans (terms_of script) script.tries line three seen added reply left
   port_line_apart (of_if1 line) three seen added reply left alone (after, port, means, is) =
       let mine = subst (λ (p : PortName). NobodyElse p added) port alone in
-      let single = host_apart (shared.terms_of contends memory If1) script.tries some seen added mine line three.first reply.1 after means in
-      (after, port, subst (λ (t : Terms). HostLineMeans t script.tries line three.first seen added reply.1 after) (single_is If1) single, is)
+      let one = host_apart (shared.terms_of contends memory If1) script.tries some seen added mine line three.first reply.1 after means in
+      let single = subst (λ (t : Terms). HostLineMeans t script.tries line three.first seen added reply.1 after) (single_is If1) one in
+      (after, port, single, is)
   port_line_apart (of_if2 line) three seen added reply left alone (after, port, means, is) =
       let mine = subst (λ (p : PortName). NobodyElse p added) port alone in
-      let single = host_apart (shared.terms_of contends memory If2) script.tries some seen added mine line three.second reply.1 after means in
-      (after, port, subst (λ (t : Terms). HostLineMeans t script.tries line three.second seen added reply.1 after) (single_is If2) single, is)
+      let one = host_apart (shared.terms_of contends memory If2) script.tries some seen added mine line three.second reply.1 after means in
+      let single = subst (λ (t : Terms). HostLineMeans t script.tries line three.second seen added reply.1 after) (single_is If2) one in
+      (after, port, single, is)
   port_line_apart (of_bus line) three seen added reply left alone (after, port, means, is) =
       let mine = subst (λ (p : PortName). NobodyElse p added) port alone in
-      let single = bus_apart (shared.terms_of contends memory Bus) script.tries some seen added mine line three.bus reply.1 after means in
-      (after, port, subst (λ (t : Terms). BusLineMeans t script.tries line three.bus seen added reply.1 after) (single_is Bus) single, is)
+      let one = bus_apart (shared.terms_of contends memory Bus) script.tries some seen added mine line three.bus reply.1 after means in
+      let single = subst (λ (t : Terms). BusLineMeans t script.tries line three.bus seen added reply.1 after) (single_is Bus) one in
+      (after, port, single, is)

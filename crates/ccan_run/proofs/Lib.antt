@@ -1,6 +1,8 @@
 pub mod Writes
 pub mod Rows
+pub mod Meetings
 pub mod Turns
+pub mod TurnsSoFar
 pub mod Printed
 pub mod NeverBusy
 pub mod LooksOnce
@@ -15,5 +17,4 @@ pub mod CommandWords
 pub mod ScansApart
 pub mod RoundsApart
 pub mod LinesApart
-pub mod Meetings
 pub mod Apart

@@ -32,10 +32,12 @@ module _ (terms : Terms) (tries : ℕ) (some : 1 ≤ tries) (seen added : List E
   transfer_apart : (pure : Bool) (object : ℕ) (registers : Registers) (reply : LineAnswer) (left : Registers)
       → MatchBool pure
       ((shown : Record) × IsLook terms object shown added × Ends object registers shown reply left)
-      ((outcome : Result Changed Refused) × Attempt terms object (change_of registers) tries seen added outcome × Answers object registers outcome reply left)
+      ((outcome : Result Changed Refused) × Attempt terms object (change_of registers) tries seen added outcome
+      × Answers object registers outcome reply left)
       → MatchBool pure
       ((shown : Record) × IsLook single object shown added × Ends object registers shown reply left)
-      ((outcome : Result Changed Refused) × Attempt single object (change_of registers) tries seen added outcome × Answers object registers outcome reply left)
+      ((outcome : Result Changed Refused) × Attempt single object (change_of registers) tries seen added outcome
+      × Answers object registers outcome reply left)
   transfer_apart true object registers reply left (shown, look, ends) = (shown, looks_undisturbed terms object shown added alone look, ends)
   transfer_apart false object registers reply left (outcome, attempt, answers) =
       (outcome, attempts_undisturbed terms object (change_of registers) tries seen added outcome some alone attempt, answers)
@@ -49,11 +51,13 @@ module _ (terms : Terms) (tries : ℕ) (some : 1 ≤ tries) (seen added : List E
       (shown, told, watches_apart terms added alone object flag turns shown watches, same)
   host_apart host.Interrupt registers reply left (value, told, reads, same) =
       (value, told, interrupts_apart terms added alone false value reads, same)
-  host_apart (host.Flags flag) registers reply left (word, told, reads, same) = (word, told, words_apart terms added alone flag word reads, same)
+  host_apart (host.Flags flag) registers reply left (word, told, reads, same) =
+      (word, told, words_apart terms added alone flag word reads, same)
 
   pub bus_apart : (line : BusLine) (past : BusPast) (reply : LineAnswer) (after : BusPast)
       → BusLineMeans terms tries line past seen added reply after → BusLineMeans single tries line past seen added reply after
-  bus_apart line.Load past reply after (loading, told, h) = (loading, told, loads_apart terms tries some seen added past after loading alone h)
+  bus_apart line.Load past reply after (loading, told, h) =
+      (loading, told, loads_apart terms tries some seen added past after loading alone h)
   bus_apart (line.Round sends) past reply after (ended, told, h) =
       (ended, told, rounds_apart terms tries some sends seen added past after ended alone h)
   bus_apart line.Status past reply after h = h

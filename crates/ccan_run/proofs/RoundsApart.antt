@@ -47,15 +47,18 @@ module _ (terms : Terms) (tries : ℕ) (some : 1 ≤ tries) where
   }
   loads_apart seen added past after (load.Held object) alone h = h
   loads_apart seen added past after load.Nothing alone (inl off) = inl off
-  loads_apart seen added past after load.Nothing alone (inr h) = inr (record { scan = load_scans seen added past _ alone h.scan; same = h.same })
-  loads_apart seen added past after (load.Busy object) alone (told, now, h) = (told, now, load_refused seen added past after object _ alone h)
+  loads_apart seen added past after load.Nothing alone (inr h) =
+      inr (record { scan = load_scans seen added past _ alone h.scan; same = h.same })
+  loads_apart seen added past after (load.Busy object) alone (told, now, h) =
+      (told, now, load_refused seen added past after object _ alone h)
   loads_apart seen added past after (load.Spent object) alone h = load_refused seen added past after object _ alone h
 
   -- ---- loop back
 
   module _ (seen added : List Event) (past after : BusPast) (alone : NobodyElse terms.port added) where
     loop_finish : (object : ℕ) (frame : Frame) (outcome : Result Changed Refused)
-        → IsLoopFinish terms tries seen added past after object frame outcome → IsLoopFinish single tries seen added past after object frame outcome
+        → IsLoopFinish terms tries seen added past after object frame outcome
+        → IsLoopFinish single tries seen added past after object frame outcome
     loop_finish object frame outcome h = record {
       started = h.started;
       loaded = h.loaded;
@@ -85,7 +88,8 @@ module _ (terms : Terms) (tries : ℕ) (some : 1 ≤ tries) where
     loop_refused at why (AtFinish frame h) = AtFinish frame (loop_finish seen added past after alone at frame _ h)
     loop_refused at why (AtScan object finished h) = AtScan object finished (loop object finished _ h)
 
-    loops_back : (reply : RoundAnswer) → LoopsBack terms tries seen added past after reply → LoopsBack single tries seen added past after reply
+    loops_back : (reply : RoundAnswer) → LoopsBack terms tries seen added past after reply
+        → LoopsBack single tries seen added past after reply
     loops_back answer.Idle h = h
     loops_back (answer.Looped object finished None) h = loop object finished _ h
     loops_back (answer.Looped object finished (Some found)) (before, number, h) = (before, number, loop object finished _ h)
@@ -111,7 +115,8 @@ module _ (terms : Terms) (tries : ℕ) (some : 1 ≤ tries) where
       finish = attempts_undisturbed terms object Finish tries seen added outcome some alone h.finish;
     }
 
-    receipt : (end : ScanEnd) → IsReceipt terms sends tries seen added past after end → IsReceipt single sends tries seen added past after end
+    receipt : (end : ScanEnd) → IsReceipt terms sends tries seen added past after end
+        → IsReceipt single sends tries seen added past after end
     receipt end h = record {
       winner = h.winner;
       frame = h.frame;
@@ -126,7 +131,8 @@ module _ (terms : Terms) (tries : ℕ) (some : 1 ≤ tries) where
     refused object why (RefusedFinish h) = RefusedFinish (finish object _ h)
     refused object why (RefusedScan h) = RefusedScan (receipt _ h)
 
-    contends : (reply : RoundAnswer) → Contends terms sends tries seen added past after reply → Contends single sends tries seen added past after reply
+    contends : (reply : RoundAnswer) → Contends terms sends tries seen added past after reply
+        → Contends single sends tries seen added past after reply
     contends answer.Idle h = h
     contends (answer.Sent object finished) h = record { before = h.before; number = h.number; finish = finish object _ h.finish }
     contends (answer.Received None) h = receipt _ h
@@ -151,7 +157,8 @@ module _ (terms : Terms) (tries : ℕ) (some : 1 ≤ tries) where
 
   -- ---- a round
 
-  pub rounds_apart : (sends : RoundLine) (seen added : List Event) (past after : BusPast) (reply : RoundAnswer) → NobodyElse terms.port added
+  pub rounds_apart : (sends : RoundLine) (seen added : List Event) (past after : BusPast) (reply : RoundAnswer)
+      → NobodyElse terms.port added
       → Round terms sends tries seen added past after reply → Round single sends tries seen added past after reply
   rounds_apart sends seen added past after reply alone h =
       let parts = apart terms added h.last h.first h.whole alone in

@@ -86,7 +86,8 @@ module _ (terms : Terms) (change : Change) (tries : ℕ) (some : 1 ≤ tries) wh
 
   passed_apart : (object : ℕ) (seen added : List Event) → NobodyElse terms.port added → IsPassed terms object change tries seen added
       → IsPassed (as_one_thread terms) object change tries seen added
-  passed_apart object seen added alone (inl (shown, unfit, look)) = inl (shown, unfit, looks_undisturbed terms object shown added alone look)
+  passed_apart object seen added alone (inl (shown, unfit, look)) =
+      inl (shown, unfit, looks_undisturbed terms object shown added alone look)
   passed_apart object seen added alone (inr (shown, tried)) = inr (shown, tried_apart object seen added _ alone tried)
 
   passes_apart : (from n : ℕ) (seen added : List Event) → NobodyElse terms.port added → PassesOver terms from n change tries seen added
@@ -102,7 +103,8 @@ module _ (terms : Terms) (change : Change) (tries : ℕ) (some : 1 ≤ tries) wh
       )
 
   stops_apart : (from object : ℕ) (seen added : List Event) (outcome : Result Changed Refused) → NobodyElse terms.port added
-      → StopsAt terms from object change tries seen added outcome → StopsAt (as_one_thread terms) from object change tries seen added outcome
+      → StopsAt terms from object change tries seen added outcome
+      → StopsAt (as_one_thread terms) from object change tries seen added outcome
   stops_apart from object seen added outcome alone h =
       let parts = apart terms added h.last h.passed h.whole alone in
       record {
@@ -115,8 +117,8 @@ module _ (terms : Terms) (change : Change) (tries : ℕ) (some : 1 ≤ tries) wh
         try = tried_apart object (h.passed ++ seen) h.last outcome parts.0 h.try;
       }
 
-  pub scans_apart : (from : ℕ) (seen added : List Event) (end : ScanEnd) → NobodyElse terms.port added → Scan terms change from tries seen added end
-      → Scan (as_one_thread terms) change from tries seen added end
+  pub scans_apart : (from : ℕ) (seen added : List Event) (end : ScanEnd) → NobodyElse terms.port added
+      → Scan terms change from tries seen added end → Scan (as_one_thread terms) change from tries seen added end
   scans_apart from seen added Nowhere alone h = passes_apart from (objects_in terms.profile + 1 - from) seen added alone h
   scans_apart from seen added (MadeAt object before after number) alone h = stops_apart from object seen added _ alone h
   scans_apart from seen added (RefusedAt object why) alone h = stops_apart from object seen added _ alone h

@@ -1,5 +1,5 @@
--- What the lines of all three ports work on in one thread, and what a turn of one of them makes of it, over a shared memory.
--- Source: this project's own.
+-- What the lines of all three ports work on in one thread, and what a turn of one of them makes of it, over a shared
+-- memory. Source: this project's own.
 use Rattle.std.specs.Prelude.{ℕ, ◌≡◌, ◌≢◌, Bool, List, ◌∷◌, ◌++◌, All, drop}
 use Rattle.ccan_ram.specs.declared.port.PortName.{PortName}
 use Rattle.ccan_ram.specs.declared.port.PortName.TheVariants.{If1, If2, Bus}
@@ -34,17 +34,17 @@ pub record HaveLedTo (three : Three) (ports : Ports) : Type 0 where
 abbrev pub CanRun : ScriptFields → Ports → Type 0
 CanRun script ports = All (TakesLine script.profile ports.bus.side) script.bus
 
--- a turn of a port starts from this history: it has all that any port had seen, no port made an event on the way to it, and
--- the other two made none in the turn
+-- the line of a turn of a port starts from this history: it has all that any port had seen, and of the port itself no
+-- other events. The others make none in the turn
 pub record StartsFrom (port : PortName) (before after : PortName → List Event) (start : List Event) : Type 0 where
   pub begins : (name : PortName) → BeginsWith start (before name)
   pub own : events_of port start ≡ events_of port (before port)
   pub others : (name : PortName) → name ≢ port → events_of name (after name) ≡ events_of name (before name)
 
--- one line of a port has run over a shared memory, with this answer: it was the next one, and what its port has seen and
--- what the ports work on go on by it
-pub record TakesTurn (contends : ℕ → ℕ → Bool) (memory : Memory) (script : ScriptFields) (before after : PortName → List Event)
-    (old new : Ports) (port : PortName) (reply : LineAnswer) : Type 0 where
+-- one line of a port has run over a shared memory, with this answer: it was the next one, and what its port has seen
+-- and what the ports work on go on by it
+pub record TakesTurn (contends : ℕ → ℕ → Bool) (memory : Memory) (script : ScriptFields)
+    (before after : PortName → List Event) (old new : Ports) (port : PortName) (reply : LineAnswer) : Type 0 where
   pub line : PortLine
   pub next : (order : List PortName) → rest script old (port ∷ order) ≡ line ∷ rest script new order
   pub start : List Event

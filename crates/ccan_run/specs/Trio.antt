@@ -1,5 +1,5 @@
--- The three ports of a shared memory in one thread, and a port that catches up with the two others. Source: this project's
--- own.
+-- The three ports of a shared memory in one thread, and a port that catches up with the two others. Source: this
+-- project's own.
 use Rattle.std.specs.Prelude.{◌≡◌, List}
 use Rattle.ccan_ram.specs.declared.port.PortName.{PortName}
 use Rattle.ccan_ram.specs.declared.port.PortName.TheVariants.{If1, If2, Bus}

@@ -31,8 +31,9 @@ impl<S: Side> Lane<S> {
         ensures takes { (profile : Profile) (other : S.Line)
             → S.takes profile self.old.side other → S.takes profile self.new.side other }
         ensures same { IsSamePort (R.pass port) (R.pass result.1) }
-        ensures runs { (line : S.Line) × (drop self.old.next lines.now ≡ line ∷ drop self.new.next lines.now)
-            × Goes (passes_of R.contends (R.pass port)) (passes_of R.contends (R.pass result.1)) (λ terms seen added.
+        ensures runs { let passes = passes_of R.contends in (line : S.Line)
+            × (drop self.old.next lines.now ≡ line ∷ drop self.new.next lines.now)
+            × Goes (passes (R.pass port)) (passes (R.pass result.1)) (λ terms seen added.
             GoesOn S.led_to self.old.side self.new.side (λ state left.
             S.means terms tries line state seen added result.0 left)) }
     {

@@ -54,8 +54,8 @@ fn count_lines(script: &Script) -> usize
     script.order.len()
 }
 
-/// Runs a script in its order over a lock-free memory whose three ports are in this one thread, and writes the answers to
-/// its lines and then the final objects.
+/// Runs a script in its order over a lock-free memory, with its three ports in this one thread, and writes the answers
+/// to its lines and then the final objects.
 ///
 /// All memory is taken before the first byte is written, room for the whole text too, so that it goes out in one `write`
 /// where the writer takes all that it is given. After a failed write what was written is a prefix of the text.

@@ -47,8 +47,7 @@ impl Ports {
 
     /// Runs the next line of a port, which first meets both others.
     ///
-    /// So the port begins its line with all that any of them has seen. Nobody else acts during the line, since the others
-    /// are in this same thread.
+    /// So the port begins its line with all that any of them has seen.
     pub(crate) fn turn<R: SharedRam>(
         &mut self,
         script: &Script,

@@ -3,7 +3,8 @@ use Rattle.std.proofs.lemmas.List.{drop_all}
 use Rattle.ccan_ram.specs.declared.port.PortName.TheVariants.{If1, If2, Bus}
 use Rattle.ccan_ram.specs.SharedRam.{Memory}
 use Rattle.ccan_script.specs.Reader.{fields_of}
-use Rattle.ccan_run.proofs.Turns.{all_left, all_ran, has_left, left_after, names_left, so_far_more, so_far_none}
+use Rattle.ccan_run.proofs.Turns.{all_left, has_left, left_after, names_left}
+use Rattle.ccan_run.proofs.TurnsSoFar.{all_ran, so_far_more, so_far_none}
 use Rattle.ccan_run.proofs.ordered.run_lines_in_order.Goals as goal
 
 pub loop-port-init : goal.loop-port-init
@@ -24,7 +25,8 @@ pub turn-answer-requires-clause-left : goal.turn-answer-requires-clause-left
 turn-answer-requires-clause-left g c =
     let items = c.deref-port-items.result.now in
     let i = c.loop-port.port-index in
-    λ κs lives. has_left items _ c.deref-port-items.ensures.value i If1 c.loop-port-test.true _ _ (c.loop-port.invariant.left (get_or items i If1))
+    let left = c.loop-port.invariant.left (get_or items i If1) in
+    λ κs lives. has_left items _ c.deref-port-items.ensures.value i If1 c.loop-port-test.true _ _ left
 
 pub loop-port-preserved : goal.loop-port-preserved
 loop-port-preserved g c =

@@ -6,7 +6,7 @@ use Rattle.ccan_script.specs.Order.{times}
 use Rattle.ccan_run.specs.Port.{count_of}
 use Rattle.ccan_run.specs.Ports.{CanRun, next_of}
 use Rattle.ccan_run.specs.Trio.{seen_by}
-use Rattle.ccan_run.proofs.Turns.{SoFar}
+use Rattle.ccan_run.proofs.TurnsSoFar.{SoFar}
 use Rattle.ccan_run.proofs.ordered.run_lines_in_order.Given as goal
 
 -- the lines so far have run, and each port has as many left as the rest of the order names it

@@ -8,7 +8,8 @@ loop-number-init c = record { short = omega arith; room = omega arith; items = �
 
 pub push_final-requires : goal.push_final-requires
 push_final-requires c =
-    omega (arith, c.requires, c.loop-number.invariant.short, c.loop-number.invariant.room, c.loop-number-test.true, c.objects-objects.ensures.number)
+    let so_far = c.loop-number.invariant in
+    omega (arith, c.requires, so_far.short, so_far.room, c.loop-number-test.true, c.objects-objects.ensures.number)
 
 pub loop-number-preserved : goal.loop-number-preserved
 loop-number-preserved c =
@@ -19,8 +20,9 @@ loop-number-preserved c =
       room = omega (arith, so_far.room, c.push_final.ensures.capacity);
       items = λ history left.
           let number : c.unwrap-object.result ≡ c.loop-number.number = rw c.unwrap-object.ensures at c.new.ensures.number in
-          let there = record_there history c.args.left.now.profile c.args.left.now.records c.unwrap-object.result (c.from.result - 1) c.index-left-from.result
-          left c.index-left-from.is (omega (arith, number)) (omega (arith, number, count, c.loop-number-test.true)) (omega (arith, number, c.from.ensures)) in
+          let there = record_there history _ _ c.unwrap-object.result (c.from.result - 1) c.index-left-from.result left
+          c.index-left-from.is (omega (arith, number)) (omega (arith, number, count, c.loop-number-test.true))
+          (omega (arith, number, c.from.ensures)) in
           c.push_final.ensures.items ∙ finals_go_on history _ _ c.loop-number.number c.unwrap-object.result _ (omega arith) number
           (sym c.index-left-from.is ∙ there) (so_far.items history left);
     }

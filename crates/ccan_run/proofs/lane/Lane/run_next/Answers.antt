@@ -6,5 +6,6 @@ pub returns-clause-runs : goal.returns-clause-runs
 returns-clause-runs g c =
     let lines = c.args.lines.now in
     let next = c.args.self.now.next in
-    let at = drop_more lines next c.index-lines-self.result c.requires.left ∙ ap (λ line. line ∷ drop (next + 1) lines) (sym c.index-lines-self.is) in
+    let at = drop_more lines next c.index-lines-self.result c.requires.left
+    ∙ ap (λ line. line ∷ drop (next + 1) lines) (sym c.index-lines-self.is) in
     rw (c.into_port.ensures.port, sym c.new-access.ensures.port) (c.index-lines-self.result, at, c.run_line-answer.ensures.runs)
