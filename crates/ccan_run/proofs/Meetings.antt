@@ -3,9 +3,9 @@ use Rattle.std.proofs.Common.{◌≡◌, ◌++◌, List, sym, ap, subst, ◌∙�
 use Rattle.ccan_ram.specs.declared.port.PortName.{PortName}
 use Rattle.ccan_ram.specs.declared.event.Event.{Event}
 use Rattle.ccan_ram.specs.History.{BeginsWith, events_of}
-use Rattle.ccan_ram.specs.SharedRam.{Memory, Pass, CanSee, IsWithin, IsSamePort, Meets}
+use Rattle.ccan_ram.specs.SharedRam.{Memory, Pass, IsWithin, Meets}
 use Rattle.ccan_ram.proofs.Histories.{IsLegal-older, changes_by-append}
-use Rattle.ccan_run.specs.Trio.{IsQuiet, CatchesUp}
+use Rattle.ccan_run.specs.Trio.{CatchesUp}
 
 -- what a history goes on from has no more changes than it
 within_older : (memory : Memory) (more older : List Event) → IsWithin memory (more ++ older) → IsWithin memory older
