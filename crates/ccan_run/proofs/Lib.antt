@@ -1,6 +1,8 @@
 pub mod Writes
 pub mod Rows
+pub mod Meetings
 pub mod Turns
+pub mod TurnsSoFar
 pub mod Printed
 pub mod NeverBusy
 pub mod LooksOnce
@@ -13,3 +15,7 @@ pub mod OneText
 pub mod CommandLine
 pub mod CommandWords
 pub mod AtOnce
+pub mod ScansApart
+pub mod RoundsApart
+pub mod LinesApart
+pub mod Apart

@@ -14,5 +14,6 @@ pub mod Port
 pub mod Threads
 pub mod Ordered
 pub mod Stream
+pub mod Trio
 pub mod Ports
 pub mod Laws

@@ -12,6 +12,11 @@
 //!                      answers, and the objects at the end --> text --> output
 //! ```
 //!
+//! The memory of an ordered run is one that three threads could share with no lock, with its three ports in one thread.
+//! Before each of its lines a port meets both others, so that it has seen all that any of them has. That is why no other
+//! events stand between those of a line, and why each line is answered as by a one-thread memory. Nothing at run time tests
+//! it: the one history that the memory's end gives has no room for another event.
+//!
 //! What a line stands for is said once, for hosts and for the bus, over any access: which events it adds, what it answers,
 //! and how it leaves what the next line of its port finds ([`Side`], [`run_lines`]). The text of a script is a relation
 //! between a script and a text, over a one-thread memory, in which the program does not appear; [`laws`] say that a script
@@ -23,6 +28,7 @@ pub mod cli_error;
 pub mod gate;
 pub mod host;
 mod input;
+mod lane;
 pub mod laws;
 pub mod ordered;
 pub mod outcome;
@@ -38,6 +44,7 @@ pub mod stream;
 mod text;
 pub mod threads;
 mod transfer;
+mod trio;
 
 pub use cli_error::CliError;
 pub use gate::{FreeGate, Gate};
