@@ -13,3 +13,4 @@ pub mod OneText
 pub mod CommandLine
 pub mod CommandWords
 pub mod AtOnce
+pub mod HostAnswered

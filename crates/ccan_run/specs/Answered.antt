@@ -1,0 +1,105 @@
+-- What each answer of a run without an order tells, as a step of one history: who took it, at which object, what it found and
+-- what it left. Source: C_CAN User's Manual 1.2, section 4.2.1 for what a transfer moves; that each answer has a step of its
+-- own, in its port's order, is this project's own.
+use Rattle.std.specs.Prelude.{ℕ, ◌≡◌, true, List, [], ◌∷◌, ◌++◌, Option, None, Some, Contains, if◌then◌else◌}
+use Rattle.ccan_object.specs.declared.record.Record.{Record}
+use Rattle.ccan_object.specs.declared.command.CommandMask.{CommandMask}
+use Rattle.ccan_object.specs.Command.{is_pure_read}
+use Rattle.ccan_object.specs.Group.{by_groups}
+use Rattle.ccan_object.specs.Interface.{Registers}
+use Rattle.ccan_accept.specs.declared.frame.Frame.{Frame}
+use Rattle.ccan_ram.specs.declared.port.PortName.{PortName}
+use Rattle.ccan_ram.specs.declared.port.PortName.TheVariants.{If1, If2, Bus}
+use Rattle.ccan_ram.specs.declared.change.Change.{Change}
+use Rattle.ccan_ram.specs.declared.change.Change.TheVariants as change
+use Rattle.ccan_ram.specs.declared.event.Event.{Event}
+use Rattle.ccan_ram.specs.declared.event.Operation.{Operation}
+use Rattle.ccan_ram.specs.declared.event.Operation.TheVariants.{Look, Make}
+use Rattle.ccan_ram.specs.Flags.{flag_of}
+use Rattle.ccan_bus.specs.declared.answer.LoadAnswer.TheVariants as load
+use Rattle.ccan_bus.specs.declared.answer.RoundAnswer.TheVariants as round
+use Rattle.ccan_script.specs.declared.host_line.HostLine.{HostLine}
+use Rattle.ccan_script.specs.declared.host_line.HostLine.TheVariants as host
+use Rattle.ccan_script.specs.declared.line_answer.LineAnswer.{LineAnswer}
+use Rattle.ccan_script.specs.declared.line_answer.LineAnswer.TheVariants as answer
+use Rattle.ccan_run.specs.Transfer.{with_settings}
+
+-- a step of the port at the object is among these, which found the one record and left the other
+abbrev pub HasStep : PortName → ℕ → Operation → Record → Record → List Event → Type 0
+HasStep port object operation before after events =
+    Contains events
+    (record { port = port; object = object; operation = operation; before = before; after = after })
+
+-- ---- hosts
+
+-- a read that clears nothing is a look
+abbrev pub reading : CommandMask → Operation
+reading command = if is_pure_read command then Look else Make (change.Clear command)
+
+-- a write: the object was written with what the registers held, which left this record
+abbrev pub WasWritten : PortName → Registers → ℕ → Record → List Event → Type 0
+WasWritten port registers object left events =
+    (before : Record) × HasStep port object (Make (change.Write registers.command registers.buffer)) before left events
+
+-- a read: the selected groups are those of the record that the read found, the others as the registers held them
+pub record WasRead (port : PortName) (registers : Registers) (object : ℕ) (shown : Record) (events : List Event) : Type 0 where
+  pub before : Record
+  pub after : Record
+  pub step : HasStep port object (reading registers.command) before after events
+  pub shows : shown ≡ by_groups registers.command before registers.buffer
+
+-- these steps show the answer to a line of a host whose registers were set so
+abbrev pub HostShownBy : PortName → Registers → LineAnswer → List Event → Type 0
+HostShownBy port registers (answer.Write object left) events = WasWritten port registers object left events
+HostShownBy port registers (answer.Read object shown) events = WasRead port registers object shown events
+HostShownBy port registers (answer.Until object flag true) events =
+    (shown : Record) × HasStep port object Look shown shown events × (flag_of flag shown ≡ true)
+HostShownBy port registers reply events = Unit {0}
+
+-- the registers as a line sets them
+abbrev pub set_by : HostLine → Registers → Registers
+set_by (host.Transfer request set) registers = with_settings set.items registers
+set_by line registers = registers
+
+-- the registers as an answer leaves them: a transfer that was made answers what their buffer then shows
+abbrev pub left_by : LineAnswer → Registers → Registers
+left_by (answer.Write object shown) registers = record registers { buffer = shown }
+left_by (answer.Read object shown) registers = record registers { buffer = shown }
+left_by reply registers = registers
+
+-- each line has an answer, which steps of its own show, after those of the lines before it. A history has its newest event in
+-- front
+abbrev pub HostInOrder : PortName → List HostLine → Registers → List LineAnswer → List Event → Type 0
+HostInOrder port [] registers [] history = Unit {0}
+HostInOrder port (line ∷ lines) registers (reply ∷ replies) history =
+    let set = set_by line registers in
+    (later : List Event) × (first : List Event) × (history ≡ later ++ first)
+    × HostShownBy port set reply first × HostInOrder port lines (left_by reply set) replies later
+HostInOrder port lines registers replies history = ⊥
+
+-- ---- the bus
+
+-- a change of the bus at the object, which left this record
+abbrev pub WasChanged : ℕ → Change → Record → List Event → Type 0
+WasChanged object change left events = (before : Record) × HasStep Bus object (Make change) before left events
+
+-- a store of some frame, which left this record
+abbrev pub WasStored : ℕ × Record → List Event → Type 0
+WasStored found events = (frame : Frame) × WasChanged found.0 (change.Store frame) found.1 events
+
+-- these steps show the answer to a line of the bus
+abbrev pub BusShownBy : LineAnswer → List Event → Type 0
+BusShownBy (answer.Load (load.Loaded object left)) events = WasChanged object change.Start left events
+BusShownBy (answer.Round (round.Sent object left)) events = WasChanged object change.Finish left events
+BusShownBy (answer.Round (round.Received (Some found))) events = WasStored found events
+BusShownBy (answer.Round (round.Looped object left None)) events = WasChanged object change.Finish left events
+BusShownBy (answer.Round (round.Looped object left (Some found))) events =
+    WasChanged object change.Finish left events × WasStored found events
+BusShownBy reply events = Unit {0}
+
+-- each answer of the bus is shown by steps of its own, after those of the answers before it
+abbrev pub BusInOrder : List LineAnswer → List Event → Type 0
+BusInOrder [] history = Unit {0}
+BusInOrder (reply ∷ replies) history =
+    (later : List Event) × (first : List Event) × (history ≡ later ++ first)
+    × BusShownBy reply first × BusInOrder replies later
