@@ -14,3 +14,4 @@ pub mod CommandLine
 pub mod CommandWords
 pub mod AtOnce
 pub mod HostAnswered
+pub mod BusAnswered
