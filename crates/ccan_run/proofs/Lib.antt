@@ -15,3 +15,4 @@ pub mod CommandWords
 pub mod AtOnce
 pub mod HostAnswered
 pub mod BusAnswered
+pub mod Answered

@@ -6,7 +6,7 @@ use Rattle.ccan_object.specs.declared.record.Record.{Record}
 use Rattle.ccan_object.specs.declared.command.CommandMask.{CommandMask}
 use Rattle.ccan_object.specs.Command.{is_pure_read}
 use Rattle.ccan_object.specs.Group.{by_groups}
-use Rattle.ccan_object.specs.Interface.{Registers}
+use Rattle.ccan_object.specs.Interface.{Registers, zero_registers}
 use Rattle.ccan_accept.specs.declared.frame.Frame.{Frame}
 use Rattle.ccan_ram.specs.declared.port.PortName.{PortName}
 use Rattle.ccan_ram.specs.declared.port.PortName.TheVariants.{If1, If2, Bus}
@@ -16,12 +16,16 @@ use Rattle.ccan_ram.specs.declared.event.Event.{Event}
 use Rattle.ccan_ram.specs.declared.event.Operation.{Operation}
 use Rattle.ccan_ram.specs.declared.event.Operation.TheVariants.{Look, Make}
 use Rattle.ccan_ram.specs.Flags.{flag_of}
+use Rattle.ccan_ram.specs.History.{IsLegal}
+use Rattle.ccan_ram.specs.Ending.{final_records}
 use Rattle.ccan_bus.specs.declared.answer.LoadAnswer.TheVariants as load
 use Rattle.ccan_bus.specs.declared.answer.RoundAnswer.TheVariants as round
 use Rattle.ccan_script.specs.declared.host_line.HostLine.{HostLine}
 use Rattle.ccan_script.specs.declared.host_line.HostLine.TheVariants as host
 use Rattle.ccan_script.specs.declared.line_answer.LineAnswer.{LineAnswer}
 use Rattle.ccan_script.specs.declared.line_answer.LineAnswer.TheVariants as answer
+use Rattle.ccan_script.specs.Script.{ScriptFields}
+use Rattle.ccan_run.specs.declared.outcome.Outcome.{Outcome}
 use Rattle.ccan_run.specs.Transfer.{with_settings}
 
 -- a step of the port at the object is among these, which found the one record and left the other
@@ -103,3 +107,15 @@ BusInOrder [] history = Unit {0}
 BusInOrder (reply ∷ replies) history =
     (later : List Event) × (first : List Event) × (history ≡ later ++ first)
     × BusShownBy reply first × BusInOrder replies later
+
+-- ---- a run
+
+-- one legal history stands behind the outcome: each answer of each port has steps of its own in it, in the port's order, and the
+-- objects at the end are those that it leaves
+pub record IsAnswered (script : ScriptFields) (outcome : Outcome) : Type 0 where
+  pub history : List Event
+  pub legal : IsLegal script.profile history
+  pub if1 : HostInOrder If1 script.if1 zero_registers outcome.if1.items history
+  pub if2 : HostInOrder If2 script.if2 zero_registers outcome.if2.items history
+  pub bus : BusInOrder outcome.bus.items history
+  pub left : outcome.last.records ≡ final_records script.profile history
