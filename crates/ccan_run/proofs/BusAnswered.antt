@@ -1,5 +1,6 @@
 -- What the answers of the bus tell, as steps of the history.
-use Rattle.std.proofs.Common.{◌≡◌, ℕ, Bool, true, false, List, [], ◌∷◌, ◌++◌, Option, Some, None, Result, Ok, Err, refl, sym, ap, subst, ◌∙◌, append_assoc}
+use Rattle.std.proofs.Common.{◌≡◌, ℕ, Bool, true, false, List, [], ◌∷◌, ◌++◌, Some, None, Ok, sym, ap, subst, ◌∙◌, append_assoc}
+use Rattle.std.proofs.lemmas.List.{append-nil}
 use Rattle.ccan_object.specs.declared.record.Record.{Record}
 use Rattle.ccan_ram.specs.declared.port.PortName.{PortName}
 use Rattle.ccan_ram.specs.declared.port.PortName.TheVariants.{Bus}
@@ -8,6 +9,7 @@ use Rattle.ccan_ram.specs.declared.change.Change.TheVariants.{Start, Store, Fini
 use Rattle.ccan_ram.specs.declared.change.Changed.TheVariants.{Done}
 use Rattle.ccan_ram.specs.declared.event.Event.{Event}
 use Rattle.ccan_ram.specs.declared.event.Operation.TheVariants.{Make}
+use Rattle.ccan_ram.specs.History.{events_of}
 use Rattle.ccan_ram.specs.Terms.{Terms}
 use Rattle.ccan_ram.specs.Attempt.{Attempt}
 use Rattle.ccan_handler.specs.Scan.{Scan, MadeAt}
@@ -61,9 +63,11 @@ module _ (added newest earlier : List Event) (whole : added ≡ newest ++ earlie
 module _ (terms : Terms) (bus : terms.port ≡ Bus) (tries : ℕ) where
   made : (object : ℕ) (change : Change) (seen added : List Event) (before after : Record) (number : ℕ)
       → Attempt terms object change tries seen added (Ok (Done before after number)) → WasChanged object change after added
-  made object change seen added before after number attempt =
-      (before, subst (λ (port : PortName). HasStep port object (Make change) before after added) bus
-      (done_at terms object change tries seen added before after number attempt))
+  made object change seen added before after number attempt = (
+    before,
+    subst (λ (port : PortName). HasStep port object (Make change) before after added) bus
+        (done_at terms object change tries seen added before after number attempt),
+  )
 
   scanned : (object from : ℕ) (change : Change) (seen added : List Event) (before after : Record) (number : ℕ)
       → Scan terms change from tries seen added (MadeAt object before after number) → WasChanged object change after added
@@ -106,9 +110,9 @@ module _ (terms : Terms) (bus : terms.port ≡ Bus) (tries : ℕ) where
       (made object Finish seen h.first h.before left h.number h.finish.finish)
   loops seen added past after (round.Looped object left (Some found)) (before, number, h) = (
     earlier_changed added h.last h.first h.whole object Finish left
-    (made object Finish seen h.first h.before left h.number h.finish.finish),
+        (made object Finish seen h.first h.before left h.number h.finish.finish),
     newest_stored added h.last h.first h.whole found
-    (h.frame, scanned found.0 1 (Store h.frame) (h.first ++ seen) h.last before found.1 number h.scan),
+        (h.frame, scanned found.0 1 (Store h.frame) (h.first ++ seen) h.last before found.1 number h.scan),
   )
   loops seen added past after (round.Sent object left) h = absurd h
   loops seen added past after (round.Received found) h = absurd h
@@ -157,14 +161,16 @@ module _ (terms : Terms) (bus : terms.port ≡ Bus) (tries : ℕ) where
   -- the lines of the bus, whatever comes after them
   pub bus_lines : (lines : List BusLine) (past : BusPast) (seen added : List Event) (answers : List LineAnswer) (left : BusPast)
       → LinesMean (BusLineMeans terms tries) lines past seen added answers left → (more : List Event)
-      → BusInOrder answers (more ++ added)
-  bus_lines [] past seen added answers left (none, empty, same) more = rw empty tt
-  bus_lines (line ∷ lines) past seen added answers left (later, first, reply, replies, between, whole, all, means, rest) more =
+      → events_of Bus more ≡ [] → BusInOrder answers (more ++ added)
+  bus_lines [] past seen added answers left (none, empty, same) more foreign =
+      let last : events_of Bus (more ++ added) ≡ [] = rw none (ap (events_of Bus) (append-nil more) ∙ foreign) in
+      subst (λ (l : List LineAnswer). BusInOrder l (more ++ added)) (sym empty) last
+  bus_lines (line ∷ lines) past seen added answers left (later, first, reply, replies, between, whole, all, means, rest) more foreign =
       let there : BusInOrder (reply ∷ replies) (more ++ added) = (
         more ++ later,
         first,
         ap (λ (es : List Event). more ++ es) whole ∙ sym (append_assoc more later first),
         bus_line line past seen first reply between means,
-        bus_lines lines between (first ++ seen) later replies left rest more,
+        bus_lines lines between (first ++ seen) later replies left rest more foreign,
       ) in
       subst (λ (l : List LineAnswer). BusInOrder l (more ++ added)) (sym all) there

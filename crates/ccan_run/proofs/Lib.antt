@@ -13,6 +13,7 @@ pub mod OneText
 pub mod CommandLine
 pub mod CommandWords
 pub mod AtOnce
+pub mod HostChanges
 pub mod HostAnswered
 pub mod BusAnswered
 pub mod Answered

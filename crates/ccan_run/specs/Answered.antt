@@ -1,7 +1,7 @@
 -- What each answer of a run without an order tells, as a step of one history: who took it, at which object, what it found and
 -- what it left. Source: C_CAN User's Manual 1.2, section 4.2.1 for what a transfer moves; that each answer has a step of its
 -- own, in its port's order, is this project's own.
-use Rattle.std.specs.Prelude.{ℕ, ◌≡◌, true, List, [], ◌∷◌, ◌++◌, Option, None, Some, Contains, if◌then◌else◌}
+use Rattle.std.specs.Prelude.{ℕ, ◌≡◌, true, List, [], ◌∷◌, ◌++◌, None, Some, Contains, if◌then◌else◌}
 use Rattle.ccan_object.specs.declared.record.Record.{Record}
 use Rattle.ccan_object.specs.declared.command.CommandMask.{CommandMask}
 use Rattle.ccan_object.specs.Command.{is_pure_read}
@@ -16,7 +16,7 @@ use Rattle.ccan_ram.specs.declared.event.Event.{Event}
 use Rattle.ccan_ram.specs.declared.event.Operation.{Operation}
 use Rattle.ccan_ram.specs.declared.event.Operation.TheVariants.{Look, Make}
 use Rattle.ccan_ram.specs.Flags.{flag_of}
-use Rattle.ccan_ram.specs.History.{IsLegal}
+use Rattle.ccan_ram.specs.History.{IsLegal, changes_by, events_of}
 use Rattle.ccan_ram.specs.Ending.{final_records}
 use Rattle.ccan_bus.specs.declared.answer.LoadAnswer.TheVariants as load
 use Rattle.ccan_bus.specs.declared.answer.RoundAnswer.TheVariants as round
@@ -60,6 +60,17 @@ HostShownBy port registers (answer.Until object flag true) events =
     (shown : Record) × HasStep port object Look shown shown events × (flag_of flag shown ≡ true)
 HostShownBy port registers reply events = Unit {0}
 
+-- how many changes the answer tells
+abbrev pub changes_told : Registers → LineAnswer → ℕ
+changes_told registers (answer.Write object left) = 1
+changes_told registers (answer.Read object shown) = if is_pure_read registers.command then 0 else 1
+changes_told registers reply = 0
+
+-- these steps show the answer, and the port made no other change in them than it tells
+pub record HostAnswers (port : PortName) (registers : Registers) (reply : LineAnswer) (events : List Event) : Type 0 where
+  pub shown : HostShownBy port registers reply events
+  pub changes : changes_by port events ≡ changes_told registers reply
+
 -- the registers as a line sets them
 abbrev pub set_by : HostLine → Registers → Registers
 set_by (host.Transfer request set) registers = with_settings set.items registers
@@ -71,14 +82,14 @@ left_by (answer.Write object shown) registers = record registers { buffer = show
 left_by (answer.Read object shown) registers = record registers { buffer = shown }
 left_by reply registers = registers
 
--- each line has an answer, which steps of its own show, after those of the lines before it. A history has its newest event in
--- front
+-- each line has an answer with steps of its own, after those of the lines before it, and the port has no step after those of its
+-- last line. A history has its newest event in front
 abbrev pub HostInOrder : PortName → List HostLine → Registers → List LineAnswer → List Event → Type 0
-HostInOrder port [] registers [] history = Unit {0}
+HostInOrder port [] registers [] history = events_of port history ≡ []
 HostInOrder port (line ∷ lines) registers (reply ∷ replies) history =
     let set = set_by line registers in
     (later : List Event) × (first : List Event) × (history ≡ later ++ first)
-    × HostShownBy port set reply first × HostInOrder port lines (left_by reply set) replies later
+    × HostAnswers port set reply first × HostInOrder port lines (left_by reply set) replies later
 HostInOrder port lines registers replies history = ⊥
 
 -- ---- the bus
@@ -101,9 +112,11 @@ BusShownBy (answer.Round (round.Looped object left (Some found))) events =
     WasChanged object change.Finish left events × WasStored found events
 BusShownBy reply events = Unit {0}
 
--- each answer of the bus is shown by steps of its own, after those of the answers before it
+-- each answer of the bus has steps of its own, after those of the answers before it, and the bus has no step after those of its
+-- last answer. A round may make changes that its answer does not tell: it starts what it loads, and one that is refused in loop
+-- back mode may have finished what it sent
 abbrev pub BusInOrder : List LineAnswer → List Event → Type 0
-BusInOrder [] history = Unit {0}
+BusInOrder [] history = events_of Bus history ≡ []
 BusInOrder (reply ∷ replies) history =
     (later : List Event) × (first : List Event) × (history ≡ later ++ first)
     × BusShownBy reply first × BusInOrder replies later
