@@ -3,6 +3,7 @@ use Rattle.std.proofs.Common.{◌≡◌, ◌≢◌, ◌∙◌, List, [], true, r
 use Rattle.clap.specs.Words.{App, HasKind, IsAmong, Kinds, Text, app_of, fault_of, is_simple_and_free, kind_of}
 use Rattle.clap.specs.declared.builder.Command.{Command}
 use Rattle.clap.specs.declared.error.Error.{Error}
+use Rattle.clap.specs.declared.error.ErrorKind.TheVariants.{OutOfMemory}
 use Rattle.clap.proofs.OnLiterals.{clap_on_literals}
 use Rattle.ccan_run.specs.declared.cli_error.CliError.TheVariants.{Words, Memory}
 use Rattle.ccan_run.specs.declared.run_mode.RunMode.{RunMode}

@@ -4,7 +4,7 @@ use Rattle.std.specs.List.{list_any}
 use Rattle.clap.specs.Words.{same_text, Text}
 use Rattle.clap.proofs.OnLiterals.{clap_on_literals}
 use Rattle.ccan_run.specs.declared.run_mode.RunMode.{RunMode}
-use Rattle.ccan_run.specs.RunMode.{Answers, AreModes, Names, ccan}
+use Rattle.ccan_run.specs.RunMode.{Answers, AreModes, Names, Refuses, ccan}
 use Rattle.ccan_run.specs.CommandLine.{NoWordRuns, RunRuns, OtherWordsAreRefused}
 
 -- the names take what their texts take

@@ -1,5 +1,5 @@
 -- What the words of the command line mean, after the program's name. Source: this project's own.
-use Rattle.std.specs.Prelude.{ℕ, List, [], ◌∷◌, codes}
+use Rattle.std.specs.Prelude.{◌≡◌, ℕ, List, [], ◌∷◌, codes}
 use Rattle.ccan_run.specs.declared.run_mode.RunMode.{RunMode}
 use Rattle.ccan_run.specs.RunMode.{Answers, Refuses}
 

@@ -1,7 +1,7 @@
 use Rattle.std.proofs.Common.{get_or, refl, arith}
 use Rattle.ccan_script.specs.Reader.{fields_of}
 use Rattle.ccan_ram.specs.declared.port.PortName.TheVariants.{If1, If2, Bus}
-use Rattle.ccan_run.proofs.Turns.{all_left, has_left, left_after, names_left, so_far_more, so_far_none}
+use Rattle.ccan_run.proofs.Turns.{all_left, all_ran, has_left, left_after, names_left, so_far_more, so_far_none}
 use Rattle.ccan_run.proofs.ordered.run_lines_in_order.Goals as goal
 
 pub loop-port-init : goal.loop-port-init
