@@ -1,5 +1,5 @@
 -- What the answers of the bus tell, as steps of the history.
-use Rattle.std.proofs.Common.{◌≡◌, ℕ, Bool, true, false, List, [], ◌∷◌, ◌++◌, Some, None, Ok, sym, ap, subst, ◌∙◌, append_assoc}
+use Rattle.std.proofs.Common.{◌≡◌, ℕ, Bool, true, false, List, [], ◌∷◌, ◌++◌, inl, inr, Some, None, Ok, sym, ap, subst, ◌∙◌, append_assoc}
 use Rattle.std.proofs.lemmas.List.{append-nil}
 use Rattle.ccan_object.specs.declared.record.Record.{Record}
 use Rattle.ccan_ram.specs.declared.port.PortName.{PortName}
@@ -9,9 +9,11 @@ use Rattle.ccan_ram.specs.declared.change.Change.TheVariants.{Start, Store, Fini
 use Rattle.ccan_ram.specs.declared.change.Changed.TheVariants.{Done}
 use Rattle.ccan_ram.specs.declared.event.Event.{Event}
 use Rattle.ccan_ram.specs.declared.event.Operation.TheVariants.{Make}
+use Rattle.ccan_ram.specs.declared.flag.Flag.{Flag}
 use Rattle.ccan_ram.specs.History.{events_of}
 use Rattle.ccan_ram.specs.Terms.{Terms}
 use Rattle.ccan_ram.specs.Attempt.{Attempt}
+use Rattle.ccan_handler.specs.Watch.{Interrupts, ReadsFlags}
 use Rattle.ccan_handler.specs.Scan.{Scan, MadeAt}
 use Rattle.ccan_bus.specs.declared.answer.LoadAnswer.{LoadAnswer}
 use Rattle.ccan_bus.specs.declared.answer.LoadAnswer.TheVariants as load
@@ -28,8 +30,8 @@ use Rattle.ccan_script.specs.declared.line_answer.LineAnswer.{LineAnswer}
 use Rattle.ccan_script.specs.declared.line_answer.LineAnswer.TheVariants as answer
 use Rattle.ccan_run.specs.Lines.{LinesMean}
 use Rattle.ccan_run.specs.BusPort.{BusLineMeans}
-use Rattle.ccan_run.specs.Answered.{HasStep, WasChanged, WasStored, BusShownBy, BusInOrder}
-use Rattle.ccan_run.proofs.HostAnswered.{in_newest, in_earlier, done_at}
+use Rattle.ccan_run.specs.Answered.{HasStep, NamesPending, WordWasShown, WasChanged, WasStored, RoundShownBy, BusShownBy, BusInOrder}
+use Rattle.ccan_run.proofs.StepsShown.{in_newest, in_earlier, done_at, interrupt_shown, word_shown}
 
 -- ---- what stands in a part of the history stands in it
 
@@ -46,7 +48,7 @@ module _ (added newest earlier : List Event) (whole : added ≡ newest ++ earlie
   newest_stored : (found : ℕ × Record) → WasStored found newest → WasStored found added
   newest_stored found (frame, made) = (frame, newest_changed found.0 (Store frame) found.1 made)
 
-  newest_shows : (ended : RoundAnswer) → BusShownBy (answer.Round ended) newest → BusShownBy (answer.Round ended) added
+  newest_shows : (ended : RoundAnswer) → RoundShownBy ended newest → RoundShownBy ended added
   newest_shows (round.Sent object left) h = newest_changed object Finish left h
   newest_shows (round.Received None) h = tt
   newest_shows (round.Received (Some found)) h = newest_stored found h
@@ -88,7 +90,7 @@ module _ (terms : Terms) (bus : terms.port ≡ Bus) (tries : ℕ) where
   loads seen added past after (load.Spent object) h = tt
 
   contends : (sends : RoundLine) (seen added : List Event) (past after : BusPast) (ended : RoundAnswer)
-      → Contends terms sends tries seen added past after ended → BusShownBy (answer.Round ended) added
+      → Contends terms sends tries seen added past after ended → RoundShownBy ended added
   contends sends seen added past after (round.Sent object finished) h =
       made object Finish seen added h.before finished h.number h.finish.finish
   contends sends seen added past after (round.Received None) h = tt
@@ -104,7 +106,7 @@ module _ (terms : Terms) (bus : terms.port ≡ Bus) (tries : ℕ) where
   contends sends seen added past after (round.Spent object) h = tt
 
   loops : (seen added : List Event) (past after : BusPast) (ended : RoundAnswer)
-      → LoopsBack terms tries seen added past after ended → BusShownBy (answer.Round ended) added
+      → LoopsBack terms tries seen added past after ended → RoundShownBy ended added
   loops seen added past after (round.Looped object left None) h =
       earlier_changed added h.last h.first h.whole object Finish left
       (made object Finish seen h.first h.before left h.number h.finish.finish)
@@ -125,12 +127,12 @@ module _ (terms : Terms) (bus : terms.port ≡ Bus) (tries : ℕ) where
   loops seen added past after (round.Spent object) h = tt
 
   transfers : (back : Bool) (sends : RoundLine) (seen added : List Event) (past after : BusPast) (ended : RoundAnswer)
-      → Transfers back terms sends tries seen added past after ended → BusShownBy (answer.Round ended) added
+      → Transfers back terms sends tries seen added past after ended → RoundShownBy ended added
   transfers true sends seen added past after ended h = loops seen added past after ended h
   transfers false sends seen added past after ended h = contends sends seen added past after ended h
 
   continues : (loading : LoadAnswer) (sends : RoundLine) (seen added : List Event) (past after : BusPast) (ended : RoundAnswer)
-      → Continues (refusal_of_round loading) terms sends tries seen added past after ended → BusShownBy (answer.Round ended) added
+      → Continues (refusal_of_round loading) terms sends tries seen added past after ended → RoundShownBy ended added
   continues (load.Loaded object started) sends seen added past after ended h = transfers (hears_itself past) sends seen added past after ended h
   continues (load.Held object) sends seen added past after ended h = transfers (hears_itself past) sends seen added past after ended h
   continues load.Nothing sends seen added past after ended h = transfers (hears_itself past) sends seen added past after ended h
@@ -138,12 +140,23 @@ module _ (terms : Terms) (bus : terms.port ≡ Bus) (tries : ℕ) where
   continues (load.Spent object) sends seen added past after ended h = rw h.told tt
 
   rounds : (sends : RoundLine) (seen added : List Event) (past after : BusPast) (ended : RoundAnswer)
-      → Round terms sends tries seen added past after ended → BusShownBy (answer.Round ended) added
+      → Round terms sends tries seen added past after ended → RoundShownBy ended added
   rounds sends seen added past after ended h =
       newest_shows added h.last h.first h.whole ended
       (continues h.loading sends (h.first ++ seen) h.last h.between after ended h.continues)
 
   -- ---- a line
+
+  interrupts : (pending : Bool) (value : ℕ) (added : List Event) → Interrupts terms pending added value
+      → BusShownBy (answer.Interrupt value) added
+  interrupts true value added h = inl h.0
+  interrupts false value added h =
+      inr (subst (λ (port : PortName). NamesPending port value added) bus (interrupt_shown terms value added h))
+
+  flags : (flag : Flag) (word : ℕ) (added : List Event) → ReadsFlags terms flag added word
+      → BusShownBy (answer.Flags flag word terms.profile) added
+  flags flag word added h =
+      subst (λ (port : PortName). WordWasShown port terms.profile flag word added) bus (word_shown terms flag word added h)
 
   bus_line : (line : BusLine) (past : BusPast) (seen added : List Event) (reply : LineAnswer) (after : BusPast)
       → BusLineMeans terms tries line past seen added reply after → BusShownBy reply added
@@ -151,8 +164,8 @@ module _ (terms : Terms) (bus : terms.port ≡ Bus) (tries : ℕ) where
   bus_line (line.Round sends) past seen added reply after (ended, is, h) = rw is (rounds sends seen added past after ended h)
   bus_line line.Status past seen added reply after h = rw h.1 tt
   bus_line (line.Control sie eie) past seen added reply after h = rw h.answer_is tt
-  bus_line line.Interrupt past seen added reply after h = rw h.answer_is tt
-  bus_line (line.Flags flag) past seen added reply after h = rw h.answer_is tt
+  bus_line line.Interrupt past seen added reply after h = rw h.answer_is (interrupts h.pending h.value added h.reads)
+  bus_line (line.Flags flag) past seen added reply after h = rw h.answer_is (flags flag h.word added h.reads)
   bus_line (line.Counters node) past seen added reply after h = rw h.answer_is tt
   bus_line line.Init past seen added reply after h = rw h.answer_is tt
   bus_line (line.Recessive groups) past seen added reply after h = rw h.answer_is tt

@@ -1,8 +1,7 @@
 -- What the answers of a host tell, as steps of the history.
 use Rattle.std.proofs.Common.{◌≡◌, ℕ, Bool, true, false, List, [], ◌∷◌, ◌++◌, ◌&&◌, not, Result, Ok, Err, cond, refl, sym, ap, subst, ◌∙◌, append_assoc}
-use Rattle.std.specs.Prelude.{MatchBool, Contains}
+use Rattle.std.specs.Prelude.{MatchBool}
 use Rattle.std.proofs.lemmas.List.{append-nil}
-use Rattle.std.proofs.lemmas.List.Elements.{Contains-append_left, Contains-append_right, Contains-push}
 use Rattle.ccan_object.specs.declared.record.Record.{Record}
 use Rattle.ccan_object.specs.Command.{is_write, is_pure_read, clears_intpnd, has_txrqst_newdat}
 use Rattle.ccan_object.specs.Group.{by_groups}
@@ -20,7 +19,7 @@ use Rattle.ccan_ram.specs.declared.event.Operation.TheVariants.{Look, Make}
 use Rattle.ccan_ram.specs.declared.flag.Flag.{Flag}
 use Rattle.ccan_ram.specs.History.{changes_by, events_of}
 use Rattle.ccan_ram.specs.Terms.{Terms}
-use Rattle.ccan_ram.specs.Attempt.{Attempt, EndsIn, IsLook, look_at, change_at}
+use Rattle.ccan_ram.specs.Attempt.{Attempt, IsLook}
 use Rattle.ccan_handler.specs.Watch.{Watches}
 use Rattle.ccan_script.specs.declared.host_line.HostLine.{HostLine}
 use Rattle.ccan_script.specs.declared.host_line.HostLine.TheVariants as host
@@ -29,34 +28,9 @@ use Rattle.ccan_script.specs.declared.line_answer.LineAnswer.TheVariants as answ
 use Rattle.ccan_run.specs.Lines.{LinesMean}
 use Rattle.ccan_run.specs.Transfer.{Answers, Ends, change_of, with_settings}
 use Rattle.ccan_run.specs.Host.{HostLineMeans}
-use Rattle.ccan_run.specs.Answered.{HasStep, HostShownBy, HostAnswers, HostInOrder, changes_told, reading, set_by, left_by}
+use Rattle.ccan_run.specs.Answered.{HasStep, HostShownBy, IsHostPart, HostInOrder, changes_told, reading, registers_set, registers_after}
+use Rattle.ccan_run.proofs.StepsShown.{looked_at, done_at, watch_shown, interrupt_shown, word_shown}
 use Rattle.ccan_run.proofs.HostChanges.{changes_by-look, changes_by-attempt, changes_by-watch, changes_by-interrupt, changes_by-flags}
-
--- ---- steps in a part of the history
-
-pub in_newest : (event : Event) (added newest earlier : List Event) → added ≡ newest ++ earlier → Contains newest event → Contains added event
-in_newest event added newest earlier whole there =
-    subst (λ (es : List Event). Contains es event) (sym whole) (Contains-append_left newest earlier event there)
-
-pub in_earlier : (event : Event) (added newest earlier : List Event) → added ≡ newest ++ earlier → Contains earlier event → Contains added event
-in_earlier event added newest earlier whole there =
-    subst (λ (es : List Event). Contains es event) (sym whole) (Contains-append_right newest earlier event there)
-
-ends_in : (terms : Terms) (added : List Event) (event : Event) → EndsIn terms added event → Contains added event
-ends_in terms added event (others, foreign, whole) = in_newest event added (event ∷ []) others whole (Contains-push [] event)
-
--- a look is a step of the port, and so is the change of an attempt that made it
-looked_at : (terms : Terms) (object : ℕ) (shown : Record) (added : List Event) → IsLook terms object shown added
-    → HasStep terms.port object Look shown shown added
-looked_at terms object shown added look = ends_in terms added (look_at terms.port object shown) look
-
-pub done_at : (terms : Terms) (object : ℕ) (change : Change) (tries : ℕ) (seen added : List Event) (before after : Record) (number : ℕ)
-    → Attempt terms object change tries seen added (Ok (Done before after number))
-    → HasStep terms.port object (Make change) before after added
-done_at terms object change tries seen added before after number h =
-    let event = change_at terms.port object change before in
-    let there : Contains added event = in_newest event added h.made (h.looked ++ h.lost) h.whole (ends_in terms h.made event h.make) in
-    subst (λ (r : Record). HasStep terms.port object (Make change) before r added) (sym h.left) there
 
 -- ---- a transfer
 
@@ -67,13 +41,13 @@ pure_reads false clears takes is = refl
 module _ (port : PortName) (registers : Registers) (reply : LineAnswer) (left : Registers) (events : List Event) where
   -- the answer is shown, and tells what is left in the registers
   abbrev IsShown : Type 0
-  IsShown = HostAnswers port registers reply events × (left ≡ left_by reply registers)
+  IsShown = IsHostPart port registers reply events × (left ≡ registers_after reply registers)
 
-  tells : (told : LineAnswer) (now : Registers) → reply ≡ told → left ≡ now → left_by told registers ≡ now
+  tells : (told : LineAnswer) (now : Registers) → reply ≡ told → left ≡ now → registers_after told registers ≡ now
       → HostShownBy port registers told events → changes_by port events ≡ changes_told registers told → IsShown
   tells told now is left_is same shown changes = (
-    subst (λ (r : LineAnswer). HostAnswers port registers r events) (sym is) (record { shown = shown; changes = changes }),
-    left_is ∙ (sym same ∙ ap (λ (r : LineAnswer). left_by r registers) (sym is)),
+    subst (λ (r : LineAnswer). IsHostPart port registers r events) (sym is) (record { shown = shown; changes = changes }),
+    left_is ∙ (sym same ∙ ap (λ (r : LineAnswer). registers_after r registers) (sym is)),
   )
 
   writes : (object : ℕ) (before after : Record) → is_write registers.command ≡ true
@@ -148,14 +122,12 @@ module _ (terms : Terms) (tries : ℕ) where
 
   watched : (object : ℕ) (flag : Flag) (turns : ℕ) (registers : Registers) (added : List Event) (shown : Bool)
       → Watches terms object flag turns added shown → HostShownBy terms.port registers (answer.Until object flag shown) added
-  watched object flag turns registers added true (count, less, h) =
-      let look = h.looks in
-      (h.last, in_newest _ added look.0 look.1 look.2 (looked_at terms object h.last look.0 look.3), h.shows)
+  watched object flag turns registers added true h = watch_shown terms object flag turns added h
   watched object flag turns registers added false h = tt
 
   abbrev Shows : HostLine → Registers → List Event → LineAnswer → Registers → Type 0
   Shows line registers added reply left =
-      HostAnswers terms.port (set_by line registers) reply added × (left ≡ left_by reply (set_by line registers))
+      IsHostPart terms.port (registers_set line registers) reply added × (left ≡ registers_after reply (registers_set line registers))
 
   host_line : (line : HostLine) (registers : Registers) (seen added : List Event) (reply : LineAnswer) (left : Registers)
       → HostLineMeans terms tries line registers seen added reply left → Shows line registers added reply left
@@ -166,9 +138,11 @@ module _ (terms : Terms) (tries : ℕ) where
       tells terms.port registers reply left added (answer.Until object flag shown) registers is same refl (watched object flag turns registers added shown h)
       (changes_by-watch terms object flag turns added shown h)
   host_line host.Interrupt registers seen added reply left (value, is, h, same) =
-      tells terms.port registers reply left added (answer.Interrupt value) registers is same refl tt (changes_by-interrupt terms value added h)
+      tells terms.port registers reply left added (answer.Interrupt value) registers is same refl
+      (interrupt_shown terms value added h) (changes_by-interrupt terms value added h)
   host_line (host.Flags flag) registers seen added reply left (word, is, h, same) =
-      tells terms.port registers reply left added (answer.Flags flag word terms.profile) registers is same refl tt (changes_by-flags terms flag added word h)
+      tells terms.port registers reply left added (answer.Flags flag word terms.profile) registers is same refl
+      (word_shown terms flag word added h) (changes_by-flags terms flag added word h)
 
   -- the lines of a host, whatever comes after them
   pub host_lines : (lines : List HostLine) (registers : Registers) (seen added : List Event) (answers : List LineAnswer) (left : Registers)
@@ -180,7 +154,7 @@ module _ (terms : Terms) (tries : ℕ) where
   host_lines (line ∷ lines) registers seen added answers left (later, first, reply, replies, between, whole, all, means, rest) more foreign =
       let shows = host_line line registers seen first reply between means in
       let all_later = host_lines lines between (first ++ seen) later replies left rest more foreign in
-      let now = set_by line registers in
+      let now = registers_set line registers in
       let there : HostInOrder terms.port (line ∷ lines) registers (reply ∷ replies) (more ++ added) = (
         more ++ later,
         first,

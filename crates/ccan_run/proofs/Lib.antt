@@ -14,6 +14,7 @@ pub mod CommandLine
 pub mod CommandWords
 pub mod AtOnce
 pub mod HostChanges
+pub mod StepsShown
 pub mod HostAnswered
 pub mod BusAnswered
 pub mod Answered

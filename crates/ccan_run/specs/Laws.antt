@@ -28,7 +28,7 @@ HasNoBusyLine =
     (script : ScriptFields) (history : List Event) (answers : List (PortName × LineAnswer))
     → 1 ≤ script.tries → LinesRun script history answers → All (λ reply. IsNotBusy reply.1) answers
 
--- whatever a run without an order comes to, one legal history has a step of its own for each of its answers
+-- whatever a run without an order comes to, one legal history shows each of its answers by steps of that answer's own
 abbrev pub AnswersHaveEvents : Type 0
 AnswersHaveEvents =
     (contends : ℕ → ℕ → Bool) (script : ScriptFields) (outcome : Outcome)
