@@ -19,3 +19,8 @@ pub mod ScansApart
 pub mod RoundsApart
 pub mod LinesApart
 pub mod Apart
+pub mod HostChanges
+pub mod StepsShown
+pub mod HostAnswered
+pub mod BusAnswered
+pub mod Answered

@@ -12,6 +12,7 @@ pub mod BusPort
 pub mod Gate
 pub mod Port
 pub mod Threads
+pub mod Answered
 pub mod Ordered
 pub mod Stream
 pub mod Trio

@@ -38,6 +38,7 @@ fn runs_a_script_in_order(rt: HostRuntime) -> Result<(), Fail> {
 fn laws_hold() {
     ccan_script::laws::one_meaning();
     ccan_run::laws::no_line_is_busy();
+    ccan_run::laws::answers_have_events();
 }
 
 /// The number of a line, as its text shows it: the two bytes of Data A 1, the low one first.
