@@ -1,7 +1,7 @@
 //! Runs of register scripts: bytes to printed lines.
 //!
 //! ```text
-//!   input --> read_all --> ccan_script::read_script --> Script
+//!   input --> read_input, by ccan_script::read_script --> Script
 //!                                                         |
 //!     order: if1 if2 bus if1 ..    each name takes the next line of that port
 //!                                                         v
@@ -38,7 +38,7 @@ mod transfer;
 
 pub use cli_error::CliError;
 pub use gate::{FreeGate, Gate};
-pub use input::MAX_INPUT;
+pub use input::{MAX_INPUT, read_input};
 pub use ordered::run_ordered;
 pub use outcome::Outcome;
 pub use port::run_port;
