@@ -12,6 +12,8 @@ pub mod BusPort
 pub mod Gate
 pub mod Port
 pub mod Ordered
+pub mod Waiting
+pub mod Outcome
 pub mod Stream
 pub mod Ports
 pub mod Laws
