@@ -14,3 +14,4 @@ pub mod RoundsOnce
 pub mod OneText
 pub mod CommandLine
 pub mod CommandWords
+pub mod AtOnce

@@ -11,6 +11,7 @@ pub mod Host
 pub mod BusPort
 pub mod Gate
 pub mod Port
+pub mod Threads
 pub mod Ordered
 pub mod Waiting
 pub mod Outcome

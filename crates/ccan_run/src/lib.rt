@@ -28,13 +28,16 @@ pub mod ordered;
 pub mod outcome;
 mod outcome_text;
 mod output;
+mod per_port;
 pub mod port;
+mod port_run;
 mod ports;
 pub mod run_error;
 pub mod run_mode;
 pub mod side;
 pub mod stream;
 mod text;
+pub mod threads;
 mod transfer;
 mod waiting;
 
