@@ -1,4 +1,6 @@
 pub mod Writes
+pub mod Waits
+pub mod OutcomeLines
 pub mod Rows
 pub mod Meetings
 pub mod Turns

@@ -14,6 +14,8 @@ pub mod Port
 pub mod Threads
 pub mod Answered
 pub mod Ordered
+pub mod Waiting
+pub mod Outcome
 pub mod Stream
 pub mod Trio
 pub mod Ports

@@ -1,6 +1,6 @@
 //! Laws of what scripts and the words of the command line mean. The functions do nothing: their contracts are the laws.
 ghost use Rattle.ccan_run.specs.Laws.{AnswersHaveEvents, HasNoBusyLine, HasOneText};
-ghost use Rattle.ccan_run.specs.CommandLine.{NoWordRuns, OtherWordsAreRefused, RunRuns};
+ghost use Rattle.ccan_run.specs.CommandLine.{NoWordRuns, OtherWordsAreRefused, RunRuns, ThreadsMeansThreads};
 
 /// A script has one text: the answers of its lines and the final objects are determined.
 pub fn one_text()
@@ -30,7 +30,12 @@ pub fn run_runs()
     ensures { RunRuns }
 {}
 
-/// Another word is refused.
+/// The word `threads` is taken, and means threads.
+pub fn threads_means_threads()
+    ensures { ThreadsMeansThreads }
+{}
+
+/// Another word is refused, and so are two words.
 pub fn other_words_are_refused()
     ensures { OtherWordsAreRefused }
 {}

@@ -1,7 +1,7 @@
 //! Runs of register scripts: bytes to printed lines.
 //!
 //! ```text
-//!   input --> read_all --> ccan_script::read_script --> Script
+//!   input --> read_input, by ccan_script::read_script --> Script
 //!                                                         |
 //!     order: if1 if2 bus if1 ..    each name takes the next line of that port
 //!                                                         v
@@ -21,6 +21,9 @@
 //! and how it leaves what the next line of its port finds ([`Side`], [`run_lines`]). The text of a script is a relation
 //! between a script and a text, over a one-thread memory, in which the program does not appear; [`laws`] say that a script
 //! has one text. [`run_ordered`] and [`run_stream`] are proved to write that text.
+//!
+//! Without an order the three ports run at once. [`read_input`] gives the script, [`threads::run_threads`] the [`Outcome`], which
+//! is the answers of each port and the objects at the end, and [`print_outcome`] writes it.
 #![tactic(auto)]
 
 pub mod bus_port;
@@ -32,6 +35,7 @@ mod lane;
 pub mod laws;
 pub mod ordered;
 pub mod outcome;
+mod outcome_text;
 mod output;
 mod per_port;
 pub mod port;
@@ -45,12 +49,14 @@ mod text;
 pub mod threads;
 mod transfer;
 mod trio;
+mod waiting;
 
 pub use cli_error::CliError;
 pub use gate::{FreeGate, Gate};
-pub use input::MAX_INPUT;
+pub use input::{MAX_INPUT, read_input};
 pub use ordered::run_ordered;
 pub use outcome::Outcome;
+pub use outcome_text::print_outcome;
 pub use port::run_port;
 pub use run_error::RunError;
 pub use run_mode::{RunMode, mode};

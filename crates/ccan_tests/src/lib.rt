@@ -3,7 +3,11 @@
 #![tactic(auto)]
 
 #[cfg(test)]
+mod command_line;
+#[cfg(test)]
 mod faulty;
+#[cfg(test)]
+mod outcomes;
 #[cfg(test)]
 mod streams;
 #[cfg(test)]

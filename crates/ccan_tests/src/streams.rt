@@ -9,10 +9,10 @@ use std::fmt::Write as _;
 use std::process::Abort;
 use std::test::Fail;
 
-const WRITE: &str =
+pub const WRITE: &str =
     r#"{"if1":[{"op":"transfer","request":"0001","set":{"cmask":"00f3","arb2":"a48c","ctrl":"0088","dataa1":"2211","dataa2":"4433","datab1":"6655","datab2":"8877"}}]}"#;
 
-const WRITE_TEXT: &str =
+pub const WRITE_TEXT: &str =
     "if1 write 01 a48c0000 00000000 0088 1122334455667788\nfinal 01 a48c0000 00000000 0088 1122334455667788\n";
 
 const SPENT: &str =
