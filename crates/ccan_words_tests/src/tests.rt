@@ -1,3 +1,5 @@
+ghost use Rattle.ccan_ram.specs.Tries.{IsTries};
+
 use super::*;
 use crate::drafts::{commit_beside, prepare_beside};
 use crate::rivals::{Seen, Task, work};
@@ -15,7 +17,9 @@ use ccan_words::{RootRam, WordRam};
 use std::process::Abort;
 
 /// So many tries.
-fn tries(most: u16) -> Tries {
+fn tries(most: u16) -> Tries
+    requires { IsTries most }
+{
     match Tries::new(most) {
         Some(tries) => tries,
         None => unreachable!(),

@@ -190,7 +190,7 @@ fn a_disturbed_store_is_busy(rt: HostRuntime) {
 }
 
 /// Drafts of three ports at one object, one of them twice, and what comes of each.
-fn three_ports_at_one_object<R: SharedRam>(rt: &impl Abort, alloc: std::alloc::Global) {
+fn three_ports_at_one_object<R: SharedRam + Drop>(rt: &impl Abort, alloc: std::alloc::Global) {
     let Ok((ram, mut if1, mut if2, mut bus)) = R::open_ram(alloc, Profile::One, 64) else {
         panic!(rt; "no memory")
     };
@@ -220,8 +220,8 @@ fn three_ports_at_one_object<R: SharedRam>(rt: &impl Abort, alloc: std::alloc::G
     let finished = ram.commit(&mut bus, fourth, &Change::Finish);
     assert_eq!(rt; number(&finished), Some(131073));
     assert_eq!(rt; (ram.used(&if1), ram.used(&if2), ram.used(&bus)), (1, 1, 1));
-    let last = ram.close(if1, if2, bus);
-    assert_eq!(rt; shown(&last.records[3]), P);
+    let last = ram.look(&mut if1, four);
+    assert_eq!(rt; shown(&last), P);
 }
 
 #[test]
