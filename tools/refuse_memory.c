@@ -1,29 +1,46 @@
 /* Refuses the N-th request for memory, N from the environment variable REFUSE, and says on the file of the environment
-   variable REFUSED that it did. To be preloaded under the program. */
+   variable REFUSED that it did. At the end it writes the number of blocks that were given out and not given back into the
+   file of the environment variable LEFT. To be preloaded under the program. */
 #define _GNU_SOURCE
 #include <dlfcn.h>
 #include <errno.h>
 #include <fcntl.h>
 #include <stddef.h>
+#include <stdio.h>
 #include <stdlib.h>
+#include <string.h>
 #include <unistd.h>
 
 static long requests;
+static long left;
 
-/* Whether this request is the one. The mark is written with no request for memory of its own. */
+/* Writes a text into the file that an environment variable names, with no request for memory of its own. */
+static void note(const char *variable, const char *text) {
+    const char *path = getenv(variable);
+    int file = path == NULL ? -1 : open(path, O_WRONLY | O_CREAT | O_TRUNC, 0600);
+    if (file >= 0) {
+        ssize_t written = write(file, text, strlen(text));
+        (void)written;
+        close(file);
+    }
+}
+
+/* Whether this request is the one. */
 static int refused(void) {
     const char *which = getenv("REFUSE");
-    const char *mark = getenv("REFUSED");
     requests++;
     if (which == NULL || requests != atol(which)) {
         return 0;
     }
-    int file = mark == NULL ? -1 : open(mark, O_WRONLY | O_CREAT, 0600);
-    if (file >= 0) {
-        close(file);
-    }
+    note("REFUSED", "refused\n");
     errno = ENOMEM;
     return 1;
+}
+
+/* Counts a block that was given out. */
+static void *counted(void *block) {
+    left += block != NULL;
+    return block;
 }
 
 void *malloc(size_t size) {
@@ -31,7 +48,7 @@ void *malloc(size_t size) {
     if (next == NULL) {
         next = (void *(*)(size_t))dlsym(RTLD_NEXT, "malloc");
     }
-    return refused() ? NULL : next(size);
+    return refused() ? NULL : counted(next(size));
 }
 
 void *calloc(size_t count, size_t size) {
@@ -39,7 +56,7 @@ void *calloc(size_t count, size_t size) {
     if (next == NULL) {
         next = (void *(*)(size_t, size_t))dlsym(RTLD_NEXT, "calloc");
     }
-    return refused() ? NULL : next(count, size);
+    return refused() ? NULL : counted(next(count, size));
 }
 
 void *realloc(void *block, size_t size) {
@@ -47,7 +64,10 @@ void *realloc(void *block, size_t size) {
     if (next == NULL) {
         next = (void *(*)(void *, size_t))dlsym(RTLD_NEXT, "realloc");
     }
-    return refused() ? NULL : next(block, size);
+    if (refused()) {
+        return NULL;
+    }
+    return block == NULL ? counted(next(block, size)) : next(block, size);
 }
 
 void *aligned_alloc(size_t align, size_t size) {
@@ -55,7 +75,7 @@ void *aligned_alloc(size_t align, size_t size) {
     if (next == NULL) {
         next = (void *(*)(size_t, size_t))dlsym(RTLD_NEXT, "aligned_alloc");
     }
-    return refused() ? NULL : next(align, size);
+    return refused() ? NULL : counted(next(align, size));
 }
 
 int posix_memalign(void **block, size_t align, size_t size) {
@@ -63,5 +83,25 @@ int posix_memalign(void **block, size_t align, size_t size) {
     if (next == NULL) {
         next = (int (*)(void **, size_t, size_t))dlsym(RTLD_NEXT, "posix_memalign");
     }
-    return refused() ? ENOMEM : next(block, align, size);
+    if (refused()) {
+        return ENOMEM;
+    }
+    int status = next(block, align, size);
+    left += status == 0;
+    return status;
+}
+
+void free(void *block) {
+    static void (*next)(void *);
+    if (next == NULL) {
+        next = (void (*)(void *))dlsym(RTLD_NEXT, "free");
+    }
+    left -= block != NULL;
+    next(block);
+}
+
+__attribute__((destructor)) static void at_the_end(void) {
+    char text[32];
+    snprintf(text, sizeof text, "%ld\n", left);
+    note("LEFT", text);
 }

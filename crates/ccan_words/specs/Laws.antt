@@ -43,24 +43,21 @@ unequal i k e same = true≢false (sym (eq-eqb i k same) ∙ e)
 
 -- ---- a word for each object
 
-word_place-of : (profile : Profile) (p c j : ℕ) → c < 65536
-    → word_place profile (p * 65536 + c) j ≡ objects_in profile * 8 + p * 12288 + (c - 1) * 3 + j
-word_place-of profile p c j l = let q = quotient p c l in let r = remainder p c l in omega arith
+word_place-of : (p c j : ℕ) → c < 65536 → word_place (p * 65536 + c) j ≡ 512 + p * 12288 + (c - 1) * 3 + j
+word_place-of p c j l = let q = quotient p c l in let r = remainder p c l in omega arith
 
 -- where a version's word is, by the port and the count of its change
-word_at : (profile : Profile) (n j : ℕ) (x : IsNumber 4096 n)
-    → word_place profile n j ≡ objects_in profile * 8 + port_index x.port * 12288 + (x.count - 1) * 3 + j
-word_at profile n j x =
+word_at : (n j : ℕ) (x : IsNumber 4096 n) → word_place n j ≡ 512 + port_index x.port * 12288 + (x.count - 1) * 3 + j
+word_at n j x =
     let most = x.up_to in
-    ap (λ (m : ℕ). word_place profile m j) x.is ∙ word_place-of profile (port_index x.port) x.count j (omega arith)
+    ap (λ (m : ℕ). word_place m j) x.is ∙ word_place-of (port_index x.port) x.count j (omega arith)
 
-word_one : (profile : Profile) (n j m i : ℕ) → IsNumber 4096 n → IsNumber 4096 m → j < 3 → i < 3
-    → word_place profile n j ≡ word_place profile m i → (n ≡ m) × (j ≡ i)
-word_one profile n j m i x y l k same =
+word_one : (n j m i : ℕ) → IsNumber 4096 n → IsNumber 4096 m → j < 3 → i < 3 → word_place n j ≡ word_place m i → (n ≡ m) × (j ≡ i)
+word_one n j m i x y l k same =
     let p : ℕ = port_index x.port in let c : ℕ = x.count in let q : ℕ = port_index y.port in let d : ℕ = y.count in
     let a1 : p < 3 = below_three x.port in let b1 = x.from_one in let d1 = x.up_to in
     let a2 : q < 3 = below_three y.port in let b2 = y.from_one in let d2 = y.up_to in
-    let e = word_at profile n j x in let f = word_at profile m i y in
+    let e = word_at n j x in let f = word_at m i y in
     let xi : n ≡ p * 65536 + c = x.is in let yi : m ≡ q * 65536 + d = y.is in
     let ports : p ≡ q = omega arith in let counts : c ≡ d = omega arith in
     (omega arith, omega arith)
@@ -68,15 +65,15 @@ word_one profile n j m i x y l k same =
 pub word_lies : (profile : Profile) → Lies (word_form profile)
 word_lies profile = record {
   few = lit≤ tt;
-  cells = λ k held. let low = held.least in let high = held.greatest in omega arith;
+  cells = λ k held. let o = most_objects profile in let low = held.least in let high = held.greatest in omega arith;
   itself = λ k. eq-eqb k k refl;
   sharing = λ i k e. ap word_cell (equal i k e);
   separate = λ i k l m e same. let n = unequal i k e in let s : (i - 1) * 8 ≡ (k - 1) * 8 = same in n (omega arith);
-  above = omega arith;
+  above = lit≤ tt;
   fits = λ n j x l.
-      let a = below_three x.port in let b = x.from_one in let d = x.up_to in let e = word_at profile n j x in
+      let a = below_three x.port in let b = x.from_one in let d = x.up_to in let e = word_at n j x in
       (omega arith, omega arith);
-  one = word_one profile;
+  one = word_one;
 }
 
 both : (a b : Bool) → a ≡ true → b ≡ true → (a && b) ≡ true

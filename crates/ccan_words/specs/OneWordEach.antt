@@ -2,7 +2,6 @@
 -- Source: this project's own.
 use Rattle.std.specs.Prelude.{ℕ, ◌+◌, ◌-◌, ◌*◌, ◌/◌, ◌%◌, ◌==◌, Bool, List, [], ◌∷◌}
 use Rattle.ccan_object.specs.declared.profile.Profile.{Profile}
-use Rattle.ccan_object.specs.Profile.{objects_in}
 use Rattle.ccan_object.specs.Packing.{packed}
 use Rattle.ccan_words.specs.View.{History}
 use Rattle.ccan_words.specs.Layout.{Form}
@@ -11,12 +10,9 @@ use Rattle.ccan_words.specs.Layout.{Form}
 abbrev pub word_cell : ℕ → ℕ
 word_cell k = (k - 1) * 8
 
-abbrev pub word_cells : Profile → ℕ
-word_cells profile = objects_in profile * 8
-
--- behind them, each port has room for 4096 versions of three words
-abbrev pub word_place : Profile → ℕ → ℕ → ℕ
-word_place profile n j = word_cells profile + (n / 65536) * 12288 + (n % 65536 - 1) * 3 + j
+-- there is room for 64 objects; behind them, each port has room for 4096 versions of three words
+abbrev pub word_place : ℕ → ℕ → ℕ
+word_place n j = 512 + (n / 65536) * 12288 + (n % 65536 - 1) * 3 + j
 
 abbrev pub same_object : ℕ → ℕ → Bool
 same_object i k = i == k
@@ -29,11 +25,11 @@ newest (e ∷ h) = packed e.after
 abbrev pub word_form : (profile : Profile) → Form profile 4096 same_object
 word_form profile =
     record {
-      size = word_cells profile + 36864;
-      cells = word_cells profile;
+      size = 37376;
+      cells = 512;
       width = 3;
       cell = word_cell;
-      place = word_place profile;
+      place = word_place;
       offset = λ _. 0;
       content = newest;
     }

@@ -17,7 +17,8 @@ impl Layout for OneWordEach {
     ghost form = { word_form };
 
     fn size(profile: Profile) -> usize {
-        usize::from(profile.objects()) * 8 + 36864
+        let _ = profile;
+        37376
     }
 
     fn width(profile: Profile) -> usize {
@@ -30,10 +31,12 @@ impl Layout for OneWordEach {
         (object - 1) * 8
     }
 
+    // The versions begin behind the words of 64 objects in both profiles.
     fn place(profile: Profile, number: u64, word: usize) -> usize {
+        let _ = profile;
         let port = (number / 65536) as usize;
         let count = (number % 65536) as usize;
-        usize::from(profile.objects()) * 8 + port * 12288 + (count - 1) * 3 + word
+        512 + port * 12288 + (count - 1) * 3 + word
     }
 
     fn offset(profile: Profile, object: usize) -> usize {

@@ -43,6 +43,7 @@ impl Version {
     ghost use Rattle.ccan_words.specs.Version.{IsContent, version_of};
 
     /// The next version of a port that has made so many changes.
+    #[inline(always)]
     pub fn of(port: PortName, used: u64, draft: &Draft, change: &Change) -> Version
         requires { used < 4096 }
         ensures version { result ≡ version_of port used draft.now change.now }

@@ -9,9 +9,10 @@ mod profiles;
 mod threads;
 
 use ccan_accept::Frame;
+use ccan_handler::{ScanRefused, choose, flags, interrupt, receive, receive_from};
 use ccan_object::{Iface, ObjectNo, Profile, Record, Reg};
 use ccan_ram::{
-    Access, Change, Changed, CommitError, On, OpenError, PortName, Refused, SharedRam, Tries,
+    Access, Change, Changed, CommitError, Flag, On, OpenError, Refused, SharedRam, Tries,
 };
 use ccan_words::{RootRam, WordRam};
 use std::process::Abort;

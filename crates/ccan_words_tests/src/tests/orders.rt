@@ -30,10 +30,15 @@ fn start_of_an_invalid_object<R: SharedRam + Drop>(rt: &impl Abort, alloc: std::
     let mut handler = On::new(&ram, bus);
     let not_now = handler.change(five, &Change::Start, tries(1));
     assert!(rt; matches!(&not_now, Ok(Changed::NotNow(_))));
-    let started = handler.change(nine, &Change::Start, tries(1));
-    assert_eq!(rt; number(&started), Some(131073));
+    let Ok(Some((chosen, started))) = choose(&mut handler, tries(1)) else {
+        panic!(rt; "nothing was started")
+    };
+    assert_eq!(rt; chosen, nine);
+    assert_eq!(rt; shown(&started), (P.0, P.1, 0x0188, P.3));
     let bus = handler.into_port();
     assert_eq!(rt; (ram.used(&if1), ram.used(&if2), ram.used(&bus)), (3, 0, 1));
+    let draft = ram.prepare(&mut if1, nine);
+    assert_eq!(rt; draft.number(), 131073);
 }
 
 /// What comes of a commit of IF1 at object 4 after a change of IF2 at another object or the same, and what a change of IF1
@@ -129,27 +134,41 @@ fn a_write_is_seen_by_others(rt: HostRuntime) {
     write_is_seen::<RootRam>(&rt, rt.alloc());
 }
 
-#[test]
-fn a_port_is_spent_after_its_quota(rt: HostRuntime) {
-    let Ok((ram, _if1, _if2, mut bus)) = WordRam::open_ram(rt.alloc(), Profile::One, 4096) else {
+/// A port makes its quota of changes, the last with this number, and then no more.
+fn spent_after<R: SharedRam + Drop>(
+    rt: &impl Abort,
+    alloc: std::alloc::Global,
+    quota: u64,
+    greatest: u64,
+) {
+    let Ok((ram, _if1, _if2, bus)) = R::open_ram(alloc, Profile::One, quota) else {
         panic!(rt; "no memory")
     };
     let one = ObjectNo::from_request(ram.profile(), 1);
     let clear = change_of(&[(Reg::CMask, 0x000c)]);
     let mut last = None;
     let mut handler = On::new(&ram, bus);
-    for _ in 0..4096u32 {
+    for _ in 0..quota {
         last = number(&handler.change(one, &clear, tries(1)));
     }
-    assert_eq!(rt; last, Some(135168));
+    assert_eq!(rt; last, Some(greatest));
     assert_eq!(rt; handler.change(one, &clear, tries(1)), Err(Refused::Spent));
     assert_eq!(rt; handler.look(one), Record::zero());
-    bus = handler.into_port();
-    assert_eq!(rt; ram.used(&bus), 4096);
+    let bus = handler.into_port();
+    assert_eq!(rt; ram.used(&bus), quota);
 }
 
-/// A store whose every try is lost is busy, with its tries and the number of the last change that contends.
-fn store_is_busy<R: SharedRam + Drop>(rt: &impl Abort, alloc: std::alloc::Global) {
+#[test]
+fn a_port_is_spent_after_its_quota(rt: HostRuntime) {
+    spent_after::<WordRam>(&rt, rt.alloc(), 4096, 135168);
+    spent_after::<RootRam>(&rt, rt.alloc(), 64, 131136);
+    spent_after::<WordRam>(&rt, rt.alloc(), 1, 131073);
+    spent_after::<RootRam>(&rt, rt.alloc(), 1, 131073);
+}
+
+/// A scan whose store loses every try is refused with its tries and the number of the last change that contends. It goes on
+/// at the object where it was refused.
+fn scan_is_resumed<R: SharedRam + Drop>(rt: &impl Abort, alloc: std::alloc::Global) {
     let Ok((ram, mut if1, _if2, bus)) = R::open_ram(alloc, Profile::One, 64) else {
         panic!(rt; "no memory")
     };
@@ -166,17 +185,24 @@ fn store_is_busy<R: SharedRam + Drop>(rt: &impl Abort, alloc: std::alloc::Global
     };
     let again = change_of(&[(Reg::CMask, 0x0082)]);
     let mut disturbed = Contended::new(&ram, bus, if1, again, 64);
-    let busy = disturbed.change(three, &Change::Store(frame), tries(2));
-    assert_eq!(rt; busy, Err(Refused::Busy { tries: 2, now: 3 }));
+    let Err(refused) = receive(&mut disturbed, &frame, tries(2)) else {
+        panic!(rt; "the scan was not refused")
+    };
+    let busy = ScanRefused {
+        at: three,
+        why: Refused::Busy { tries: 2, now: 3 },
+    };
+    assert_eq!(rt; refused, busy);
     let (bus, mut if1) = disturbed.into_ports();
-    assert_eq!(rt; ram.used(&bus), 0);
+    assert_eq!(rt; (ram.used(&bus), ram.used(&if1)), (0, 3));
     let mut handler = On::new(&ram, bus);
-    let stored = handler.change(three, &Change::Store(frame), tries(2));
-    let Some((after, _)) = done(&stored) else {
+    let Ok(Some(stored)) = receive_from(&mut handler, &frame, three, tries(2)) else {
         panic!(rt; "the frame was not stored")
     };
+    assert_eq!(rt; stored.object, three);
+    assert_eq!(rt; shown(&stored.before), (0x848c0000, 0, 0x0088, [0; 8]));
     assert_eq!(rt;
-        shown(&after),
+        shown(&stored.after),
         (0x848c0000, 0, 0x8081, [1, 0, 0, 0, 0, 0, 0, 0])
     );
     let draft = ram.prepare(&mut if1, three);
@@ -184,13 +210,13 @@ fn store_is_busy<R: SharedRam + Drop>(rt: &impl Abort, alloc: std::alloc::Global
 }
 
 #[test]
-fn a_disturbed_store_is_busy(rt: HostRuntime) {
-    store_is_busy::<WordRam>(&rt, rt.alloc());
-    store_is_busy::<RootRam>(&rt, rt.alloc());
+fn a_refused_scan_is_resumed(rt: HostRuntime) {
+    scan_is_resumed::<WordRam>(&rt, rt.alloc());
+    scan_is_resumed::<RootRam>(&rt, rt.alloc());
 }
 
 /// Drafts of three ports at one object, one of them twice, and what comes of each.
-fn three_ports_at_one_object<R: SharedRam>(rt: &impl Abort, alloc: std::alloc::Global) {
+fn three_ports_at_one_object<R: SharedRam + Drop>(rt: &impl Abort, alloc: std::alloc::Global) {
     let Ok((ram, mut if1, mut if2, mut bus)) = R::open_ram(alloc, Profile::One, 64) else {
         panic!(rt; "no memory")
     };
@@ -220,8 +246,8 @@ fn three_ports_at_one_object<R: SharedRam>(rt: &impl Abort, alloc: std::alloc::G
     let finished = ram.commit(&mut bus, fourth, &Change::Finish);
     assert_eq!(rt; number(&finished), Some(131073));
     assert_eq!(rt; (ram.used(&if1), ram.used(&if2), ram.used(&bus)), (1, 1, 1));
-    let last = ram.close(if1, if2, bus);
-    assert_eq!(rt; shown(&last.records[3]), P);
+    let last = ram.look(&mut if1, four);
+    assert_eq!(rt; shown(&last), P);
 }
 
 #[test]

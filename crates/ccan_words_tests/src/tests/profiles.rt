@@ -1,12 +1,14 @@
 //! Memories of 32 and of 64 objects.
 use super::*;
 
-/// A write at the object that a request of 0 names, and what the memory then shows and leaves.
+/// A write at the object that a request of 0 names, and what the memory then shows, there and at two other requests, and
+/// leaves.
 fn write_last_object<R: SharedRam>(
     rt: &impl Abort,
     alloc: std::alloc::Global,
     profile: Profile,
     objects: u8,
+    others: [u16; 2],
 ) {
     let Ok((ram, mut if1, if2, bus)) = R::open_ram(alloc, profile, 64) else {
         panic!(rt; "no memory")
@@ -17,10 +19,11 @@ fn write_last_object<R: SharedRam>(
     assert_eq!(rt; ObjectNo::from_request(ram.profile(), 0x0040), last);
     let written = ram.change(&mut if1, last, &message(0x0088), tries(1));
     assert_eq!(rt; number(&written), Some(1));
-    for request in [0x0001u16, 0x001f, 0x003f] {
-        let object = ObjectNo::from_request(ram.profile(), request);
-        assert_eq!(rt; ram.look(&mut if1, object), Record::zero());
-    }
+    let [first, second] = others;
+    let one = ObjectNo::from_request(ram.profile(), first);
+    let other = ObjectNo::from_request(ram.profile(), second);
+    assert_eq!(rt; ram.look(&mut if1, one), Record::zero());
+    assert_eq!(rt; ram.look(&mut if1, other), Record::zero());
     let after = ram.look(&mut if1, last);
     assert_eq!(rt;
         shown(&after),
@@ -43,12 +46,12 @@ fn write_last_object<R: SharedRam>(
     }
 }
 
-/// The lowest object with IntPnd, after a write of it at the object that a request of 0 names: its number, and the word of flags.
+/// The interrupt value and the word of IntPnd flags, after a write of that flag at the object that a request of 0 names.
 fn pending_of_last_object<R: SharedRam + Drop>(
     rt: &impl Abort,
     alloc: std::alloc::Global,
     profile: Profile,
-) -> (u8, u64) {
+) -> (u16, u64) {
     let Ok((ram, if1, _if2, _bus)) = R::open_ram(alloc, profile, 64) else {
         panic!(rt; "no memory")
     };
@@ -56,24 +59,15 @@ fn pending_of_last_object<R: SharedRam + Drop>(
     let last = ObjectNo::from_request(host.profile(), 0x0000);
     let written = host.change(last, &control(0x2000), tries(1));
     assert_eq!(rt; number(&written), Some(1));
-    let mut lowest = 0;
-    let mut flags = 0u64;
-    for request in 1..=u16::from(profile.objects()) {
-        let object = ObjectNo::from_request(host.profile(), request);
-        if host.look(object).intpnd {
-            lowest = if lowest == 0 { object.get() } else { lowest };
-            flags |= 1u64.wrapping_shl(u32::from(object.get()) - 1);
-        }
-    }
-    (lowest, flags)
+    (interrupt(&mut host, false), flags(&mut host, Flag::IntPnd))
 }
 
 #[test]
 fn request_zero_names_the_last_object(rt: HostRuntime) {
-    write_last_object::<WordRam>(&rt, rt.alloc(), Profile::Two, 64);
-    write_last_object::<RootRam>(&rt, rt.alloc(), Profile::Two, 64);
-    write_last_object::<WordRam>(&rt, rt.alloc(), Profile::One, 32);
-    write_last_object::<RootRam>(&rt, rt.alloc(), Profile::One, 32);
+    write_last_object::<WordRam>(&rt, rt.alloc(), Profile::Two, 64, [0x0020, 0x003f]);
+    write_last_object::<RootRam>(&rt, rt.alloc(), Profile::Two, 64, [0x0020, 0x003f]);
+    write_last_object::<WordRam>(&rt, rt.alloc(), Profile::One, 32, [0x001f, 0x003f]);
+    write_last_object::<RootRam>(&rt, rt.alloc(), Profile::One, 32, [0x001f, 0x003f]);
 }
 
 #[test]

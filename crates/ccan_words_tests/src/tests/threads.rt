@@ -11,7 +11,7 @@ fn worked<R: SharedRam + Sync, T: Abort + Threads + Sync>(
     requests: [u16; 3],
     quota: u64,
     turns: u16,
-    most: u16,
+    most: Tries,
 ) -> ([Seen; 3], Final) {
     let Ok((ram, if1, if2, bus)) = R::open_ram(alloc, Profile::One, quota) else {
         panic!(rt; "no memory")
@@ -25,14 +25,21 @@ fn worked<R: SharedRam + Sync, T: Abort + Threads + Sync>(
         ],
         tasks: [Task::Masks, Task::Bytes, Task::Finishes],
         turns,
-        tries: tries(most),
+        tries: most,
     };
     three_at_work(rt, ram, if1, if2, bus, plan)
 }
 
 #[test]
 fn other_objects_never_cost_a_try(rt: HostRuntime) {
-    let (seen, last) = worked::<WordRam, HostRuntime>(&rt, rt.alloc(), [1, 2, 3], 1000, 1000, 1);
+    let (seen, last) = worked::<WordRam, HostRuntime>(
+        &rt,
+        rt.alloc(),
+        [1, 2, 3],
+        1000,
+        1000,
+        tries(1),
+    );
     for port in seen {
         let alone = Seen {
             made: 1000,
@@ -48,7 +55,14 @@ fn other_objects_never_cost_a_try(rt: HostRuntime) {
 
 #[test]
 fn three_threads_count_in_one_object(rt: HostRuntime) {
-    let (seen, last) = worked::<WordRam, HostRuntime>(&rt, rt.alloc(), [1, 1, 1], 1000, 1000, 1000);
+    let (seen, last) = worked::<WordRam, HostRuntime>(
+        &rt,
+        rt.alloc(),
+        [1, 1, 1],
+        1000,
+        1000,
+        tries(1000),
+    );
     for port in seen {
         assert!(rt;
             port.made == 1000 && port.own_in_turn && port.others_rise,
@@ -61,7 +75,14 @@ fn three_threads_count_in_one_object(rt: HostRuntime) {
 
 #[test]
 fn three_threads_count_behind_one_word(rt: HostRuntime) {
-    let (seen, last) = worked::<RootRam, HostRuntime>(&rt, rt.alloc(), [1, 1, 2], 64, 64, 200);
+    let (seen, last) = worked::<RootRam, HostRuntime>(
+        &rt,
+        rt.alloc(),
+        [1, 1, 2],
+        64,
+        64,
+        tries(200),
+    );
     for port in seen {
         assert!(rt;
             port.made == 64 && port.own_in_turn && port.others_rise && port.busy == 0,

@@ -1,4 +1,4 @@
-use Rattle.std.proofs.Common.{◌≡◌, ◌≤◌, ◌<◌, ◌*◌, ◌∙◌, arith}
+use Rattle.std.proofs.Common.{◌∙◌, arith}
 use Rattle.ccan_ram.proofs.Attempts.{lost_more, unspent, committed}
 use Rattle.ccan_ram.proofs.NeverBusy.{few_so_far}
 use Rattle.ccan_words_tests.proofs.contended.ContendedAccess.change.Goals as goal

@@ -1,0 +1,197 @@
+//! The calls of one port of a shared memory, alone and beside two others.
+ghost use Rattle.std.specs.Prelude.{◌≡◌};
+ghost use Rattle.ccan_object.specs.Profile.{Holds};
+
+use crate::rivals::three_writers;
+use crate::timing::{median, tenths};
+use anyhow::{Result, bail};
+use ccan_handler::flags;
+use ccan_object::{CommandMask, Iface, ObjectNo, Profile, Record, Reg};
+use ccan_ram::{Access, Change, Flag, On, SharedRam, Tries};
+use std::alloc::Global;
+use std::rt::Clock;
+use std::thread::Threads;
+use std::time::Instant;
+
+/// How many steps of a kind are timed together, where they are no changes.
+const STEPS: u32 = 100_000;
+
+/// How often that is done.
+const RUNS: u32 = 21;
+
+/// How many memories are opened for changes, each of which takes as many as its quota.
+const MEMORIES: u32 = 63;
+
+/// The record that is written: a message with eight bytes.
+fn message() -> Record {
+    let mut registers = Iface::new();
+    registers.set(Reg::Arb2, 0xa48c);
+    registers.set(Reg::Ctrl, 0x0088);
+    registers.set(Reg::DataA1, 0x2211);
+    registers.set(Reg::DataA2, 0x4433);
+    registers.set(Reg::DataB1, 0x6655);
+    registers.set(Reg::DataB2, 0x8877);
+    registers.buffer()
+}
+
+/// A write of all parts of the message.
+pub fn write_all() -> Change {
+    Change::Write(CommandMask::of(0x00f3), message())
+}
+
+/// Looks at one object. Gives the time of one, in tenths of a nanosecond.
+fn time_looks<A: Access>(clock: &impl Clock, access: &mut A) -> Result<u64> {
+    let object = ObjectNo::from_request(access.profile(), 1);
+    // The records are kept, so that each look has to give one whole.
+    let mut shown = [Record::zero(); 16];
+    let start = Instant::now(clock)?;
+    for step in 0..STEPS {
+        shown[(step % 16) as usize] = access.look(object);
+    }
+    let time = tenths(start.elapsed(clock)?, u64::from(STEPS));
+    if shown != [message(); 16] {
+        bail!("a look showed another record");
+    }
+    Ok(time)
+}
+
+/// Reads an object into the interface registers.
+fn time_reads<A: Access>(clock: &impl Clock, access: &mut A) -> Result<u64> {
+    let object = ObjectNo::from_request(access.profile(), 1);
+    let mut registers = [Iface::new(); 16];
+    let start = Instant::now(clock)?;
+    for step in 0..STEPS {
+        let registers = &mut registers[(step % 16) as usize];
+        registers.set(Reg::CMask, 0x0073);
+        let command = registers.command();
+        if command.is_pure_read() {
+            let shown = access.look(object);
+            registers.fill(command, &shown);
+        }
+    }
+    let time = tenths(start.elapsed(clock)?, u64::from(STEPS));
+    for read in &registers {
+        if read.buffer() != message() {
+            bail!("the registers showed another record");
+        }
+    }
+    Ok(time)
+}
+
+/// Gives the flag word of all objects, each of which has the flag.
+fn time_flags<A: Access>(clock: &impl Clock, access: &mut A) -> Result<u64> {
+    let mut sum = 0u64;
+    let steps = STEPS / 16;
+    let start = Instant::now(clock)?;
+    for _ in 0..steps {
+        sum = sum.wrapping_add(flags(access, Flag::MsgVal));
+    }
+    let time = tenths(start.elapsed(clock)?, u64::from(steps));
+    if sum != u64::from(steps).wrapping_mul(0xffff_ffff) {
+        bail!("the flags were others");
+    }
+    Ok(time)
+}
+
+/// Makes a change as often as the port's quota allows.
+fn time_changes<A: Access>(
+    clock: &impl Clock,
+    access: &mut A,
+    change: &Change,
+    quota: u64,
+) -> Result<u64> {
+    let object = ObjectNo::from_request(access.profile(), 1);
+    let Some(once) = Tries::new(1) else {
+        bail!("one try is allowed")
+    };
+    let mut made = 0u64;
+    let start = Instant::now(clock)?;
+    for _ in 0..quota {
+        if access.change(object, change, once).is_ok() {
+            made = made.saturating_add(1);
+        }
+    }
+    let time = tenths(start.elapsed(clock)?, quota);
+    if made != quota {
+        bail!("a change was not made");
+    }
+    Ok(time)
+}
+
+/// The median over several memories of the time of a change.
+fn changes<R: SharedRam + Drop>(clock: &impl Clock, alloc: Global, change: &Change) -> Result<u64> {
+    let mut times = Vec::new(alloc);
+    for _ in 0..MEMORIES {
+        let Ok((ram, if1, _if2, _bus)) = R::open_ram(alloc, Profile::One, R::MAX_QUOTA) else {
+            bail!("no memory")
+        };
+        let mut host = On::new(&ram, if1);
+        times.push(time_changes(clock, &mut host, change, R::MAX_QUOTA)?)?;
+    }
+    Ok(median(times)?)
+}
+
+/// The medians of the times of a look, of a read into the registers and of a flag word.
+fn reads<R: SharedRam + Drop>(clock: &impl Clock, alloc: Global) -> Result<(u64, u64, u64)> {
+    let Ok((ram, if1, _if2, _bus)) = R::open_ram(alloc, Profile::One, R::MAX_QUOTA) else {
+        bail!("no memory")
+    };
+    let mut host = On::new(&ram, if1);
+    let Some(once) = Tries::new(1) else {
+        bail!("one try is allowed")
+    };
+    for request in 1..=32u16 {
+        let object = ObjectNo::from_request(host.profile(), request);
+        if host.change(object, &write_all(), once).is_err() {
+            bail!("a change was not made");
+        }
+    }
+    let mut looks = Vec::new(alloc);
+    let mut fills = Vec::new(alloc);
+    let mut words = Vec::new(alloc);
+    for _ in 0..RUNS {
+        looks.push(time_looks(clock, &mut host)?)?;
+        fills.push(time_reads(clock, &mut host)?)?;
+        words.push(time_flags(clock, &mut host)?)?;
+    }
+    Ok((median(looks)?, median(fills)?, median(words)?))
+}
+
+/// A line of the table: tenths of a nanosecond.
+fn print_time(rt: &impl Print, what: &str, time: u64) -> Result<()> {
+    println!(rt; "{what:<22} {}.{} ns", time / 10, time % 10)?;
+    Ok(())
+}
+
+/// A line of the table: a write of three ports at once, and how many tries in a thousand were lost.
+fn print_writers(rt: &impl Print, what: &str, (time, lost): (u64, u64)) -> Result<()> {
+    println!(rt;
+        "{what:<22} {}.{} ns, {}.{} % of the tries lost",
+        time / 10,
+        time % 10,
+        lost / 10,
+        lost % 10
+    )?;
+    Ok(())
+}
+
+/// Times the calls of a memory, and prints them in nanoseconds.
+pub fn measure_memory<R: SharedRam + Sync + Drop>(
+    rt: &(impl Clock + Print + Threads + Sync),
+    alloc: Global,
+    name: &str,
+) -> Result<()> {
+    println!(rt; "memory with {name}")?;
+    let (look, read, word) = reads::<R>(rt, alloc)?;
+    print_time(rt, "look", look)?;
+    print_time(rt, "read into registers", read)?;
+    print_time(rt, "32 looks of a flag", word)?;
+    print_time(rt, "full write", changes::<R>(rt, alloc, &write_all())?)?;
+    let clear = Change::Clear(CommandMask::of(0x007f));
+    print_time(rt, "clearing read", changes::<R>(rt, alloc, &clear)?)?;
+    let apart = three_writers::<R, _>(rt, alloc, [1, 2, 3])?;
+    print_writers(rt, "three writers apart", apart)?;
+    let together = three_writers::<R, _>(rt, alloc, [1, 1, 1])?;
+    print_writers(rt, "three writers on one", together)?;
+    Ok(())
+}
