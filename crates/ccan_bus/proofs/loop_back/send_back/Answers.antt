@@ -1,4 +1,4 @@
-use Rattle.ccan_bus.proofs.Loops.{back_stopped, back_scanned}
+use Rattle.ccan_bus.proofs.LoopRounds.{back_stopped, back_scanned}
 use Rattle.ccan_bus.proofs.loop_back.send_back.Goals as goal
 
 pub returns-in-Ok : goal.returns-in-Ok

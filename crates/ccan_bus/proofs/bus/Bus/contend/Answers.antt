@@ -1,6 +1,6 @@
 use Rattle.std.proofs.Common.{sym, ◌∙◌}
 use Rattle.ccan_bus.specs.declared.answer.RoundAnswer.TheVariants as answer
-use Rattle.ccan_bus.proofs.Loops.{held_by}
+use Rattle.ccan_bus.proofs.Profiles.{held_by}
 use Rattle.ccan_bus.proofs.Transfers.{ends_sent, ends_nowhere, ends_received, ends_passed}
 use Rattle.ccan_bus.proofs.bus.Bus.contend.Goals as goal
 

@@ -1,5 +1,5 @@
 use Rattle.std.proofs.Common.{sym}
-use Rattle.ccan_bus.proofs.Loops.{same_twice, still_same}
+use Rattle.ccan_bus.proofs.Profiles.{same_twice, still_same}
 use Rattle.ccan_bus.proofs.Transfers.{round_transfers, round_refused}
 use Rattle.ccan_bus.proofs.bus.Bus.round.Goals as goal
 
