@@ -3,7 +3,13 @@
 #![tactic(auto)]
 
 #[cfg(test)]
+mod failing;
+#[cfg(test)]
 mod faulty;
+#[cfg(test)]
+mod malformed;
+#[cfg(test)]
+mod quotas;
 #[cfg(test)]
 mod streams;
 #[cfg(test)]
