@@ -58,7 +58,8 @@ module _ (terms : Terms) (line : RoundLine) (tries : ℕ) (seen added : List Eve
   empty_transferred true reply h not = empty_looped reply h not
   empty_transferred false reply h not = empty_contended reply h not
 
-module _ (terms : Terms) (line : RoundLine) (tries : ℕ) (seen first rest last : List Event) (past between after : BusPast) (reply : RoundAnswer) (not : reply ≢ answer.Idle) where
+module _ (terms : Terms) (line : RoundLine) (tries : ℕ) (seen first rest last : List Event) (past between after : BusPast)
+    (reply : RoundAnswer) (not : reply ≢ answer.Idle) where
   empty_after : (loading : LoadAnswer) → Loads terms tries seen first past between loading
       → Continues (refusal_of_round loading) terms line tries rest last between after reply
       → after.loaded ≡ None
@@ -74,7 +75,8 @@ nothing_after terms line tries seen added past after reply r not =
 
 -- ---- loads that are refused
 
-module _ (terms : Terms) (line : RoundLine) (tries : ℕ) (seen first rest last : List Event) (past between after : BusPast) (reply refusal : RoundAnswer) where
+module _ (terms : Terms) (line : RoundLine) (tries : ℕ) (seen first rest last : List Event) (past between after : BusPast)
+    (reply refusal : RoundAnswer) where
   refused_all : (loading : LoadAnswer) → refusal_of_round loading ≡ Some refusal → Loads terms tries seen first past between loading
       → Continues (refusal_of_round loading) terms line tries rest last between after reply → (after ≡ past) × (reply ≡ refusal)
   refused_all (load.Busy object) is l h = (h.same ∙ l.2.same, h.told ∙ (let e = is in cc))

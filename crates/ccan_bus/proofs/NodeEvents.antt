@@ -20,7 +20,8 @@ pub record Shares (past after : BusPast) (well : Bool) : Type 0 where
   pub event : ℕ → BusEvent
   pub winner : ℕ
   pub one : (node : ℕ) → event node ≡ Sent → node ≡ winner
-  pub given : (node : ℕ) → (after.events node ≡ past.events node) ⊎ ((is_on past node ≡ true) × (after.events node ≡ BusEventOf (event node) ∷ past.events node))
+  pub given : (node : ℕ) → (after.events node ≡ past.events node)
+      ⊎ ((is_on past node ≡ true) × (after.events node ≡ BusEventOf (event node) ∷ past.events node))
   pub sends : well ≡ true → HasEvent past after winner Sent
   pub sends_not : well ≡ false → (node : ℕ) → event node ≢ Sent
 

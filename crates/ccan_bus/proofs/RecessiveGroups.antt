@@ -53,9 +53,11 @@ recovered groups old new recovering event d e has all tells_read event_is adds_r
           others = has.others ∙ led.others;
           counters = group_counters groups old new has few past led;
           status =
-              subst (λ r. IsHeldAfter (Happened (recovery_event groups r) (levels_after_all (is_controller 0) (with_groups groups past 0)) ∷ past.steps) new.status)
+              subst (λ r. IsHeldAfter (Happened (recovery_event groups r) (levels_after_all (is_controller 0)
+              (with_groups groups past 0)) ∷ past.steps) new.status)
               (tells (is_controller 0) (past.events 0) (led.counters 0 (omega arith)))
-              (subst (λ l. IsHeldAfter (Happened (recovery_event groups recovering) l ∷ past.steps) new.status) (group_levels groups old new has few past led) (adds past.steps led.status));
+              (subst (λ l. IsHeldAfter (Happened (recovery_event groups recovering) l ∷ past.steps) new.status)
+              (group_levels groups old new has few past led) (adds past.steps led.status));
           loaded = has.loaded ∙ led.loaded;
           loops_back = has.loops_back ∙ led.loops_back;
         },
