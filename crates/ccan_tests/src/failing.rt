@@ -46,15 +46,16 @@ fn stops_where_a_read_fails(rt: HostRuntime) {
     for fault in FAULTS {
         for step in [1, 64] {
             for (script, text) in [(WRITE, WRITE_TEXT), (SPENT, SPENT_TEXT)] {
-                // So many calls give the bytes, and one more tells their end.
-                let enough = script.len().div_ceil(step);
-                for calls in 0..enough + 1 {
+                // So many calls give the bytes and tell their end.
+                let enough = script.len().div_ceil(step).saturating_add(1);
+                for calls in 0..enough {
                     run_to_a_failed_read(&rt, rt.alloc(), script, text, step, calls, fault);
                 }
             }
         }
         for (_, script, text) in WORKED {
-            for calls in 0..script.len().div_ceil(64) + 1 {
+            let enough = script.len().div_ceil(64).saturating_add(1);
+            for calls in 0..enough {
                 run_to_a_failed_read(&rt, rt.alloc(), script, text, 64, calls, fault);
             }
         }
@@ -71,7 +72,11 @@ fn reads_one_byte_a_call(rt: HostRuntime) {
             fault: None,
         };
         let mut out = new_sheet(4096);
-        assert_eq!(rt; run_stream(rt.alloc(), &mut reader, &mut out), Ok(()), "{name}");
+        assert_eq!(rt;
+            run_stream(rt.alloc(), &mut reader, &mut out),
+            Ok(()),
+            "{name}"
+        );
         assert!(rt; out.taken.as_slice() == text.as_bytes(), "{name}");
     }
 }
@@ -115,7 +120,10 @@ fn run_to_a_failed_write(
     let got = run_stream(alloc, &mut script.as_bytes(), &mut out);
     assert_eq!(rt; got, Err(RunError::Write), "after {room} bytes of {text}");
     let front = text.as_bytes().get(..room);
-    assert!(rt; front == Some(out.taken.as_slice()), "after {room} bytes of {text}");
+    assert!(rt;
+        front == Some(out.taken.as_slice()),
+        "after {room} bytes of {text}"
+    );
 }
 
 /// A write that fails or takes nothing is told and not tried again.

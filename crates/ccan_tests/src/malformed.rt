@@ -10,11 +10,14 @@ use std::process::Abort;
 use std::test::Fail;
 
 const TOP: ListName = ListName::Top;
+
 const NOT_JSON: ScriptError = ScriptError::NotJson;
+
 const SHAPE: ScriptError = ScriptError::Shape {
     list: TOP,
     index: 0,
 };
+
 const RANGE: ScriptError = ScriptError::Range {
     list: TOP,
     index: 0,
@@ -60,7 +63,11 @@ fn refuses_each_beginning(rt: HostRuntime) {
         let bytes = script.as_bytes();
         for length in 0..bytes.len() {
             let got = refusal(&rt, rt.alloc(), &bytes[..length]);
-            assert_eq!(rt; got, RunError::Script(NOT_JSON), "{name} cut to {length} bytes");
+            assert_eq!(rt;
+                got,
+                RunError::Script(NOT_JSON),
+                "{name} cut to {length} bytes"
+            );
         }
     }
 }
@@ -97,7 +104,10 @@ fn reads_escapes(rt: HostRuntime) {
         " \t\r\n{ \"if1\" : [ { \"op\" : \"transfer\" , \"request\" : \"0003\" } ] } \n",
     ] {
         let mut out = new_sheet(512);
-        assert_eq!(rt; run_stream(rt.alloc(), &mut script.as_bytes(), &mut out), Ok(()));
+        assert_eq!(rt;
+            run_stream(rt.alloc(), &mut script.as_bytes(), &mut out),
+            Ok(())
+        );
         let want = "if1 read 03 00000000 00000000 0000 0000000000000000\n";
         assert!(rt; out.taken.as_slice() == want.as_bytes(), "at {script}");
     }
@@ -179,7 +189,9 @@ fn refuses_unusual_numbers(rt: HostRuntime) -> Result<(), Fail> {
         let top = format!(in rt.alloc(); "{{\"quota\":{number}}}")?;
         let got = refusal(&rt, rt.alloc(), top.as_bytes());
         assert_eq!(rt; got, RunError::Script(in_range), "at {top}");
-        let line = format!(in rt.alloc(); "{{\"bus\":[{{\"op\":\"recessive\",\"groups\":{number}}}]}}")?;
+        let line = format!(in rt.alloc();
+            "{{\"bus\":[{{\"op\":\"recessive\",\"groups\":{number}}}]}}"
+        )?;
         let got = refusal(&rt, rt.alloc(), line.as_bytes());
         assert_eq!(rt; got, RunError::Script(want), "at {line}");
     }
@@ -244,7 +256,11 @@ fn refuses_deep_nesting(rt: HostRuntime) -> Result<(), Fail> {
         let inner = nested(rt.alloc(), depth)?;
         let script = format!(in rt.alloc(); "{{\"quota\":{inner}}}")?;
         let got = refusal(&rt, rt.alloc(), script.as_bytes());
-        assert_eq!(rt; got, RunError::Script(want), "at {depth} lists in an object");
+        assert_eq!(rt;
+            got,
+            RunError::Script(want),
+            "at {depth} lists in an object"
+        );
     }
     Ok(())
 }
@@ -258,7 +274,10 @@ fn answers_twice_alike_where_a_member_stands_twice(rt: HostRuntime) {
         r#"{"quota":1,"\u0071uota":0}"#,
     ] {
         let got = answer(&rt, rt.alloc(), script.as_bytes());
-        let is_one_of_them = matches!(got, Ok(()) | Err(RunError::Script(ScriptError::Range { .. })));
+        let is_one_of_them = matches!(
+            got,
+            Ok(()) | Err(RunError::Script(ScriptError::Range { .. }))
+        );
         assert!(rt; is_one_of_them, "at {script}");
     }
 }

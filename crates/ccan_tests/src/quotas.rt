@@ -1,12 +1,11 @@
 //! Quotas to their last change on every port, and what still answers afterwards.
+ghost use Rattle.std.specs.Prelude.{◌≡◌};
 ghost use Rattle.ccan_ram.specs.Port.{IsQuota};
 
 use ccan_accept::Frame;
 use ccan_handler::{choose, flags, interrupt, receive, until};
 use ccan_object::{CommandMask, Iface, ObjectNo, Profile, Record, Reg};
-use ccan_ram::{
-    Access, Array, Change, Changed, Flag, On, PortName, Refused, SharedRam, Tries,
-};
+use ccan_ram::{Access, Array, Change, Changed, Flag, On, PortName, Refused, SharedRam, Tries};
 use ccan_words::{RootRam, WordRam};
 use std::process::Abort;
 use std::test::Fail;
@@ -29,9 +28,7 @@ fn write() -> Change {
 
 /// A standard data frame without bytes.
 fn frame(id: u32) -> Result<Frame, Fail> {
-    Ok(Frame::new(id, false, false, 0, [0; 8])
-        .ok()
-        .ok_or("frame")?)
+    Ok(Frame::new(id, false, false, 0, [0; 8]).ok().ok_or("frame")?)
 }
 
 /// Arbitration and Message Control, as a driver reads them.
@@ -41,12 +38,7 @@ fn shown(object: &Record) -> (u32, u16) {
 
 /// Uses up a port's quota: a write of object 3, and then reads of object 1 that clear its flags. The changes have the
 /// numbers from this one on.
-fn spend<A: Access>(
-    rt: &impl Abort,
-    access: &mut A,
-    quota: u64,
-    first: u64,
-) -> Result<(), Fail> {
+fn spend<A: Access>(rt: &impl Abort, access: &mut A, quota: u64, first: u64) -> Result<(), Fail> {
     let tries = Tries::new(1).ok_or("tries")?;
     let clear = Change::Clear(CommandMask::of(0x000c));
     for made in 0..quota {
@@ -124,6 +116,21 @@ fn a_plain_memory_is_spent_at_its_quota(rt: HostRuntime) -> Result<(), Fail> {
     spends_an_array(&rt, 4096)
 }
 
+/// A port of a shared memory, whose first change has this number.
+fn spends_a_port<R: SharedRam>(
+    rt: &impl Abort,
+    ram: &R,
+    port: R::Port,
+    quota: u64,
+    first: u64,
+) -> Result<(), Fail>
+    requires { (R.pass port).memory ≡ R.memory ram.now }
+{
+    let mut access = On::new(ram, port);
+    spend(rt, &mut access, quota, first)?;
+    still_answers(rt, &mut access)
+}
+
 /// Each port of a shared memory in turn.
 fn spends_a_shared_memory<R: SharedRam + Drop>(
     rt: &impl Abort,
@@ -133,12 +140,9 @@ fn spends_a_shared_memory<R: SharedRam + Drop>(
     let Ok((ram, if1, if2, bus)) = R::open_ram(alloc, Profile::One, quota) else {
         panic!(rt; "no memory")
     };
-    for (port, first) in [(if1, 1), (if2, 65_537), (bus, 131_073)] {
-        let mut access = On::new(&ram, port);
-        spend(rt, &mut access, quota, first)?;
-        still_answers(rt, &mut access)?;
-    }
-    Ok(())
+    spends_a_port(rt, &ram, if1, quota, 1)?;
+    spends_a_port(rt, &ram, if2, quota, 65_537)?;
+    spends_a_port(rt, &ram, bus, quota, 131_073)
 }
 
 #[test]
