@@ -3,7 +3,7 @@ SCRIPT ?= examples/first_write.json
 PREFIX ?= /usr/local
 export SCRIPT PREFIX
 
-.PHONY: help run try test install bench sweep schema clean
+.PHONY: help run try test install bench sweep hostile schema clean
 
 help:
 	@tools/targets
@@ -30,6 +30,11 @@ sweep:
 	tools/refuse_memory crates/ccan/out/ccan examples/spent_quota.json examples/spent_quota.json.stdout
 	@tools/build ccan_open
 	tools/refuse_opening crates/ccan_open/out/ccan_open
+
+hostile:
+	@tools/build
+	tools/fail_streams crates/ccan/out/ccan examples/first_write.json
+	tools/spoil_scripts crates/ccan/out/ccan examples/*.json
 
 schema:
 	tools/check_schema
