@@ -25,8 +25,8 @@ fn digit_value(digit: u8) -> u8
     ensures within { result < 16 }
 {
     match digit {
-        b'0'..=b'9' => digit - b'0',
-        b'a'..=b'f' => digit - b'a' + 10,
+        ..=b'9' => digit - b'0',
+        b'a'.. => digit - b'a' + 10,
         _ => digit - b'A' + 10,
     }
 }
