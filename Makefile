@@ -23,7 +23,7 @@ install:
 	install -D -m 644 docs/ccan.1 "$$PREFIX/share/man/man1/ccan.1"
 
 bench:
-	@cd crates/ccan_bench && rt run -- measure
+	@tools/bench
 
 sweep:
 	@tools/build
