@@ -1,1 +1,7 @@
+pub mod Codes
+pub mod Settings
+pub mod Record
 pub mod Seals
+pub mod Held
+pub mod Together
+pub mod Chip

@@ -9,12 +9,14 @@ pub(crate) const BUSY: u32 = 2;
 /// The port has made as many changes as it may.
 pub(crate) const SPENT: u32 = 3;
 /// Memory ran out.
-pub(crate) const MEMORY: u32 = 4;
+pub(crate) const NO_MEMORY: u32 = 4;
+/// Somebody else holds the memory.
+pub(crate) const SHARED: u32 = 5;
 /// There is no such profile.
-pub(crate) const PROFILE_RANGE: u32 = 5;
+pub(crate) const PROFILE_RANGE: u32 = 6;
 /// There are too many nodes.
-pub(crate) const NODES_RANGE: u32 = 6;
-/// A port may not make so few or so many changes.
-pub(crate) const QUOTA_RANGE: u32 = 7;
+pub(crate) const NODES_RANGE: u32 = 7;
+/// A port may not be given so few or so many changes.
+pub(crate) const QUOTA_RANGE: u32 = 8;
 /// A change may not be tried so seldom or so often.
-pub(crate) const TRIES_RANGE: u32 = 8;
+pub(crate) const TRIES_RANGE: u32 = 9;
