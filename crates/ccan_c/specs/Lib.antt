@@ -5,3 +5,5 @@ pub mod Seals
 pub mod Held
 pub mod Together
 pub mod Chip
+pub mod Call
+pub mod Host

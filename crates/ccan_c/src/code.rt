@@ -1,4 +1,8 @@
 //! What the calls from C answer. C sees these numbers, and no others.
+ghost use Rattle.std.specs.Prelude.{◌≡◌};
+ghost use Rattle.ccan_c.specs.Host.{code_of};
+
+use ccan_script::LineAnswer;
 
 /// Done.
 pub(crate) const DONE: u32 = 0;
@@ -20,3 +24,22 @@ pub(crate) const NODES_RANGE: u32 = 7;
 pub(crate) const QUOTA_RANGE: u32 = 8;
 /// A change may not be tried so seldom or so often.
 pub(crate) const TRIES_RANGE: u32 = 9;
+/// There is no such register.
+pub(crate) const REGISTER_RANGE: u32 = 10;
+/// The chip has no such object.
+pub(crate) const OBJECT_RANGE: u32 = 11;
+/// There is no such flag.
+pub(crate) const FLAG_RANGE: u32 = 12;
+/// An object may not be looked at so seldom or so often.
+pub(crate) const TURNS_RANGE: u32 = 13;
+
+/// What a transfer that was answered so answers C.
+pub(crate) fn code_of(answer: &LineAnswer) -> u32
+    ensures { result ≡ code_of answer.now }
+{
+    match answer {
+        LineAnswer::Busy(_) => BUSY,
+        LineAnswer::Spent(_) => SPENT,
+        _ => DONE,
+    }
+}

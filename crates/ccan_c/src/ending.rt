@@ -69,7 +69,11 @@ pub extern "C" fn ccan_end(alloc: Global, chip: &mut Chip, out: &mut ShownFinal)
     ) else {
         unreachable!();
     };
-    match ended(Box::into_inner(if1), Box::into_inner(if2), Box::into_inner(bus)) {
+    match ended(
+        Box::into_inner(if1),
+        Box::into_inner(if2),
+        Box::into_inner(bus),
+    ) {
         Some(last) => {
             *out = ShownFinal::of(&last);
             DONE

@@ -56,12 +56,15 @@ impl Handle {
     }
 
     /// Takes out what an open handle stands for, and leaves a place.
-    pub(crate) fn take(&mut self, alloc: Global) -> Option<Box<Held, Global>>
+    pub(crate) fn take(&mut self, alloc: Global) -> Box<Held, Global>
+        requires { IsSome self.old.seal.value }
+        ensures taken { self.old.seal.value ≡ Some result.value }
         ensures left { self.new.seal.value ≡ None }
-        ensures taken { MatchOption result (self.old.seal.value ≡ None)
-            (λ b. self.old.seal.value ≡ Some b.value) }
     {
-        replace(self, Handle::closed(alloc)).into_held()
+        match replace(self, Handle::closed(alloc)).into_held() {
+            Some(held) => held,
+            None => unreachable!(),
+        }
     }
 
     /// Puts it back.
