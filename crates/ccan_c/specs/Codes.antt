@@ -43,17 +43,20 @@ flag_range = 12
 abbrev pub turns_range : ℕ
 turns_range = 13
 
-abbrev pub frame_range : ℕ
-frame_range = 14
-
-abbrev pub senders : ℕ
-senders = 15
-
-abbrev pub fault_range : ℕ
-fault_range = 16
-
 abbrev pub node_range : ℕ
-node_range = 17
+node_range = 14
 
 abbrev pub groups_range : ℕ
-groups_range = 18
+groups_range = 15
+
+abbrev pub frames_range : ℕ
+frames_range = 16
+
+abbrev pub frame_range : ℕ
+frame_range = 17
+
+abbrev pub fault_range : ℕ
+fault_range = 18
+
+abbrev pub senders : ℕ
+senders = 19

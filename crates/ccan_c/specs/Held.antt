@@ -20,6 +20,7 @@ passes held = passes_of same_object (pass_of held)
 pub record IsOpening (pass : Pass) (nodes tries : ℕ) (held : Held) : Type 0 where
   pub port_is : pass_of held ≡ pass
   pub tries_are : held.tries ≡ tries
+  pub nodes_are : held.nodes ≡ nodes
   pub registers_are : held.registers ≡ zero_registers
   pub bus_is : LedTo (past.opened nodes) held.bus
 

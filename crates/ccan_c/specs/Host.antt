@@ -16,8 +16,9 @@ use Rattle.ccan_script.specs.Limits.{most_turns}
 use Rattle.ccan_run.specs.Host.{HostLineMeans}
 use Rattle.ccan_c.specs.declared.held.Held.{Held}
 use Rattle.ccan_c.specs.declared.host_handle.HostHandle.{HostHandle}
+use Rattle.ccan_c.specs.Answer.{code_of}
 use Rattle.ccan_c.specs.Call.{IsRefused}
-use Rattle.ccan_c.specs.Codes.{done, busy, spent, register_range, object_range, flag_range, turns_range}
+use Rattle.ccan_c.specs.Codes.{done, register_range, object_range, flag_range, turns_range}
 use Rattle.ccan_c.specs.Held.{IsOpenAs, pass_of, passes}
 use Rattle.ccan_c.specs.Settings.{is_from_one_to}
 
@@ -61,6 +62,7 @@ number_of is = if is then 1 else 0
 -- the call stood for a line of a host port with this answer
 pub record RunsHost (line : HostLine) (answer : LineAnswer) (old new : Held) : Type 0 where
   pub tries : new.tries ≡ old.tries
+  pub nodes : new.nodes ≡ old.nodes
   pub bus : new.bus ≡ old.bus
   pub runs : Goes (passes old) (passes new)
       (λ terms seen added. HostLineMeans terms old.tries line old.registers seen added answer new.registers)
@@ -69,18 +71,13 @@ pub record RunsHost (line : HostLine) (answer : LineAnswer) (old new : Held) : T
 abbrev pub transfer : ℕ → HostLine
 transfer request = line.Transfer request (record { items = [] })
 
--- what a transfer that was answered so answers C
-abbrev pub code_of : LineAnswer → ℕ
-code_of (answer.Busy object) = busy
-code_of (answer.Spent object) = spent
-code_of reply = done
-
 -- ---- calls on an open handle
 
 -- a register is written, and all else stays
 pub record SetsRegister (register : Reg) (value : ℕ) (old new : Held) : Type 0 where
   pub access : new.access ≡ old.access
   pub tries : new.tries ≡ old.tries
+  pub nodes : new.nodes ≡ old.nodes
   pub bus : new.bus ≡ old.bus
   pub registers : new.registers ≡ set_register register value old.registers
 

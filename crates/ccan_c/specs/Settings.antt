@@ -4,14 +4,12 @@ use Rattle.std.specs.Option.{option_map_or}
 use Rattle.ccan_object.specs.declared.profile.Profile.{Profile}
 use Rattle.ccan_object.specs.declared.profile.Profile.TheVariants.{One, Two}
 use Rattle.ccan_ram.specs.Tries.{most_tries}
+use Rattle.ccan_script.specs.Limits.{most_nodes}
 use Rattle.ccan_c.specs.Codes.{profile_range, nodes_range, quota_range, tries_range}
 
 -- the profile of this number
 abbrev pub profile_numbered : ℕ → Option Profile
 profile_numbered number = if number == 1 then Some One else (if number == 2 then Some Two else None)
-
-abbrev pub most_nodes : ℕ
-most_nodes = 8
 
 abbrev pub most_changes : ℕ
 most_changes = 4096

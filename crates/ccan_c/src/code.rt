@@ -1,7 +1,8 @@
 //! What the calls from C answer. C sees these numbers, and no others.
 ghost use Rattle.std.specs.Prelude.{◌≡◌};
-ghost use Rattle.ccan_c.specs.Host.{code_of};
+ghost use Rattle.ccan_c.specs.Answer.{code_of};
 
+use ccan_bus::{LoadAnswer, RoundAnswer};
 use ccan_script::LineAnswer;
 
 /// Done.
@@ -32,14 +33,30 @@ pub(crate) const OBJECT_RANGE: u32 = 11;
 pub(crate) const FLAG_RANGE: u32 = 12;
 /// An object may not be looked at so seldom or so often.
 pub(crate) const TURNS_RANGE: u32 = 13;
+/// The bus has no such node.
+pub(crate) const NODE_RANGE: u32 = 14;
+/// So few or so many groups of recessive bits may not pass in one call.
+pub(crate) const GROUPS_RANGE: u32 = 15;
+/// There are too many frames.
+pub(crate) const FRAMES_RANGE: u32 = 16;
+/// The identifier or the length of a frame is out of its range.
+pub(crate) const FRAME_RANGE: u32 = 17;
+/// There is no such fault.
+pub(crate) const FAULT_RANGE: u32 = 18;
+/// A sender is none of the other nodes, or sends twice.
+pub(crate) const SENDERS: u32 = 19;
 
-/// What a transfer that was answered so answers C.
+/// Busy or spent where a step of the memory was, else done.
 pub(crate) fn code_of(answer: &LineAnswer) -> u32
     ensures { result ≡ code_of answer.now }
 {
     match answer {
         LineAnswer::Busy(_) => BUSY,
         LineAnswer::Spent(_) => SPENT,
+        LineAnswer::Load(LoadAnswer::Busy(_)) => BUSY,
+        LineAnswer::Load(LoadAnswer::Spent(_)) => SPENT,
+        LineAnswer::Round(RoundAnswer::Busy(_)) => BUSY,
+        LineAnswer::Round(RoundAnswer::Spent(_)) => SPENT,
         _ => DONE,
     }
 }

@@ -1,4 +1,5 @@
-ghost use Rattle.std.specs.Prelude.{◌≡◌};
+ghost use Rattle.std.specs.Prelude.{◌≡◌, ◌≤◌};
+ghost use Rattle.ccan_script.specs.Limits.{most_nodes};
 
 use crate::shared_port::SharedPort;
 use ccan_bus::Bus;
@@ -13,6 +14,10 @@ pub struct Held {
     /// How often a call may try a change.
     pub tries: Tries,
     pub registers: Iface,
+    /// How many other nodes the bus has.
+    pub nodes: u8,
     pub bus: Bus,
+    ghost few: { nodes ≤ most_nodes },
+    ghost known: { nodes ≤ bus.others },
     ghost same_profile: { bus.profile ≡ access.port.memory.profile },
 }

@@ -37,6 +37,7 @@ fn hold(
         access: SharedPort { ram, port },
         tries: settings.tries,
         registers: Iface::new(),
+        nodes: settings.nodes,
         bus: Bus::new(settings.profile, settings.nodes),
     };
     match Box::new(alloc, held) {

@@ -1,9 +1,7 @@
 //! The calls of C, from here.
 use crate::chip::Chip;
 use crate::ending::ccan_end;
-use crate::host::{
-    ccan_flags, ccan_get, ccan_interrupt, ccan_request, ccan_set, ccan_until,
-};
+use crate::host::{ccan_flags, ccan_get, ccan_interrupt, ccan_request, ccan_set, ccan_until};
 use crate::host_handle::HostHandle;
 use crate::opening::{ccan_is_open, ccan_open};
 use crate::shown_final::ShownFinal;

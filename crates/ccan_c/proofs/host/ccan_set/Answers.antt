@@ -6,4 +6,4 @@ pub returns : goal.returns
 returns c =
     on_taken _ _ _ _ _ _ c.take-held.ensures.taken c.deref_mut.ensures.value
     (on_known _ _ _ _ c.in-Some.ensures
-    (refl, (_, c.put.ensures, record { access = refl; tries = refl; bus = refl; registers = c.set.ensures })))
+    (refl, (_, c.put.ensures, record { access = refl; tries = refl; nodes = refl; bus = refl; registers = c.set.ensures })))

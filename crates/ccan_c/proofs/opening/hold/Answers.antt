@@ -12,6 +12,7 @@ returns-in-Ok-new c =
       record {
         port_is = ap (λ (h : Held). h.access.port) same;
         tries_are = ap (λ (h : Held). h.tries) same;
+        nodes_are = ap (λ (h : Held). h.nodes) same;
         registers_are = ap (λ (h : Held). h.registers) same ∙ c.new.ensures;
         bus_is = subst (λ (h : Held). LedTo (opened c.args.settings.now.nodes) h.bus) (sym same) c.new-2.ensures.opened;
       },

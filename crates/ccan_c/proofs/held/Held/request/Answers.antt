@@ -15,6 +15,7 @@ returns c =
     let new = c.run_line.new in
     record {
       tries = refl;
+      nodes = refl;
       bus = refl;
       runs =
           subst (λ (set : List (Reg × ℕ)). Goes (passes old) (passes_of same_object new.access.port)
