@@ -1,10 +1,18 @@
 //! The calls of C, from here.
+use crate::bus::{
+    ccan_bus_flags, ccan_bus_interrupt, ccan_control, ccan_counters, ccan_init, ccan_load,
+    ccan_loop_back, ccan_recessive, ccan_round, ccan_status,
+};
 use crate::chip::Chip;
 use crate::ending::ccan_end;
 use crate::host::{ccan_flags, ccan_get, ccan_interrupt, ccan_request, ccan_set, ccan_until};
 use crate::host_handle::HostHandle;
+use crate::offer::Offer;
 use crate::opening::{ccan_is_open, ccan_open};
+use crate::shown_counters::ShownCounters;
 use crate::shown_final::ShownFinal;
+use crate::shown_load::ShownLoad;
+use crate::shown_outcome::ShownOutcome;
 use crate::shown_record::ShownRecord;
 use ccan_object::Record;
 use std::alloc::Global;
@@ -84,4 +92,116 @@ fn a_quota_is_spent(rt: HostRuntime) {
     let mut last = nothing();
     assert_eq!(rt; ccan_end(alloc, &mut chip, &mut last), 0);
     assert_eq!(rt; ccan_request(alloc, &mut chip.if1, 1), 1);
+}
+
+/// Sets registers of a host, each by its number.
+fn set(alloc: Global, host: &mut HostHandle, settings: &[(u32, u16)]) {
+    for (register, value) in settings {
+        ccan_set(alloc, host, *register, *value);
+    }
+}
+
+/// The frame 0x123 with two bytes, from a node.
+fn offer(node: u8) -> Offer {
+    Offer {
+        id: 0x123,
+        node,
+        xtd: 0,
+        rtr: 0,
+        dlc: 2,
+        bytes: [0x11, 0x22, 0, 0, 0, 0, 0, 0],
+    }
+}
+
+/// A place for an outcome.
+fn no_outcome() -> ShownOutcome {
+    ShownOutcome {
+        kind: 77,
+        object: 0,
+        finished: ShownRecord::of(&Record::zero()),
+        stored: 0,
+        stored_record: ShownRecord::of(&Record::zero()),
+    }
+}
+
+#[test]
+fn a_frame_is_stored_and_one_is_sent(rt: HostRuntime) {
+    let alloc = rt.alloc();
+    let mut chip = Chip::closed(alloc);
+    let mut outcome = no_outcome();
+    assert_eq!(rt; ccan_round(alloc, &mut chip.bus, &[], 0, &mut outcome), 1);
+    assert_eq!(rt; outcome.kind, 77);
+    assert_eq!(rt; ccan_open(alloc, &mut chip, 1, 1, 64, 100), 0);
+    set(
+        alloc,
+        &mut chip.if1,
+        &[(0, 0x00f3), (4, 0x848c), (5, 0x0488)],
+    );
+    assert_eq!(rt; ccan_request(alloc, &mut chip.if1, 5), 0);
+    assert_eq!(rt;
+        ccan_round(alloc, &mut chip.bus, &[offer(1)], 0, &mut outcome),
+        0
+    );
+    assert_eq!(rt; outcome.kind, 2);
+    assert_eq!(rt; outcome.stored, 5);
+    assert_eq!(rt; outcome.stored_record.control, 0xa482);
+    let mut word = 0;
+    assert_eq!(rt; ccan_status(alloc, &mut chip.bus, &mut word), 0);
+    assert_eq!(rt; word, 0x0010);
+    assert_eq!(rt; ccan_bus_interrupt(alloc, &mut chip.bus, &mut word), 0);
+    assert_eq!(rt; word, 5);
+    let mut newdat = 0;
+    assert_eq!(rt; ccan_bus_flags(alloc, &mut chip.bus, 0, &mut newdat), 0);
+    assert_eq!(rt; newdat, 0x10);
+    set(
+        alloc,
+        &mut chip.if2,
+        &[(0, 0x00f3), (4, 0xa400), (5, 0x0981)],
+    );
+    assert_eq!(rt; ccan_request(alloc, &mut chip.if2, 2), 0);
+    let mut loaded = ShownLoad {
+        kind: 77,
+        object: 0,
+        held: ShownRecord::of(&Record::zero()),
+    };
+    assert_eq!(rt; ccan_load(alloc, &mut chip.bus, &mut loaded), 0);
+    assert_eq!(rt; loaded.kind, 1);
+    assert_eq!(rt; loaded.object, 2);
+    assert_eq!(rt; ccan_round(alloc, &mut chip.bus, &[], 0, &mut outcome), 0);
+    assert_eq!(rt; outcome.kind, 1);
+    assert_eq!(rt; outcome.object, 2);
+    assert_eq!(rt; outcome.finished.control, 0x2881);
+}
+
+#[test]
+fn numbers_out_of_range_are_refused(rt: HostRuntime) {
+    let alloc = rt.alloc();
+    let mut chip = Chip::closed(alloc);
+    assert_eq!(rt; ccan_open(alloc, &mut chip, 2, 1, 64, 100), 0);
+    let mut outcome = no_outcome();
+    let bus = &mut chip.bus;
+    assert_eq!(rt; ccan_round(alloc, bus, &[offer(1); 9], 0, &mut outcome), 16);
+    let mut wide = offer(1);
+    wide.id = 0x800;
+    assert_eq!(rt; ccan_round(alloc, bus, &[wide], 0, &mut outcome), 17);
+    assert_eq!(rt; ccan_round(alloc, bus, &[offer(1)], 6, &mut outcome), 18);
+    assert_eq!(rt; ccan_round(alloc, bus, &[offer(2)], 0, &mut outcome), 19);
+    assert_eq!(rt; outcome.kind, 77);
+    let mut counters = ShownCounters {
+        tec: 9,
+        rec: 9,
+        state: 9,
+    };
+    assert_eq!(rt; ccan_counters(alloc, bus, 2, &mut counters), 14);
+    assert_eq!(rt; ccan_counters(alloc, bus, 1, &mut counters), 0);
+    assert_eq!(rt; counters.tec + counters.rec + counters.state, 0);
+    assert_eq!(rt; ccan_control(alloc, bus, 1, 0), 0);
+    assert_eq!(rt; ccan_init(alloc, bus), 0);
+    let mut state = 9;
+    assert_eq!(rt; ccan_recessive(alloc, bus, 0, &mut state), 15);
+    assert_eq!(rt; ccan_recessive(alloc, bus, 128, &mut state), 0);
+    assert_eq!(rt; state, 0);
+    assert_eq!(rt; ccan_loop_back(alloc, bus, 1), 0);
+    assert_eq!(rt; ccan_round(alloc, bus, &[], 0, &mut outcome), 0);
+    assert_eq!(rt; outcome.kind, 0);
 }
