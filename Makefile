@@ -3,7 +3,7 @@ SCRIPT ?= examples/first_write.json
 PREFIX ?= /usr/local
 export SCRIPT PREFIX
 
-.PHONY: help run try test install bench sweep schema clean
+.PHONY: help run try test install bench sweep c-test schema clean
 
 help:
 	@tools/targets
@@ -18,9 +18,7 @@ test:
 	tools/gate
 
 install:
-	@tools/build
-	install -D crates/ccan/out/ccan "$$PREFIX/bin/ccan"
-	install -D -m 644 docs/ccan.1 "$$PREFIX/share/man/man1/ccan.1"
+	@tools/install "$$PREFIX"
 
 bench:
 	@cd crates/ccan_bench && rt run -- measure
@@ -28,6 +26,9 @@ bench:
 sweep:
 	@tools/build
 	tools/refuse_memory crates/ccan/out/ccan examples/spent_quota.json examples/spent_quota.json.stdout
+
+c-test:
+	@tools/c_test
 
 schema:
 	tools/check_schema
