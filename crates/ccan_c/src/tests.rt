@@ -194,7 +194,9 @@ fn numbers_out_of_range_are_refused(rt: HostRuntime) {
     };
     assert_eq!(rt; ccan_counters(alloc, bus, 2, &mut counters), 14);
     assert_eq!(rt; ccan_counters(alloc, bus, 1, &mut counters), 0);
-    assert_eq!(rt; counters.tec + counters.rec + counters.state, 0);
+    assert_eq!(rt; counters.tec, 0);
+    assert_eq!(rt; counters.rec, 0);
+    assert_eq!(rt; counters.state, 0);
     assert_eq!(rt; ccan_control(alloc, bus, 1, 0), 0);
     assert_eq!(rt; ccan_init(alloc, bus), 0);
     let mut state = 9;
