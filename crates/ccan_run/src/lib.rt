@@ -55,3 +55,4 @@ pub use run_error::RunError;
 pub use run_mode::{RunMode, mode};
 pub use side::{Side, run_lines};
 pub use stream::run_stream;
+pub use threads::run_threads;
