@@ -9,9 +9,8 @@
 //! be started.
 #![tactic(auto)]
 
-use ccan_run::threads::run_threads;
 use ccan_run::{
-    CliError, FreeGate, RunError, RunMode, mode, print_outcome, read_input, run_stream,
+    CliError, FreeGate, RunError, RunMode, mode, print_outcome, read_input, run_stream, run_threads,
 };
 use ccan_words::WordRam;
 use std::alloc::AllocError;

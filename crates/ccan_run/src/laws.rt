@@ -1,5 +1,5 @@
 //! Laws of what scripts and the words of the command line mean. The functions do nothing: their contracts are the laws.
-ghost use Rattle.ccan_run.specs.Laws.{HasNoBusyLine, HasOneText};
+ghost use Rattle.ccan_run.specs.Laws.{HasNoBusyLine, HasOneText, LastLinesAreFinals};
 ghost use Rattle.ccan_run.specs.CommandLine.{NoWordRuns, OtherWordsAreRefused, RunRuns, ThreadsMeansThreads};
 
 /// A script has one text: the answers of its lines and the final objects are determined.
@@ -10,6 +10,11 @@ pub fn one_text()
 /// No line of an ordered run is busy.
 pub fn no_line_is_busy()
     ensures { HasNoBusyLine }
+{}
+
+/// The objects at the end are told alike by an outcome and by an ordered run.
+pub fn last_lines_are_finals()
+    ensures { LastLinesAreFinals }
 {}
 
 /// No word on the command line is taken, and means to run the lines in their order.
