@@ -1,17 +1,16 @@
 //! Runs the register script on standard input, and writes its answers and the final objects on standard output.
 //!
-//! `ccan` and `ccan run` run the lines one after another, in the order of the script. `ccan threads` runs the lines of each port
-//! in a thread of its own, all three over one memory without a lock, whatever the script's order says; the answers of IF1 come
-//! first then, and after them those of IF2 and those of the bus.
+//! `ccan` and `ccan run` run the lines one after another, in the order of the script. `ccan threads` runs the lines of
+//! each port in a thread of its own, all three over one memory without a lock, whatever the script's order says; the
+//! answers of IF1 come first then, and after them those of IF2 and those of the bus.
 //!
 //! A fault is one line on standard error, and the exit status: 1 where the input is no script or too long, 2 where the
-//! words of the command line are no mode, 3 where memory ran out, 4 where a read or a write failed or a thread could not be
-//! started.
+//! words of the command line are no mode, 3 where memory ran out, 4 where a read or a write failed or a thread could not
+//! be started.
 #![tactic(auto)]
 
-use ccan_run::threads::run_threads;
 use ccan_run::{
-    CliError, FreeGate, RunError, RunMode, mode, print_outcome, read_input, run_stream,
+    CliError, FreeGate, RunError, RunMode, mode, print_outcome, read_input, run_stream, run_threads,
 };
 use ccan_words::WordRam;
 use std::alloc::AllocError;

@@ -5,7 +5,6 @@ use Rattle.clap.specs.Words.{is_simple, is_simple_and_free, kind_of, matches_of}
 use Rattle.clap.specs.declared.ArgMatches.{ArgMatches}
 use Rattle.clap.specs.declared.builder.Command.{Command}
 use Rattle.clap.specs.declared.error.Error.{Error}
-use Rattle.clap.specs.declared.error.ErrorKind.TheVariants.{OutOfMemory}
 use Rattle.clap.proofs.OnLiterals.{clap_on_literals}
 use Rattle.clap.proofs.WalkLemmas.{first_value-rows}
 use Rattle.ccan_run.specs.declared.cli_error.CliError.TheVariants.{Words, Memory}

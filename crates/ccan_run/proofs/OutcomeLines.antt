@@ -1,17 +1,23 @@
 -- The lines of an outcome so far.
-use Rattle.std.proofs.Common.{◌≡◌, ◌<◌, ◌≤◌, ◌+◌, ◌-◌, ℕ, List, [], ◌∷◌, ◌++◌, Option, length, take, drop, get_or, refl, sym, ap, ◌∙◌, append_assoc, append-nil, subst, take-append-drop, unwrap_or, arith}
+use Rattle.std.proofs.Common.{◌≡◌, ◌<◌, ◌≤◌, ◌+◌, ◌-◌, ℕ, zero, suc, List, [], ◌∷◌, ◌++◌, Option, length, take, drop, map, get_or, refl, sym, ap, ◌∙◌, append_assoc, append-nil, subst, take-append-drop, replicate, unwrap_or, arith}
 use Rattle.std.proofs.Math.Seq.{take-add}
 use Rattle.std.proofs.lemmas.List.{take_more}
 use Rattle.std.proofs.lemmas.List.Folds.{flat_map-map}
 use Rattle.std.proofs.lemmas.List.Concat.{flat_map-append}
 use Rattle.std.proofs.lemmas.List.FromFn.{length-enumerate_from, get_or-enumerate_from}
-use Rattle.std.specs.List.{flat_map, enumerate_from}
+use Rattle.std.specs.List.{concat, flat_map, enumerate_from, range_with_len}
+use Rattle.ccan_object.specs.declared.profile.Profile.TheVariants.{Two}
+use Rattle.ccan_object.specs.Profile.{objects_in}
+use Rattle.ccan_object.specs.Record.{zero_record}
+use Rattle.ccan_ram.specs.declared.event.Event.{Event}
+use Rattle.ccan_ram.specs.History.{record_at}
 use Rattle.ccan_object.specs.declared.record.Record.{Record}
 use Rattle.ccan_ram.specs.declared.port.PortName.{PortName}
 use Rattle.ccan_ram.specs.declared.port.PortName.TheVariants.{If1, If2, Bus}
 use Rattle.ccan_script.specs.declared.line_answer.LineAnswer.{LineAnswer}
 use Rattle.ccan_script.specs.Print.{final_line, line_text}
-use Rattle.ccan_run.specs.Ordered.{answers_text, final_part}
+use Rattle.ccan_run.specs.Laws.{LastLinesAreFinals}
+use Rattle.ccan_run.specs.Ordered.{answers_text, final_part, final_parts}
 use Rattle.ccan_run.specs.declared.outcome.Outcome.{Outcome}
 use Rattle.ccan_run.specs.Outcome.{last_lines, object_lines, outcome_text, port_lines}
 use Rattle.ccan_run.specs.Output.{WritesPart}
@@ -122,6 +128,21 @@ module _ (a b c : Option (List ℕ)) (first second : List ℕ) (records : List R
       (ap (λ (n : ℕ). take n numbered) all ∙ take-add done (count - done) numbered)
       ∙ ap (λ (t : List ℕ). flat_map part_of_object (take (number - 1) numbered) ++ (t ++ flat_map part_of_object rest)) (sym line_here)
       ∙ ap (λ (t : List ℕ). t ++ (final_part object left ++ flat_map part_of_object rest)) (sym (object_lines_are (number - 1) records)))
+
+-- what a history leaves has the lines of an ordered run of it
+lines_left : (history : List Event) (rest : List Record) (count first : ℕ)
+    → flat_map part_of_object (take count (enumerate_from first (map (λ o. record_at o history) (range_with_len first count) ++ rest)))
+    ≡ concat (map (λ o. final_part o (record_at o history)) (range_with_len first count))
+lines_left history rest zero first = refl
+lines_left history rest (suc count) first =
+    ap (λ (t : List ℕ). final_part first (record_at first history) ++ t) (lines_left history rest count (first + 1))
+
+pub last_lines_are : LastLinesAreFinals
+unfolding object_lines final_parts
+last_lines_are last history is =
+    let count = objects_in last.profile in
+    ap (λ (records : List Record). flat_map part_of_object (take count (enumerate_from 1 records))) is
+    ∙ lines_left history (replicate (objects_in Two - count) zero_record) count 1
 
 -- ---- the whole text
 

@@ -1,16 +1,19 @@
 -- Laws of what scripts mean. Source: this project's own.
 use Rattle.std.specs.Prelude.{◌≡◌, ◌≤◌, ℕ, Bool, List, All}
 use Rattle.ccan_ram.specs.declared.port.PortName.{PortName}
+use Rattle.ccan_ram.specs.declared.ending.Final.{Final}
 use Rattle.ccan_ram.specs.declared.event.Event.{Event}
+use Rattle.ccan_ram.specs.Ending.{final_records}
 use Rattle.ccan_bus.specs.declared.answer.LoadAnswer.TheVariants as load
 use Rattle.ccan_bus.specs.declared.answer.RoundAnswer.TheVariants as round
 use Rattle.ccan_script.specs.declared.line_answer.LineAnswer.{LineAnswer}
 use Rattle.ccan_script.specs.declared.line_answer.LineAnswer.TheVariants.{Busy, Load, Round}
 use Rattle.ccan_script.specs.Script.{ScriptFields}
 use Rattle.ccan_run.specs.declared.outcome.Outcome.{Outcome}
-use Rattle.ccan_run.specs.Ordered.{LinesRun, HasText}
+use Rattle.ccan_run.specs.Ordered.{LinesRun, HasText, finals_text}
 use Rattle.ccan_run.specs.Threads.{RunsAtOnce}
 use Rattle.ccan_run.specs.Answered.{IsAnswered}
+use Rattle.ccan_run.specs.Outcome.{last_lines}
 
 abbrev pub IsNotBusy : LineAnswer → Type 0
 IsNotBusy (Busy object) = ⊥
@@ -33,3 +36,9 @@ abbrev pub AnswersHaveEvents : Type 0
 AnswersHaveEvents =
     (contends : ℕ → ℕ → Bool) (script : ScriptFields) (outcome : Outcome)
     → RunsAtOnce contends script outcome → IsAnswered script outcome
+
+-- the lines of the objects that a shared memory had as it was closed are those of an ordered run of the same history
+abbrev pub LastLinesAreFinals : Type 0
+LastLinesAreFinals =
+    (last : Final) (history : List Event) → last.records ≡ final_records last.profile history
+    → last_lines last ≡ finals_text last.profile history

@@ -1,5 +1,5 @@
 //! Laws of what scripts and the words of the command line mean. The functions do nothing: their contracts are the laws.
-ghost use Rattle.ccan_run.specs.Laws.{AnswersHaveEvents, HasNoBusyLine, HasOneText};
+ghost use Rattle.ccan_run.specs.Laws.{AnswersHaveEvents, HasNoBusyLine, HasOneText, LastLinesAreFinals};
 ghost use Rattle.ccan_run.specs.CommandLine.{NoWordRuns, OtherWordsAreRefused, RunRuns, ThreadsMeansThreads};
 
 /// A script has one text: the answers of its lines and the final objects are determined.
@@ -18,6 +18,11 @@ pub fn no_line_is_busy()
 /// don't tell, no port has a step after its last line, and the objects at the end are those that the history leaves.
 pub fn answers_have_events()
     ensures { AnswersHaveEvents }
+{}
+
+/// The objects at the end are told alike by an outcome and by an ordered run.
+pub fn last_lines_are_finals()
+    ensures { LastLinesAreFinals }
 {}
 
 /// No word on the command line is taken, and means to run the lines in their order.

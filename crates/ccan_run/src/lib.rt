@@ -22,7 +22,7 @@
 //! between a script and a text, over a one-thread memory, in which the program does not appear; [`laws`] say that a script
 //! has one text. [`run_ordered`] and [`run_stream`] are proved to write that text.
 //!
-//! Without an order the three ports run at once. [`read_input`] gives the script, [`threads::run_threads`] the [`Outcome`], which
+//! Without an order the three ports run at once. [`read_input`] gives the script, [`run_threads`] the [`Outcome`], which
 //! is the answers of each port and the objects at the end, and [`print_outcome`] writes it.
 #![tactic(auto)]
 

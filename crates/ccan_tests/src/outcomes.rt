@@ -9,6 +9,11 @@ use ccan_script::{LineAnswer, ListName, ScriptError};
 use std::alloc::Global;
 use std::test::Fail;
 
+#[test]
+fn laws_hold() {
+    ccan_run::laws::last_lines_are_finals();
+}
+
 // ---- reading
 
 #[test]
