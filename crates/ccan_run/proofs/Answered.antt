@@ -42,12 +42,12 @@ module _ (contends : ℕ → ℕ → Bool) (memory : Memory) (script : ScriptFie
       part.answered.0 part.answered.1 part.begins.0 none in
       subst (λ (es : List Event). HostInOrder If2 script.if2 zero_registers answers es) (sym part.begins.1) all
 
-  of_bus : HasPart contends memory script history Bus answers → BusInOrder answers history
+  of_bus : HasPart contends memory script history Bus answers → BusInOrder script.bus answers history
   of_bus part =
       let none = none_after contends memory script history Bus answers part in
       let all = bus_lines (terms_of contends memory Bus) refl script.tries script.bus (opened script.nodes) [] part.seen answers
       part.answered.0 part.answered.1 part.begins.0 none in
-      subst (λ (es : List Event). BusInOrder answers es) (sym part.begins.1) all
+      subst (λ (es : List Event). BusInOrder script.bus answers es) (sym part.begins.1) all
 
 pub answers_have_events : AnswersHaveEvents
 answers_have_events contends script outcome run =
