@@ -28,7 +28,7 @@ use Rattle.ccan_script.specs.declared.line_answer.LineAnswer.TheVariants as answ
 use Rattle.ccan_run.specs.Lines.{LinesMean}
 use Rattle.ccan_run.specs.Transfer.{Answers, Ends, change_of, with_settings}
 use Rattle.ccan_run.specs.Host.{HostLineMeans}
-use Rattle.ccan_run.specs.Answered.{HasStep, HostShownBy, IsHostPart, HostInOrder, changes_told, reading, registers_set, registers_after}
+use Rattle.ccan_run.specs.Answered.{HasStep, HostShownBy, IsHostPart, IsOfTransfer, IsReplyTo, HostInOrder, changes_told, reading, registers_set, registers_after}
 use Rattle.ccan_run.proofs.StepsShown.{looked_at, done_at, watch_shown, interrupt_shown, word_shown}
 use Rattle.ccan_run.proofs.HostChanges.{changes_by-look, changes_by-attempt, changes_by-watch, changes_by-interrupt, changes_by-flags}
 
@@ -158,23 +158,59 @@ module _ (terms : Terms) (tries : ℕ) where
       tells terms.port registers reply left added (answer.Flags flag word terms.profile) registers is same refl
       (word_shown terms flag word added h) (changes_by-flags terms flag added word h)
 
+  -- ---- what a line is answered
+
+  moved : (write : Bool) (object : ℕ) (buffer : Record) (reply : LineAnswer)
+      → reply ≡ cond write (answer.Write object buffer) (answer.Read object buffer) → IsOfTransfer object reply
+  moved true object buffer reply is = rw is refl
+  moved false object buffer reply is = rw is refl
+
+  transferred : (object : ℕ) (registers : Registers) (reply : LineAnswer) (left : Registers)
+      (outcome : Result Changed Refused) → Answers object registers outcome reply left → IsOfTransfer object reply
+  transferred object registers reply left (Ok (Done before after number)) answers =
+      moved (is_write registers.command) object left.buffer reply answers.answer_is
+  transferred object registers reply left (Ok (NotNow found)) answers = absurd answers
+  transferred object registers reply left (Err (refused.Busy told now)) answers = rw answers.0 refl
+  transferred object registers reply left (Err refused.Spent) answers = rw answers.0 refl
+
+  of_transfer : (pure : Bool) (object : ℕ) (registers : Registers) (seen added : List Event) (reply : LineAnswer) (left : Registers)
+      → MatchBool pure
+      ((shown : Record) × IsLook terms object shown added × Ends object registers shown reply left)
+      ((outcome : Result Changed Refused) × Attempt terms object (change_of registers) tries seen added outcome
+      × Answers object registers outcome reply left)
+      → IsOfTransfer object reply
+  of_transfer true object registers seen added reply left (shown, look, ends) =
+      moved (is_write registers.command) object left.buffer reply ends.answer_is
+  of_transfer false object registers seen added reply left (outcome, attempt, answers) =
+      transferred object registers reply left outcome answers
+
+  replies_to : (line : HostLine) (registers : Registers) (seen added : List Event) (reply : LineAnswer) (left : Registers)
+      → HostLineMeans terms tries line registers seen added reply left → IsReplyTo terms.profile line reply
+  replies_to (host.Transfer request set) registers seen added reply left means =
+      let now = with_settings set.items registers in
+      of_transfer (is_pure_read now.command) (requested terms.profile request) now seen added reply left means
+  replies_to (host.Until object flag turns) registers seen added reply left means = rw means.1 (refl, refl)
+  replies_to host.Interrupt registers seen added reply left means = rw means.1 tt
+  replies_to (host.Flags flag) registers seen added reply left means = rw means.1 (refl, refl)
+
   -- the lines of a host, whatever comes after them
   pub host_lines : (lines : List HostLine) (registers : Registers) (seen added : List Event) (answers : List LineAnswer)
       (left : Registers) → LinesMean (HostLineMeans terms tries) lines registers seen added answers left → (more : List Event)
-      → events_of terms.port more ≡ [] → HostInOrder terms.port lines registers answers (more ++ added)
+      → events_of terms.port more ≡ [] → HostInOrder terms.profile terms.port lines registers answers (more ++ added)
   host_lines [] registers seen added answers left (none, empty, same) more foreign =
       let last : events_of terms.port (more ++ added) ≡ [] = rw none (ap (events_of terms.port) (append-nil more) ∙ foreign) in
-      subst (λ (l : List LineAnswer). HostInOrder terms.port [] registers l (more ++ added)) (sym empty) last
+      subst (λ (l : List LineAnswer). HostInOrder terms.profile terms.port [] registers l (more ++ added)) (sym empty) last
   host_lines (line ∷ lines) registers seen added answers left
       (later, first, reply, replies, between, whole, all, means, rest) more foreign =
       let shows = host_line line registers seen first reply between means in
       let all_later = host_lines lines between (first ++ seen) later replies left rest more foreign in
       let now = registers_set line registers in
-      let there : HostInOrder terms.port (line ∷ lines) registers (reply ∷ replies) (more ++ added) = (
+      let there : HostInOrder terms.profile terms.port (line ∷ lines) registers (reply ∷ replies) (more ++ added) = (
         more ++ later,
         first,
         ap (λ (es : List Event). more ++ es) whole ∙ sym (append_assoc more later first),
+        replies_to line registers seen first reply between means,
         shows.0,
-        subst (λ (i : Registers). HostInOrder terms.port lines i replies (more ++ later)) shows.1 all_later,
+        subst (λ (i : Registers). HostInOrder terms.profile terms.port lines i replies (more ++ later)) shows.1 all_later,
       ) in
-      subst (λ (l : List LineAnswer). HostInOrder terms.port (line ∷ lines) registers l (more ++ added)) (sym all) there
+      subst (λ (l : List LineAnswer). HostInOrder terms.profile terms.port (line ∷ lines) registers l (more ++ added)) (sym all) there

@@ -10,6 +10,7 @@ use Rattle.ccan_object.specs.Bits.{bit}
 use Rattle.ccan_object.specs.Command.{is_pure_read}
 use Rattle.ccan_object.specs.Group.{by_groups}
 use Rattle.ccan_object.specs.Interface.{Registers, zero_registers}
+use Rattle.ccan_object.specs.Number.{requested}
 use Rattle.ccan_object.specs.Profile.{Holds}
 use Rattle.ccan_accept.specs.declared.frame.Frame.{Frame}
 use Rattle.ccan_ram.specs.declared.port.PortName.{PortName}
@@ -100,6 +101,22 @@ pub record IsHostPart (port : PortName) (registers : Registers) (reply : LineAns
   pub shown : HostShownBy port registers reply events
   pub changes : changes_by port events ≡ changes_told registers reply
 
+-- an answer to a transfer of this object
+abbrev pub IsOfTransfer : ℕ → LineAnswer → Type 0
+IsOfTransfer object (answer.Write at left) = at ≡ object
+IsOfTransfer object (answer.Read at shown) = at ≡ object
+IsOfTransfer object (answer.Busy at) = at ≡ object
+IsOfTransfer object (answer.Spent at) = at ≡ object
+IsOfTransfer object reply = ⊥
+
+-- the answer is of the line's kind, and of the object and the flag that the line names
+abbrev pub IsReplyTo : Profile → HostLine → LineAnswer → Type 0
+IsReplyTo profile (host.Transfer request set) reply = IsOfTransfer (requested profile request) reply
+IsReplyTo profile (host.Until object flag turns) (answer.Until at of shown) = (at ≡ object) × (of ≡ flag)
+IsReplyTo profile host.Interrupt (answer.Interrupt value) = Unit {0}
+IsReplyTo profile (host.Flags flag) (answer.Flags of word objects) = (of ≡ flag) × (objects ≡ profile)
+IsReplyTo profile line reply = ⊥
+
 -- the registers as a line sets them
 abbrev pub registers_set : HostLine → Registers → Registers
 registers_set (host.Transfer request set) registers = with_settings set.items registers
@@ -113,13 +130,14 @@ registers_after reply registers = registers
 
 -- each line has an answer and a part of the history, after those of the lines before it, and the port has no step
 -- after the part of its last line. A history has its newest event in front
-abbrev pub HostInOrder : PortName → List HostLine → Registers → List LineAnswer → List Event → Type 0
-HostInOrder port [] registers [] history = events_of port history ≡ []
-HostInOrder port (line ∷ lines) registers (reply ∷ replies) history =
+abbrev pub HostInOrder : Profile → PortName → List HostLine → Registers → List LineAnswer → List Event → Type 0
+HostInOrder profile port [] registers [] history = events_of port history ≡ []
+HostInOrder profile port (line ∷ lines) registers (reply ∷ replies) history =
     let set = registers_set line registers in
     (later : List Event) × (first : List Event) × (history ≡ later ++ first)
-    × IsHostPart port set reply first × HostInOrder port lines (registers_after reply set) replies later
-HostInOrder port lines registers replies history = ⊥
+    × IsReplyTo profile line reply × IsHostPart port set reply first
+    × HostInOrder profile port lines (registers_after reply set) replies later
+HostInOrder profile port lines registers replies history = ⊥
 
 -- ---- the bus
 
@@ -165,7 +183,7 @@ BusInOrder lines replies history = ⊥
 pub record IsAnswered (script : ScriptFields) (outcome : Outcome) : Type 0 where
   pub history : List Event
   pub legal : IsLegal script.profile history
-  pub if1 : HostInOrder If1 script.if1 zero_registers outcome.if1.items history
-  pub if2 : HostInOrder If2 script.if2 zero_registers outcome.if2.items history
+  pub if1 : HostInOrder script.profile If1 script.if1 zero_registers outcome.if1.items history
+  pub if2 : HostInOrder script.profile If2 script.if2 zero_registers outcome.if2.items history
   pub bus : BusInOrder script.bus outcome.bus.items history
   pub left : outcome.last.records ≡ final_records script.profile history
