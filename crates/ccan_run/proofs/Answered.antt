@@ -1,5 +1,6 @@
 -- Each answer of a run without an order has steps of its own in one history.
 use Rattle.std.proofs.Common.{ℕ, ◌≡◌, Bool, List, [], ◌∷◌, ◌++◌, refl, sym, ap, subst, ◌∙◌, length, length-append, arith}
+use Rattle.ccan_object.specs.declared.profile.Profile.{Profile}
 use Rattle.ccan_object.specs.Interface.{zero_registers}
 use Rattle.ccan_ram.specs.declared.port.PortName.{PortName}
 use Rattle.ccan_ram.specs.declared.port.PortName.TheVariants.{If1, If2, Bus}
@@ -28,34 +29,36 @@ none_after contends memory script history port answers part =
     (sym (events_of-append port part.begins.0 part.seen) ∙ (sym (ap (events_of port) part.begins.1) ∙ part.own))
 
 module _ (contends : ℕ → ℕ → Bool) (memory : Memory) (script : ScriptFields) (history : List Event) (answers : List LineAnswer) where
-  of_if1 : HasPart contends memory script history If1 answers → HostInOrder If1 script.if1 zero_registers answers history
+  of_if1 : HasPart contends memory script history If1 answers → HostInOrder memory.profile If1 script.if1 zero_registers answers history
   of_if1 part =
       let none = none_after contends memory script history If1 answers part in
       let all = host_lines (terms_of contends memory If1) script.tries script.if1 zero_registers [] part.seen answers
       part.answered.0 part.answered.1 part.begins.0 none in
-      subst (λ (es : List Event). HostInOrder If1 script.if1 zero_registers answers es) (sym part.begins.1) all
+      subst (λ (es : List Event). HostInOrder memory.profile If1 script.if1 zero_registers answers es) (sym part.begins.1) all
 
-  of_if2 : HasPart contends memory script history If2 answers → HostInOrder If2 script.if2 zero_registers answers history
+  of_if2 : HasPart contends memory script history If2 answers → HostInOrder memory.profile If2 script.if2 zero_registers answers history
   of_if2 part =
       let none = none_after contends memory script history If2 answers part in
       let all = host_lines (terms_of contends memory If2) script.tries script.if2 zero_registers [] part.seen answers
       part.answered.0 part.answered.1 part.begins.0 none in
-      subst (λ (es : List Event). HostInOrder If2 script.if2 zero_registers answers es) (sym part.begins.1) all
+      subst (λ (es : List Event). HostInOrder memory.profile If2 script.if2 zero_registers answers es) (sym part.begins.1) all
 
-  of_bus : HasPart contends memory script history Bus answers → BusInOrder answers history
+  of_bus : HasPart contends memory script history Bus answers → BusInOrder script.bus answers history
   of_bus part =
       let none = none_after contends memory script history Bus answers part in
       let all = bus_lines (terms_of contends memory Bus) refl script.tries script.bus (opened script.nodes) [] part.seen answers
       part.answered.0 part.answered.1 part.begins.0 none in
-      subst (λ (es : List Event). BusInOrder answers es) (sym part.begins.1) all
+      subst (λ (es : List Event). BusInOrder script.bus answers es) (sym part.begins.1) all
 
 pub answers_have_events : AnswersHaveEvents
 answers_have_events contends script outcome run =
     record {
       history = run.history;
       legal = run.legal;
-      if1 = of_if1 contends run.memory script run.history outcome.if1.items run.if1;
-      if2 = of_if2 contends run.memory script run.history outcome.if2.items run.if2;
+      if1 = subst (λ (p : Profile). HostInOrder p If1 script.if1 zero_registers outcome.if1.items run.history)
+          run.memory_is.profile_is (of_if1 contends run.memory script run.history outcome.if1.items run.if1);
+      if2 = subst (λ (p : Profile). HostInOrder p If2 script.if2 zero_registers outcome.if2.items run.history)
+          run.memory_is.profile_is (of_if2 contends run.memory script run.history outcome.if2.items run.if2);
       bus = of_bus contends run.memory script run.history outcome.bus.items run.bus;
       left = run.left;
     }

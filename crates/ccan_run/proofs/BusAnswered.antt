@@ -39,11 +39,15 @@ abbrev event_of : ℕ → Change → Record → Record → Event
 event_of object change before left = record { port = Bus; object = object; operation = Make change; before = before; after = left }
 
 module _ (added newest earlier : List Event) (whole : added ≡ newest ++ earlier) where
-  newest_changed : (object : ℕ) (change : Change) (left : Record) → WasChanged object change left newest → WasChanged object change left added
-  newest_changed object change left (before, step) = (before, in_newest (event_of object change before left) added newest earlier whole step)
+  newest_changed : (object : ℕ) (change : Change) (left : Record) → WasChanged object change left newest
+      → WasChanged object change left added
+  newest_changed object change left (before, step) =
+      (before, in_newest (event_of object change before left) added newest earlier whole step)
 
-  earlier_changed : (object : ℕ) (change : Change) (left : Record) → WasChanged object change left earlier → WasChanged object change left added
-  earlier_changed object change left (before, step) = (before, in_earlier (event_of object change before left) added newest earlier whole step)
+  earlier_changed : (object : ℕ) (change : Change) (left : Record) → WasChanged object change left earlier
+      → WasChanged object change left added
+  earlier_changed object change left (before, step) =
+      (before, in_earlier (event_of object change before left) added newest earlier whole step)
 
   newest_stored : (found : ℕ × Record) → WasStored found newest → WasStored found added
   newest_stored found (frame, made) = (frame, newest_changed found.0 (Store frame) found.1 made)
@@ -133,8 +137,10 @@ module _ (terms : Terms) (bus : terms.port ≡ Bus) (tries : ℕ) where
 
   continues : (loading : LoadAnswer) (sends : RoundLine) (seen added : List Event) (past after : BusPast) (ended : RoundAnswer)
       → Continues (refusal_of_round loading) terms sends tries seen added past after ended → RoundShownBy ended added
-  continues (load.Loaded object started) sends seen added past after ended h = transfers (hears_itself past) sends seen added past after ended h
-  continues (load.Held object) sends seen added past after ended h = transfers (hears_itself past) sends seen added past after ended h
+  continues (load.Loaded object started) sends seen added past after ended h =
+      transfers (hears_itself past) sends seen added past after ended h
+  continues (load.Held object) sends seen added past after ended h =
+      transfers (hears_itself past) sends seen added past after ended h
   continues load.Nothing sends seen added past after ended h = transfers (hears_itself past) sends seen added past after ended h
   continues (load.Busy object) sends seen added past after ended h = rw h.told tt
   continues (load.Spent object) sends seen added past after ended h = rw h.told tt
@@ -174,16 +180,16 @@ module _ (terms : Terms) (bus : terms.port ≡ Bus) (tries : ℕ) where
   -- the lines of the bus, whatever comes after them
   pub bus_lines : (lines : List BusLine) (past : BusPast) (seen added : List Event) (answers : List LineAnswer) (left : BusPast)
       → LinesMean (BusLineMeans terms tries) lines past seen added answers left → (more : List Event)
-      → events_of Bus more ≡ [] → BusInOrder answers (more ++ added)
+      → events_of Bus more ≡ [] → BusInOrder lines answers (more ++ added)
   bus_lines [] past seen added answers left (none, empty, same) more foreign =
       let last : events_of Bus (more ++ added) ≡ [] = rw none (ap (events_of Bus) (append-nil more) ∙ foreign) in
-      subst (λ (l : List LineAnswer). BusInOrder l (more ++ added)) (sym empty) last
+      subst (λ (l : List LineAnswer). BusInOrder [] l (more ++ added)) (sym empty) last
   bus_lines (line ∷ lines) past seen added answers left (later, first, reply, replies, between, whole, all, means, rest) more foreign =
-      let there : BusInOrder (reply ∷ replies) (more ++ added) = (
+      let there : BusInOrder (line ∷ lines) (reply ∷ replies) (more ++ added) = (
         more ++ later,
         first,
         ap (λ (es : List Event). more ++ es) whole ∙ sym (append_assoc more later first),
         bus_line line past seen first reply between means,
         bus_lines lines between (first ++ seen) later replies left rest more foreign,
       ) in
-      subst (λ (l : List LineAnswer). BusInOrder l (more ++ added)) (sym all) there
+      subst (λ (l : List LineAnswer). BusInOrder (line ∷ lines) l (more ++ added)) (sym all) there

@@ -28,7 +28,7 @@ use Rattle.ccan_script.specs.declared.line_answer.LineAnswer.TheVariants as answ
 use Rattle.ccan_run.specs.Lines.{LinesMean}
 use Rattle.ccan_run.specs.Transfer.{Answers, Ends, change_of, with_settings}
 use Rattle.ccan_run.specs.Host.{HostLineMeans}
-use Rattle.ccan_run.specs.Answered.{HasStep, HostShownBy, IsHostPart, HostInOrder, changes_told, reading, registers_set, registers_after}
+use Rattle.ccan_run.specs.Answered.{HasStep, HostShownBy, IsHostPart, IsOfTransfer, IsReplyTo, HostInOrder, changes_told, reading, registers_set, registers_after}
 use Rattle.ccan_run.proofs.StepsShown.{looked_at, done_at, watch_shown, interrupt_shown, word_shown}
 use Rattle.ccan_run.proofs.HostChanges.{changes_by-look, changes_by-attempt, changes_by-watch, changes_by-interrupt, changes_by-flags}
 
@@ -58,10 +58,12 @@ module _ (port : PortName) (registers : Registers) (reply : LineAnswer) (left : 
       ∙ ap (λ (w : Bool). record registers { buffer = cond w after (by_groups registers.command after registers.buffer) }) is in
       let buffer_is : left.buffer ≡ after = ap (λ (i : Registers). i.buffer) left_is in
       let told : reply ≡ answer.Write object after = ends.answer_is
-      ∙ (ap (λ (w : Bool). cond w (answer.Write object left.buffer) (answer.Read object left.buffer)) is ∙ ap (answer.Write object) buffer_is) in
+      ∙ (ap (λ (w : Bool). cond w (answer.Write object left.buffer) (answer.Read object left.buffer)) is
+      ∙ ap (answer.Write object) buffer_is) in
       tells (answer.Write object after) (record registers { buffer = after }) told left_is refl (before, step) changes
 
-  reads : (object : ℕ) (before after : Record) → is_write registers.command ≡ false → HasStep port object (reading registers.command) before after events
+  reads : (object : ℕ) (before after : Record) → is_write registers.command ≡ false
+      → HasStep port object (reading registers.command) before after events
       → Ends object registers before reply left → changes_by port events ≡ cond (is_pure_read registers.command) 0 1 → IsShown
   reads object before after is step ends changes =
       let shown = by_groups registers.command before registers.buffer in
@@ -69,27 +71,36 @@ module _ (port : PortName) (registers : Registers) (reply : LineAnswer) (left : 
       ∙ ap (λ (w : Bool). record registers { buffer = cond w before shown }) is in
       let buffer_is : left.buffer ≡ shown = ap (λ (i : Registers). i.buffer) left_is in
       let told : reply ≡ answer.Read object shown = ends.answer_is
-      ∙ (ap (λ (w : Bool). cond w (answer.Write object left.buffer) (answer.Read object left.buffer)) is ∙ ap (answer.Read object) buffer_is) in
-      tells (answer.Read object shown) (record registers { buffer = shown }) told left_is refl (record { before = before; after = after; step = step; shows = refl }) changes
+      ∙ (ap (λ (w : Bool). cond w (answer.Write object left.buffer) (answer.Read object left.buffer)) is
+      ∙ ap (answer.Read object) buffer_is) in
+      tells (answer.Read object shown) (record registers { buffer = shown }) told left_is refl
+      (record { before = before; after = after; step = step; shows = refl }) changes
 
-  by_kind : (object : ℕ) (write : Bool) (before after : Record) → is_write registers.command ≡ write → is_pure_read registers.command ≡ false
+  -- a change by whether it writes
+  abbrev kind_of : Bool → Change
+  kind_of write = cond write (change.Write registers.command registers.buffer) (change.Clear registers.command)
+
+  by_kind : (object : ℕ) (write : Bool) (before after : Record) → is_write registers.command ≡ write
+      → is_pure_read registers.command ≡ false
       → HasStep port object (Make (change_of registers)) before after events
       → Ends object registers (cond (is_write registers.command) after before) reply left → changes_by port events ≡ 1 → IsShown
   by_kind object true before after is pure step ends changes =
       writes object before after is
-      (subst (λ (w : Bool). HasStep port object (Make (cond w (change.Write registers.command registers.buffer) (change.Clear registers.command))) before after events) is step)
+      (subst (λ (w : Bool). HasStep port object (Make (kind_of w)) before after events) is step)
       (subst (λ (w : Bool). Ends object registers (cond w after before) reply left) is ends) changes
   by_kind object false before after is pure step ends changes =
       let clears : HasStep port object (Make (change.Clear registers.command)) before after events =
-      subst (λ (w : Bool). HasStep port object (Make (cond w (change.Write registers.command registers.buffer) (change.Clear registers.command))) before after events) is step in
+      subst (λ (w : Bool). HasStep port object (Make (kind_of w)) before after events) is step in
       reads object before after is
-      (subst (λ (p : Bool). HasStep port object (cond p Look (Make (change.Clear registers.command))) before after events) (sym pure) clears)
+      (subst (λ (p : Bool). HasStep port object (cond p Look (Make (change.Clear registers.command))) before after events)
+      (sym pure) clears)
       (subst (λ (w : Bool). Ends object registers (cond w after before) reply left) is ends)
       (changes ∙ ap (λ (p : Bool). cond p 0 1) (sym pure))
 
 module _ (terms : Terms) (tries : ℕ) where
-  by_outcome : (object : ℕ) (registers : Registers) (seen added : List Event) (reply : LineAnswer) (left : Registers) (outcome : Result Changed Refused)
-      → is_pure_read registers.command ≡ false → Attempt terms object (change_of registers) tries seen added outcome
+  by_outcome : (object : ℕ) (registers : Registers) (seen added : List Event) (reply : LineAnswer) (left : Registers)
+      (outcome : Result Changed Refused) → is_pure_read registers.command ≡ false
+      → Attempt terms object (change_of registers) tries seen added outcome
       → Answers object registers outcome reply left → IsShown terms.port registers reply left added
   by_outcome object registers seen added reply left (Ok (Done before after number)) pure attempt answers =
       by_kind terms.port registers reply left added object (is_write registers.command) before after refl pure
@@ -107,11 +118,13 @@ module _ (terms : Terms) (tries : ℕ) where
       → is_pure_read registers.command ≡ pure
       → MatchBool pure
       ((shown : Record) × IsLook terms object shown added × Ends object registers shown reply left)
-      ((outcome : Result Changed Refused) × Attempt terms object (change_of registers) tries seen added outcome × Answers object registers outcome reply left)
+      ((outcome : Result Changed Refused) × Attempt terms object (change_of registers) tries seen added outcome
+      × Answers object registers outcome reply left)
       → IsShown terms.port registers reply left added
   by_command true object registers seen added reply left is (shown, look, ends) =
       let c = registers.command in
-      reads terms.port registers reply left added object shown shown (pure_reads (is_write c) (clears_intpnd c) (has_txrqst_newdat c) is)
+      reads terms.port registers reply left added object shown shown
+      (pure_reads (is_write c) (clears_intpnd c) (has_txrqst_newdat c) is)
       (subst (λ (p : Bool). HasStep terms.port object (cond p Look (Make (change.Clear c))) shown shown added) (sym is)
       (looked_at terms object shown added look)) ends
       (changes_by-look terms object shown added look ∙ ap (λ (p : Bool). cond p 0 1) (sym is))
@@ -135,7 +148,8 @@ module _ (terms : Terms) (tries : ℕ) where
       let now = with_settings set.items registers in
       by_command (is_pure_read now.command) (requested terms.profile request) now seen added reply left refl means
   host_line (host.Until object flag turns) registers seen added reply left (shown, is, h, same) =
-      tells terms.port registers reply left added (answer.Until object flag shown) registers is same refl (watched object flag turns registers added shown h)
+      tells terms.port registers reply left added (answer.Until object flag shown) registers is same refl
+      (watched object flag turns registers added shown h)
       (changes_by-watch terms object flag turns added shown h)
   host_line host.Interrupt registers seen added reply left (value, is, h, same) =
       tells terms.port registers reply left added (answer.Interrupt value) registers is same refl
@@ -144,22 +158,59 @@ module _ (terms : Terms) (tries : ℕ) where
       tells terms.port registers reply left added (answer.Flags flag word terms.profile) registers is same refl
       (word_shown terms flag word added h) (changes_by-flags terms flag added word h)
 
+  -- ---- what a line is answered
+
+  moved : (write : Bool) (object : ℕ) (buffer : Record) (reply : LineAnswer)
+      → reply ≡ cond write (answer.Write object buffer) (answer.Read object buffer) → IsOfTransfer object reply
+  moved true object buffer reply is = rw is refl
+  moved false object buffer reply is = rw is refl
+
+  transferred : (object : ℕ) (registers : Registers) (reply : LineAnswer) (left : Registers)
+      (outcome : Result Changed Refused) → Answers object registers outcome reply left → IsOfTransfer object reply
+  transferred object registers reply left (Ok (Done before after number)) answers =
+      moved (is_write registers.command) object left.buffer reply answers.answer_is
+  transferred object registers reply left (Ok (NotNow found)) answers = absurd answers
+  transferred object registers reply left (Err (refused.Busy told now)) answers = rw answers.0 refl
+  transferred object registers reply left (Err refused.Spent) answers = rw answers.0 refl
+
+  of_transfer : (pure : Bool) (object : ℕ) (registers : Registers) (seen added : List Event) (reply : LineAnswer) (left : Registers)
+      → MatchBool pure
+      ((shown : Record) × IsLook terms object shown added × Ends object registers shown reply left)
+      ((outcome : Result Changed Refused) × Attempt terms object (change_of registers) tries seen added outcome
+      × Answers object registers outcome reply left)
+      → IsOfTransfer object reply
+  of_transfer true object registers seen added reply left (shown, look, ends) =
+      moved (is_write registers.command) object left.buffer reply ends.answer_is
+  of_transfer false object registers seen added reply left (outcome, attempt, answers) =
+      transferred object registers reply left outcome answers
+
+  replies_to : (line : HostLine) (registers : Registers) (seen added : List Event) (reply : LineAnswer) (left : Registers)
+      → HostLineMeans terms tries line registers seen added reply left → IsReplyTo terms.profile line reply
+  replies_to (host.Transfer request set) registers seen added reply left means =
+      let now = with_settings set.items registers in
+      of_transfer (is_pure_read now.command) (requested terms.profile request) now seen added reply left means
+  replies_to (host.Until object flag turns) registers seen added reply left means = rw means.1 (refl, refl)
+  replies_to host.Interrupt registers seen added reply left means = rw means.1 tt
+  replies_to (host.Flags flag) registers seen added reply left means = rw means.1 (refl, refl)
+
   -- the lines of a host, whatever comes after them
-  pub host_lines : (lines : List HostLine) (registers : Registers) (seen added : List Event) (answers : List LineAnswer) (left : Registers)
-      → LinesMean (HostLineMeans terms tries) lines registers seen added answers left → (more : List Event)
-      → events_of terms.port more ≡ [] → HostInOrder terms.port lines registers answers (more ++ added)
+  pub host_lines : (lines : List HostLine) (registers : Registers) (seen added : List Event) (answers : List LineAnswer)
+      (left : Registers) → LinesMean (HostLineMeans terms tries) lines registers seen added answers left → (more : List Event)
+      → events_of terms.port more ≡ [] → HostInOrder terms.profile terms.port lines registers answers (more ++ added)
   host_lines [] registers seen added answers left (none, empty, same) more foreign =
       let last : events_of terms.port (more ++ added) ≡ [] = rw none (ap (events_of terms.port) (append-nil more) ∙ foreign) in
-      subst (λ (l : List LineAnswer). HostInOrder terms.port [] registers l (more ++ added)) (sym empty) last
-  host_lines (line ∷ lines) registers seen added answers left (later, first, reply, replies, between, whole, all, means, rest) more foreign =
+      subst (λ (l : List LineAnswer). HostInOrder terms.profile terms.port [] registers l (more ++ added)) (sym empty) last
+  host_lines (line ∷ lines) registers seen added answers left
+      (later, first, reply, replies, between, whole, all, means, rest) more foreign =
       let shows = host_line line registers seen first reply between means in
       let all_later = host_lines lines between (first ++ seen) later replies left rest more foreign in
       let now = registers_set line registers in
-      let there : HostInOrder terms.port (line ∷ lines) registers (reply ∷ replies) (more ++ added) = (
+      let there : HostInOrder terms.profile terms.port (line ∷ lines) registers (reply ∷ replies) (more ++ added) = (
         more ++ later,
         first,
         ap (λ (es : List Event). more ++ es) whole ∙ sym (append_assoc more later first),
+        replies_to line registers seen first reply between means,
         shows.0,
-        subst (λ (i : Registers). HostInOrder terms.port lines i replies (more ++ later)) shows.1 all_later,
+        subst (λ (i : Registers). HostInOrder terms.profile terms.port lines i replies (more ++ later)) shows.1 all_later,
       ) in
-      subst (λ (l : List LineAnswer). HostInOrder terms.port (line ∷ lines) registers l (more ++ added)) (sym all) there
+      subst (λ (l : List LineAnswer). HostInOrder terms.profile terms.port (line ∷ lines) registers l (more ++ added)) (sym all) there

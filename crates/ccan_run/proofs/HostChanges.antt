@@ -23,7 +23,8 @@ in_two port added newest earlier m n whole first last =
     omega (arith, ap (changes_by port) whole, changes_by-append port newest earlier, first, last)
 
 module _ (terms : Terms) where
-  pub changes_by-look : (object : ℕ) (shown : Record) (added : List Event) → IsLook terms object shown added → changes_by terms.port added ≡ 0
+  pub changes_by-look : (object : ℕ) (shown : Record) (added : List Event) → IsLook terms object shown added
+      → changes_by terms.port added ≡ 0
   changes_by-look object shown added (others, foreign, whole) =
       ap (changes_by terms.port) whole ∙ changes_by-foreign terms.port others foreign.not_own
 
@@ -31,7 +32,8 @@ module _ (terms : Terms) where
       → EndsIn terms added (change_at terms.port object change before) → changes_by terms.port added ≡ 1
   changes_by-made object change before added (others, foreign, whole) =
       let port = terms.port in
-      let counted : changes_by port (change_at port object change before ∷ others) ≡ changes_by port others + 1 = rw (its_own port) refl in
+      let counted : changes_by port (change_at port object change before ∷ others) ≡ changes_by port others + 1 =
+      rw (its_own port) refl in
       ap (changes_by port) whole ∙ (counted ∙ ap (λ n. n + 1) (changes_by-foreign port others foreign.not_own))
 
   -- how many changes an attempt makes
@@ -69,7 +71,9 @@ module _ (terms : Terms) where
 
   pub changes_by-interrupt : (value : ℕ) (added : List Event) → Interrupts terms false added value → changes_by terms.port added ≡ 0
   changes_by-interrupt value added (inl (is, h)) = changes_by-looks (λ before. before + 1) h.shown added h.looks
-  changes_by-interrupt value added (inr (count, less, is, h)) = changes_by-looks (λ before. before + 1) (h.last ∷ h.before) added h.looks
+  changes_by-interrupt value added (inr (count, less, is, h)) =
+      changes_by-looks (λ before. before + 1) (h.last ∷ h.before) added h.looks
 
-  pub changes_by-flags : (flag : Flag) (added : List Event) (word : ℕ) → ReadsFlags terms flag added word → changes_by terms.port added ≡ 0
+  pub changes_by-flags : (flag : Flag) (added : List Event) (word : ℕ) → ReadsFlags terms flag added word
+      → changes_by terms.port added ≡ 0
   changes_by-flags flag added word h = changes_by-looks (λ before. before + 1) h.shown added h.looks

@@ -1,5 +1,5 @@
 -- Steps in the parts of a history: which of them the calls of a port made, and what they show.
-use Rattle.std.proofs.Common.{◌≡◌, ◌+◌, ◌-◌, ℕ, Bool, true, false, List, [], ◌∷◌, ◌++◌, ◌⊎◌, inl, inr, Ok, cond, length, sym, subst}
+use Rattle.std.proofs.Common.{◌≡◌, ℕ, Bool, true, false, List, [], ◌∷◌, ◌++◌, inl, inr, Ok, cond, length, sym, subst}
 use Rattle.std.specs.Prelude.{Contains}
 use Rattle.std.proofs.lemmas.List.Elements.{Contains-append_cases, Contains-append_left, Contains-append_right, Contains-push}
 use Rattle.ccan_object.specs.declared.record.Record.{Record}
@@ -15,7 +15,6 @@ use Rattle.ccan_ram.specs.History.{events_of}
 use Rattle.ccan_ram.specs.Terms.{Terms}
 use Rattle.ccan_ram.specs.Attempt.{Attempt, EndsIn, IsLook, look_at, change_at}
 use Rattle.ccan_handler.specs.Watch.{FirstShows, Watches, Interrupts, ReadsFlags, in_turn}
-use Rattle.ccan_handler.specs.Laws.{ShowsAt}
 use Rattle.ccan_handler.proofs.Rows.{shown_law}
 use Rattle.ccan_run.specs.Answered.{HasStep, FlagWasShown, NamesPending, WordWasShown}
 

@@ -1,7 +1,7 @@
--- What the answers of a run without an order tell, as steps of one history: whose step it is, at which object, what it did,
--- what it found and what it left. Source: C_CAN User's Manual 1.2, section 4.2.1 for what a transfer moves, and section 3.4
--- for the Interrupt Register and the flags of all objects; that each answer has steps of its own, in its port's order, is
--- this project's own.
+-- What the answers of a run without an order tell, as steps of one history: whose step it is, at which object, what
+-- it did, what it found and what it left. Source: C_CAN User's Manual 1.2, section 4.2.1 for what a transfer moves,
+-- and section 3.4 for the Interrupt Register and the flags of all objects; that each answer has steps of its own, in
+-- its port's order, is this project's own.
 use Rattle.std.specs.Prelude.{ℕ, ◌≡◌, ◌-◌, ◌⊎◌, Bool, true, List, [], ◌∷◌, ◌++◌, None, Some, Contains, if◌then◌else◌}
 use Rattle.ccan_object.specs.declared.profile.Profile.{Profile}
 use Rattle.ccan_object.specs.declared.record.Record.{Record}
@@ -10,6 +10,7 @@ use Rattle.ccan_object.specs.Bits.{bit}
 use Rattle.ccan_object.specs.Command.{is_pure_read}
 use Rattle.ccan_object.specs.Group.{by_groups}
 use Rattle.ccan_object.specs.Interface.{Registers, zero_registers}
+use Rattle.ccan_object.specs.Number.{requested}
 use Rattle.ccan_object.specs.Profile.{Holds}
 use Rattle.ccan_accept.specs.declared.frame.Frame.{Frame}
 use Rattle.ccan_ram.specs.declared.port.PortName.{PortName}
@@ -27,6 +28,7 @@ use Rattle.ccan_ram.specs.Ending.{final_records}
 use Rattle.ccan_bus.specs.declared.answer.LoadAnswer.TheVariants as load
 use Rattle.ccan_bus.specs.declared.answer.RoundAnswer.{RoundAnswer}
 use Rattle.ccan_bus.specs.declared.answer.RoundAnswer.TheVariants as round
+use Rattle.ccan_script.specs.declared.bus_line.BusLine.{BusLine}
 use Rattle.ccan_script.specs.declared.host_line.HostLine.{HostLine}
 use Rattle.ccan_script.specs.declared.host_line.HostLine.TheVariants as host
 use Rattle.ccan_script.specs.declared.line_answer.LineAnswer.{LineAnswer}
@@ -69,14 +71,15 @@ abbrev pub reading : CommandMask → Operation
 reading command = if is_pure_read command then Look else Make (change.Clear command)
 
 -- a read: the selected groups are those of the record that it found, the others as the registers held them
-pub record WasRead (port : PortName) (registers : Registers) (object : ℕ) (shown : Record) (events : List Event) : Type 0 where
+pub record WasRead (port : PortName) (registers : Registers) (object : ℕ) (shown : Record)
+    (events : List Event) : Type 0 where
   pub before : Record
   pub after : Record
   pub step : HasStep port object (reading registers.command) before after events
   pub shows : shown ≡ by_groups registers.command before registers.buffer
 
--- these steps show the answer to a line of a host whose registers were set so. An answer that is not named here tells of no
--- transfer that was made, and of no flag that was shown
+-- these steps show the answer to a line of a host whose registers were set so. An answer that is not named here tells
+-- of no transfer that was made, and of no flag that was shown
 abbrev pub HostShownBy : PortName → Registers → LineAnswer → List Event → Type 0
 HostShownBy port registers (answer.Write object left) events = WasWritten port registers object left events
 HostShownBy port registers (answer.Read object shown) events = WasRead port registers object shown events
@@ -91,11 +94,28 @@ changes_told registers (answer.Write object left) = 1
 changes_told registers (answer.Read object shown) = if is_pure_read registers.command then 0 else 1
 changes_told registers reply = 0
 
--- a part of the history in which a line of a host was run: its steps show the answer, and the host made no other changes in
--- it than the answer tells
-pub record IsHostPart (port : PortName) (registers : Registers) (reply : LineAnswer) (events : List Event) : Type 0 where
+-- a part of the history in which a line of a host was run: its steps show the answer, and the host made no other
+-- changes in it than the answer tells
+pub record IsHostPart (port : PortName) (registers : Registers) (reply : LineAnswer)
+    (events : List Event) : Type 0 where
   pub shown : HostShownBy port registers reply events
   pub changes : changes_by port events ≡ changes_told registers reply
+
+-- an answer to a transfer of this object
+abbrev pub IsOfTransfer : ℕ → LineAnswer → Type 0
+IsOfTransfer object (answer.Write at left) = at ≡ object
+IsOfTransfer object (answer.Read at shown) = at ≡ object
+IsOfTransfer object (answer.Busy at) = at ≡ object
+IsOfTransfer object (answer.Spent at) = at ≡ object
+IsOfTransfer object reply = ⊥
+
+-- the answer is of the line's kind, and of the object and the flag that the line names
+abbrev pub IsReplyTo : Profile → HostLine → LineAnswer → Type 0
+IsReplyTo profile (host.Transfer request set) reply = IsOfTransfer (requested profile request) reply
+IsReplyTo profile (host.Until object flag turns) (answer.Until at of shown) = (at ≡ object) × (of ≡ flag)
+IsReplyTo profile host.Interrupt (answer.Interrupt value) = Unit {0}
+IsReplyTo profile (host.Flags flag) (answer.Flags of word objects) = (of ≡ flag) × (objects ≡ profile)
+IsReplyTo profile line reply = ⊥
 
 -- the registers as a line sets them
 abbrev pub registers_set : HostLine → Registers → Registers
@@ -108,15 +128,16 @@ registers_after (answer.Write object shown) registers = record registers { buffe
 registers_after (answer.Read object shown) registers = record registers { buffer = shown }
 registers_after reply registers = registers
 
--- each line has an answer and a part of the history, after those of the lines before it, and the port has no step after the
--- part of its last line. A history has its newest event in front
-abbrev pub HostInOrder : PortName → List HostLine → Registers → List LineAnswer → List Event → Type 0
-HostInOrder port [] registers [] history = events_of port history ≡ []
-HostInOrder port (line ∷ lines) registers (reply ∷ replies) history =
+-- each line has an answer and a part of the history, after those of the lines before it, and the port has no step
+-- after the part of its last line. A history has its newest event in front
+abbrev pub HostInOrder : Profile → PortName → List HostLine → Registers → List LineAnswer → List Event → Type 0
+HostInOrder profile port [] registers [] history = events_of port history ≡ []
+HostInOrder profile port (line ∷ lines) registers (reply ∷ replies) history =
     let set = registers_set line registers in
     (later : List Event) × (first : List Event) × (history ≡ later ++ first)
-    × IsHostPart port set reply first × HostInOrder port lines (registers_after reply set) replies later
-HostInOrder port lines registers replies history = ⊥
+    × IsReplyTo profile line reply × IsHostPart port set reply first
+    × HostInOrder profile port lines (registers_after reply set) replies later
+HostInOrder profile port lines registers replies history = ⊥
 
 -- ---- the bus
 
@@ -128,8 +149,8 @@ WasChanged object change left events = (before : Record) × HasStep Bus object (
 abbrev pub WasStored : ℕ × Record → List Event → Type 0
 WasStored found events = (frame : Frame) × WasChanged found.0 (change.Store frame) found.1 events
 
--- these steps show what came of a round. A round also starts what it loads, and one that is refused in loop back mode may
--- have finished what it sent: no answer tells these changes
+-- these steps show what came of a round. A round also starts what it loads, and one that is refused in loop back mode
+-- may have finished what it sent: no answer tells these changes
 abbrev pub RoundShownBy : RoundAnswer → List Event → Type 0
 RoundShownBy (round.Sent object left) events = WasChanged object change.Finish left events
 RoundShownBy (round.Received (Some found)) events = WasStored found events
@@ -146,13 +167,14 @@ BusShownBy (answer.Interrupt value) events = (value ≡ 0x8000) ⊎ NamesPending
 BusShownBy (answer.Flags flag word profile) events = WordWasShown Bus profile flag word events
 BusShownBy reply events = Unit {0}
 
--- each answer of the bus has a part of the history, after those of the answers before it, and the bus has no step after the
--- part of its last answer
-abbrev pub BusInOrder : List LineAnswer → List Event → Type 0
-BusInOrder [] history = events_of Bus history ≡ []
-BusInOrder (reply ∷ replies) history =
+-- each line of the bus has an answer and a part of the history, after those of the lines before it, and the bus has no
+-- step after the part of its last line
+abbrev pub BusInOrder : List BusLine → List LineAnswer → List Event → Type 0
+BusInOrder [] [] history = events_of Bus history ≡ []
+BusInOrder (line ∷ lines) (reply ∷ replies) history =
     (later : List Event) × (first : List Event) × (history ≡ later ++ first)
-    × BusShownBy reply first × BusInOrder replies later
+    × BusShownBy reply first × BusInOrder lines replies later
+BusInOrder lines replies history = ⊥
 
 -- ---- a run
 
@@ -161,7 +183,7 @@ BusInOrder (reply ∷ replies) history =
 pub record IsAnswered (script : ScriptFields) (outcome : Outcome) : Type 0 where
   pub history : List Event
   pub legal : IsLegal script.profile history
-  pub if1 : HostInOrder If1 script.if1 zero_registers outcome.if1.items history
-  pub if2 : HostInOrder If2 script.if2 zero_registers outcome.if2.items history
-  pub bus : BusInOrder outcome.bus.items history
+  pub if1 : HostInOrder script.profile If1 script.if1 zero_registers outcome.if1.items history
+  pub if2 : HostInOrder script.profile If2 script.if2 zero_registers outcome.if2.items history
+  pub bus : BusInOrder script.bus outcome.bus.items history
   pub left : outcome.last.records ≡ final_records script.profile history
