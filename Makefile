@@ -3,7 +3,7 @@ SCRIPT ?= examples/first_write.json
 PREFIX ?= /usr/local
 export SCRIPT PREFIX
 
-.PHONY: help run try test install bench sweep schema clean
+.PHONY: help run try test install bench sweep hostile c-test schema clean
 
 help:
 	@tools/targets
@@ -18,18 +18,24 @@ test:
 	tools/gate
 
 install:
-	@tools/build
-	install -D crates/ccan/out/ccan "$$PREFIX/bin/ccan"
-	install -D -m 644 docs/ccan.1 "$$PREFIX/share/man/man1/ccan.1"
+	@tools/install "$$PREFIX"
 
 bench:
-	@cd crates/ccan_bench && rt run -- measure
+	@tools/bench
 
 sweep:
 	@tools/build
 	tools/refuse_memory crates/ccan/out/ccan examples/spent_quota.json examples/spent_quota.json.stdout
 	@tools/build ccan_open
 	tools/refuse_opening crates/ccan_open/out/ccan_open
+
+hostile:
+	@tools/build
+	tools/fail_streams crates/ccan/out/ccan examples/first_write.json
+	tools/spoil_scripts crates/ccan/out/ccan examples/*.json
+
+c-test:
+	@tools/c_test
 
 schema:
 	tools/check_schema

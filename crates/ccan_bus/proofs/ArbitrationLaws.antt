@@ -33,7 +33,8 @@ unfolding arbitration_bits
 list_of f xtd id rtr x i r = rw (x, i, r) refl
 
 data_first : (xtd : Bool) (id : ℕ)
-    → precedes (cond xtd (extended_list (id / 2 ^ 18) id false) (standard_list id false)) (cond xtd (extended_list (id / 2 ^ 18) id true) (standard_list id true)) ≡ true
+    → precedes (cond xtd (extended_list (id / 2 ^ 18) id false) (standard_list id false))
+    (cond xtd (extended_list (id / 2 ^ 18) id true) (standard_list id true)) ≡ true
 data_first true id =
     precedes-same (lowest_bits 11 (id / 2 ^ 18)) (true ∷ true ∷ (lowest_bits 18 id ++ false ∷ [])) (true ∷ true ∷ (lowest_bits 18 id ++ true ∷ []))
     ∙ precedes-same (lowest_bits 18 id) (false ∷ []) (true ∷ [])
@@ -41,7 +42,11 @@ data_first false id = precedes-same (lowest_bits 11 id) (false ∷ false ∷ [])
 
 pub data_wins : DataBeatsRemote
 data_wins data_frame remote width same d r =
-    rw (list_of data_frame data_frame.xtd data_frame.id false refl refl d, list_of remote data_frame.xtd data_frame.id true (sym width) (sym same) r) (data_first data_frame.xtd data_frame.id)
+    rw (
+      list_of data_frame data_frame.xtd data_frame.id false refl refl d,
+      list_of remote data_frame.xtd data_frame.id true
+          (sym width) (sym same) r,
+    ) (data_first data_frame.xtd data_frame.id)
 
 by_kind : (rtr : Bool) (rest : List Bool) → precedes (rtr ∷ false ∷ []) (true ∷ true ∷ rest) ≡ true
 by_kind false rest = refl
@@ -117,7 +122,8 @@ other_frame frames place other winner loser wins w l wf lf apart =
     let all : length (map arbitration_bits frames) ≡ length frames = simp length-map in
     let here = there frames other loser l in
     let within : other < length (map arbitration_bits frames) = omega arith in
-    let listed : precedes (list_at (map arbitration_bits frames) place) (list_at (map arbitration_bits frames) other) ≡ true = wins.first other within apart in
+    let listed : precedes (list_at (map arbitration_bits frames) place) (list_at (map arbitration_bits frames) other)
+    ≡ true = wins.first other within apart in
     let first : precedes (arbitration_bits winner) (arbitration_bits loser) ≡ true =
     rw (at_place frames place winner w (there frames place winner w), at_place frames other loser l here) at listed in
     let less : nat_lt (packed winner) (packed loser) ≡ true = sym (packed-order winner loser) ∙ first in

@@ -30,7 +30,8 @@ module _ (key : ℕ → ℕ) (n : ℕ) (number : ℕ) (is : number ≡ key n) wh
 
   more : (place old : ℕ) (tied below same : Bool) → nat_lt number old ≡ below → (number == old) ≡ same
       → Leads key n (record { place = place; number = old; tied = tied })
-      → Leads key (n + 1) (cond below (record { place = n; number = number; tied = false }) (record { place = place; number = old; tied = tied || same }))
+      → Leads key (n + 1) (cond below (record { place = n; number = number; tied = false })
+      (record { place = place; number = old; tied = tied || same }))
   more place old tied true same b e h =
       let less : number < old = grind (arith, nat_tests) in
       record {
@@ -137,7 +138,9 @@ module _ where
         two = λ e. a.2 (sym e);
         one_takes_part = h.within;
         another_takes_part = a.1;
-        same = total _ _ (none_before frames lead h lead.place a.0 a.3 a.1 h.within) (none_before frames lead h a.0 lead.place (sym h.own) h.within a.1);
+        same =
+            total _ _ (none_before frames lead h lead.place a.0 a.3 a.1 h.within) (none_before frames lead h a.0 lead.place
+            (sym h.own) h.within a.1);
         first = λ other lt. none_before frames lead h other lead.place (sym h.own) h.within lt;
       }
 
@@ -147,4 +150,6 @@ module _ where
 
   pub outcome : (frames : List Frame) (lead : Lead) (count : ℕ) → count ≡ length frames → Leads (key_of frames) count lead
       → Leads (key_of frames) (length (map arbitration_bits frames)) lead
-  outcome frames lead count is h = subst (λ n. Leads (key_of frames) n lead) (let e : length (map arbitration_bits frames) ≡ length frames = simp length-map in is ∙ sym e) h
+  outcome frames lead count is h =
+      subst (λ n. Leads (key_of frames) n lead) (let e : length (map arbitration_bits frames)
+      ≡ length frames = simp length-map in is ∙ sym e) h

@@ -5,8 +5,15 @@ pub mod Loads
 pub mod Least
 pub mod Rounds
 pub mod Transfers
-pub mod Loops
+pub mod Profiles
+pub mod OwnEvents
+pub mod RecessiveGroups
+pub mod LoopRounds
+pub mod AfterLoads
 pub mod Senders
-pub mod RoundLaws
+pub mod NodeEvents
+pub mod RoundSenders
+pub mod AfterRounds
+pub mod LoopLaws
 pub mod LoadLaws
 pub mod ArbitrationLaws

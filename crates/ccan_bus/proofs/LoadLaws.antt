@@ -27,7 +27,8 @@ own_is_loaded : (on : ℕ → Bool) (line : RoundLine) (object : ℕ) (started :
     → IsWonBy (contenders on (Some (object, started)) line.send.items) 0 frame → frame ≡ frame_of started
 unfolding contenders
 own_is_loaded on line object started frame won =
-    let others = All-weaker (λ s. (1 ≤ s.0) × (s.0 ≤ 8)) (IsOwn started) (λ s within is. absurd (let low = within.0 in omega arith)) line.send.items line.senders.others in
+    let others = All-weaker (λ s. (1 ≤ s.0) × (s.0 ≤ 8)) (IsOwn started)
+    (λ s within is. absurd (let low = within.0 in omega arith)) line.send.items line.senders.others in
     let own = All-cons (IsOwn started) (0, frame_of started) [] (λ is. refl) (All-nil (IsOwn started)) in
     let all = All-append (IsOwn started) (own_frame (Some (object, started))) line.send.items own others in
     let kept = All-filter (λ (c : ℕ × Frame). on c.0) (IsOwn started) (own_frame (Some (object, started)) ++ line.send.items) all in
@@ -51,7 +52,8 @@ record_in d (Some loaded) = loaded.1
 same_object : (a b : ℕ) (r s : Record) (loaded : Option (ℕ × Record)) → loaded ≡ Some (a, r) → loaded ≡ Some (b, s) → (a ≡ b) × (r ≡ s)
 same_object a b r s loaded p q = (sym (ap object_in p) ∙ ap object_in q, sym (ap (record_in r) p) ∙ ap (record_in r) q)
 
-module _ (terms : Terms) (line : RoundLine) (tries : ℕ) (past : BusPast) (object : ℕ) (started : Record) (is : past.loaded ≡ Some (object, started)) where
+module _ (terms : Terms) (line : RoundLine) (tries : ℕ) (past : BusPast) (object : ℕ) (started : Record)
+    (is : past.loaded ≡ Some (object, started)) where
   module _ (seen added : List Event) (after : BusPast) (place : ℕ) (finished : Record) where
     sent_by : (loops : Bool) → Transfers loops terms line tries seen added past after (answer.Sent place finished)
         → (place ≡ object) × IsWonBy (contenders_of past line) 0 (frame_of started)
@@ -105,7 +107,8 @@ module _ (terms : Terms) (line : RoundLine) (tries : ℕ) (past : BusPast) (obje
     looped_by true (Some found) h = looped_in seen first last added after place finished (MadeAt found.0 h.0 found.1 h.1) whole h.2
     looped_by false found h = absurd h
 
-  module _ (seen first last added : List Event) (whole : added ≡ last ++ first) (between after : BusPast) (place : ℕ) (finished : Record) (found : Option (ℕ × Record)) where
+  module _ (seen first last added : List Event) (whole : added ≡ last ++ first) (between after : BusPast) (place : ℕ)
+      (finished : Record) (found : Option (ℕ × Record)) where
     round_looped : (loading : LoadAnswer) → Loads terms tries seen first past between loading
         → Continues (refusal_of_round loading) terms line tries (first ++ seen) last between after (answer.Looped place finished found)
         → (place ≡ object) × EndsInScanFor terms tries (frame_of started) seen added

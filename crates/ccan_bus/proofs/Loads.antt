@@ -24,7 +24,13 @@ module _ (tries : ℕ) (bus : Bus) where
     pub off : {x : Passes} → is_on_now bus 0 ≡ false
         → Goes x x (λ terms seen added. GoesOn bus bus (λ past after. Loads terms tries seen added past after load.Nothing))
     off is =
-        Goes-none (λ seen here. GoesOn-none bus _ (λ past led. inl (record { empty = sym led.loaded ∙ empty; off = on_same past bus led 0 ∙ is; quiet = refl; same = refl })))
+        Goes-none (λ seen here. GoesOn-none bus _
+        (λ past led. inl (record {
+          empty = sym led.loaded ∙ empty;
+          off = on_same past bus led 0 ∙ is;
+          quiet = refl;
+          same = refl;
+        })))
 
     module _ (on : is_on_now bus 0 ≡ true) where
       pub none : {x y : Passes} → Goes x y (λ terms seen added. Chooses terms tries seen added (Ok None))
@@ -38,7 +44,8 @@ module _ (tries : ℕ) (bus : Bus) where
           → Goes x y (λ terms seen added. Chooses terms tries seen added (Ok (Some (object, started))))
           → Goes x y (λ terms seen added. GoesOn bus new (λ past after. Loads terms tries seen added past after reply))
       loaded {x} {y} new object started reply told keeps is scan =
-          subst (λ r. Goes x y (λ terms seen added. GoesOn bus new (λ past after. Loads terms tries seen added past after r))) (sym told) (Goes-weaker scan (λ seen added here after s. record {
+          subst (λ r. Goes x y (λ terms seen added. GoesOn bus new (λ past after. Loads terms tries seen added past
+          after r))) (sym told) (Goes-weaker scan (λ seen added here after s. record {
             each = λ past led. (
               record past { loaded = Some (object, started) },
               LedTo-loaded past bus new _ keeps is led,
@@ -65,4 +72,5 @@ module _ (tries : ℕ) (bus : Bus) where
           → Goes x y (λ terms seen added. Chooses terms tries seen added (Err why))
           → Goes x y (λ terms seen added. GoesOn bus bus (λ past after. Loads terms tries seen added past after reply))
       refused {x} {y} why reply told scan =
-          subst (λ r. Goes x y (λ terms seen added. GoesOn bus bus (λ past after. Loads terms tries seen added past after r))) (sym told) (by_why why.why why.at scan)
+          subst (λ r. Goes x y (λ terms seen added. GoesOn bus bus (λ past after. Loads terms tries seen added past
+          after r))) (sym told) (by_why why.why why.at scan)

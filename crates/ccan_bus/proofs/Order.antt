@@ -121,13 +121,17 @@ in_order : (x y : Bool) (f g : Frame) → f.xtd ≡ x → g.xtd ≡ y
     ≡ nat_lt (value_of 32 (cond x (extended_bits f) (standard_bits f))) (value_of 32 (cond y (extended_bits g) (standard_bits g)))
 in_order true true f g p q =
     joined 21 11 (lowest_bits 11 _) (lowest_bits 11 _) (low_extended f) (low_extended g) (length-lowest_bits 11 _) (length-lowest_bits 11 _)
-    (both_extended _ _ (joined 1 18 (lowest_bits 18 _) (lowest_bits 18 _) (f.rtr ∷ []) (g.rtr ∷ []) (length-lowest_bits 18 _) (length-lowest_bits 18 _) (ends f.rtr g.rtr)))
+    (both_extended _ _ (joined 1 18 (lowest_bits 18 _) (lowest_bits 18 _) (f.rtr ∷ []) (g.rtr ∷ []) (length-lowest_bits 18 _)
+    (length-lowest_bits 18 _) (ends f.rtr g.rtr)))
 in_order true false f g p q =
-    joined 21 11 (lowest_bits 11 _) (lowest_bits 11 _) (low_extended f) (low_standard g) (length-lowest_bits 11 _) (length-lowest_bits 11 _) (extended_last g.rtr _)
+    joined 21 11 (lowest_bits 11 _) (lowest_bits 11 _) (low_extended f) (low_standard g) (length-lowest_bits 11 _)
+    (length-lowest_bits 11 _) (extended_last g.rtr _)
 in_order false true f g p q =
-    joined 21 11 (lowest_bits 11 _) (lowest_bits 11 _) (low_standard f) (low_extended g) (length-lowest_bits 11 _) (length-lowest_bits 11 _) (standard_first f.rtr _)
+    joined 21 11 (lowest_bits 11 _) (lowest_bits 11 _) (low_standard f) (low_extended g) (length-lowest_bits 11 _)
+    (length-lowest_bits 11 _) (standard_first f.rtr _)
 in_order false false f g p q =
-    joined 21 11 (lowest_bits 11 _) (lowest_bits 11 _) (low_standard f) (low_standard g) (length-lowest_bits 11 _) (length-lowest_bits 11 _) (both_standard f.rtr g.rtr)
+    joined 21 11 (lowest_bits 11 _) (lowest_bits 11 _) (low_standard f) (low_standard g) (length-lowest_bits 11 _)
+    (length-lowest_bits 11 _) (both_standard f.rtr g.rtr)
 
 -- the order of the lists is that of the numbers
 pub packed-order : (f g : Frame) → precedes (arbitration_bits f) (arbitration_bits g) ≡ nat_lt (packed f) (packed g)

@@ -28,7 +28,8 @@ pub on_same : (past : BusPast) (bus : Bus) → LedTo past bus → (node : ℕ) �
 unfolding is_on is_on_now
 on_same past bus led node =
     and_same (nat_le node past.others) _ _ (λ within.
-    ap (λ l. not (is_off l)) (sym (listed_levels (is_controller node) (past.events node) (counters_at bus node) (led.counters node (nat_le-true _ _ within)))))
+    ap (λ l. not (is_off l)) (sym (listed_levels (is_controller node) (past.events node) (counters_at bus node)
+    (led.counters node (nat_le-true _ _ within)))))
     ∙ ap (λ n. nat_le node n && not (is_off (counters_at bus node).levels)) (sym led.others)
 
 pub on_there : (bus : Bus) (node at : ℕ) (k : Counts) (off : Bool) → at ≡ node → node ≤ bus.others → node < length bus.nodes
@@ -86,7 +87,8 @@ counters_after past old new event noted led few spread node within =
     let here : nat_le node past.others ≡ true = le-nat_le node past.others within in
     let same = led.others in
     let fits : node ≤ 8 = omega arith in
-    rw here (node_after (is_controller node) _ (past.events node) (event node) (counters_at old node) (counters_at new node) (led.counters node within) refl (spread.counters node fits))
+    rw here (node_after (is_controller node) _ (past.events node) (event node) (counters_at old node) (counters_at new node)
+    (led.counters node within) refl (spread.counters node fits))
 
 -- each past goes on
 pub happened : (event : ℕ → BusEvent) (noted : StatusEvent) (old new : Bus) → old.others ≤ 8 → Spreads event noted old new
@@ -98,7 +100,8 @@ happened event noted old new few spread past led =
       counters = counters_after past old new event noted led few spread;
       status =
           register_after (is_on past 0) noted (counters_at new 0).levels _ past.steps old.status new.status led.status
-          (listed_levels (is_controller 0) (events_after event past 0) (counters_at new 0) (counters_after past old new event noted led few spread 0 (omega arith)))
+          (listed_levels (is_controller 0) (events_after event past 0) (counters_at new 0)
+          (counters_after past old new event noted led few spread 0 (omega arith)))
           (λ on. spread.noted_on (sym (on_same past old led 0) ∙ on))
           (λ off. spread.noted_off (sym (on_same past old led 0) ∙ off));
       loaded = spread.loaded;
@@ -137,7 +140,9 @@ pub LedTo-loaded : (past : BusPast) (old new : Bus) (now : Option (ℕ × Record
 LedTo-loaded past old new now keeps is led =
     record {
       others = keeps.others ∙ led.others;
-      counters = λ node within. subst (λ nodes. AreAfter (is_controller node) (past.events node) (get_or nodes node (new_counts false))) (sym keeps.nodes) (led.counters node within);
+      counters =
+          λ node within. subst (λ nodes. AreAfter (is_controller node) (past.events node)
+          (get_or nodes node (new_counts false))) (sym keeps.nodes) (led.counters node within);
       status = subst (IsHeldAfter past.steps) (sym keeps.status) led.status;
       loaded = is;
       loops_back = keeps.loops_back ∙ led.loops_back;
@@ -177,7 +182,9 @@ pub LedTo-step : (past : BusPast) (old new : Bus) (step : StatusStep) → new.ot
 LedTo-step past old new step others nodes loaded loops adds led =
     record {
       others = others ∙ led.others;
-      counters = λ node within. subst (λ ns. AreAfter (is_controller node) (past.events node) (get_or ns node (new_counts false))) (sym nodes) (led.counters node within);
+      counters =
+          λ node within. subst (λ ns. AreAfter (is_controller node) (past.events node) (get_or ns node (new_counts false)))
+          (sym nodes) (led.counters node within);
       status = adds past.steps led.status;
       loaded = loaded ∙ led.loaded;
       loops_back = loops ∙ led.loops_back;

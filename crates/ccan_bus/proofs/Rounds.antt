@@ -89,7 +89,9 @@ module _ (bus : Bus) (line : RoundLine) where
       record {
         outcome = subst (λ cs. Arbitrates (frames_of cs) Collision) same tie;
         quiet = refl;
-        happened = subst (λ cs. after ≡ happens (shared (sends_least cs) SendFault ReceiveFault) (status.Fault (cond (sends_least cs 0) 4 1)) past) same
+        happened =
+            subst (λ cs. after ≡ happens (shared (sends_least cs) SendFault ReceiveFault)
+            (status.Fault (cond (sends_least cs 0) 4 1)) past) same
             (e ∙ ap (λ n. happens (shared (sends_least (contenders_now bus line)) SendFault ReceiveFault) (status.Fault n) past) code_is);
       })
 
@@ -102,7 +104,15 @@ module _ (bus : Bus) (line : RoundLine) where
         → GoesOn bus new (λ past after. RunsSo line past after course.Fault)
     spoiled code fault happen =
         GoesOn-weaker (happen (shared (is_node winner) SendFault ReceiveFault) (share senders _ SendFault ReceiveFault one))
-        (λ past after led here e. record { winner = winner; frame = frame; won = won_by past led; code = code; fault = fault; quiet = refl; happened = e })
+        (λ past after led here e. record {
+          winner = winner;
+          frame = frame;
+          won = won_by past led;
+          code = code;
+          fault = fault;
+          quiet = refl;
+          happened = e;
+        })
 
     both : (b : Bool) (event : BusEvent) → event ≡ cond b event event
     both true event = refl

@@ -28,7 +28,8 @@ part node xs ys =
 
 first_of : (node i : ℕ) (sends : List (ℕ × Frame)) → length (sends_of node (take i sends)) ≤ length (sends_of node sends)
 first_of node i sends =
-    subst (λ xs. length (sends_of node (take i sends)) ≤ length (sends_of node xs)) (take-append-drop i sends) (part node (take i sends) (drop i sends))
+    subst (λ xs. length (sends_of node (take i sends)) ≤ length (sends_of node xs)) (take-append-drop i sends)
+    (part node (take i sends) (drop i sends))
 
 -- fewer nodes are other nodes too
 pub more_nodes : (nodes most : ℕ) (sends : List (ℕ × Frame)) → nodes ≤ most → AreSenders nodes sends → AreSenders most sends
@@ -51,10 +52,13 @@ marked_first nodes sends sent all none =
       marks = λ node within. rw (none node within) refl;
     }
 
-module _ (nodes : ℕ) (sends : List (ℕ × Frame)) (i : ℕ) (sent : List Bool) (few : nodes ≤ 8) (s : ℕ × Frame) (within : i < length sends) (is : s ≡ get_or sends i s)
+module _ (nodes : ℕ) (sends : List (ℕ × Frame)) (i : ℕ) (sent : List Bool) (few : nodes ≤ 8) (s : ℕ × Frame)
+    (within : i < length sends) (is : s ≡ get_or sends i s)
     (so_far : AreMarked nodes sends i sent) where
   more_of : (node : ℕ) → length (sends_of node (take (i + 1) sends)) ≡ length (sends_of node (take i sends)) + cond (s.0 == node) 1 0
-  more_of node = length-filter_more (λ t. t.0 == node) sends i s within ∙ ap (λ (t : ℕ × Frame). length (sends_of node (take i sends)) + cond (t.0 == node) 1 0) (sym is)
+  more_of node =
+      length-filter_more (λ t. t.0 == node) sends i s within ∙ ap (λ (t : ℕ × Frame). length (sends_of node (take i sends))
+      + cond (t.0 == node) 1 0) (sym is)
 
   module _ (low : 1 ≤ s.0) (high : s.0 ≤ nodes) (fresh : sends_at sent s.0 ≡ false) where
     mark_by : (node : ℕ) → node < 9 → (own : Bool) → (s.0 == node) ≡ own
@@ -68,7 +72,8 @@ module _ (nodes : ℕ) (sends : List (ℕ × Frame)) (i : ℕ) (sent : List Bool
         subst (λ n. sends_at (set sent s.0 true) n ≡ true) same (get_or-set_same sent s.0 true false (omega arith)) in
         rw (here, none) refl
     mark_by node small false e =
-        let there : sends_at (set sent s.0 true) node ≡ sends_at sent node = get_or-set_other sent s.0 node true false (λ same. not_self s.0 node e (sym same)) in
+        let there : sends_at (set sent s.0 true) node ≡ sends_at sent node = get_or-set_other sent s.0 node true false
+        (λ same. not_self s.0 node e (sym same)) in
         rw there (let m = so_far.marks node small in omega (arith, m))
 
     once_by : (node : ℕ) → (own : Bool) → (s.0 == node) ≡ own → length (sends_of node (take i sends)) + cond own 1 0 ≤ 1

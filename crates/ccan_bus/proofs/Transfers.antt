@@ -86,13 +86,15 @@ module _ (line : RoundLine) (tries : ℕ) (bus new : Bus) where
         → Goes x y (λ terms seen added. Finishes terms tries seen added object outcome) → Contend x y reply
     ends_sent {x} {y} object started outcome reply told own is finish =
         rw told (Goes-weaker finish (λ seen added here there f. GoesOn-weaker run (λ past after led there' s.
-        by_finish line tries x.terms seen added past after object started frame (sym led.loaded ∙ is) (subst (λ k. IsSuccess line past after k frame) own s) outcome f)))
+        by_finish line tries x.terms seen added past after object started frame (sym led.loaded ∙ is)
+        (subst (λ k. IsSuccess line past after k frame) own s) outcome f)))
 
     pub ends_nowhere : {x : Passes} (reply : RoundAnswer) → winner ≡ 0 → bus.loaded ≡ None → Contend x x reply
     ends_nowhere reply own none =
         Goes-none (λ seen here. GoesOn-weaker run (λ past after led there s.
         absurd (no_own (is_on past) line frame
-        (subst (λ l. IsWonBy (contenders (is_on past) l line.send.items) 0 frame) (sym led.loaded ∙ none) (subst (λ k. IsSuccess line past after k frame) own s).won))))
+        (subst (λ l. IsWonBy (contenders (is_on past) l line.send.items) 0 frame) (sym led.loaded ∙ none)
+        (subst (λ k. IsSuccess line past after k frame) own s).won))))
 
     pub ends_received : {x y : Passes} (outcome : Result (Option Stored) ScanRefused) (reply : RoundAnswer)
         → reply ≡ answer_of_receipt outcome
@@ -142,5 +144,7 @@ module _ (line : RoundLine) (tries : ℕ) where
         last = [];
         whole = refl;
         loads = l;
-        continues = subst (λ r. Continues r x.terms line tries (added ++ seen) [] after after reply) (sym is) (record { told = refl; quiet = refl; same = refl });
+        continues =
+            subst (λ r. Continues r x.terms line tries (added ++ seen) [] after after reply) (sym is)
+            (record { told = refl; quiet = refl; same = refl });
       }))

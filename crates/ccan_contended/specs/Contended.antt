@@ -1,8 +1,9 @@
 -- Which histories the bus port of a memory may have seen, in which the host at IF1 acts during the port's calls. Source:
 -- this project's own.
-use Rattle.std.specs.Prelude.{ℕ, ◌≡◌, ◌≤◌, ◌<◌, ◌+◌, ◌==◌, true, false, List, [], ◌∷◌, ◌++◌, Result, Ok, Err}
+use Rattle.std.specs.Prelude.{ℕ, ◌≡◌, ◌≤◌, ◌<◌, ◌+◌, ◌==◌, true, false, List, [], ◌∷◌, ◌++◌, Some, Result, Ok, Err, slice_get}
 use Rattle.std.proofs.Common.{ap, subst, sym}
 use Rattle.ccan_object.specs.declared.profile.Profile.{Profile}
+use Rattle.ccan_object.specs.Profile.{Holds}
 use Rattle.ccan_ram.specs.declared.port.PortName.TheVariants.{If1, Bus}
 use Rattle.ccan_ram.specs.declared.change.Change.{Change}
 use Rattle.ccan_ram.specs.declared.change.Changed.{Changed}
@@ -14,6 +15,7 @@ use Rattle.ccan_ram.specs.History.{IsLegal, changes_by, next_number, last_number
 use Rattle.ccan_ram.specs.Terms.{Terms, one_thread_terms}
 use Rattle.ccan_ram.specs.Attempt.{look_at, change_at, AreOthers, SomeContends}
 use Rattle.ccan_ram.specs.Access.{Passes, Goes}
+use Rattle.ccan_contended.specs.declared.transfer.Transfer.{Transfer}
 
 -- others act, and a change at an object contends with those at the same object
 abbrev pub contended_terms : Profile → ℕ → Terms
@@ -80,6 +82,13 @@ HasMade passes used = (seen : List Event) → passes.has_seen seen → changes_b
 -- the other host acts, or nobody does
 abbrev pub AddsOthers : Passes → Passes → Type 0
 AddsOthers old new = Goes old new (λ terms seen added. AreOthers terms added)
+
+-- IF1 goes on: its next transfer stands in the list, it has quota left, and the memory has the object
+pub record HasNext (profile : Profile) (quota made : ℕ) (theirs : List Transfer) : Type 0 where
+  pub next : Transfer
+  pub stands : slice_get theirs made ≡ Some next
+  pub left : made < quota
+  pub held : Holds profile next.object
 
 -- what is legal and within the quota below is so for the bus port
 pub in_profile : (terms : Terms) (profile : Profile) (quota : ℕ) → terms ≡ one_thread_terms profile Bus quota

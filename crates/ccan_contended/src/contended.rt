@@ -1,10 +1,10 @@
-ghost use Rattle.std.specs.Prelude.{◌≡◌, ◌≤◌, ◌<◌, [], IfSome};
+ghost use Rattle.std.specs.Prelude.{◌≡◌, ◌≤◌, ◌<◌, ◌+◌, ◌↔◌, [], IfSome, IsSome, IsTrue, if◌then◌else◌};
 ghost use Rattle.ccan_object.specs.Profile.{Holds};
 ghost use Rattle.ccan_ram.specs.Port.{IsQuota};
 ghost use Rattle.ccan_ram.specs.Terms.{one_thread_terms};
 ghost use Rattle.ccan_ram.specs.declared.port.PortName.TheVariants.{Bus};
 ghost use Rattle.ccan_ram.specs.Answer.{FewTries, Tells};
-ghost use Rattle.ccan_contended.specs.Contended.{AddsExchange, AddsOthers, AddsTheirs, HasMade, IsForBus};
+ghost use Rattle.ccan_contended.specs.Contended.{AddsExchange, AddsOthers, AddsTheirs, HasMade, HasNext, IsForBus};
 ghost use Rattle.ccan_contended.specs.Contended.{changes_of, contended_terms, number_of};
 
 use crate::transfer::Transfer;
@@ -91,6 +91,8 @@ impl<'a> Contended<'a> {
         ensures terms { let opened = ⟦<Contended<'a> as Access>⟧.passes result in
             opened.terms ≡ contended_terms profile quota }
         ensures opens { (⟦<Contended<'a> as Access>⟧.passes result).has_seen [] }
+        ensures theirs { result.theirs.now ≡ theirs.now }
+        ensures none_made { result.made ≡ 0 }
     {
         let mut ram = Array::new(profile, quota);
         ram.at(PortName::Bus);
@@ -113,8 +115,11 @@ impl<'a> Contended<'a> {
 
     /// IF1 makes its next transfer while nobody calls. False: its list has ended.
     pub fn go_on(&mut self) -> bool
-        ensures { let before = ⟦<Contended<'a> as Access>⟧.passes self.old in
+        ensures others { let before = ⟦<Contended<'a> as Access>⟧.passes self.old in
             AddsOthers before (⟦<Contended<'a> as Access>⟧.passes self.new) }
+        ensures told { IsTrue result
+            ↔ HasNext self.old.profile self.old.quota self.old.made self.old.theirs.now }
+        ensures made { self.new.made ≡ (if result then self.old.made + 1 else self.old.made) }
     {
         match self.next() {
             Some(theirs) => {
@@ -128,6 +133,8 @@ impl<'a> Contended<'a> {
 
     /// The transfer that IF1 makes next.
     fn next(&self) -> Option<Transfer>
+        ensures known { IsSome result
+            ↔ HasNext self.now.profile self.now.quota self.now.made self.now.theirs.now }
         ensures room { IfSome result (λ theirs. self.now.made < self.now.quota) }
         ensures held { IfSome result (λ theirs. Holds self.now.profile theirs.object) }
     {

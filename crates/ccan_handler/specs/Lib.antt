@@ -1,3 +1,4 @@
 pub mod Scan
 pub mod Watch
 pub mod Laws
+pub mod ScanRefused

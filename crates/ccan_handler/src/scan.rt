@@ -30,6 +30,11 @@ pub struct ScanRefused {
 }
 
 impl fmt::Display for ScanRefused {
+    ghost use Rattle.std.specs.Prelude.{Some};
+    ghost use Rattle.ccan_handler.specs.ScanRefused.{scan_refused_text};
+
+    ghost output = { λ refused. Some (scan_refused_text refused) };
+
     fn fmt<W: fmt::Write>(&self, f: &mut fmt::Formatter<W>) -> fmt::Result {
         let at = self.at.get();
         match self.why {

@@ -1,27 +1,35 @@
 -- The command is one of which clap says everything.
-use Rattle.std.proofs.Common.{◌≡◌, ◌≢◌, ◌∙◌, List, [], true, refl, ap, sym, subst, inl, inr}
-use Rattle.clap.specs.Words.{App, HasKind, IsAmong, Kinds, Text, app_of, fault_of, is_simple_and_free, kind_of}
+use Rattle.std.proofs.Common.{◌≡◌, ◌≢◌, ◌∙◌, List, [], Option, true, refl, ap, sym, subst, codes, inl, inr}
+use Rattle.clap.specs.Words.{App, HasKind, HasMatchesOf, IsAmong, Kinds, Text, app_of, fault_of, first_of, first_value, found_of}
+use Rattle.clap.specs.Words.{is_simple, is_simple_and_free, kind_of, matches_of}
+use Rattle.clap.specs.declared.ArgMatches.{ArgMatches}
 use Rattle.clap.specs.declared.builder.Command.{Command}
 use Rattle.clap.specs.declared.error.Error.{Error}
 use Rattle.clap.specs.declared.error.ErrorKind.TheVariants.{OutOfMemory}
 use Rattle.clap.proofs.OnLiterals.{clap_on_literals}
+use Rattle.clap.proofs.WalkLemmas.{first_value-rows}
 use Rattle.ccan_run.specs.declared.cli_error.CliError.TheVariants.{Words, Memory}
 use Rattle.ccan_run.specs.declared.run_mode.RunMode.{RunMode}
-use Rattle.ccan_run.specs.declared.run_mode.RunMode.TheVariants.{Run}
 use Rattle.ccan_run.specs.CliError.{error_from, error_of_kind}
-use Rattle.ccan_run.specs.RunMode.{Answers, IsCommand, Names, Refuses, ccan}
+use Rattle.ccan_run.specs.RunMode.{Answers, IsCommand, Names, Refuses, ccan, mode_of}
 
 ccan_is_free : (names : Names) → is_simple_and_free (ccan names) ≡ true
 unfolding ccan clap_on_literals
 ccan_is_free names = refl
 
-pub answers_from : (command : Command) (words : List Text) (mode : RunMode) → IsCommand command
-    → (is_simple_and_free (app_of command) ≡ true → fault_of (app_of command) words ≡ []) → mode ≡ Run → Answers words mode
-answers_from command words mode is taken mode_is = record {
+ccan_is_simple : (names : Names) → is_simple (ccan names) ≡ true
+unfolding ccan clap_on_literals
+ccan_is_simple names = refl
+
+pub answers_from : (command : Command) (found : ArgMatches) (words : List Text) (word : Option Text) (mode : RunMode) → IsCommand command
+    → HasMatchesOf (app_of command) words found → (is_simple_and_free (app_of command) ≡ true → fault_of (app_of command) words ≡ [])
+    → word ≡ first_value (found_of found) (codes "mode") → mode ≡ mode_of word → Answers words mode
+answers_from command found words word mode is matches taken value mode_is = record {
   names = is.0;
   modes = is.1;
   taken = ap (λ (a : App). fault_of a words) (sym is.2) ∙ taken (ap is_simple_and_free is.2 ∙ ccan_is_free is.0);
-  mode_is = mode_is;
+  mode_is = mode_is ∙ ap mode_of (value ∙ first_value-rows (found_of found) (codes "mode")
+      ∙ ap (first_of (codes "mode")) ((matches (ap is_simple is.2 ∙ ccan_is_simple is.0)).0 ∙ ap (λ (a : App). matches_of a words) is.2));
 }
 
 some_kind : (kinds : Kinds) (e : Error) → HasKind kinds e → error_from e ≡ Words → kinds ≢ []

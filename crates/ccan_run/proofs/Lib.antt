@@ -1,6 +1,10 @@
 pub mod Writes
+pub mod Waits
+pub mod OutcomeLines
 pub mod Rows
+pub mod Meetings
 pub mod Turns
+pub mod TurnsSoFar
 pub mod Printed
 pub mod NeverBusy
 pub mod LooksOnce
@@ -12,3 +16,13 @@ pub mod RoundsOnce
 pub mod OneText
 pub mod CommandLine
 pub mod CommandWords
+pub mod AtOnce
+pub mod ScansApart
+pub mod RoundsApart
+pub mod LinesApart
+pub mod Apart
+pub mod HostChanges
+pub mod StepsShown
+pub mod HostAnswered
+pub mod BusAnswered
+pub mod Answered

@@ -1,20 +1,23 @@
 -- The text of the answers so far, and of the objects so far.
 use Rattle.std.proofs.Common.{◌≡◌, ◌<◌, ◌≤◌, ◌+◌, ◌-◌, ℕ, List, [], ◌∷◌, ◌++◌, length, take, map, get_or, cond, refl, ap, sym, ◌∙◌, append_assoc, append-nil, arith}
-use Rattle.std.proofs.lemmas.List.{take_more}
+use Rattle.std.proofs.lemmas.List.{get_or_append_left, take_more}
 use Rattle.std.proofs.lemmas.List.Sums.{sum_by-cons}
 use Rattle.std.proofs.lemmas.List.Concat.{flat_map-append}
 use Rattle.std.proofs.lemmas.List.Folds.{concat-append}
-use Rattle.std.proofs.lemmas.List.FromFn.{map-range_with_len_more}
+use Rattle.std.proofs.lemmas.List.FromFn.{get_or-map-range_with_len, length-map-range_with_len, map-range_with_len_more}
 use Rattle.std.specs.List.{concat, range_with_len}
 use Rattle.ccan_object.specs.declared.record.Record.{Record}
 use Rattle.ccan_object.specs.declared.profile.Profile.{Profile}
 use Rattle.ccan_object.specs.declared.profile.Profile.TheVariants.{One, Two}
 use Rattle.ccan_object.specs.Profile.{objects_in}
+use Rattle.ccan_object.specs.Record.{zero_record}
+use Rattle.std.specs.Prelude.{replicate}
 use Rattle.ccan_ram.specs.declared.port.PortName.{PortName}
 use Rattle.ccan_ram.specs.declared.port.PortName.TheVariants.{If1, If2, Bus}
 use Rattle.ccan_ram.specs.declared.event.Event.{Event}
 use Rattle.ccan_ram.specs.Port.{same_port}
-use Rattle.ccan_ram.specs.History.{IsLegal, record_at}
+use Rattle.ccan_ram.specs.History.{IsLegal, leaves, record_at}
+use Rattle.ccan_ram.specs.Ending.{final_records}
 use Rattle.ccan_script.specs.declared.line_answer.LineAnswer.{LineAnswer}
 use Rattle.ccan_script.specs.Script.{ScriptFields}
 use Rattle.ccan_script.specs.Order.{times}
@@ -70,6 +73,17 @@ module _ (history : List Event) where
       ∙ ap (λ (r : Record). final_parts history (number - 1) ++ final_part object r) (sym at) in
       ap (λ t. t ++ final_part object left) so_far ∙ append_assoc old (final_parts history (number - 1)) (final_part object left)
       ∙ ap (λ t. old ++ t) (sym here)
+
+  -- the record at an object's place among those that the history leaves
+  pub record_there : (profile : Profile) (records : List Record) (object i : ℕ) (r : Record) → records ≡ final_records profile history
+      → r ≡ get_or records i r → 1 ≤ object → object ≤ objects_in profile → i ≡ object - 1 → r ≡ record_at object history
+  record_there profile records object i r left at low high place =
+      let count = objects_in profile in
+      let here : ℕ → Record = λ k. record_at k history in
+      let rest = replicate (objects_in Two - count) zero_record in
+      let all = length-map-range_with_len here 1 count in
+      at ∙ ap (λ rs. get_or rs i r) left ∙ get_or_append_left (leaves profile history) rest r i (omega arith)
+      ∙ get_or-map-range_with_len here 1 count i object r (omega arith) (omega arith)
 
   pub finals_end : (old text : List ℕ) (number count : ℕ) → number ≡ count + 1 → text ≡ old ++ final_parts history (number - 1)
       → text ≡ old ++ final_parts history count

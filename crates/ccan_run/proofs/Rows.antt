@@ -1,11 +1,13 @@
 -- Lines, one after another.
 use Rattle.std.proofs.Common.{ℕ, ◌≡◌, List, [], ◌∷◌, ◌++◌, refl, sym, ap, subst, ◌∙◌, append_assoc}
+use Rattle.std.specs.Prelude.{Option}
 use Rattle.std.proofs.lemmas.List.{append-nil}
 use Rattle.ccan_ram.specs.declared.event.Event.{Event}
 use Rattle.ccan_ram.specs.Terms.{Terms}
 use Rattle.ccan_ram.specs.Access.{Passes, Goes}
 use Rattle.ccan_ram.proofs.Calls.{Goes-then, Goes-none, Goes-weaker}
 use Rattle.ccan_run.specs.Side.{GoesOn}
+use Rattle.ccan_run.specs.Gate.{ran}
 use Rattle.ccan_run.specs.Lines.{LinesMean, Run}
 
 pub GoesOn-then : {State Value : Type 0} {led_to : State → Value → Type 0} {x y z : Value} {first second both : State → State → Type 0}
@@ -67,9 +69,11 @@ module _ {Line State Answer Value : Type 0} (led_to : State → Value → Type 0
 pub of_equal : {Value : Type 0} {old new : Value} {what : Value → Value → Type 0} → what old new → GoesOn (λ state value. state ≡ value) old new what
 of_equal {new = new} {what = what} h = record { each = λ state is. (new, refl, subst (λ s. what s new) (sym is) h) }
 
--- the same lines, under another name
-pub same_lines : {Line State Answer : Type 0} {x y : Passes} (means : Terms → Line → State → List Event → List Event → Answer → State → Type 0)
-    (start : State) (lines lines' : List Line) (answers : List Answer)
-    → lines ≡ lines' → Goes x y (λ terms seen added. Run (means terms) start lines seen added answers)
-    → Goes x y (λ terms seen added. Run (means terms) start lines' seen added answers)
-same_lines {x = x} {y = y} means start lines lines' answers is h = subst (λ zs. Goes x y (λ terms seen added. Run (means terms) start zs seen added answers)) is h
+-- the same lines, under another name, as far as they ran
+pub same_lines : {Line State Answer : Type 0} {x y : Passes}
+    (means : Terms → Line → State → List Event → List Event → Answer → State → Type 0)
+    (start : State) (stop : Option ℕ) (lines lines' : List Line) (answers : List Answer) → lines ≡ lines'
+    → Goes x y (λ terms seen added. Run (means terms) start (ran stop lines) seen added answers)
+    → Goes x y (λ terms seen added. Run (means terms) start (ran stop lines') seen added answers)
+same_lines {x = x} {y = y} means start stop lines lines' answers is h =
+    subst (λ zs. Goes x y (λ terms seen added. Run (means terms) start (ran stop zs) seen added answers)) is h

@@ -1,17 +1,28 @@
 -- What the words of the command line mean, after the program's name. Source: this project's own.
 use Rattle.std.specs.Prelude.{◌≡◌, ℕ, List, [], ◌∷◌, codes}
 use Rattle.ccan_run.specs.declared.run_mode.RunMode.{RunMode}
+use Rattle.ccan_run.specs.declared.run_mode.RunMode.TheVariants.{Run, Threads}
 use Rattle.ccan_run.specs.RunMode.{Answers, Refuses}
 
--- no word is taken, and so is the word `run`
+-- the words are never refused, and what is answered is this mode
+pub record MeansMode (words : List (List ℕ)) (mode : RunMode) : Type 0 where
+  pub taken : (program : List ℕ) → Refuses (program ∷ words) → ⊥
+  pub means : (program : List ℕ) (answered : RunMode) → Answers (program ∷ words) answered → answered ≡ mode
+
+-- the words are never taken
+abbrev pub AreRefused : List (List ℕ) → Type 0
+AreRefused words = (program : List ℕ) (mode : RunMode) → Answers (program ∷ words) mode → ⊥
+
+-- no word runs the lines in their order, and so does the word `run`; the word `threads` runs them in threads
 abbrev pub NoWordRuns : Type 0
-NoWordRuns = (program : List ℕ) → Refuses (program ∷ []) → ⊥
+NoWordRuns = MeansMode [] Run
 
 abbrev pub RunRuns : Type 0
-RunRuns = (program : List ℕ) → Refuses (program ∷ codes "run" ∷ []) → ⊥
+RunRuns = MeansMode (codes "run" ∷ []) Run
 
--- another word, as `walk` or `threads`, is not
+abbrev pub ThreadsMeansThreads : Type 0
+ThreadsMeansThreads = MeansMode (codes "threads" ∷ []) Threads
+
+-- another word, as `walk`, is refused, and so are two words
 abbrev pub OtherWordsAreRefused : Type 0
-OtherWordsAreRefused =
-    ((program : List ℕ) (mode : RunMode) → Answers (program ∷ codes "walk" ∷ []) mode → ⊥)
-    × ((program : List ℕ) (mode : RunMode) → Answers (program ∷ codes "threads" ∷ []) mode → ⊥)
+OtherWordsAreRefused = AreRefused (codes "walk" ∷ []) × AreRefused (codes "run" ∷ codes "threads" ∷ [])

@@ -1,5 +1,5 @@
 -- Laws of what scripts mean. Source: this project's own.
-use Rattle.std.specs.Prelude.{◌≡◌, ◌≤◌, ℕ, List, All}
+use Rattle.std.specs.Prelude.{◌≡◌, ◌≤◌, ℕ, Bool, List, All}
 use Rattle.ccan_ram.specs.declared.port.PortName.{PortName}
 use Rattle.ccan_ram.specs.declared.event.Event.{Event}
 use Rattle.ccan_bus.specs.declared.answer.LoadAnswer.TheVariants as load
@@ -7,7 +7,10 @@ use Rattle.ccan_bus.specs.declared.answer.RoundAnswer.TheVariants as round
 use Rattle.ccan_script.specs.declared.line_answer.LineAnswer.{LineAnswer}
 use Rattle.ccan_script.specs.declared.line_answer.LineAnswer.TheVariants.{Busy, Load, Round}
 use Rattle.ccan_script.specs.Script.{ScriptFields}
+use Rattle.ccan_run.specs.declared.outcome.Outcome.{Outcome}
 use Rattle.ccan_run.specs.Ordered.{LinesRun, HasText}
+use Rattle.ccan_run.specs.Threads.{RunsAtOnce}
+use Rattle.ccan_run.specs.Answered.{IsAnswered}
 
 abbrev pub IsNotBusy : LineAnswer → Type 0
 IsNotBusy (Busy object) = ⊥
@@ -24,3 +27,9 @@ abbrev pub HasNoBusyLine : Type 0
 HasNoBusyLine =
     (script : ScriptFields) (history : List Event) (answers : List (PortName × LineAnswer))
     → 1 ≤ script.tries → LinesRun script history answers → All (λ reply. IsNotBusy reply.1) answers
+
+-- whatever a run without an order comes to, one legal history shows each of its answers by steps of that answer's own
+abbrev pub AnswersHaveEvents : Type 0
+AnswersHaveEvents =
+    (contends : ℕ → ℕ → Bool) (script : ScriptFields) (outcome : Outcome)
+    → RunsAtOnce contends script outcome → IsAnswered script outcome

@@ -9,8 +9,14 @@ pub mod Lines
 pub mod Transfer
 pub mod Host
 pub mod BusPort
+pub mod Gate
 pub mod Port
+pub mod Threads
+pub mod Answered
 pub mod Ordered
+pub mod Waiting
+pub mod Outcome
 pub mod Stream
+pub mod Trio
 pub mod Ports
 pub mod Laws

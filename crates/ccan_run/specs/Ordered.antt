@@ -10,6 +10,8 @@ use Rattle.ccan_object.specs.Profile.{objects_in}
 use Rattle.ccan_ram.specs.declared.port.PortName.{PortName}
 use Rattle.ccan_ram.specs.declared.port.PortName.TheVariants.{If1, If2, Bus}
 use Rattle.ccan_ram.specs.declared.event.Event.{Event}
+use Rattle.ccan_ram.specs.declared.ending.Final.{Final}
+use Rattle.ccan_ram.specs.Ending.{final_records}
 use Rattle.ccan_ram.specs.History.{IsLegal, record_at}
 use Rattle.ccan_ram.specs.Terms.{Terms, one_thread_terms}
 use Rattle.ccan_bus.specs.Past.{BusPast, opened}
@@ -82,6 +84,13 @@ LinesRun script history answers =
 pub record RunsInOrder (script : ScriptFields) (history : List Event) (answers : List (PortName × LineAnswer)) : Type 0 where
   pub legal : IsLegal script.profile history
   pub lines : LinesRun script history answers
+
+-- the lines have run in their order with these answers, and this is what they left
+pub record RunsTo (script : ScriptFields) (answers : List (PortName × LineAnswer)) (final : Final) : Type 0 where
+  pub history : List Event
+  pub runs : RunsInOrder script history answers
+  pub profile_is : final.profile ≡ script.profile
+  pub left : final.records ≡ final_records script.profile history
 
 -- ---- the text of a script
 

@@ -1,5 +1,5 @@
 -- The lines of one port, from what they work on as it opens. Source: this project's own.
-use Rattle.std.specs.Prelude.{ℕ, ◌≡◌, List, length, take, All, Option, Some, None}
+use Rattle.std.specs.Prelude.{ℕ, List, length, Option}
 use Rattle.ccan_object.specs.Interface.{zero_registers}
 use Rattle.ccan_ram.specs.declared.port.PortName.{PortName}
 use Rattle.ccan_ram.specs.declared.port.PortName.TheVariants.{If1, If2, Bus}
@@ -8,14 +8,10 @@ use Rattle.ccan_ram.specs.Terms.{Terms}
 use Rattle.ccan_bus.specs.Past.{opened}
 use Rattle.ccan_script.specs.declared.line_answer.LineAnswer.{LineAnswer}
 use Rattle.ccan_script.specs.Script.{ScriptFields}
+use Rattle.ccan_run.specs.Gate.{ran}
 use Rattle.ccan_run.specs.Lines.{Run}
 use Rattle.ccan_run.specs.Host.{HostLineMeans}
 use Rattle.ccan_run.specs.BusPort.{BusLineMeans}
-
--- the lines that ran: all, or only so many
-abbrev pub ran : {Line : Type 0} → Option ℕ → List Line → List Line
-ran None lines = lines
-ran (Some count) lines = take count lines
 
 -- how many lines a port has
 abbrev pub count_of : ScriptFields → PortName → ℕ

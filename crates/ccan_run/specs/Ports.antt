@@ -1,48 +1,54 @@
--- What the lines of all three ports work on in one thread, and what a turn of one of them makes of it. Source: this
--- project's own.
-use Rattle.std.specs.Prelude.{ℕ, ◌≡◌, List, ◌∷◌, ◌++◌, All, drop}
+-- What the lines of all three ports work on in one thread, and what a turn of one of them makes of it, over a shared
+-- memory. Source: this project's own.
+use Rattle.std.specs.Prelude.{ℕ, ◌≡◌, ◌≢◌, Bool, List, ◌∷◌, ◌++◌, All, drop}
 use Rattle.ccan_ram.specs.declared.port.PortName.{PortName}
 use Rattle.ccan_ram.specs.declared.port.PortName.TheVariants.{If1, If2, Bus}
 use Rattle.ccan_ram.specs.declared.event.Event.{Event}
-use Rattle.ccan_ram.specs.Terms.{Terms}
+use Rattle.ccan_ram.specs.History.{BeginsWith, events_of}
+use Rattle.ccan_ram.specs.SharedRam.{Memory, terms_of}
 use Rattle.ccan_bus.specs.Bus.{LedTo}
 use Rattle.ccan_script.specs.declared.line_answer.LineAnswer.{LineAnswer}
 use Rattle.ccan_script.specs.Script.{ScriptFields}
 use Rattle.ccan_run.specs.declared.ports.Ports.{Ports}
 use Rattle.ccan_run.specs.BusPort.{TakesLine}
-use Rattle.ccan_run.specs.Ordered.{PortLine, joined, Three, PortLineMeans, terms_of}
+use Rattle.ccan_run.specs.Ordered.{PortLine, joined, Three, PortLineMeans}
 
 -- how many lines of a port have run
 abbrev pub next_of : Ports → PortName → ℕ
-next_of ports If1 = ports.if1_next
-next_of ports If2 = ports.if2_next
-next_of ports Bus = ports.bus_next
+next_of ports If1 = ports.if1.next
+next_of ports If2 = ports.if2.next
+next_of ports Bus = ports.bus.next
 
 -- the lines that are left, in an order
 abbrev pub rest : ScriptFields → Ports → List PortName → List PortLine
 rest script ports order =
-    joined order (drop ports.if1_next script.if1) (drop ports.if2_next script.if2) (drop ports.bus_next script.bus)
+    joined order (drop ports.if1.next script.if1) (drop ports.if2.next script.if2) (drop ports.bus.next script.bus)
 
 -- this may have led to the ports
 pub record HaveLedTo (three : Three) (ports : Ports) : Type 0 where
-  pub first : three.first ≡ ports.if1
-  pub second : three.second ≡ ports.if2
-  pub bus : LedTo three.bus ports.bus
+  pub first : three.first ≡ ports.if1.side
+  pub second : three.second ≡ ports.if2.side
+  pub bus : LedTo three.bus ports.bus.side
 
 -- the bus can run each line that the script has for it
 abbrev pub CanRun : ScriptFields → Ports → Type 0
-CanRun script ports = All (TakesLine script.profile ports.bus) script.bus
+CanRun script ports = All (TakesLine script.profile ports.bus.side) script.bus
 
--- a memory of the script's profile and quota
-pub record IsMemoryOf (script : ScriptFields) (terms : Terms) : Type 0 where
-  pub same_profile : terms.profile ≡ script.profile
-  pub same_quota : terms.quota ≡ script.quota
+-- the line of a turn of a port starts from this history: it has all that any port had seen, and of the port itself no
+-- other events. The others make none in the turn
+pub record StartsFrom (port : PortName) (before after : PortName → List Event) (start : List Event) : Type 0 where
+  pub begins : (name : PortName) → BeginsWith start (before name)
+  pub own : events_of port start ≡ events_of port (before port)
+  pub others : (name : PortName) → name ≢ port → events_of name (after name) ≡ events_of name (before name)
 
--- one line of a port has run, with this answer: it was the next one, and the history and what the ports work on go on by it
-pub record TakesTurn (script : ScriptFields) (before after : List Event → Type 0) (old new : Ports) (port : PortName)
-    (reply : LineAnswer) : Type 0 where
+-- one line of a port has run over a shared memory, with this answer: it was the next one, and what its port has seen
+-- and what the ports work on go on by it
+pub record TakesTurn (contends : ℕ → ℕ → Bool) (memory : Memory) (script : ScriptFields)
+    (before after : PortName → List Event) (old new : Ports) (port : PortName) (reply : LineAnswer) : Type 0 where
   pub line : PortLine
   pub next : (order : List PortName) → rest script old (port ∷ order) ≡ line ∷ rest script new order
-  pub each : (seen : List Event) (three : Three) → before seen → HaveLedTo three old
-      → (added : List Event) × (left : Three) × after (added ++ seen) × HaveLedTo left new
-      × PortLineMeans (terms_of script) script.tries line three seen added (port, reply) left
+  pub start : List Event
+  pub starts : StartsFrom port before after start
+  pub each : (three : Three) → HaveLedTo three old
+      → (added : List Event) × (left : Three) × (after port ≡ added ++ start) × HaveLedTo left new
+      × PortLineMeans (terms_of contends memory) script.tries line three start added (port, reply) left

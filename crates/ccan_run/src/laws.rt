@@ -1,6 +1,6 @@
 //! Laws of what scripts and the words of the command line mean. The functions do nothing: their contracts are the laws.
-ghost use Rattle.ccan_run.specs.Laws.{HasNoBusyLine, HasOneText};
-ghost use Rattle.ccan_run.specs.CommandLine.{NoWordRuns, OtherWordsAreRefused, RunRuns};
+ghost use Rattle.ccan_run.specs.Laws.{AnswersHaveEvents, HasNoBusyLine, HasOneText};
+ghost use Rattle.ccan_run.specs.CommandLine.{NoWordRuns, OtherWordsAreRefused, RunRuns, ThreadsMeansThreads};
 
 /// A script has one text: the answers of its lines and the final objects are determined.
 pub fn one_text()
@@ -10,6 +10,14 @@ pub fn one_text()
 /// No line of an ordered run is busy.
 pub fn no_line_is_busy()
     ensures { HasNoBusyLine }
+{}
+
+/// Behind what a run without an order comes to stands one legal history. Each answer of each port has a part of it for its
+/// own, in the port's order, whose steps show what the answer tells: the write that was made, the record that a read found,
+/// the flag that a look showed, the object that was started, finished or stored. A host made no change that its answers
+/// don't tell, no port has a step after its last line, and the objects at the end are those that the history leaves.
+pub fn answers_have_events()
+    ensures { AnswersHaveEvents }
 {}
 
 /// No word on the command line is taken, and means to run the lines in their order.
@@ -22,7 +30,12 @@ pub fn run_runs()
     ensures { RunRuns }
 {}
 
-/// Another word is refused.
+/// The word `threads` is taken, and means threads.
+pub fn threads_means_threads()
+    ensures { ThreadsMeansThreads }
+{}
+
+/// Another word is refused, and so are two words.
 pub fn other_words_are_refused()
     ensures { OtherWordsAreRefused }
 {}

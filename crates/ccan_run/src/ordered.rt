@@ -1,40 +1,49 @@
-ghost use Rattle.std.specs.Prelude.{◌≡◌, ◌≤◌, List, [], OnOk, IfErr, length, vec_capacity};
-ghost use Rattle.ccan_ram.specs.declared.event.Event.{Event};
+ghost use Rattle.std.specs.Prelude.{◌≡◌, ◌≤◌, [], OnOk, IfErr, length, vec_capacity};
+ghost use Rattle.ccan_ram.specs.declared.port.PortName.{PortName};
+ghost use Rattle.ccan_ram.specs.SharedRam.{IsMemoryOf};
 ghost use Rattle.ccan_script.specs.Reader.{fields_of};
-ghost use Rattle.ccan_run.specs.Ordered.{LinesRun, Prints, StopsRun};
-ghost use Rattle.ccan_run.specs.Ports.{IsMemoryOf};
+ghost use Rattle.ccan_run.specs.Ordered.{Prints, RunsTo, StopsRun};
+ghost use Rattle.ccan_run.specs.Trio.{seen_by};
 
 use crate::output::write_text;
 use crate::ports::Ports;
 use crate::run_error::RunError;
 use crate::side::log_answer;
 use crate::text::{MAX_LINE, push_answers, push_finals};
+use crate::trio::Trio;
 use ccan_bus::{LoadAnswer, RoundAnswer};
 use ccan_confine::NodeState;
 use ccan_object::{MOST_OBJECTS, ObjectNo, Profile, Record};
-use ccan_ram::{Access, Array, Flag, PortName};
+use ccan_ram::{Final, Flag, PortName, SharedRam};
 use ccan_script::{LineAnswer, Script};
+use ccan_words::WordRam;
 use std::alloc::Global;
 use std::io::Write;
 
-/// Runs all lines in the order of the script, and logs their answers, each with its port.
-fn run_lines_in_order(script: &Script, memory: &mut Array, log: &mut Vec<(PortName, LineAnswer)>)
-    requires memory { IsMemoryOf (fields_of script.now)
-        (⟦<Array as Access>⟧.passes memory.old).terms }
-    requires opens { (⟦<Array as Access>⟧.passes memory.old).has_seen [] }
+/// Runs all lines in the order of the script, and logs their answers, each with its port. Gives what they leave.
+fn run_lines_in_order<R: SharedRam>(
+    script: &Script,
+    trio: Trio<R>,
+    log: &mut Vec<(PortName, LineAnswer)>,
+) -> Final
+    requires memory { IsMemoryOf script.now.profile script.now.quota (R.memory trio.ram) }
+    requires opens { (name : PortName)
+        → seen_by (R.pass trio.if1) (R.pass trio.if2) (R.pass trio.bus) name ≡ [] }
     requires empty { log.old.items ≡ [] }
     requires room { length script.now.order.items ≤ vec_capacity log.old }
-    ensures memory { IsMemoryOf (fields_of script.now)
-        (⟦<Array as Access>⟧.passes memory.new).terms }
     ensures count { length log.new.items ≡ length script.now.order.items }
-    ensures runs { (history : List Event) × (⟦<Array as Access>⟧.passes memory.new).has_seen history
-        × LinesRun (fields_of script.now) history log.new.items }
+    ensures runs { RunsTo (fields_of script.now) log.new.items result }
 {
+    // The number of tries is read so that the check knows that it is at least 1.
+    let _tries = script.tries.get();
     let mut ports = Ports::new(script);
+    let mut trio = trio;
     for port in &script.order {
-        let answer = ports.turn(script, memory, *port);
+        let (answer, rest) = ports.turn(script, trio, *port);
         log_answer(log, (*port, answer));
+        trio = rest;
     }
+    trio.close()
 }
 
 /// How many lines a script has: as many as its order has names.
@@ -45,7 +54,8 @@ fn count_lines(script: &Script) -> usize
     script.order.len()
 }
 
-/// Runs a script in its order over a plain memory, and writes the answers to its lines and then the final objects.
+/// Runs a script in its order over a lock-free memory, with its three ports in this one thread, and writes the answers
+/// to its lines and then the final objects.
 ///
 /// All memory is taken before the first byte is written, room for the whole text too, so that it goes out in one `write`
 /// where the writer takes all that it is given. After a failed write what was written is a prefix of the text.
@@ -58,9 +68,9 @@ pub fn run_ordered<W: Write>(alloc: Global, script: &Script, writer: &mut W) -> 
     let lines = count_lines(script);
     let mut answers = Vec::with_capacity(alloc, lines)?;
     let mut text = Vec::with_capacity(alloc, (lines + MOST_OBJECTS) * MAX_LINE)?;
-    let mut memory = Array::new(script.profile, script.quota);
-    run_lines_in_order(script, &mut memory, &mut answers);
+    let trio = Trio::<WordRam>::open(alloc, script.profile, script.quota)?;
+    let left = run_lines_in_order(script, trio, &mut answers);
     push_answers(&mut text, &answers);
-    push_finals(&mut text, &memory);
+    push_finals(&mut text, &left);
     write_text(writer, &text)
 }

@@ -1,4 +1,4 @@
-ghost use Rattle.std.specs.Prelude.{◌≡◌, ◌≤◌, [], All, None, length, vec_capacity};
+ghost use Rattle.std.specs.Prelude.{◌≡◌, ◌≤◌, [], All, IfSome, length, vec_capacity};
 ghost use Rattle.ccan_object.specs.Interface.{zero_registers};
 ghost use Rattle.ccan_ram.specs.Access.{Goes};
 ghost use Rattle.ccan_bus.specs.Past.{opened};
@@ -7,9 +7,11 @@ ghost use Rattle.ccan_script.specs.HostLine.{HostFits};
 ghost use Rattle.ccan_script.specs.BusLine.{BusFits};
 ghost use Rattle.ccan_run.specs.BusPort.{BusLineMeans};
 ghost use Rattle.ccan_run.specs.Host.{HostLineMeans};
+ghost use Rattle.ccan_run.specs.Gate.{StoppedAt, ran};
 ghost use Rattle.ccan_run.specs.Lines.{Run};
 ghost use Rattle.ccan_run.specs.Port.{PortMeans, count_of};
 
+use crate::gate::Gate;
 use crate::side::run_lines;
 use ccan_bus::Bus;
 use ccan_object::Iface;
@@ -17,53 +19,71 @@ use ccan_ram::{Access, PortName, Tries};
 use ccan_script::{BusLine, HostLine, LineAnswer, Script};
 
 /// Runs the lines of a host port, from registers that read 0.
-fn run_host<A: Access>(access: &mut A, lines: &[HostLine], tries: Tries, log: &mut Vec<LineAnswer>)
+fn run_host<A: Access, G: Gate>(
+    access: &mut A,
+    port: PortName,
+    lines: &[HostLine],
+    tries: Tries,
+    gate: &G,
+    log: &mut Vec<LineAnswer>,
+) -> Option<usize>
     requires fit { All (HostFits (A.passes access.old).terms.profile) lines.now }
     requires empty { log.old.items ≡ [] }
     requires room { length lines.now ≤ vec_capacity log.old }
-    ensures { Goes (A.passes access.old) (A.passes access.new) (λ terms seen added.
-        Run (HostLineMeans terms tries) zero_registers lines.now seen added log.new.items) }
+    ensures runs { Goes (A.passes access.old) (A.passes access.new) (λ terms seen added.
+        Run (HostLineMeans terms tries) zero_registers (ran result lines.now) seen added log.new.items) }
+    ensures stopped { IfSome result (StoppedAt (G.stops gate.now) port (length lines.now)) }
 {
     let mut registers = Iface::new();
-    run_lines(&mut registers, access, lines, tries, log);
+    run_lines(&mut registers, access, port, lines, tries, gate, log)
 }
 
 /// Runs the lines of the bus, which begins with so many other nodes to which nothing happened.
-fn run_bus<A: Access>(
+fn run_bus<A: Access, G: Gate>(
     access: &mut A,
     nodes: u8,
     lines: &[BusLine],
     tries: Tries,
+    gate: &G,
     log: &mut Vec<LineAnswer>,
-)
+) -> Option<usize>
     requires few { nodes ≤ 8 }
     requires fit { All (BusFits nodes) lines.now }
     requires empty { log.old.items ≡ [] }
     requires room { length lines.now ≤ vec_capacity log.old }
-    ensures { Goes (A.passes access.old) (A.passes access.new) (λ terms seen added.
-        Run (BusLineMeans terms tries) (opened nodes) lines.now seen added log.new.items) }
+    ensures runs { Goes (A.passes access.old) (A.passes access.new) (λ terms seen added.
+        Run (BusLineMeans terms tries) (opened nodes) (ran result lines.now) seen added log.new.items) }
+    ensures stopped { IfSome result (StoppedAt (G.stops gate.now) PortName.Bus (length lines.now)) }
 {
     let mut bus = Bus::new(access.profile(), nodes);
-    run_lines(&mut bus, access, lines, tries, log);
+    run_lines(&mut bus, access, PortName::Bus, lines, tries, gate, log)
 }
 
-/// Runs the lines of a port in turn, and logs their answers.
-pub fn run_port<A: Access>(
+/// Runs the lines of a port in turn, as far as the gate lets it, and logs their answers. `None` where all ran, and else the
+/// index of the line before which the gate stopped the port.
+///
+/// A host begins with registers that read 0, the bus with nothing loaded and nodes to which nothing happened. Three threads
+/// of a caller's own may each run this for one port of a shared memory, over [`ccan_ram::On`]; what they did is then one
+/// history, which closing the memory gives.
+pub fn run_port<A: Access, G: Gate>(
     access: &mut A,
     port: PortName,
     script: &Script,
+    gate: &G,
     log: &mut Vec<LineAnswer>,
-)
+) -> Option<usize>
     requires profile { (A.passes access.old).terms.profile ≡ script.now.profile }
     requires empty { log.old.items ≡ [] }
     requires room { count_of (fields_of script.now) port ≤ vec_capacity log.old }
-    ensures { Goes (A.passes access.old) (A.passes access.new) (λ terms seen added.
-        PortMeans terms (fields_of script.now) port None seen added log.new.items) }
+    ensures runs { Goes (A.passes access.old) (A.passes access.new) (λ terms seen added.
+        PortMeans terms (fields_of script.now) port result seen added log.new.items) }
+    ensures stopped { let count = count_of (fields_of script.now) port in
+        IfSome result (StoppedAt (G.stops gate.now) port count) }
 {
     let tries = script.tries;
     match port {
-        PortName::If1 => run_host(access, &script.if1, tries, log),
-        PortName::If2 => run_host(access, &script.if2, tries, log),
-        PortName::Bus => run_bus(access, script.nodes, &script.bus, tries, log),
+        PortName::If1 => run_host(access, port, &script.if1, tries, gate, log),
+        PortName::If2 => run_host(access, port, &script.if2, tries, gate, log),
+        PortName::Bus => run_bus(access, script.nodes, &script.bus, tries, gate, log),
     }
 }

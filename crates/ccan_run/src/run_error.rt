@@ -1,3 +1,4 @@
+use ccan_ram::{OpenError, PortName};
 use ccan_script::ScriptError;
 use std::alloc::AllocError;
 use thiserror::Error;
@@ -14,9 +15,18 @@ pub enum RunError {
     /// The input is no script.
     #[error(transparent)]
     Script(ScriptError),
+    /// The quota is more than the memory's form can number for a port.
+    #[error("ccan: quota out of range")]
+    Quota,
     /// Memory ran out.
     #[error("ccan: out of memory")]
     Memory,
+    /// A thread could not be started.
+    #[error("ccan: threads could not be started")]
+    Spawn,
+    /// A gate stopped this port before the line of this index, from 0.
+    #[error("ccan: held, {port} {line}")]
+    Held { port: PortName, line: usize },
     /// A write failed, or took no byte.
     #[error("ccan: output could not be written")]
     Write,
@@ -32,8 +42,8 @@ impl RunError {
     {
         match self {
             RunError::Script(ScriptError::Memory) | RunError::Memory => 3,
-            RunError::TooLong | RunError::Script(_) => 1,
-            RunError::Read | RunError::Write => 4,
+            RunError::TooLong | RunError::Script(_) | RunError::Quota => 1,
+            RunError::Read | RunError::Spawn | RunError::Held { .. } | RunError::Write => 4,
         }
     }
 }
@@ -57,5 +67,18 @@ impl From<ScriptError> for RunError {
 
     fn from(refusal: ScriptError) -> RunError {
         RunError::Script(refusal)
+    }
+}
+
+impl From<OpenError> for RunError {
+    ghost use Rattle.ccan_run.specs.RunError.{IsOpenFault};
+
+    ghost from_gives = { λ from e. IsOpenFault from e };
+
+    fn from(refusal: OpenError) -> RunError {
+        match refusal {
+            OpenError::QuotaRange => RunError::Quota,
+            OpenError::Memory => RunError::Memory,
+        }
     }
 }

@@ -1,9 +1,11 @@
-ghost use Rattle.std.specs.Prelude.{◌≡◌, ◌+◌, ◌<◌, ◌≤◌, [], ◌∷◌, ◌++◌, All, length, vec_len, vec_capacity};
+ghost use Rattle.std.specs.Prelude.{◌≡◌, ◌+◌, ◌<◌, ◌≤◌, [], ◌∷◌, ◌++◌, All, IfSome, length, vec_len, vec_capacity};
 ghost use Rattle.ccan_object.specs.declared.profile.Profile.{Profile};
 ghost use Rattle.ccan_ram.specs.Access.{Goes};
+ghost use Rattle.ccan_run.specs.Gate.{StoppedAt, ran};
 ghost use Rattle.ccan_run.specs.Lines.{LinesMean};
 ghost use Rattle.ccan_run.specs.Side.{GoesOn};
 
+use crate::gate::Gate;
 use ccan_bus::{LoadAnswer, RoundAnswer};
 use ccan_confine::NodeState;
 use ccan_object::{ObjectNo, Profile, Record};
@@ -55,23 +57,32 @@ pub(crate) fn log_answer<T: Copy>(log: &mut Vec<T>, answer: T)
     }
 }
 
-/// Runs lines in turn, and logs their answers.
-pub fn run_lines<S: Side, A: Access>(
+/// Runs the lines of a port in turn, as far as the gate lets it, and logs their answers. `None` where all ran, and else the
+/// index of the line before which the gate stopped the port.
+pub fn run_lines<S: Side, A: Access, G: Gate>(
     side: &mut S,
     access: &mut A,
+    port: PortName,
     lines: &[S::Line],
     tries: Tries,
+    gate: &G,
     log: &mut Vec<LineAnswer>,
-)
+) -> Option<usize>
     requires taken { All (S.takes (A.passes access.old).terms.profile side.old) lines.now }
     requires empty { log.old.items ≡ [] }
     requires room { length lines.now ≤ vec_capacity log.old }
-    ensures { Goes (A.passes access.old) (A.passes access.new) (λ terms seen added.
+    ensures runs { Goes (A.passes access.old) (A.passes access.new) (λ terms seen added.
         GoesOn S.led_to side.old side.new (λ state left.
-        LinesMean (S.means terms tries) lines.now state seen added log.new.items left)) }
+        LinesMean (S.means terms tries) (ran result lines.now) state seen added log.new.items left)) }
+    ensures stopped { IfSome result (StoppedAt (G.stops gate.now) port (length lines.now)) }
 {
     for line in lines {
+        let index = log.len();
+        if !gate.enter(port, index) {
+            return Some(index);
+        }
         let answer = side.run_line(access, line, tries);
         log_answer(log, answer);
     }
+    None
 }

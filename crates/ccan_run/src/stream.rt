@@ -1,10 +1,9 @@
 ghost use Rattle.std.specs.Prelude.{OnOk, IfErr};
 ghost use Rattle.ccan_run.specs.Stream.{Runs, StopsStream};
 
-use crate::input::read_all;
+use crate::input::read_input;
 use crate::ordered::run_ordered;
 use crate::run_error::RunError;
-use ccan_script::read_script;
 use std::alloc::Global;
 use std::io::{Read, Write};
 
@@ -21,7 +20,6 @@ pub fn run_stream<R: Read, W: Write>(
     ensures err { IfErr result (StopsStream (R.remaining reader.old) (R.remaining reader.new)
         (W.contents writer.old) (W.contents writer.new)) }
 {
-    let input = read_all(alloc, reader)?;
-    let script = read_script(alloc, &input)?;
+    let script = read_input(alloc, reader)?;
     run_ordered(alloc, &script, writer)
 }

@@ -1,10 +1,11 @@
 ghost use Rattle.std.specs.Prelude.{◌≡◌, ◌+◌, ◌*◌, ◌≤◌, ◌++◌, List, length, vec_len, vec_capacity};
 ghost use Rattle.ccan_object.specs.Profile.{objects_in};
 ghost use Rattle.ccan_ram.specs.declared.event.Event.{Event};
+ghost use Rattle.ccan_ram.specs.Ending.{final_records};
 ghost use Rattle.ccan_run.specs.Ordered.{answers_text, final_part, finals_text};
 
 use ccan_object::{ObjectNo, Record};
-use ccan_ram::{Access, Array, PortName};
+use ccan_ram::{Final, PortName};
 use ccan_script::{LineAnswer, PrintedLine, print_final, print_line};
 
 /// The most bytes that a printed line has.
@@ -48,16 +49,14 @@ fn push_final(text: &mut Vec<u8>, object: ObjectNo, left: &Record)
 }
 
 /// Appends the lines of the objects at the end, in rising order.
-pub(crate) fn push_finals(text: &mut Vec<u8>, memory: &Array)
-    requires { let passes = ⟦<Array as Access>⟧.passes memory.now in
-        vec_len text.old + 80 * objects_in passes.terms.profile ≤ vec_capacity text.old }
-    ensures { let passes = ⟦<Array as Access>⟧.passes memory.now in
-        (history : List Event) → passes.has_seen history
-        → text.new.items ≡ text.old.items ++ finals_text passes.terms.profile history }
+pub(crate) fn push_finals(text: &mut Vec<u8>, left: &Final)
+    requires { vec_len text.old + 80 * objects_in left.now.profile ≤ vec_capacity text.old }
+    ensures { (history : List Event) → left.now.records ≡ final_records left.now.profile history
+        → text.new.items ≡ text.old.items ++ finals_text left.now.profile history }
 {
-    let objects = memory.profile().objects();
+    let objects = left.profile.objects();
     for number in 1..objects + 1 {
         let object = ObjectNo::new(number).unwrap();
-        push_final(text, object, &memory.record_of(object));
+        push_final(text, object, &left.records[usize::from(number) - 1]);
     }
 }

@@ -1,66 +1,117 @@
--- One register more.
-use Rattle.std.proofs.Common.{◌≡◌, ◌<◌, ◌≤◌, ◌+◌, ◌&&◌, ℕ, List, [], ◌∷◌, ◌++◌, Bool, true, false, Option, Some, None, length, take, get_or, option_map, refl, ap, ap₂, sym, ◌∙◌, append-nil, map}
-use Rattle.std.proofs.Math.Bool.{and-true}
-use Rattle.std.proofs.lemmas.List.{take_all, take_more}
-use Rattle.std.proofs.lemmas.List.Folds.{list_all-append, list_all_at}
-use Rattle.std.proofs.lemmas.List.Elements.{filter_map-append}
-use Rattle.std.specs.List.{cons_option, filter_map, list_all}
+-- One member more of an object that sets registers, and that it has no more members than there are registers.
+use Rattle.std.proofs.Common.{◌≡◌, ◌≤◌, ℕ, List, [], ◌∷◌, ◌++◌, ◌&&◌, ◌||◌, Bool, true, false, cond, Option, Some, None, Less, is_eq, length, option_map, option_and_then, is_some, map, string_bytes, string_cmp, refl, ap, sym, ◌∙◌, arith, true≢false, bytes_eq}
+use Rattle.std.proofs.lemmas.Cmp.{nat_list_eq_equiv}
+use Rattle.std.proofs.lemmas.List.{length-map}
+use Rattle.std.proofs.lemmas.Map.Made.{length-le_from_is_member}
+use Rattle.std.proofs.lemmas.Map.Steps.{list_any_congr}
+use Rattle.std.proofs.lemmas.Map.Text.{is_eq-slice_cmp}
+use Rattle.std.specs.List.{AllByRecursion, IsDistinct, find, list_any}
+use Rattle.std.specs.List.Sorted.{IsStrictlySortedBy}
+use Rattle.std.specs.Map.{keys_of}
 use Rattle.serde_json.specs.Data.{Data}
+use Rattle.serde_json.specs.View.{view, members_view}
+use Rattle.serde_json.proofs.Views.{Entry}
 use Rattle.ccan_object.specs.declared.register.Reg.{Reg}
-use Rattle.ccan_object.specs.declared.register.Reg.TheVariants.{CMask}
-use Rattle.ccan_script.specs.RegisterSet.{can_set, is_set, register_name, registers, settings_in, setting}
-use Rattle.ccan_script.specs.Json.{has_only}
+use Rattle.ccan_script.specs.RegisterSet.{register_name, register_named, registers, setting, settings}
+use Rattle.ccan_script.proofs.Words.{and_left, and_right}
 
-abbrev pub one : Data → Reg → Option (Reg × ℕ)
-one d r = option_map (λ word. (r, word)) (setting d r)
+-- ---- one member more
 
-all_more : (test : Reg → Bool) (xs : List Reg) (i : ℕ) (e : Reg) → i < length xs → list_all test (take i xs) ≡ true
-    → test (get_or xs i e) ≡ true → list_all test (take (i + 1) xs) ≡ true
-all_more test xs i e h so_far here = ap (list_all test) (take_more xs i e h) ∙ list_all-append test (take i xs) (get_or xs i e ∷ [])
-    ∙ ap₂ ◌&&◌ so_far (and-true (test (get_or xs i e)) ∙ here)
+module _ {X : Type 0} where
+  one : (o : Option X) → option_and_then (λ first. option_map (λ rest. first ∷ rest) (Some [])) o ≡ option_map (λ s. s ∷ []) o
+  one None = refl
+  one (Some s) = refl
 
-kept_more : (f : Reg → Option (Reg × ℕ)) (xs : List Reg) (i : ℕ) (e : Reg) → i < length xs
-    → filter_map f (take (i + 1) xs) ≡ filter_map f (take i xs) ++ cons_option (f (get_or xs i e)) []
-kept_more f xs i e h = ap (filter_map f) (take_more xs i e h) ∙ filter_map-append f (take i xs) (get_or xs i e ∷ [])
+  more : (o : Option X) (p : Option (List X)) (q : Option X)
+      → option_and_then (λ f. option_map (λ rest. f ∷ rest) (option_and_then (λ set. option_map (λ s. set ++ s ∷ []) o) p)) q
+      ≡ option_and_then (λ set. option_map (λ s. set ++ s ∷ []) o) (option_and_then (λ f. option_map (λ rest. f ∷ rest) p) q)
+  more o p None = refl
+  more o None (Some f) = refl
+  more None (Some set) (Some f) = refl
+  more (Some s) (Some set) (Some f) = refl
 
-pub passed_more : (d : Data) (i : ℕ) → i < 10 → list_all (can_set d) (take i registers) ≡ true
-    → can_set d (get_or registers i CMask) ≡ true → list_all (can_set d) (take (i + 1) registers) ≡ true
-passed_more d i h = all_more (can_set d) registers i CMask h
+  spoilt : (q : Option X) → option_and_then (λ f. option_map (λ rest. f ∷ rest) None) q ≡ None
+  spoilt None = refl
+  spoilt (Some f) = refl
 
-pub set_some : (d : Data) (i : ℕ) (found : Option ℕ) (word : ℕ) (old new : List (Reg × ℕ)) → i < 10
-    → found ≡ setting d (get_or registers i CMask) → found ≡ Some word
-    → old ≡ filter_map (one d) (take i registers) → new ≡ old ++ (get_or registers i CMask, word) ∷ []
-    → new ≡ filter_map (one d) (take (i + 1) registers)
-set_some d i found word old new h is some so_far pushed =
-    let r = get_or registers i CMask in
-    pushed ∙ ap₂ ◌++◌ so_far (ap (λ (o : Option ℕ). cons_option (option_map (λ w. (r, w)) o) []) (sym some ∙ is))
-    ∙ sym (kept_more (one d) registers i CMask h)
+  both : (o : Option X) (p : Option (List X)) → is_some (option_and_then (λ f. option_map (λ rest. f ∷ rest) p) o)
+      ≡ (is_some o && is_some p)
+  both None p = refl
+  both (Some s) None = refl
+  both (Some s) (Some set) = refl
 
-pub set_none : (d : Data) (i : ℕ) (found : Option ℕ) (old : List (Reg × ℕ)) → i < 10 → found ≡ setting d (get_or registers i CMask)
-    → found ≡ None
-    → old ≡ filter_map (one d) (take i registers) → old ≡ filter_map (one d) (take (i + 1) registers)
-set_none d i found old h is none so_far =
-    let r = get_or registers i CMask in
-    sym (append-nil old) ∙ ap₂ ◌++◌ so_far (ap (λ (o : Option ℕ). cons_option (option_map (λ w. (r, w)) o) []) (sym none ∙ is))
-    ∙ sym (kept_more (one d) registers i CMask h)
+abbrev set_by : Entry → Option (Reg × ℕ)
+set_by e = setting (string_bytes e.0) (view e.1)
 
-pub not_set_by_names : (d : Data) → has_only (map register_name registers) d ≡ false → is_set d ≡ false
-unfolding is_set
-not_set_by_names d h = rw h refl
+appended : (done : List Entry) (e : Entry) → settings (members_view (done ++ e ∷ []))
+    ≡ option_and_then (λ set. option_map (λ s. set ++ s ∷ []) (set_by e)) (settings (members_view done))
+appended [] e = one (set_by e)
+appended (first ∷ done) e =
+    ap (λ p. option_and_then (λ f. option_map (λ rest. f ∷ rest) p) (set_by first)) (appended done e)
+    ∙ more (set_by e) (settings (members_view done)) (set_by first)
 
-and_false : (a b : Bool) → b ≡ false → (a && b) ≡ false
-and_false true b h = h
-and_false false b h = refl
+-- what it sets comes last
+pub set_more : (done : List Entry) (e : Entry) (set : List (Reg × ℕ)) (s : Reg × ℕ) → settings (members_view done) ≡ Some set
+    → set_by e ≡ Some s → settings (members_view (done ++ e ∷ [])) ≡ Some (set ++ s ∷ [])
+set_more done e set s so_far here = appended done e ∙ rw (so_far, here) refl
 
-pub not_set_at : (d : Data) (i : ℕ) → i < 10 → can_set d (get_or registers i CMask) ≡ false → is_set d ≡ false
-unfolding is_set
-not_set_at d i h bad = and_false (has_only (map register_name registers) d) _ (list_all_at (can_set d) registers i CMask h bad)
+-- a member that sets nothing spoils the others
+pub not_set : (done : List Entry) (e : Entry) (rest : List Entry) → set_by e ≡ None
+    → settings (members_view (done ++ e ∷ rest)) ≡ None
+not_set [] e rest here = rw here refl
+not_set (first ∷ done) e rest here = rw (not_set done e rest here) (spoilt (set_by first))
 
-pub set_whole : (d : Data) (i : ℕ) → 10 ≤ i → list_all (can_set d) (take i registers) ≡ true
-    → has_only (map register_name registers) d ≡ true → is_set d ≡ true
-unfolding is_set
-set_whole d i h passed names = rw names (ap (list_all (can_set d)) (sym (take_all i registers h)) ∙ passed)
+-- ---- how many members there can be
 
-pub set_is : (d : Data) (i : ℕ) (set : List (Reg × ℕ)) → 10 ≤ i → set ≡ filter_map (one d) (take i registers) → set ≡ settings_in d
-unfolding settings_in
-set_is d i set h is = is ∙ ap (filter_map (one d)) (take_all i registers h)
+abbrev names : List Entry → List (List ℕ)
+names es = map (λ e. string_bytes e.0) es
+
+abbrev register_names : List (List ℕ)
+register_names = map register_name registers
+
+apart : (e : Entry) (es rest : List Entry) → AllByRecursion (λ y. string_cmp e.0 y ≡ Less) (keys_of (es ++ rest))
+    → AllByRecursion (λ name. bytes_eq (string_bytes e.0) name ≡ false) (names es)
+apart e [] rest h = tt
+apart e (x ∷ es) rest h = (sym (is_eq-slice_cmp (string_bytes e.0) (string_bytes x.0)) ∙ ap is_eq h.0, apart e es rest h.1)
+
+distinct : (es rest : List Entry) → IsStrictlySortedBy string_cmp (keys_of (es ++ rest)) → IsDistinct bytes_eq (names es)
+unfolding IsStrictlySortedBy IsDistinct
+distinct [] rest h = tt
+distinct (e ∷ es) rest h = (apart e es rest h.0, distinct es rest h.1)
+
+found_or_later : (b t : Bool) (r : Reg) (later : Option Reg) → is_some (cond b (Some r) later) ≡ true
+    → (is_some later ≡ true → t ≡ true) → (b || t) ≡ true
+found_or_later true t r later h f = refl
+found_or_later false t r later h f = f h
+
+known : (name : List ℕ) (rs : List Reg) → is_some (find (λ r. bytes_eq name (register_name r)) rs) ≡ true
+    → list_any (bytes_eq name) (map register_name rs) ≡ true
+known name [] h = h
+known name (r ∷ rs) h = found_or_later (bytes_eq name (register_name r)) _ r _ h (known name rs)
+
+first_there : {X Y : Type 0} (g : X → Option Y) (o : Option X) → is_some (option_and_then g o) ≡ true → is_some o ≡ true
+first_there g None h = h
+first_there g (Some x) h = refl
+
+is_register : (e : Entry) → is_some (set_by e) ≡ true → list_any (bytes_eq (string_bytes e.0)) register_names ≡ true
+unfolding setting register_named
+is_register e h = known (string_bytes e.0) registers (first_there _ _ h)
+
+either : (a b c : Bool) → (a || b) ≡ true → (a ≡ true → c ≡ true) → (b ≡ true → c ≡ true) → c ≡ true
+either true b c h f g = f refl
+either false b c h f g = g h
+
+within : (es : List Entry) → is_some (settings (members_view es)) ≡ true → (q : List ℕ)
+    → list_any (bytes_eq q) (names es) ≡ true → list_any (bytes_eq q) register_names ≡ true
+within [] h q there = absurd (true≢false (sym there))
+within (e ∷ es) h q there =
+    let each = sym (both (set_by e) (settings (members_view es))) ∙ h in
+    either (bytes_eq q (string_bytes e.0)) _ _ there
+    (λ same. list_any_congr nat_list_eq_equiv q (string_bytes e.0) register_names same ∙ is_register e (and_left _ _ each))
+    (within es (and_right (is_some (set_by e)) _ each) q)
+
+pub few : (es rest : List Entry) → IsStrictlySortedBy string_cmp (keys_of (es ++ rest)) → is_some (settings (members_view es)) ≡ true
+    → length es ≤ 10
+few es rest sorted all =
+    let fits = length-le_from_is_member nat_list_eq_equiv (names es) register_names (distinct es rest sorted) (within es all) in
+    omega (arith, fits, length-map es (λ e. string_bytes e.0))

@@ -1,6 +1,6 @@
 -- The lines of a host port in a script: what is wrong with the JSON value of a line, and the line that a value without
 -- fault stands for. Source: this project's own.
-use Rattle.std.specs.Prelude.{ℕ, ◌≡◌, ◌≤◌, ◌&&◌, Bool, true, codes, List, [], ◌∷◌, Option, Some, None, is_some, unwrap_or, option_and_then}
+use Rattle.std.specs.Prelude.{ℕ, ◌≡◌, ◌≤◌, ◌&&◌, Bool, codes, List, [], ◌∷◌, Option, Some, None, is_some, unwrap_or, option_and_then}
 use Rattle.std.specs.Option.{option_map_or}
 use Rattle.std.specs.Coded.{le_prop, ×_prop, Unit-prop}
 use Rattle.serde_json.specs.Data.{Data}
@@ -20,7 +20,7 @@ use Rattle.ccan_script.specs.HostOp.{host_op}
 use Rattle.ccan_script.specs.Json.{has_only, is_bare, is_within, number_in, whole_in, word_in}
 use Rattle.ccan_script.specs.FlagName.{flag_in}
 use Rattle.ccan_script.specs.FlagLine.{asks_flag, flag_of_line}
-use Rattle.ccan_script.specs.RegisterSet.{is_set, settings_in}
+use Rattle.ccan_script.specs.RegisterSet.{settings_in}
 
 -- ---- transfers
 
@@ -28,20 +28,17 @@ use Rattle.ccan_script.specs.RegisterSet.{is_set, settings_in}
 unfoldable pub request_in : Data → Option ℕ
 request_in d = option_and_then word_in (get (codes "request") d)
 
--- there is no member `set`, or it is a set of registers
-unfoldable pub sets_registers : Data → Bool
-sets_registers d = option_map_or is_set (get (codes "set") d) true
-
-unfoldable pub settings_of : Data → List (Reg × ℕ)
-settings_of d = option_map_or settings_in (get (codes "set") d) []
+-- what the member `set` sets, nothing where there is no such member
+unfoldable pub settings_of : Data → Option (List (Reg × ℕ))
+settings_of d = option_map_or settings_in (get (codes "set") d) (Some [])
 
 -- an object of the members that a transfer has, and no others, each of its shape
 unfoldable pub is_transfer : Data → Bool
-is_transfer d = has_only (codes "op" ∷ codes "request" ∷ codes "set" ∷ []) d && (is_some (request_in d) && sets_registers d)
+is_transfer d = has_only (codes "op" ∷ codes "request" ∷ codes "set" ∷ []) d && (is_some (request_in d) && is_some (settings_of d))
 
 -- the line that it stands for
 unfoldable pub transfer_of : Data → HostLine
-transfer_of d = Transfer (unwrap_or (request_in d) 0) (record { items = settings_of d })
+transfer_of d = Transfer (unwrap_or (request_in d) 0) (record { items = unwrap_or (settings_of d) [] })
 
 -- ---- waits
 

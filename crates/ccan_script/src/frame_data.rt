@@ -1,10 +1,10 @@
-ghost use Rattle.std.specs.Prelude.{◌≡◌, ◌≤◌, ◌<◌, ◌*◌, ◌%◌, true, Some, None, IfSome, length, option_map, if◌then◌else◌};
-ghost use Rattle.std.specs.Char.{digit_value, is_ascii_hexdigit};
+ghost use Rattle.std.specs.Prelude.{◌≡◌, ◌≤◌, ◌*◌, ◌%◌, true, Some, None, IfSome, length, option_map, if◌then◌else◌};
+ghost use Rattle.std.specs.Char.{is_ascii_hexdigit};
 ghost use Rattle.std.specs.List.{list_all};
 ghost use Rattle.serde_json.specs.View.{view};
 ghost use Rattle.ccan_script.specs.FrameLine.{is_data_text, data_in, eight_bytes};
 
-use crate::json::are_hexadecimal;
+use crate::json::{are_hexadecimal, two_digits};
 use serde_json::Value;
 
 /// Whether the text has two hexadecimal digits for each byte.
@@ -36,19 +36,6 @@ pub(crate) fn data_in(frame: &Value) -> Option<&str>
     }
 }
 
-/// The value of a hexadecimal digit.
-fn digit_value(digit: u8) -> u8
-    requires { is_ascii_hexdigit digit ≡ true }
-    ensures value { result ≡ digit_value digit }
-    ensures within { result < 16 }
-{
-    match digit {
-        b'0'..=b'9' => digit - b'0',
-        b'a'..=b'f' => digit - b'a' + 10,
-        _ => digit - b'A' + 10,
-    }
-}
-
 /// The bytes of a text of at most sixteen digits, and 0 past them.
 pub(crate) fn eight_bytes(text: &str) -> [u8; 8]
     requires short { length text.now ≤ 16 }
@@ -58,7 +45,7 @@ pub(crate) fn eight_bytes(text: &str) -> [u8; 8]
     let digits = text.as_bytes();
     let mut bytes = [0; 8];
     for place in 0..digits.len() / 2 {
-        bytes[place] = digit_value(digits[2 * place]) * 16 + digit_value(digits[2 * place + 1]);
+        bytes[place] = two_digits(digits[2 * place], digits[2 * place + 1]);
     }
     bytes
 }

@@ -1,8 +1,8 @@
-ghost use Rattle.std.specs.Prelude.{◌≡◌, true, false, IfOk, IfSome, IfNone};
+ghost use Rattle.std.specs.Prelude.{◌≡◌, true, false, option_map, IfOk, IfSome, IfNone};
 ghost use Rattle.serde_json.specs.View.{view};
 ghost use Rattle.ccan_object.specs.Profile.{Holds};
 ghost use Rattle.ccan_script.specs.LineFault.{ReadsLine, shape_then_range};
-ghost use Rattle.ccan_script.specs.HostLine.{request_in, sets_registers, settings_of, is_transfer, transfer_of, is_until, until_in_range, until_of, host_fault, HostSays, HostFits};
+ghost use Rattle.ccan_script.specs.HostLine.{request_in, settings_of, is_transfer, transfer_of, is_until, until_in_range, until_of, host_fault, HostSays, HostFits};
 
 use crate::flag_line::sole_flag;
 use crate::flag_name::flag_in;
@@ -11,7 +11,7 @@ use crate::json::{check_bare, has_only, whole_in, word_in};
 use crate::limits::MAX_TURNS;
 use crate::line_context::LineContext;
 use crate::line_fault::LineFault;
-use crate::register_set::{RegisterSet, read_set};
+use crate::register_set::{RegisterSet, settings_in};
 use crate::script_line::ScriptLine;
 use ccan_object::{ObjectNo, Profile};
 use ccan_ram::Flag;
@@ -44,15 +44,13 @@ fn request_in(line: &Value) -> Option<u16>
     word_in(line.get("request")?)
 }
 
-/// The registers that a line sets, none where it has no such member.
-#[tactic(auto, unfolding(crate::specs::HostLine::sets_registers, crate::specs::HostLine::settings_of))]
-fn settings(line: &Value) -> Option<RegisterSet>
-    ensures none { IfNone result (sets_registers (view line.now) ≡ false) }
-    ensures some { IfSome result (λ set. (sets_registers (view line.now) ≡ true)
-        × (set.items ≡ settings_of (view line.now))) }
+/// What a line sets, nothing where it has no member for that.
+#[tactic(auto, unfolding(crate::specs::HostLine::settings_of))]
+fn settings_of(line: &Value) -> Option<RegisterSet>
+    ensures { option_map (λ set. set.items) result ≡ settings_of (view line.now) }
 {
     match line.get("set") {
-        Some(set) => read_set(set),
+        Some(set) => settings_in(set),
         None => Some(RegisterSet::new()),
     }
 }
@@ -68,7 +66,7 @@ fn transfer_line(line: &Value) -> Option<HostLine>
         return None;
     }
     let request = request_in(line)?;
-    let set = settings(line)?;
+    let set = settings_of(line)?;
     Some(HostLine::Transfer { request, set })
 }
 

@@ -1,6 +1,6 @@
-ghost use Rattle.std.specs.Prelude.{◌≡◌, ◌≤◌, ◌∷◌, [], ◌&&◌, map, Some, None, codes, is_some, option_map, string_bytes, IfOk, if◌then◌else◌};
+ghost use Rattle.std.specs.Prelude.{◌≡◌, ◌≤◌, ◌<◌, ◌+◌, ◌*◌, true, ◌∷◌, [], ◌&&◌, map, Some, None, codes, is_some, option_map, string_bytes, IfOk, if◌then◌else◌};
 ghost use Rattle.std.specs.List.{list_all, list_any};
-ghost use Rattle.std.specs.Char.{is_ascii_hexdigit};
+ghost use Rattle.std.specs.Char.{digit_value, is_ascii_hexdigit};
 ghost use Rattle.std.specs.Str.{bytes_eq};
 ghost use Rattle.std.specs.BTreeMap.{keys};
 ghost use Rattle.std.specs.Str.Parse.{digits_value};
@@ -11,14 +11,6 @@ ghost use Rattle.ccan_script.specs.LineFault.{shape_check, shape_then_range, Rea
 use crate::line_fault::LineFault;
 use serde_json::{Map, Value};
 
-/// Whether the text is four hexadecimal digits.
-#[tactic(auto, unfolding(crate::specs::Json::is_four_digits))]
-fn is_four_digits(text: &str) -> bool
-    ensures { result ≡ is_four_digits text.now }
-{
-    text.len() == 4 && are_hexadecimal(text.as_bytes())
-}
-
 /// Whether each byte is a hexadecimal digit, of either case.
 pub(crate) fn are_hexadecimal(bytes: &[u8]) -> bool
     ensures { result ≡ list_all is_ascii_hexdigit bytes.now }
@@ -26,15 +18,44 @@ pub(crate) fn are_hexadecimal(bytes: &[u8]) -> bool
     bytes.iter().all(|byte| byte.is_ascii_hexdigit())
 }
 
+/// The value of a hexadecimal digit.
+fn digit_value(digit: u8) -> u8
+    requires { is_ascii_hexdigit digit ≡ true }
+    ensures value { result ≡ digit_value digit }
+    ensures within { result < 16 }
+{
+    match digit {
+        ..=b'9' => digit - b'0',
+        b'a'.. => digit - b'a' + 10,
+        _ => digit - b'A' + 10,
+    }
+}
+
+/// The value of two hexadecimal digits.
+pub(crate) fn two_digits(high: u8, low: u8) -> u8
+    requires high { is_ascii_hexdigit high ≡ true }
+    requires low { is_ascii_hexdigit low ≡ true }
+    ensures { result ≡ digit_value high * 16 + digit_value low }
+{
+    digit_value(high) * 16 + digit_value(low)
+}
+
 /// The number of a text of exactly four hexadecimal digits.
+#[tactic(auto, unfolding(crate::specs::Json::is_four_digits))]
 fn four_digits(text: &str) -> Option<u16>
     ensures { result
         ≡ (if is_four_digits text.now then Some (digits_value 16 text.now) else None) }
 {
-    if !is_four_digits(text) {
+    let digits = text.as_bytes();
+    let [first, second, third, fourth] = digits else {
+        return None;
+    };
+    if !are_hexadecimal(digits) {
         return None;
     }
-    u16::from_str_radix(text, 16).ok()
+    let high = two_digits(*first, *second);
+    let low = two_digits(*third, *fourth);
+    Some(u16::from(high) * 256 + u16::from(low))
 }
 
 /// The number of a value that is a text of four hexadecimal digits.

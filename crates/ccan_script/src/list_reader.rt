@@ -26,9 +26,8 @@ pub(crate) fn lines_of<L: ScriptLine>(
     ensures few { IfOk result (λ lines. length lines.items ≤ most) }
     ensures fits { IfOk result (λ lines. All (L.fits context) lines.items) }
 {
-    let mut lines = Vec::new(alloc);
     let Some(member) = member else {
-        return Ok(lines);
+        return Ok(Vec::new(alloc));
     };
     let Some(values) = member.as_array() else {
         return Err(ScriptError::Shape { list, index: 0 });
@@ -36,6 +35,7 @@ pub(crate) fn lines_of<L: ScriptLine>(
     if values.len() > most {
         return Err(ScriptError::TooMany { list });
     }
+    let mut lines = Vec::with_capacity(alloc, values.len())?;
     for (index, value) in values.iter().enumerate() {
         match L::read(value, context) {
             Ok(line) => lines.push(line)?,

@@ -1,78 +1,60 @@
-ghost use Rattle.std.specs.Prelude.{◌≡◌, true, false, IfSome, IfNone};
-ghost use Rattle.serde_json.specs.View.{view};
-ghost use Rattle.ccan_script.specs.RegisterSet.{register_name, setting, can_set, is_set, settings_in};
+ghost use Rattle.std.specs.Prelude.{◌≡◌, option_map};
+ghost use Rattle.serde_json.specs.View.{view, members_view};
+ghost use Rattle.ccan_script.specs.RegisterSet.{register_named, setting, settings, settings_in};
 
-use crate::json::{has_only, word_in};
+use crate::json::word_in;
 use arrayvec::ArrayVec;
 use ccan_object::Reg;
-use serde_json::Value;
+use serde_json::{Map, Value};
 
 /// Registers with the numbers that they are set to, each register once.
 pub type RegisterSet = ArrayVec<(Reg, u16), 10>;
 
-static REGISTERS: [Reg; 10] = [
-    Reg::CMask,
-    Reg::Mask1,
-    Reg::Mask2,
-    Reg::Arb1,
-    Reg::Arb2,
-    Reg::Ctrl,
-    Reg::DataA1,
-    Reg::DataA2,
-    Reg::DataB1,
-    Reg::DataB2,
-];
-
-static REGISTER_NAMES: [&str; 10] = [
-    "cmask", "mask1", "mask2", "arb1", "arb2", "ctrl", "dataa1", "dataa2", "datab1", "datab2",
-];
-
-/// The name of a register in a script.
-#[tactic(auto, unfolding(crate::specs::RegisterSet::register_name))]
-fn register_name(register: Reg) -> &'static str
-    ensures { result.now ≡ register_name register }
+/// The register of a name in a script.
+#[tactic(auto, unfolding(crate::specs::RegisterSet::register_named))]
+fn register_named(name: &str) -> Option<Reg>
+    ensures { result ≡ register_named name.now }
 {
-    match register {
-        Reg::CMask => "cmask",
-        Reg::Mask1 => "mask1",
-        Reg::Mask2 => "mask2",
-        Reg::Arb1 => "arb1",
-        Reg::Arb2 => "arb2",
-        Reg::Ctrl => "ctrl",
-        Reg::DataA1 => "dataa1",
-        Reg::DataA2 => "dataa2",
-        Reg::DataB1 => "datab1",
-        Reg::DataB2 => "datab2",
+    match name {
+        "cmask" => Some(Reg::CMask),
+        "mask1" => Some(Reg::Mask1),
+        "mask2" => Some(Reg::Mask2),
+        "arb1" => Some(Reg::Arb1),
+        "arb2" => Some(Reg::Arb2),
+        "ctrl" => Some(Reg::Ctrl),
+        "dataa1" => Some(Reg::DataA1),
+        "dataa2" => Some(Reg::DataA2),
+        "datab1" => Some(Reg::DataB1),
+        "datab2" => Some(Reg::DataB2),
+        _ => None,
     }
 }
 
-/// What an object sets a register to, if it names it; `None` where that is no text of four digits.
-#[tactic(auto, unfolding(crate::specs::RegisterSet::setting, crate::specs::RegisterSet::can_set))]
-fn setting(value: &Value, register: Reg) -> Option<Option<u16>>
-    ensures none { IfNone result (can_set (view value.now) register ≡ false) }
-    ensures some { IfSome result (λ word. (can_set (view value.now) register ≡ true)
-        × (word ≡ setting (view value.now) register)) }
+/// What a member sets: the register of its name, to the number of its text.
+#[tactic(auto, unfolding(crate::specs::RegisterSet::setting))]
+fn setting(name: &str, value: &Value) -> Option<(Reg, u16)>
+    ensures { result ≡ setting name.now (view value.now) }
 {
-    match value.get(register_name(register)) {
-        Some(text) => Some(Some(word_in(text)?)),
-        None => Some(None),
-    }
+    let register = register_named(name)?;
+    let word = word_in(value)?;
+    Some((register, word))
 }
 
-/// The registers that an object sets, in the order of their table.
-pub(crate) fn read_set(value: &Value) -> Option<RegisterSet>
-    ensures none { IfNone result (is_set (view value.now) ≡ false) }
-    ensures some { IfSome result (λ set. (is_set (view value.now) ≡ true)
-        × (set.items ≡ settings_in (view value.now))) }
+/// What the members set, each a register, in their order.
+fn settings(members: &Map<String, Value>) -> Option<RegisterSet>
+    ensures { option_map (λ set. set.items) result ≡ settings (members_view members.now.entries) }
 {
-    if !has_only(value, &REGISTER_NAMES) {
-        return None;
-    }
     let mut set = RegisterSet::new();
-    for register in &REGISTERS {
-        if let Some(word) = setting(value, *register)? {
-            set.push((*register, word));
-        }
+    for (name, value) in members.iter() {
+        set.push(setting(name.as_str(), value)?);
     }
     Some(set)
+}
+
+/// What an object sets, `None` where a member of it isn't a register with its number.
+#[tactic(auto, unfolding(crate::specs::RegisterSet::settings_in))]
+pub(crate) fn settings_in(value: &Value) -> Option<RegisterSet>
+    ensures { option_map (λ set. set.items) result ≡ settings_in (view value.now) }
+{
+    settings(value.as_object()?)
 }

@@ -1,6 +1,6 @@
 use crate::list_name::ListName;
 use ccan_ram::PortName;
-use std::alloc::AllocFailed;
+use std::alloc::{AllocError, AllocFailed};
 use thiserror::Error;
 
 /// Why bytes are no script. It prints as the line that the program writes on standard error.
@@ -24,6 +24,17 @@ pub enum ScriptError {
     /// Memory ran out.
     #[error("ccan: out of memory")]
     Memory,
+}
+
+impl From<AllocError> for ScriptError {
+    ghost use Rattle.std.specs.Prelude.{◌≡◌};
+    ghost use Rattle.ccan_script.specs.declared.script_error.ScriptError.TheVariants.{Memory};
+
+    ghost from_gives = { λ _ e. e ≡ Memory };
+
+    fn from(_refused: AllocError) -> ScriptError {
+        ScriptError::Memory
+    }
 }
 
 impl<T: Drop> From<AllocFailed<T>> for ScriptError {

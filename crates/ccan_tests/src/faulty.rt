@@ -32,10 +32,11 @@ impl Fault {
     }
 }
 
-/// A reader that gives its bytes, at most 64 a call. After so many calls a fault comes, once; all other calls work.
+/// A reader that gives its bytes, at most so many a call. After so many calls a fault comes, once; all other calls work.
 #[derive(Drop)]
 pub struct Pieces<'a> {
     pub rest: &'a [u8],
+    pub step: usize,
     pub calls: usize,
     pub fault: Option<Fault>,
 }
@@ -49,7 +50,7 @@ impl Read for Pieces<'_> {
         } else {
             self.calls -= 1;
         }
-        let count = self.rest.len().min(buf.len()).min(64);
+        let count = self.rest.len().min(buf.len()).min(self.step);
         let (front, rest) = self.rest.split_at(count);
         buf[..count].copy_from_slice(front);
         self.rest = rest;

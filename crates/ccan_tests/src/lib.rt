@@ -3,7 +3,17 @@
 #![tactic(auto)]
 
 #[cfg(test)]
+mod command_line;
+#[cfg(test)]
+mod failing;
+#[cfg(test)]
 mod faulty;
+#[cfg(test)]
+mod malformed;
+#[cfg(test)]
+mod outcomes;
+#[cfg(test)]
+mod quotas;
 #[cfg(test)]
 mod streams;
 #[cfg(test)]

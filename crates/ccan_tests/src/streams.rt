@@ -1,24 +1,26 @@
-//! Scripts through the whole stream, with readers and writers that fail, long scripts, and the limits.
-use crate::faulty::{Counting, FAULTS, Fault, Pieces, Sheet, Spaces, new_sheet};
-use arrayvec::ArrayVec;
+//! Scripts through the whole stream: long ones, numbers at the ends of their ranges, want of memory, and the texts of faults.
+use crate::faulty::{Counting, new_sheet};
 use ccan_ram::PortName;
 use ccan_run::{RunError, run_ordered, run_stream};
 use ccan_script::{ListName, ScriptError, read_script};
 use std::alloc::{AllocError, Global};
 use std::fmt::Write as _;
-use std::process::Abort;
 use std::test::Fail;
 
-const WRITE: &str =
+/// A write of one message.
+pub const WRITE: &str =
     r#"{"if1":[{"op":"transfer","request":"0001","set":{"cmask":"00f3","arb2":"a48c","ctrl":"0088","dataa1":"2211","dataa2":"4433","datab1":"6655","datab2":"8877"}}]}"#;
 
-const WRITE_TEXT: &str =
+/// What it prints.
+pub const WRITE_TEXT: &str =
     "if1 write 01 a48c0000 00000000 0088 1122334455667788\nfinal 01 a48c0000 00000000 0088 1122334455667788\n";
 
-const SPENT: &str =
+/// A quota of one, with a write, another one that is refused, and a read.
+pub const SPENT: &str =
     r#"{"quota":1,"if1":[{"op":"transfer","request":"0001","set":{"cmask":"00f3","arb2":"a48c","ctrl":"0088","dataa1":"2211","dataa2":"4433","datab1":"6655","datab2":"8877"}},{"op":"transfer","request":"0001","set":{"cmask":"0087","dataa1":"9999","dataa2":"9999","datab1":"9999","datab2":"9999"}},{"op":"transfer","request":"0001","set":{"cmask":"0073"}}]}"#;
 
-const SPENT_TEXT: &str =
+/// What it prints.
+pub const SPENT_TEXT: &str =
     "if1 write 01 a48c0000 00000000 0088 1122334455667788\nif1 spent 01\nif1 read 01 a48c0000 00000000 0088 1122334455667788\nfinal 01 a48c0000 00000000 0088 1122334455667788\n";
 
 #[test]
@@ -38,6 +40,7 @@ fn runs_a_script_in_order(rt: HostRuntime) -> Result<(), Fail> {
 fn laws_hold() {
     ccan_script::laws::one_meaning();
     ccan_run::laws::no_line_is_busy();
+    ccan_run::laws::answers_have_events();
 }
 
 /// The number of a line, as its text shows it: the two bytes of Data A 1, the low one first.
@@ -145,132 +148,6 @@ fn writes_two_thousand_lines_in_few_calls(rt: HostRuntime) -> Result<(), Fail> {
     run_stream(rt.alloc(), &mut script.as_bytes(), &mut out)?;
     assert!(rt; out.calls <= 2, "{} calls", out.calls);
     Ok(())
-}
-
-/// What a script is refused as.
-fn refusal(rt: &impl Abort, alloc: Global, script: &[u8]) -> RunError {
-    let mut reader = script;
-    let mut out = new_sheet(512);
-    let got = run_stream(alloc, &mut reader, &mut out);
-    assert!(rt; out.taken.as_slice().is_empty());
-    match got {
-        Ok(()) => panic!(rt; "not refused"),
-        Err(fault) => fault,
-    }
-}
-
-#[test]
-fn refuses_what_is_no_json(rt: HostRuntime) -> Result<(), Fail> {
-    let want = RunError::Script(ScriptError::NotJson);
-    let bytes = WRITE.as_bytes();
-    for length in 0..bytes.len() {
-        let front = bytes.get(..length).ok_or("too short")?;
-        assert_eq!(rt; refusal(&rt, rt.alloc(), front), want, "at {length} bytes");
-    }
-    let mut no_utf8: Vec<u8> = Vec::new(rt.alloc());
-    no_utf8.extend_from_slice(br#"{"if1":[{"op":"transfer","request":"000"#)?;
-    no_utf8.push(0xff)?;
-    no_utf8.extend_from_slice(br#""}]}"#)?;
-    assert_eq!(rt; refusal(&rt, rt.alloc(), &no_utf8), want);
-    let mut nested = String::new(rt.alloc());
-    for bracket in ["[", "]"] {
-        for _ in 0..200 {
-            nested.push_str(bracket)?;
-        }
-    }
-    assert_eq!(rt; refusal(&rt, rt.alloc(), nested.as_bytes()), want);
-    Ok(())
-}
-
-/// A script whose list of IF1 has so many lines, none of them a line.
-fn many_lines(alloc: Global, count: usize) -> Result<String, AllocError> {
-    let mut script = String::new(alloc);
-    script.push_str(r#"{"if1":[0"#)?;
-    for _ in 1..count {
-        script.push_str(",0")?;
-    }
-    script.push_str("]}")?;
-    Ok(script)
-}
-
-#[test]
-fn holds_its_limits(rt: HostRuntime) -> Result<(), Fail> {
-    let few = many_lines(rt.alloc(), 2_000)?;
-    let list = ListName::If1;
-    assert_eq!(rt;
-        refusal(&rt, rt.alloc(), few.as_bytes()),
-        RunError::Script(ScriptError::Shape { list, index: 0 })
-    );
-    let many = many_lines(rt.alloc(), 2_001)?;
-    assert_eq!(rt;
-        refusal(&rt, rt.alloc(), many.as_bytes()),
-        RunError::Script(ScriptError::TooMany { list })
-    );
-    for (left, want) in [
-        (4_194_304, RunError::Script(ScriptError::NotJson)),
-        (4_194_305, RunError::TooLong),
-    ] {
-        let mut out = new_sheet(512);
-        assert_eq!(rt;
-            run_stream(rt.alloc(), &mut Spaces { left }, &mut out),
-            Err(want)
-        );
-        assert!(rt; out.taken.as_slice().is_empty());
-    }
-    Ok(())
-}
-
-/// A read that fails is told and not tried again, and one that gives nothing ends the input.
-#[test]
-fn stops_where_a_read_fails(rt: HostRuntime) {
-    let bytes = WRITE.as_bytes();
-    let enough = bytes.len() / 64 + 2;
-    for fault in FAULTS {
-        let want = match fault {
-            Fault::Nothing => RunError::Script(ScriptError::NotJson),
-            Fault::Fails(_) => RunError::Read,
-        };
-        for calls in 0..enough + 1 {
-            let mut reader = Pieces {
-                rest: bytes,
-                calls,
-                fault: Some(fault),
-            };
-            let mut out = new_sheet(512);
-            let got = run_stream(rt.alloc(), &mut reader, &mut out);
-            // The last call gives nothing anyway.
-            let is_whole = calls == enough || calls + 1 == enough && want != RunError::Read;
-            if is_whole {
-                assert_eq!(rt; got, Ok(()));
-                assert!(rt; out.taken.as_slice() == WRITE_TEXT.as_bytes());
-            } else {
-                assert_eq!(rt; got, Err(want), "after {calls} calls");
-                assert!(rt; out.taken.as_slice().is_empty());
-            }
-        }
-    }
-}
-
-/// A write that fails or takes nothing is told and not tried again.
-#[test]
-fn writes_a_prefix_where_a_write_fails(rt: HostRuntime) {
-    for fault in FAULTS {
-        for room in 0..WRITE_TEXT.len() {
-            let mut out = Sheet {
-                taken: ArrayVec::new(),
-                step: 5,
-                room,
-                fault: Some(fault),
-            };
-            let got = run_stream(rt.alloc(), &mut WRITE.as_bytes(), &mut out);
-            assert_eq!(rt; got, Err(RunError::Write), "after {room} bytes");
-            assert!(rt; room <= WRITE_TEXT.len());
-            assert!(rt;
-                out.taken.as_slice() == &WRITE_TEXT.as_bytes()[..room],
-                "after {room} bytes"
-            );
-        }
-    }
 }
 
 /// Holds too where any one allocation fails: then nothing is written.

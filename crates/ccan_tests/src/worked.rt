@@ -4,7 +4,7 @@ use ccan_run::run_stream;
 use std::test::Fail;
 
 /// A name, a script and its text.
-const WORKED: [(&str, &str, &str); 32] = [
+pub const WORKED: [(&str, &str, &str); 32] = [
     (
         "a message is written",
         r#"{"if1":[{"op":"transfer","request":"0001","set":{"cmask":"00f3","arb2":"a48c","ctrl":"0088","dataa1":"2211","dataa2":"4433","datab1":"6655","datab2":"8877"}}]}"#,

@@ -7,7 +7,9 @@ loop-done-preserved c =
     record {
       room = omega arith;
       len = omega arith;
-      rest = rw c.push.ensures.items (push_step _ _ c.args.count c.loop-done.done c.args.number _ c.loop-done-test.true refl c.loop-done.invariant.rest);
+      rest =
+          rw c.push.ensures.items (push_step _ _ c.args.count c.loop-done.done c.args.number _ c.loop-done-test.true refl
+          c.loop-done.invariant.rest);
     }
 
 pub returns : goal.returns

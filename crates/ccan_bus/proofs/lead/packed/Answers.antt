@@ -5,8 +5,10 @@ use Rattle.ccan_bus.proofs.lead.packed.Goals as goal
 
 pub returns-then-xtd : goal.returns-then-xtd
 returns-then-xtd c =
-    number_extended c.args.frame.now _ _ c.id-id.ensures.id (c.flag-rtr.ensures.value ∙ ap flag c.rtr.ensures) (sym c.xtd.ensures ∙ c.if-xtd.true) c.id-id.ensures.is_frame.id
+    number_extended c.args.frame.now _ _ c.id-id.ensures.id (c.flag-rtr.ensures.value ∙ ap flag c.rtr.ensures)
+    (sym c.xtd.ensures ∙ c.if-xtd.true) c.id-id.ensures.is_frame.id
 
 pub returns-else-xtd : goal.returns-else-xtd
 returns-else-xtd c =
-    number_standard c.args.frame.now _ _ c.id-id.ensures.id (c.flag-rtr.ensures.value ∙ ap flag c.rtr.ensures) (sym c.xtd.ensures ∙ c.if-xtd.false) c.id-id.ensures.is_frame.id
+    number_standard c.args.frame.now _ _ c.id-id.ensures.id (c.flag-rtr.ensures.value ∙ ap flag c.rtr.ensures)
+    (sym c.xtd.ensures ∙ c.if-xtd.false) c.id-id.ensures.is_frame.id

@@ -4,5 +4,5 @@ use Rattle.ccan_run.specs.Host.{HostLineMeans}
 use Rattle.ccan_run.proofs.Rows.{runs_from}
 use Rattle.ccan_run.proofs.port.run_host.Goals as goal
 
-pub returns : goal.returns
-returns g c = runs_from (λ state value. state ≡ value) (λ terms. HostLineMeans terms c.args.tries) _ _ zero_registers (search) c.run_lines.ensures
+pub returns-clause-runs : goal.returns-clause-runs
+returns-clause-runs g c = runs_from (λ state value. state ≡ value) (λ terms. HostLineMeans terms c.args.tries) _ _ zero_registers (search) c.run_lines.ensures.runs

@@ -11,7 +11,7 @@ use Rattle.ccan_script.proofs.list_reader.lines_of.Goals as goal
 
 pub returns-in_default-clause-reads : goal.returns-in_default-clause-reads
 unfolding lines_in
-returns-in_default-clause-reads g c = rw (c.in_default.is, c.new-lines.ensures.items)
+returns-in_default-clause-reads g c = rw (c.in_default.is, c.new.ensures.items)
     (no_list c.args.list c.args.most (g.L.ScriptLine.fault c.args.context), tt)
 
 pub returns-in_default-as_array-clause-reads : goal.returns-in_default-as_array-clause-reads

@@ -1,5 +1,5 @@
 use Rattle.std.proofs.Common.{refl}
-use Rattle.ccan_bus.proofs.Loops.{cleared_init}
+use Rattle.ccan_bus.proofs.OwnEvents.{cleared_init}
 use Rattle.ccan_bus.proofs.bus.Bus.clear_init.Goals as goal
 
 pub returns-clause-goes_on : goal.returns-clause-goes_on

@@ -1,6 +1,6 @@
 use Rattle.std.proofs.Common.{sym, ◌∙◌}
 use Rattle.ccan_bus.specs.declared.answer.RoundAnswer.TheVariants as answer
-use Rattle.ccan_bus.proofs.Loops.{held_by}
+use Rattle.ccan_bus.proofs.Profiles.{held_by}
 use Rattle.ccan_bus.proofs.Transfers.{ends_sent, ends_nowhere, ends_received, ends_passed}
 use Rattle.ccan_bus.proofs.bus.Bus.contend.Goals as goal
 
@@ -32,7 +32,8 @@ returns-then-is_on g c =
     record {
       same = c.in-Success.ensures.same;
       goes_on =
-          ends_received c.args.line.now c.args.tries c.args.self.now c.run.new.self c.in-Success.winner c.in-Success.frame c.in-Success.ensures.goes_on
+          ends_received c.args.line.now c.args.tries c.args.self.now c.run.new.self c.in-Success.winner c.in-Success.frame
+          c.in-Success.ensures.goes_on
           c.receive.result _ c.answer_of_receipt.ensures c.if-winner-eq0.false (sym c.is_on-is_on.ensures ∙ c.if-is_on.true) c.receive.ensures.adds;
     }
 

@@ -9,5 +9,6 @@ abbrev pub invariant-loop-place : goal.invariant-loop-place
 invariant-loop-place l =
     record {
       room : array_vec_len l.found.all ≤ l.place + 1;
-      so_far : l.found.all.items ≡ filter (λ c. is_on_now l.self c.0) (own_frame l.self.loaded) ++ filter (λ c. is_on_now l.self c.0) (take l.place l.line.send.items);
+      so_far : l.found.all.items ≡ filter (λ c. is_on_now l.self c.0) (own_frame l.self.loaded)
+          ++ filter (λ c. is_on_now l.self c.0) (take l.place l.line.send.items);
     }

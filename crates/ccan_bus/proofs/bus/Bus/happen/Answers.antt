@@ -11,7 +11,9 @@ returns-clause-goes_on c = λ each shared.
     GoesOn-happens each c.args.event c.args.self.now _ c.args.self.now.few
     record {
       others = refl;
-      counters = λ node within. c.counted-self.ensures.each node (omega arith) ∙ ap (λ e. counts_after e (count_at c.args.self.now.nodes node)) (sym (shared node (omega arith)));
+      counters =
+          λ node within. c.counted-self.ensures.each node (omega arith)
+          ∙ ap (λ e. counts_after e (count_at c.args.self.now.nodes node)) (sym (shared node (omega arith)));
       noted_on = λ on.
           subst (λ (k : Counts). AddsStep (Happened c.args.event k.levels) c.args.self.now.status c.noted-self.result)
           (get_or_default c.counted-self.result 0 c.index-self-0.result (new_counts false) (omega (arith, c.counted-self.ensures.all)))

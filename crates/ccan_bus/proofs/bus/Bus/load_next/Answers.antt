@@ -7,7 +7,8 @@ returns-in-Ok-Some g c =
     record {
       same = record { profile = refl; others = refl };
       goes_on =
-          loaded c.args.tries c.args.self.now c.requires.empty (sym c.is_on-is_on.ensures ∙ c.if-is_on.true) _ c.in-Ok-Some.object c.in-Ok-Some.started _ c.loaded_answer.ensures
+          loaded c.args.tries c.args.self.now c.requires.empty (sym c.is_on-is_on.ensures ∙ c.if-is_on.true) _
+          c.in-Ok-Some.object c.in-Ok-Some.started _ c.loaded_answer.ensures
           record { others = refl; nodes = refl; status = refl; loops_back = refl }
           c.loaded-self.ensures (rw c.in-Ok-Some.field-0-is at c.in-Ok-Some.ensures.adds);
     }
@@ -17,7 +18,8 @@ returns-in-Ok-None g c =
     record {
       same = record { profile = refl; others = refl };
       goes_on =
-          none c.args.tries c.args.self.now c.requires.empty (sym c.is_on-is_on.ensures ∙ c.if-is_on.true) (rw c.in-Ok-None.field-0-is at c.in-Ok-None.ensures.adds);
+          none c.args.tries c.args.self.now c.requires.empty (sym c.is_on-is_on.ensures ∙ c.if-is_on.true)
+          (rw c.in-Ok-None.field-0-is at c.in-Ok-None.ensures.adds);
     }
 
 pub returns-in-Err : goal.returns-in-Err
@@ -25,7 +27,8 @@ returns-in-Err g c =
     record {
       same = record { profile = refl; others = refl };
       goes_on =
-          refused c.args.tries c.args.self.now c.requires.empty (sym c.is_on-is_on.ensures ∙ c.if-is_on.true) c.in-Err.refused _ c.refusal_of_load.ensures c.in-Err.ensures.adds;
+          refused c.args.tries c.args.self.now c.requires.empty (sym c.is_on-is_on.ensures ∙ c.if-is_on.true)
+          c.in-Err.refused _ c.refusal_of_load.ensures c.in-Err.ensures.adds;
     }
 
 pub returns-else-is_on : goal.returns-else-is_on

@@ -1,5 +1,6 @@
 use Rattle.std.proofs.Common.{refl}
-use Rattle.ccan_bus.proofs.Loops.{held_by, loop_idle, looped}
+use Rattle.ccan_bus.proofs.Profiles.{held_by}
+use Rattle.ccan_bus.proofs.LoopRounds.{loop_idle, looped}
 use Rattle.ccan_bus.proofs.bus.Bus.loop_round.Goals as goal
 
 pub send_back-requires : goal.send_back-requires

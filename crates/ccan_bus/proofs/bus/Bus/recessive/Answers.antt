@@ -1,5 +1,5 @@
 use Rattle.std.proofs.Common.{refl, arith}
-use Rattle.ccan_bus.proofs.Loops.{recovered}
+use Rattle.ccan_bus.proofs.RecessiveGroups.{recovered}
 use Rattle.ccan_bus.proofs.bus.Bus.recessive.Goals as goal
 
 pub returns-clause-goes_on : goal.returns-clause-goes_on

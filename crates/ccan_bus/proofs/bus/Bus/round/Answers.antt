@@ -1,5 +1,5 @@
 use Rattle.std.proofs.Common.{sym}
-use Rattle.ccan_bus.proofs.Loops.{same_twice, still_same}
+use Rattle.ccan_bus.proofs.Profiles.{same_twice, still_same}
 use Rattle.ccan_bus.proofs.Transfers.{round_transfers, round_refused}
 use Rattle.ccan_bus.proofs.bus.Bus.round.Goals as goal
 
@@ -11,7 +11,8 @@ returns-in-Some g c =
     record {
       same = c.load-loading.ensures.same;
       goes_on =
-          round_refused c.args.line.now c.args.tries c.args.self.now c.load-loading.new.self c.load-loading.result _ (sym c.in-Some.ensures) c.load-loading.ensures.goes_on;
+          round_refused c.args.line.now c.args.tries c.args.self.now c.load-loading.new.self c.load-loading.result _
+          (sym c.in-Some.ensures) c.load-loading.ensures.goes_on;
     }
 
 pub returns-in-None : goal.returns-in-None
@@ -19,6 +20,7 @@ returns-in-None g c =
     record {
       same = same_twice c.load-loading.ensures.same c.transfer.ensures.same;
       goes_on =
-          round_transfers c.args.line.now c.args.tries c.args.self.now c.load-loading.new.self c.transfer.new.self c.load-loading.result _ (sym c.in-None.ensures)
+          round_transfers c.args.line.now c.args.tries c.args.self.now c.load-loading.new.self c.transfer.new.self
+          c.load-loading.result _ (sym c.in-None.ensures)
           c.load-loading.ensures.goes_on c.transfer.ensures.goes_on;
     }

@@ -1,5 +1,5 @@
 use Rattle.std.proofs.Common.{refl}
-use Rattle.ccan_bus.proofs.Loops.{sent_to_itself}
+use Rattle.ccan_bus.proofs.OwnEvents.{sent_to_itself}
 use Rattle.ccan_bus.proofs.bus.Bus.send_to_itself.Goals as goal
 
 pub returns-clause-goes_on : goal.returns-clause-goes_on

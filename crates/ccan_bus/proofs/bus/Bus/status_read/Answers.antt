@@ -12,7 +12,9 @@ returns-clause-goes_on c =
         _,
         LedTo-step past bus _ _ refl refl refl refl c.read.ensures.listed led,
         record {
-          value = c.read.ensures.answers past.steps led.status ∙ ap (word_after past.steps) (levels_now past bus c.index-self-0.result led (omega arith));
+          value =
+              c.read.ensures.answers past.steps led.status ∙ ap (word_after past.steps)
+              (levels_now past bus c.index-self-0.result led (omega arith));
           read = refl;
         },
       );

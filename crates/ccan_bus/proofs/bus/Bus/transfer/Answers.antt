@@ -1,6 +1,6 @@
 use Rattle.std.proofs.Common.{sym, ◌≡◌, ◌&&◌, true, false, ◌∙◌}
 use Rattle.ccan_bus.specs.Bus.{is_on_now}
-use Rattle.ccan_bus.proofs.Loops.{transfers_back, transfers_on, and_true, and_false, and_first, and_second}
+use Rattle.ccan_bus.proofs.AfterLoads.{transfers_back, transfers_on, and_true, and_false, and_first, and_second}
 use Rattle.ccan_bus.proofs.bus.Bus.transfer.Goals.{then-self, else-self}
 use Rattle.ccan_bus.proofs.bus.Bus.transfer.Goals as goal
 

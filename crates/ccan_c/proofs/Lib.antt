@@ -1,0 +1,4 @@
+pub mod AsBox
+pub mod Chips
+pub mod Lines
+pub mod Calls

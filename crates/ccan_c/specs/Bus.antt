@@ -1,0 +1,67 @@
+-- What the calls on the bus's handle stand for: the lines of the bus in a script. Source: this project's own.
+use Rattle.std.specs.Prelude.{ℕ, ◌≡◌, ◌≤◌, ◌==◌, Bool, not, List, map, Option, Some, None, MatchBool, MatchOption, nat_le, if◌then◌else◌}
+use Rattle.ccan_ram.specs.Access.{Goes}
+use Rattle.ccan_bus.specs.Bus.{LedTo}
+use Rattle.ccan_script.specs.declared.bus_line.BusLine.{BusLine}
+use Rattle.ccan_script.specs.declared.bus_line.BusLine.TheVariants as line
+use Rattle.ccan_script.specs.declared.line_answer.LineAnswer.{LineAnswer}
+use Rattle.ccan_script.specs.Limits.{most_groups}
+use Rattle.ccan_run.specs.BusPort.{BusLineMeans}
+use Rattle.ccan_run.specs.Side.{GoesOn}
+use Rattle.ccan_c.specs.declared.held.Held.{Held}
+use Rattle.ccan_c.specs.declared.bus_handle.BusHandle.{BusHandle}
+use Rattle.ccan_c.specs.Answer.{code_of}
+use Rattle.ccan_c.specs.Call.{IsRefused}
+use Rattle.ccan_c.specs.Codes.{flag_range, node_range, groups_range}
+use Rattle.ccan_c.specs.Held.{IsOpenAs, passes}
+use Rattle.ccan_c.specs.Host.{flag_numbered}
+use Rattle.ccan_c.specs.Settings.{is_from_one_to}
+
+-- what a handle stands for
+abbrev pub held_on : BusHandle → Option Held
+held_on bus = bus.handle.seal.value
+
+-- what a number of C says of a switch: 0 is off, and each other number is on
+abbrev pub is_on : ℕ → Bool
+is_on number = not (number == 0)
+
+-- the call stood for a line of the bus with this answer
+pub record RunsBus (line : BusLine) (answer : LineAnswer) (old new : Held) : Type 0 where
+  pub tries : new.tries ≡ old.tries
+  pub nodes : new.nodes ≡ old.nodes
+  pub registers : new.registers ≡ old.registers
+  pub runs : Goes (passes old) (passes new) (λ terms seen added.
+      GoesOn LedTo old.bus new.bus (λ past left. BusLineMeans terms old.tries line past seen added answer left))
+
+-- a handle ran the line, and was answered so
+abbrev pub RunsOn : BusLine → LineAnswer → Option Held → Option Held → Type 0
+RunsOn line answer before after = (held : Held) × (before ≡ Some held) × IsOpenAs (RunsBus line answer held) after
+
+-- C sees the answer to the line
+abbrev pub Answers : {Out : Type 0} → BusLine → (LineAnswer → Out) → Held → Option Held → ℕ → Out → Type 0
+Answers line shown held after result out =
+    (reply : LineAnswer) × IsOpenAs (RunsBus line reply held) after × (result ≡ code_of reply) × (out ≡ shown reply)
+
+-- the same where C sees nothing but the code
+abbrev pub Does : BusLine → Held → Option Held → ℕ → Type 0
+Does line held after result =
+    (reply : LineAnswer) × IsOpenAs (RunsBus line reply held) after × (result ≡ code_of reply)
+
+-- ---- numbers of C
+
+-- the error counters of one of the nodes
+abbrev pub CountsNode : {Out : Type 0} → ℕ → (LineAnswer → Out) → Held → Option Held → ℕ → Out → Type 0
+CountsNode node shown held after result out =
+    MatchBool (nat_le node held.nodes) (Answers (line.Counters node) shown held after result out) (IsRefused node_range held after result)
+
+-- groups of recessive bits
+abbrev pub Recovers : {Out : Type 0} → ℕ → (LineAnswer → Out) → Held → Option Held → ℕ → Out → Type 0
+Recovers groups shown held after result out =
+    MatchBool (is_from_one_to most_groups groups) (Answers (line.Recessive groups) shown held after result out)
+    (IsRefused groups_range held after result)
+
+-- a flag of all objects
+abbrev pub ReadsFlag : {Out : Type 0} → ℕ → (LineAnswer → Out) → Held → Option Held → ℕ → Out → Type 0
+ReadsFlag number shown held after result out =
+    MatchOption (flag_numbered number) (IsRefused flag_range held after result)
+    (λ flag. Answers (line.Flags flag) shown held after result out)

@@ -1,0 +1,12 @@
+pub mod Codes
+pub mod Settings
+pub mod Record
+pub mod Answer
+pub mod Seals
+pub mod Held
+pub mod Together
+pub mod Chip
+pub mod Call
+pub mod Host
+pub mod Bus
+pub mod Round

@@ -1,0 +1,223 @@
+//! The calls of the bus.
+ghost use Rattle.std.specs.Prelude.{◌≡◌, ◌≢◌, ◌⊎◌};
+ghost use Rattle.ccan_script.specs.declared.bus_line.BusLine.TheVariants as line;
+ghost use Rattle.ccan_c.specs.Answer.{counters_shown, flags_shown, load_shown, state_shown, word_shown};
+ghost use Rattle.ccan_c.specs.Bus.{Answers, CountsNode, Does, ReadsFlag, Recovers, held_on, is_on};
+ghost use Rattle.ccan_c.specs.Call.{IsCall};
+ghost use Rattle.ccan_c.specs.Round.{Plays};
+ghost use Rattle.ccan_c.specs.Codes.{busy, closed, done, spent, flag_range, groups_range, node_range};
+
+use crate::bus_handle::BusHandle;
+use crate::code::{
+    CLOSED, FAULT_RANGE, FLAG_RANGE, FRAME_RANGE, FRAMES_RANGE, GROUPS_RANGE, NODE_RANGE, SENDERS,
+    code_of,
+};
+use crate::numbers::flag_numbered;
+use crate::offer::{Offer, fault_numbered, read_offers};
+use crate::shown_counters::ShownCounters;
+use crate::shown_load::ShownLoad;
+use crate::shown_outcome::ShownOutcome;
+use crate::shown_words::{flags_shown, state_shown, word_shown};
+use ccan_script::{BusLine, MAX_FRAMES};
+use std::alloc::Global;
+
+/// The controller chooses an object to send, and starts it.
+#[unsafe(no_mangle)]
+pub extern "C" fn ccan_load(alloc: Global, bus: &mut BusHandle, out: &mut ShownLoad) -> u32
+    ensures call { IsCall (held_on bus.old) (held_on bus.new) result
+        (λ held. Answers line.Load load_shown held (held_on bus.new) result out.new) }
+    ensures refused { result ≡ closed → out.new ≡ out.old }
+{
+    if !bus.handle.is_open() {
+        return CLOSED;
+    }
+    let answer = bus.run(alloc, &BusLine::Load);
+    *out = ShownLoad::of(&answer);
+    code_of(&answer)
+}
+
+/// Reads the Status register. The status interrupt is then no longer pending.
+#[unsafe(no_mangle)]
+pub extern "C" fn ccan_status(alloc: Global, bus: &mut BusHandle, out: &mut u16) -> u32
+    ensures call { IsCall (held_on bus.old) (held_on bus.new) result
+        (λ held. Answers line.Status word_shown held (held_on bus.new) result out.new) }
+    ensures refused { result ≡ closed → out.new ≡ out.old }
+{
+    if !bus.handle.is_open() {
+        return CLOSED;
+    }
+    let answer = bus.run(alloc, &BusLine::Status);
+    *out = word_shown(&answer);
+    code_of(&answer)
+}
+
+/// Sets SIE and EIE, the enables of the status interrupt. 0 is off, each other number is on.
+#[unsafe(no_mangle)]
+pub extern "C" fn ccan_control(alloc: Global, bus: &mut BusHandle, sie: u32, eie: u32) -> u32
+    ensures { IsCall (held_on bus.old) (held_on bus.new) result
+        (λ held. Does (line.Control (is_on sie) (is_on eie)) held (held_on bus.new) result) }
+{
+    if !bus.handle.is_open() {
+        return CLOSED;
+    }
+    let answer = bus.run(
+        alloc,
+        &BusLine::Control {
+            sie: sie != 0,
+            eie: eie != 0,
+        },
+    );
+    code_of(&answer)
+}
+
+/// Clears Init, from where on groups count for a controller that is off.
+#[unsafe(no_mangle)]
+pub extern "C" fn ccan_init(alloc: Global, bus: &mut BusHandle) -> u32
+    ensures { IsCall (held_on bus.old) (held_on bus.new) result
+        (λ held. Does line.Init held (held_on bus.new) result) }
+{
+    if !bus.handle.is_open() {
+        return CLOSED;
+    }
+    let answer = bus.run(alloc, &BusLine::Init);
+    code_of(&answer)
+}
+
+/// Sets loop back mode. 0 is off, each other number is on.
+#[unsafe(no_mangle)]
+pub extern "C" fn ccan_loop_back(alloc: Global, bus: &mut BusHandle, on: u32) -> u32
+    ensures { IsCall (held_on bus.old) (held_on bus.new) result
+        (λ held. Does (line.LoopBack (is_on on)) held (held_on bus.new) result) }
+{
+    if !bus.handle.is_open() {
+        return CLOSED;
+    }
+    let answer = bus.run(alloc, &BusLine::LoopBack(on != 0));
+    code_of(&answer)
+}
+
+/// Lets groups of eleven recessive bits pass, and tells the controller's state.
+#[unsafe(no_mangle)]
+pub extern "C" fn ccan_recessive(
+    alloc: Global,
+    bus: &mut BusHandle,
+    groups: u32,
+    out: &mut u32,
+) -> u32
+    ensures call { IsCall (held_on bus.old) (held_on bus.new) result
+        (λ held. Recovers groups state_shown held (held_on bus.new) result out.new) }
+    ensures refused { (result ≡ closed) ⊎ (result ≡ groups_range) → out.new ≡ out.old }
+{
+    if !bus.handle.is_open() {
+        return CLOSED;
+    }
+    if groups == 0 || groups > 10_000 {
+        return GROUPS_RANGE;
+    }
+    let answer = bus.run(alloc, &BusLine::Recessive(groups as u16));
+    *out = state_shown(&answer);
+    code_of(&answer)
+}
+
+/// Reads the interrupt value: 0x8000 the status interrupt, else the first object with IntPnd, or 0.
+#[unsafe(no_mangle)]
+pub extern "C" fn ccan_bus_interrupt(alloc: Global, bus: &mut BusHandle, out: &mut u16) -> u32
+    ensures call { IsCall (held_on bus.old) (held_on bus.new) result
+        (λ held. Answers line.Interrupt word_shown held (held_on bus.new) result out.new) }
+    ensures refused { result ≡ closed → out.new ≡ out.old }
+{
+    if !bus.handle.is_open() {
+        return CLOSED;
+    }
+    let answer = bus.run(alloc, &BusLine::Interrupt);
+    *out = word_shown(&answer);
+    code_of(&answer)
+}
+
+/// Reads a flag of all objects, that of object k in bit k - 1.
+#[unsafe(no_mangle)]
+pub extern "C" fn ccan_bus_flags(
+    alloc: Global,
+    bus: &mut BusHandle,
+    flag: u32,
+    out: &mut u64,
+) -> u32
+    ensures call { IsCall (held_on bus.old) (held_on bus.new) result
+        (λ held. ReadsFlag flag flags_shown held (held_on bus.new) result out.new) }
+    ensures refused { (result ≡ closed) ⊎ (result ≡ flag_range) → out.new ≡ out.old }
+{
+    if !bus.handle.is_open() {
+        return CLOSED;
+    }
+    let Some(flag) = flag_numbered(flag) else {
+        return FLAG_RANGE;
+    };
+    let answer = bus.run(alloc, &BusLine::Flags(flag));
+    *out = flags_shown(&answer);
+    code_of(&answer)
+}
+
+/// Reads the error counters of a node, node 0 being the controller.
+#[unsafe(no_mangle)]
+pub extern "C" fn ccan_counters(
+    alloc: Global,
+    bus: &mut BusHandle,
+    node: u32,
+    out: &mut ShownCounters,
+) -> u32
+    ensures call { IsCall (held_on bus.old) (held_on bus.new) result
+        (λ held. CountsNode node counters_shown held (held_on bus.new) result out.new) }
+    ensures refused { (result ≡ closed) ⊎ (result ≡ node_range) → out.new ≡ out.old }
+{
+    if !bus.handle.is_open() {
+        return CLOSED;
+    }
+    let mut held = bus.handle.take(alloc);
+    let answer = held.count(node);
+    bus.handle.put(held);
+    match answer {
+        Some(answer) => {
+            *out = ShownCounters::of(&answer);
+            code_of(&answer)
+        }
+        None => NODE_RANGE,
+    }
+}
+
+/// Plays a round: the frames that other nodes offer contend with the controller's, and the winner's is spoiled by a fault,
+/// where there is one.
+#[unsafe(no_mangle)]
+pub extern "C" fn ccan_round(
+    alloc: Global,
+    bus: &mut BusHandle,
+    offers: &[Offer],
+    fault: u32,
+    out: &mut ShownOutcome,
+) -> u32
+    ensures call { IsCall (held_on bus.old) (held_on bus.new) result
+        (λ held. Plays offers.now fault held (held_on bus.new) result out.new) }
+    ensures refused { (result ≢ done) → (result ≢ busy) → (result ≢ spent) → out.new ≡ out.old }
+{
+    if !bus.handle.is_open() {
+        return CLOSED;
+    }
+    if offers.len() > MAX_FRAMES {
+        return FRAMES_RANGE;
+    }
+    let Some(sends) = read_offers(offers) else {
+        return FRAME_RANGE;
+    };
+    let Some(fault) = fault_numbered(fault) else {
+        return FAULT_RANGE;
+    };
+    let mut held = bus.handle.take(alloc);
+    let answer = held.play(sends, fault);
+    bus.handle.put(held);
+    match answer {
+        Some(answer) => {
+            *out = ShownOutcome::of(&answer);
+            code_of(&answer)
+        }
+        None => SENDERS,
+    }
+}

@@ -1,0 +1,66 @@
+//! The lines of the bus, on what an open handle stands for.
+use crate::bus_handle::BusHandle;
+use crate::held::Held;
+use crate::offer::Sends;
+use ccan_bus::{Fault, RoundLine};
+use ccan_run::Side;
+use ccan_script::{BusLine, LineAnswer};
+use std::alloc::Global;
+
+impl Held {
+    ghost use Rattle.std.specs.Prelude.{◌≡◌, IfNone, IfSome, false, nat_le, true};
+    ghost use Rattle.ccan_script.specs.declared.bus_line.BusLine.{BusLine};
+    ghost use Rattle.ccan_bus.specs.declared.round_line.RoundLine.{RoundLine};
+    ghost use Rattle.ccan_bus.specs.RoundLine.{AreSenders};
+    ghost use Rattle.ccan_script.specs.BusLine.{BusFits};
+    ghost use Rattle.ccan_c.specs.Bus.{RunsBus};
+
+    /// Runs a line of the bus.
+    pub(crate) fn run_bus(&mut self, line: &BusLine) -> LineAnswer
+        requires { BusFits self.old.nodes line.now }
+        ensures { RunsBus line.now result self.old self.new }
+    {
+        self.bus.run_line(&mut self.access, line, self.tries)
+    }
+
+    /// The error counters of a node. None where there is no such node.
+    pub(crate) fn count(&mut self, node: u32) -> Option<LineAnswer>
+        ensures none { IfNone result ((nat_le node self.old.nodes ≡ false) × (self.new ≡ self.old)) }
+        ensures some { IfSome result (λ answer. (nat_le node self.old.nodes ≡ true)
+            × RunsBus (BusLine.Counters node) answer self.old self.new) }
+    {
+        if node > u32::from(self.nodes) {
+            return None;
+        }
+        Some(self.run_bus(&BusLine::Counters(node as u8)))
+    }
+
+    /// Plays a round. None where a sender is none of the other nodes, or sends twice.
+    pub(crate) fn play(&mut self, sends: Sends, fault: Fault) -> Option<LineAnswer>
+        ensures none { IfNone result ((AreSenders self.old.nodes sends.items → ⊥) × (self.new ≡ self.old)) }
+        ensures some { IfSome result (λ answer. AreSenders self.old.nodes sends.items
+            × ((round : RoundLine) × (round.send.items ≡ sends.items) × (round.fault ≡ fault)
+            × RunsBus (BusLine.Round round) answer self.old self.new)) }
+    {
+        let round = RoundLine::new(self.nodes, sends, fault)?;
+        Some(self.run_bus(&BusLine::Round(round)))
+    }
+}
+
+impl BusHandle {
+    ghost use Rattle.std.specs.Prelude.{ℕ, IsSome};
+    ghost use Rattle.ccan_script.specs.BusLine.{BusFits};
+    ghost use Rattle.ccan_c.specs.Bus.{RunsOn, held_on};
+
+    /// Runs a line that fits however many nodes there are.
+    pub(crate) fn run(&mut self, alloc: Global, line: &BusLine) -> LineAnswer
+        requires open { IsSome (held_on self.old) }
+        requires fits { (nodes : ℕ) → BusFits nodes line.now }
+        ensures { RunsOn line.now result (held_on self.old) (held_on self.new) }
+    {
+        let mut held = self.handle.take(alloc);
+        let answer = held.run_bus(line);
+        self.handle.put(held);
+        answer
+    }
+}

@@ -1,0 +1,62 @@
+//! What the calls from C answer. C sees these numbers, and no others.
+ghost use Rattle.std.specs.Prelude.{◌≡◌};
+ghost use Rattle.ccan_c.specs.Answer.{code_of};
+
+use ccan_bus::{LoadAnswer, RoundAnswer};
+use ccan_script::LineAnswer;
+
+/// Done.
+pub(crate) const DONE: u32 = 0;
+/// The handle is closed.
+pub(crate) const CLOSED: u32 = 1;
+/// Each try was lost to a change of another port.
+pub(crate) const BUSY: u32 = 2;
+/// The port has made as many changes as it may.
+pub(crate) const SPENT: u32 = 3;
+/// Memory ran out.
+pub(crate) const NO_MEMORY: u32 = 4;
+/// Somebody else holds the memory.
+pub(crate) const SHARED: u32 = 5;
+/// There is no such profile.
+pub(crate) const PROFILE_RANGE: u32 = 6;
+/// There are too many nodes.
+pub(crate) const NODES_RANGE: u32 = 7;
+/// A port may not be given so few or so many changes.
+pub(crate) const QUOTA_RANGE: u32 = 8;
+/// A change may not be tried so seldom or so often.
+pub(crate) const TRIES_RANGE: u32 = 9;
+/// There is no such register.
+pub(crate) const REGISTER_RANGE: u32 = 10;
+/// The chip has no such object.
+pub(crate) const OBJECT_RANGE: u32 = 11;
+/// There is no such flag.
+pub(crate) const FLAG_RANGE: u32 = 12;
+/// An object may not be looked at so seldom or so often.
+pub(crate) const TURNS_RANGE: u32 = 13;
+/// The bus has no such node.
+pub(crate) const NODE_RANGE: u32 = 14;
+/// So few or so many groups of recessive bits may not pass in one call.
+pub(crate) const GROUPS_RANGE: u32 = 15;
+/// There are too many frames.
+pub(crate) const FRAMES_RANGE: u32 = 16;
+/// The identifier or the length of a frame is out of its range.
+pub(crate) const FRAME_RANGE: u32 = 17;
+/// There is no such fault.
+pub(crate) const FAULT_RANGE: u32 = 18;
+/// A sender is none of the other nodes, or sends twice.
+pub(crate) const SENDERS: u32 = 19;
+
+/// Busy or spent where a step of the memory was, else done.
+pub(crate) fn code_of(answer: &LineAnswer) -> u32
+    ensures { result ≡ code_of answer.now }
+{
+    match answer {
+        LineAnswer::Busy(_) => BUSY,
+        LineAnswer::Spent(_) => SPENT,
+        LineAnswer::Load(LoadAnswer::Busy(_)) => BUSY,
+        LineAnswer::Load(LoadAnswer::Spent(_)) => SPENT,
+        LineAnswer::Round(RoundAnswer::Busy(_)) => BUSY,
+        LineAnswer::Round(RoundAnswer::Spent(_)) => SPENT,
+        _ => DONE,
+    }
+}

@@ -1,0 +1,46 @@
+//! A C_CAN controller for programs in C.
+#![tactic(auto)]
+
+mod bus;
+mod bus_handle;
+mod bus_lines;
+mod chip;
+mod code;
+mod ending;
+mod handle;
+mod held;
+mod host;
+mod host_handle;
+mod host_lines;
+mod numbers;
+mod offer;
+mod opening;
+mod seal;
+mod settings;
+mod shared_port;
+mod shown_counters;
+mod shown_final;
+mod shown_load;
+mod shown_outcome;
+mod shown_record;
+mod shown_words;
+#[cfg(test)]
+mod tests;
+
+pub use bus::{
+    ccan_bus_flags, ccan_bus_interrupt, ccan_control, ccan_counters, ccan_init, ccan_load,
+    ccan_loop_back, ccan_recessive, ccan_round, ccan_status,
+};
+pub use bus_handle::BusHandle;
+pub use chip::Chip;
+pub use ending::ccan_end;
+pub use handle::{Handle, handles_may_cross};
+pub use host::{ccan_flags, ccan_get, ccan_interrupt, ccan_request, ccan_set, ccan_until};
+pub use host_handle::HostHandle;
+pub use offer::Offer;
+pub use opening::{ccan_is_open, ccan_open};
+pub use shown_counters::ShownCounters;
+pub use shown_final::ShownFinal;
+pub use shown_load::ShownLoad;
+pub use shown_outcome::ShownOutcome;
+pub use shown_record::ShownRecord;

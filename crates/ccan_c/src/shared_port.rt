@@ -1,0 +1,45 @@
+ghost use Rattle.std.specs.Prelude.{◌≡◌};
+ghost use Rattle.std.specs.Arc.{arc_value};
+
+use ccan_object::{ObjectNo, Profile, Record};
+use ccan_ram::{Access, Change, Changed, Refused, SharedRam, Tries};
+use ccan_words::{Port, WordRam};
+use std::alloc::Global;
+use std::sync::Arc;
+
+/// A port, with a share of its memory. The last share that goes takes the memory with it. What the access has seen is what
+/// the port has seen.
+#[derive(Drop)]
+pub struct SharedPort {
+    pub ram: Arc<WordRam, Global>,
+    pub port: Port,
+    ghost belongs: { port.memory ≡ (arc_value ram).words },
+}
+
+impl Access for SharedPort {
+    ghost use Rattle.ccan_ram.specs.SharedRam.{passes_of};
+    ghost use Rattle.ccan_words.specs.OneWordEach.{same_object};
+
+    ghost passes = { λ shared. passes_of same_object shared.port };
+
+    fn profile(&self) -> Profile {
+        self.ram.profile()
+    }
+
+    fn look(&mut self, object: ObjectNo) -> Record {
+        self.ram.look(&mut self.port, object)
+    }
+
+    fn change(
+        &mut self,
+        object: ObjectNo,
+        change: &Change,
+        tries: Tries,
+    ) -> Result<Changed, Refused> {
+        self.ram.change(&mut self.port, object, change, tries)
+    }
+
+    ghost legal = { λ shared seen h. h.1.legal };
+
+    ghost within = { λ shared seen port h. h.1.within port };
+}

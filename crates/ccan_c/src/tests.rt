@@ -1,0 +1,209 @@
+//! The calls of C, from here.
+use crate::bus::{
+    ccan_bus_flags, ccan_bus_interrupt, ccan_control, ccan_counters, ccan_init, ccan_load,
+    ccan_loop_back, ccan_recessive, ccan_round, ccan_status,
+};
+use crate::chip::Chip;
+use crate::ending::ccan_end;
+use crate::host::{ccan_flags, ccan_get, ccan_interrupt, ccan_request, ccan_set, ccan_until};
+use crate::host_handle::HostHandle;
+use crate::offer::Offer;
+use crate::opening::{ccan_is_open, ccan_open};
+use crate::shown_counters::ShownCounters;
+use crate::shown_final::ShownFinal;
+use crate::shown_load::ShownLoad;
+use crate::shown_outcome::ShownOutcome;
+use crate::shown_record::ShownRecord;
+use ccan_object::Record;
+use std::alloc::Global;
+use std::process::Abort;
+
+/// A place for final records.
+fn nothing() -> ShownFinal {
+    ShownFinal {
+        objects: 0,
+        records: [ShownRecord::of(&Record::zero()); 64],
+    }
+}
+
+#[test]
+fn a_chip_opens_and_ends(rt: HostRuntime) {
+    let alloc = rt.alloc();
+    let mut chip = Chip::closed(alloc);
+    let mut last = nothing();
+    assert_eq!(rt; ccan_end(alloc, &mut chip, &mut last), 1);
+    assert_eq!(rt; ccan_open(alloc, &mut chip, 3, 0, 64, 100), 6);
+    assert_eq!(rt; ccan_open(alloc, &mut chip, 1, 9, 64, 100), 7);
+    assert_eq!(rt; ccan_open(alloc, &mut chip, 1, 8, 4097, 100), 8);
+    assert_eq!(rt; ccan_open(alloc, &mut chip, 2, 8, 4096, 0), 9);
+    assert!(rt; !ccan_is_open(&chip));
+    assert_eq!(rt; ccan_open(alloc, &mut chip, 2, 8, 4096, 1000), 0);
+    assert!(rt; ccan_is_open(&chip));
+    assert_eq!(rt; ccan_end(alloc, &mut chip, &mut last), 0);
+    assert_eq!(rt; last.objects, 64);
+    assert!(rt; !ccan_is_open(&chip));
+}
+
+/// The register of this number as a host reads it.
+fn shown(alloc: Global, host: &mut HostHandle, register: u32) -> u16 {
+    let mut value = 0;
+    ccan_get(alloc, host, register, &mut value);
+    value
+}
+
+#[test]
+fn what_one_host_writes_the_other_reads(rt: HostRuntime) {
+    let alloc = rt.alloc();
+    let mut chip = Chip::closed(alloc);
+    assert_eq!(rt; ccan_set(alloc, &mut chip.if1, 0, 0x00f3), 1);
+    assert_eq!(rt; ccan_open(alloc, &mut chip, 1, 0, 64, 100), 0);
+    assert_eq!(rt; ccan_set(alloc, &mut chip.if1, 10, 0x00f3), 10);
+    assert_eq!(rt; ccan_set(alloc, &mut chip.if1, 0, 0x00f3), 0);
+    assert_eq!(rt; ccan_set(alloc, &mut chip.if1, 4, 0xa48c), 0);
+    assert_eq!(rt; ccan_set(alloc, &mut chip.if1, 5, 0x2088), 0);
+    assert_eq!(rt; ccan_set(alloc, &mut chip.if1, 6, 0x2211), 0);
+    assert_eq!(rt; ccan_request(alloc, &mut chip.if1, 5), 0);
+    assert_eq!(rt; ccan_set(alloc, &mut chip.if2, 0, 0x007f), 0);
+    assert_eq!(rt; ccan_request(alloc, &mut chip.if2, 5), 0);
+    assert_eq!(rt; shown(alloc, &mut chip.if2, 4), 0xa48c);
+    assert_eq!(rt; shown(alloc, &mut chip.if2, 6), 0x2211);
+    let mut word = 0;
+    assert_eq!(rt; ccan_flags(alloc, &mut chip.if1, 4, &mut word), 0);
+    assert_eq!(rt; word, 0x10);
+    assert_eq!(rt; ccan_flags(alloc, &mut chip.if1, 5, &mut word), 12);
+    let mut value = 7;
+    assert_eq!(rt; ccan_interrupt(alloc, &mut chip.if2, &mut value), 0);
+    assert_eq!(rt; value, 0);
+    let mut shows = 7;
+    assert_eq!(rt; ccan_until(alloc, &mut chip.if2, 5, 4, 1, &mut shows), 0);
+    assert_eq!(rt; shows, 1);
+    assert_eq!(rt; ccan_until(alloc, &mut chip.if2, 33, 4, 1, &mut shows), 11);
+    assert_eq!(rt; ccan_until(alloc, &mut chip.if2, 5, 4, 0, &mut shows), 13);
+}
+
+#[test]
+fn a_quota_is_spent(rt: HostRuntime) {
+    let alloc = rt.alloc();
+    let mut chip = Chip::closed(alloc);
+    assert_eq!(rt; ccan_open(alloc, &mut chip, 1, 0, 1, 1), 0);
+    assert_eq!(rt; ccan_set(alloc, &mut chip.if1, 0, 0x0090), 0);
+    assert_eq!(rt; ccan_request(alloc, &mut chip.if1, 1), 0);
+    assert_eq!(rt; ccan_request(alloc, &mut chip.if1, 1), 3);
+    let mut last = nothing();
+    assert_eq!(rt; ccan_end(alloc, &mut chip, &mut last), 0);
+    assert_eq!(rt; ccan_request(alloc, &mut chip.if1, 1), 1);
+}
+
+/// Sets registers of a host, each by its number.
+fn set(alloc: Global, host: &mut HostHandle, settings: &[(u32, u16)]) {
+    for (register, value) in settings {
+        ccan_set(alloc, host, *register, *value);
+    }
+}
+
+/// The frame 0x123 with two bytes, from a node.
+fn offer(node: u8) -> Offer {
+    Offer {
+        id: 0x123,
+        node,
+        xtd: 0,
+        rtr: 0,
+        dlc: 2,
+        bytes: [0x11, 0x22, 0, 0, 0, 0, 0, 0],
+    }
+}
+
+/// A place for an outcome.
+fn no_outcome() -> ShownOutcome {
+    ShownOutcome {
+        kind: 77,
+        object: 0,
+        finished: ShownRecord::of(&Record::zero()),
+        stored: 0,
+        stored_record: ShownRecord::of(&Record::zero()),
+    }
+}
+
+#[test]
+fn a_frame_is_stored_and_one_is_sent(rt: HostRuntime) {
+    let alloc = rt.alloc();
+    let mut chip = Chip::closed(alloc);
+    let mut outcome = no_outcome();
+    assert_eq!(rt; ccan_round(alloc, &mut chip.bus, &[], 0, &mut outcome), 1);
+    assert_eq!(rt; outcome.kind, 77);
+    assert_eq!(rt; ccan_open(alloc, &mut chip, 1, 1, 64, 100), 0);
+    set(
+        alloc,
+        &mut chip.if1,
+        &[(0, 0x00f3), (4, 0x848c), (5, 0x0488)],
+    );
+    assert_eq!(rt; ccan_request(alloc, &mut chip.if1, 5), 0);
+    assert_eq!(rt;
+        ccan_round(alloc, &mut chip.bus, &[offer(1)], 0, &mut outcome),
+        0
+    );
+    assert_eq!(rt; outcome.kind, 2);
+    assert_eq!(rt; outcome.stored, 5);
+    assert_eq!(rt; outcome.stored_record.control, 0xa482);
+    let mut word = 0;
+    assert_eq!(rt; ccan_status(alloc, &mut chip.bus, &mut word), 0);
+    assert_eq!(rt; word, 0x0010);
+    assert_eq!(rt; ccan_bus_interrupt(alloc, &mut chip.bus, &mut word), 0);
+    assert_eq!(rt; word, 5);
+    let mut newdat = 0;
+    assert_eq!(rt; ccan_bus_flags(alloc, &mut chip.bus, 0, &mut newdat), 0);
+    assert_eq!(rt; newdat, 0x10);
+    set(
+        alloc,
+        &mut chip.if2,
+        &[(0, 0x00f3), (4, 0xa400), (5, 0x0981)],
+    );
+    assert_eq!(rt; ccan_request(alloc, &mut chip.if2, 2), 0);
+    let mut loaded = ShownLoad {
+        kind: 77,
+        object: 0,
+        held: ShownRecord::of(&Record::zero()),
+    };
+    assert_eq!(rt; ccan_load(alloc, &mut chip.bus, &mut loaded), 0);
+    assert_eq!(rt; loaded.kind, 1);
+    assert_eq!(rt; loaded.object, 2);
+    assert_eq!(rt; ccan_round(alloc, &mut chip.bus, &[], 0, &mut outcome), 0);
+    assert_eq!(rt; outcome.kind, 1);
+    assert_eq!(rt; outcome.object, 2);
+    assert_eq!(rt; outcome.finished.control, 0x2881);
+}
+
+#[test]
+fn numbers_out_of_range_are_refused(rt: HostRuntime) {
+    let alloc = rt.alloc();
+    let mut chip = Chip::closed(alloc);
+    assert_eq!(rt; ccan_open(alloc, &mut chip, 2, 1, 64, 100), 0);
+    let mut outcome = no_outcome();
+    let bus = &mut chip.bus;
+    assert_eq!(rt; ccan_round(alloc, bus, &[offer(1); 9], 0, &mut outcome), 16);
+    let mut wide = offer(1);
+    wide.id = 0x800;
+    assert_eq!(rt; ccan_round(alloc, bus, &[wide], 0, &mut outcome), 17);
+    assert_eq!(rt; ccan_round(alloc, bus, &[offer(1)], 6, &mut outcome), 18);
+    assert_eq!(rt; ccan_round(alloc, bus, &[offer(2)], 0, &mut outcome), 19);
+    assert_eq!(rt; outcome.kind, 77);
+    let mut counters = ShownCounters {
+        tec: 9,
+        rec: 9,
+        state: 9,
+    };
+    assert_eq!(rt; ccan_counters(alloc, bus, 2, &mut counters), 14);
+    assert_eq!(rt; ccan_counters(alloc, bus, 1, &mut counters), 0);
+    assert_eq!(rt; counters.tec, 0);
+    assert_eq!(rt; counters.rec, 0);
+    assert_eq!(rt; counters.state, 0);
+    assert_eq!(rt; ccan_control(alloc, bus, 1, 0), 0);
+    assert_eq!(rt; ccan_init(alloc, bus), 0);
+    let mut state = 9;
+    assert_eq!(rt; ccan_recessive(alloc, bus, 0, &mut state), 15);
+    assert_eq!(rt; ccan_recessive(alloc, bus, 128, &mut state), 0);
+    assert_eq!(rt; state, 0);
+    assert_eq!(rt; ccan_loop_back(alloc, bus, 1), 0);
+    assert_eq!(rt; ccan_round(alloc, bus, &[], 0, &mut outcome), 0);
+    assert_eq!(rt; outcome.kind, 0);
+}

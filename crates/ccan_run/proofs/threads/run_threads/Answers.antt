@@ -1,0 +1,18 @@
+use Rattle.std.proofs.Common.{◌≡◌, refl}
+use Rattle.ccan_script.specs.Reader.{fields_of}
+use Rattle.ccan_run.specs.Threads.{HaveRun}
+use Rattle.ccan_run.proofs.AtOnce.{at_once}
+use Rattle.ccan_run.proofs.threads.run_threads.Goals as goal
+
+pub returns-clause-ok : goal.returns-clause-ok
+returns-clause-ok g c =
+    let all = c.in_ok-if1.field-0 in
+    let script = fields_of c.args.script.now in
+    let pass = g.R.SharedRam.pass in
+    let contends = g.R.SharedRam.contends in
+    let memory = g.R.SharedRam.memory c.in_ok-ram.ram in
+    let stops = g.G.Gate.stops c.args.gate.now in
+    let ran : HaveRun pass contends stops memory script all = rw c.in_ok-if1.ensures.ok.0 c.in_ok-runs.ensures.ok in
+    at_once pass contends stops memory script all
+    (record { if1 = all.if1.log; if2 = all.if2.log; bus = all.bus.log; last = c.close.result })
+    c.in_ok-ram.ensures.memory ran c.in_ok-if1.ensures.ok.1 refl refl refl c.close.ensures

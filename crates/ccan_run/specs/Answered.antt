@@ -1,0 +1,167 @@
+-- What the answers of a run without an order tell, as steps of one history: whose step it is, at which object, what it did,
+-- what it found and what it left. Source: C_CAN User's Manual 1.2, section 4.2.1 for what a transfer moves, and section 3.4
+-- for the Interrupt Register and the flags of all objects; that each answer has steps of its own, in its port's order, is
+-- this project's own.
+use Rattle.std.specs.Prelude.{ℕ, ◌≡◌, ◌-◌, ◌⊎◌, Bool, true, List, [], ◌∷◌, ◌++◌, None, Some, Contains, if◌then◌else◌}
+use Rattle.ccan_object.specs.declared.profile.Profile.{Profile}
+use Rattle.ccan_object.specs.declared.record.Record.{Record}
+use Rattle.ccan_object.specs.declared.command.CommandMask.{CommandMask}
+use Rattle.ccan_object.specs.Bits.{bit}
+use Rattle.ccan_object.specs.Command.{is_pure_read}
+use Rattle.ccan_object.specs.Group.{by_groups}
+use Rattle.ccan_object.specs.Interface.{Registers, zero_registers}
+use Rattle.ccan_object.specs.Profile.{Holds}
+use Rattle.ccan_accept.specs.declared.frame.Frame.{Frame}
+use Rattle.ccan_ram.specs.declared.port.PortName.{PortName}
+use Rattle.ccan_ram.specs.declared.port.PortName.TheVariants.{If1, If2, Bus}
+use Rattle.ccan_ram.specs.declared.change.Change.{Change}
+use Rattle.ccan_ram.specs.declared.change.Change.TheVariants as change
+use Rattle.ccan_ram.specs.declared.event.Event.{Event}
+use Rattle.ccan_ram.specs.declared.event.Operation.{Operation}
+use Rattle.ccan_ram.specs.declared.event.Operation.TheVariants.{Look, Make}
+use Rattle.ccan_ram.specs.declared.flag.Flag.{Flag}
+use Rattle.ccan_ram.specs.declared.flag.Flag.TheVariants.{IntPnd}
+use Rattle.ccan_ram.specs.Flags.{flag_of}
+use Rattle.ccan_ram.specs.History.{IsLegal, changes_by, events_of}
+use Rattle.ccan_ram.specs.Ending.{final_records}
+use Rattle.ccan_bus.specs.declared.answer.LoadAnswer.TheVariants as load
+use Rattle.ccan_bus.specs.declared.answer.RoundAnswer.{RoundAnswer}
+use Rattle.ccan_bus.specs.declared.answer.RoundAnswer.TheVariants as round
+use Rattle.ccan_script.specs.declared.host_line.HostLine.{HostLine}
+use Rattle.ccan_script.specs.declared.host_line.HostLine.TheVariants as host
+use Rattle.ccan_script.specs.declared.line_answer.LineAnswer.{LineAnswer}
+use Rattle.ccan_script.specs.declared.line_answer.LineAnswer.TheVariants as answer
+use Rattle.ccan_script.specs.Script.{ScriptFields}
+use Rattle.ccan_run.specs.declared.outcome.Outcome.{Outcome}
+use Rattle.ccan_run.specs.Transfer.{with_settings}
+
+-- a step of the port at the object is among these, which did this, found the one record and left the other
+abbrev pub HasStep : PortName → ℕ → Operation → Record → Record → List Event → Type 0
+HasStep port object operation before after events =
+    Contains events
+    (record { port = port; object = object; operation = operation; before = before; after = after })
+
+-- ---- looks
+
+-- a look at the object showed the flag so
+abbrev pub FlagWasShown : PortName → ℕ → Flag → Bool → List Event → Type 0
+FlagWasShown port object flag is events =
+    (shown : Record) × HasStep port object Look shown shown events × (flag_of flag shown ≡ is)
+
+-- the interrupt value is 0, or the number of an object of which a look showed IntPnd
+abbrev pub NamesPending : PortName → ℕ → List Event → Type 0
+NamesPending port value events = (value ≡ 0) ⊎ FlagWasShown port value IntPnd true events
+
+-- bit k - 1 of the word is the flag of object k, as a look at it showed it
+abbrev pub WordWasShown : PortName → Profile → Flag → ℕ → List Event → Type 0
+WordWasShown port profile flag word events =
+    (object : ℕ) → Holds profile object → FlagWasShown port object flag (bit word (object - 1)) events
+
+-- ---- hosts
+
+-- a write: the object was written with what the registers held, which left this record
+abbrev pub WasWritten : PortName → Registers → ℕ → Record → List Event → Type 0
+WasWritten port registers object left events =
+    (before : Record) × HasStep port object (Make (change.Write registers.command registers.buffer)) before left events
+
+-- a read that clears nothing is a look
+abbrev pub reading : CommandMask → Operation
+reading command = if is_pure_read command then Look else Make (change.Clear command)
+
+-- a read: the selected groups are those of the record that it found, the others as the registers held them
+pub record WasRead (port : PortName) (registers : Registers) (object : ℕ) (shown : Record) (events : List Event) : Type 0 where
+  pub before : Record
+  pub after : Record
+  pub step : HasStep port object (reading registers.command) before after events
+  pub shows : shown ≡ by_groups registers.command before registers.buffer
+
+-- these steps show the answer to a line of a host whose registers were set so. An answer that is not named here tells of no
+-- transfer that was made, and of no flag that was shown
+abbrev pub HostShownBy : PortName → Registers → LineAnswer → List Event → Type 0
+HostShownBy port registers (answer.Write object left) events = WasWritten port registers object left events
+HostShownBy port registers (answer.Read object shown) events = WasRead port registers object shown events
+HostShownBy port registers (answer.Until object flag true) events = FlagWasShown port object flag true events
+HostShownBy port registers (answer.Interrupt value) events = NamesPending port value events
+HostShownBy port registers (answer.Flags flag word profile) events = WordWasShown port profile flag word events
+HostShownBy port registers reply events = Unit {0}
+
+-- how many changes the answer tells
+abbrev pub changes_told : Registers → LineAnswer → ℕ
+changes_told registers (answer.Write object left) = 1
+changes_told registers (answer.Read object shown) = if is_pure_read registers.command then 0 else 1
+changes_told registers reply = 0
+
+-- a part of the history in which a line of a host was run: its steps show the answer, and the host made no other changes in
+-- it than the answer tells
+pub record IsHostPart (port : PortName) (registers : Registers) (reply : LineAnswer) (events : List Event) : Type 0 where
+  pub shown : HostShownBy port registers reply events
+  pub changes : changes_by port events ≡ changes_told registers reply
+
+-- the registers as a line sets them
+abbrev pub registers_set : HostLine → Registers → Registers
+registers_set (host.Transfer request set) registers = with_settings set.items registers
+registers_set line registers = registers
+
+-- the registers after the answer: a transfer that was made answers what their buffer then shows
+abbrev pub registers_after : LineAnswer → Registers → Registers
+registers_after (answer.Write object shown) registers = record registers { buffer = shown }
+registers_after (answer.Read object shown) registers = record registers { buffer = shown }
+registers_after reply registers = registers
+
+-- each line has an answer and a part of the history, after those of the lines before it, and the port has no step after the
+-- part of its last line. A history has its newest event in front
+abbrev pub HostInOrder : PortName → List HostLine → Registers → List LineAnswer → List Event → Type 0
+HostInOrder port [] registers [] history = events_of port history ≡ []
+HostInOrder port (line ∷ lines) registers (reply ∷ replies) history =
+    let set = registers_set line registers in
+    (later : List Event) × (first : List Event) × (history ≡ later ++ first)
+    × IsHostPart port set reply first × HostInOrder port lines (registers_after reply set) replies later
+HostInOrder port lines registers replies history = ⊥
+
+-- ---- the bus
+
+-- a change of the bus at the object, which left this record
+abbrev pub WasChanged : ℕ → Change → Record → List Event → Type 0
+WasChanged object change left events = (before : Record) × HasStep Bus object (Make change) before left events
+
+-- a store of some frame, which left this record
+abbrev pub WasStored : ℕ × Record → List Event → Type 0
+WasStored found events = (frame : Frame) × WasChanged found.0 (change.Store frame) found.1 events
+
+-- these steps show what came of a round. A round also starts what it loads, and one that is refused in loop back mode may
+-- have finished what it sent: no answer tells these changes
+abbrev pub RoundShownBy : RoundAnswer → List Event → Type 0
+RoundShownBy (round.Sent object left) events = WasChanged object change.Finish left events
+RoundShownBy (round.Received (Some found)) events = WasStored found events
+RoundShownBy (round.Looped object left None) events = WasChanged object change.Finish left events
+RoundShownBy (round.Looped object left (Some found)) events =
+    WasChanged object change.Finish left events × WasStored found events
+RoundShownBy ended events = Unit {0}
+
+-- these steps show the answer to a line of the bus. Its interrupt value can also be that of the status interrupt
+abbrev pub BusShownBy : LineAnswer → List Event → Type 0
+BusShownBy (answer.Load (load.Loaded object left)) events = WasChanged object change.Start left events
+BusShownBy (answer.Round ended) events = RoundShownBy ended events
+BusShownBy (answer.Interrupt value) events = (value ≡ 0x8000) ⊎ NamesPending Bus value events
+BusShownBy (answer.Flags flag word profile) events = WordWasShown Bus profile flag word events
+BusShownBy reply events = Unit {0}
+
+-- each answer of the bus has a part of the history, after those of the answers before it, and the bus has no step after the
+-- part of its last answer
+abbrev pub BusInOrder : List LineAnswer → List Event → Type 0
+BusInOrder [] history = events_of Bus history ≡ []
+BusInOrder (reply ∷ replies) history =
+    (later : List Event) × (first : List Event) × (history ≡ later ++ first)
+    × BusShownBy reply first × BusInOrder replies later
+
+-- ---- a run
+
+-- one legal history stands behind the outcome: it shows each answer of each port by steps of that answer's own, in the
+-- port's order, and leaves the objects as they are at the end
+pub record IsAnswered (script : ScriptFields) (outcome : Outcome) : Type 0 where
+  pub history : List Event
+  pub legal : IsLegal script.profile history
+  pub if1 : HostInOrder If1 script.if1 zero_registers outcome.if1.items history
+  pub if2 : HostInOrder If2 script.if2 zero_registers outcome.if2.items history
+  pub bus : BusInOrder outcome.bus.items history
+  pub left : outcome.last.records ≡ final_records script.profile history

@@ -1,0 +1,44 @@
+//! The words of the command line.
+use ccan_run::{CliError, RunMode, mode};
+use std::test::Fail;
+
+#[test]
+fn takes_the_name_of_a_mode(rt: HostRuntime) {
+    for (words, want) in [
+        (["ccan"].as_slice(), Ok(RunMode::Run)),
+        (["ccan", "run"].as_slice(), Ok(RunMode::Run)),
+        (["ccan", "threads"].as_slice(), Ok(RunMode::Threads)),
+        (["ccan", "x"].as_slice(), Err(CliError::Words)),
+        (["ccan", ""].as_slice(), Err(CliError::Words)),
+        (["ccan", "Threads"].as_slice(), Err(CliError::Words)),
+        (["ccan", "thread"].as_slice(), Err(CliError::Words)),
+        (["ccan", "run", "threads"].as_slice(), Err(CliError::Words)),
+        (["ccan", "run", "run"].as_slice(), Err(CliError::Words)),
+        (["ccan", "--help"].as_slice(), Err(CliError::Words)),
+        (["ccan", "help"].as_slice(), Err(CliError::Words)),
+        (["ccan", "--threads"].as_slice(), Err(CliError::Words)),
+    ] {
+        assert_eq!(rt; mode(rt.alloc(), words), want, "at {} words", words.len());
+    }
+}
+
+#[test]
+fn tells_each_fault(rt: HostRuntime) -> Result<(), Fail> {
+    for (fault, want, status) in [
+        (CliError::Words, "ccan: command line", 2),
+        (CliError::Memory, "ccan: out of memory", 3),
+    ] {
+        let text = format!(in rt.alloc(); "{fault}")?;
+        assert_eq!(rt; text.as_str(), want);
+        assert_eq!(rt; fault.status(), status, "at {want}");
+    }
+    Ok(())
+}
+
+#[test]
+fn laws_hold() {
+    ccan_run::laws::no_word_runs();
+    ccan_run::laws::run_runs();
+    ccan_run::laws::threads_means_threads();
+    ccan_run::laws::other_words_are_refused();
+}

@@ -1,0 +1,179 @@
+//! Scripts in threads. No text here comes from the program.
+use super::*;
+
+/// Each host sets NewDat in an object of its own, and waits for that of the other.
+const WAIT_FOR_EACH_OTHER: &[u8] = br#"{"if1":[
+    {"op":"transfer","request":"0001","set":{"cmask":"0090","ctrl":"8000"}},
+    {"op":"until","object":2,"flag":"newdat","turns":1000}],
+  "if2":[
+    {"op":"transfer","request":"0002","set":{"cmask":"0090","ctrl":"8000"}},
+    {"op":"until","object":1,"flag":"newdat","turns":1000}]}"#;
+
+/// The same, but IF1 looks once.
+const LOOK_ONCE: &[u8] = br#"{"if1":[
+    {"op":"transfer","request":"0001","set":{"cmask":"0090","ctrl":"8000"}},
+    {"op":"until","object":2,"flag":"newdat","turns":1}],
+  "if2":[
+    {"op":"transfer","request":"0002","set":{"cmask":"0090","ctrl":"8000"}},
+    {"op":"until","object":1,"flag":"newdat","turns":1000}]}"#;
+
+/// A message in object 1.
+const WRITE: &[u8] = br#"{"if1":[{"op":"transfer","request":"0001","set":
+    {"cmask":"00f3","arb2":"a48c","ctrl":"0088","dataa1":"2211","dataa2":"4433","datab1":"6655","datab2":"8877"}}]}"#;
+
+/// Two writes by a port that may make one, and a read.
+const SPENT: &[u8] = br#"{"quota":1,"if1":[
+    {"op":"transfer","request":"0001","set":
+    {"cmask":"00f3","arb2":"a48c","ctrl":"0088","dataa1":"2211","dataa2":"4433","datab1":"6655","datab2":"8877"}},
+    {"op":"transfer","request":"0001","set":
+    {"cmask":"0087","dataa1":"9999","dataa2":"9999","datab1":"9999","datab2":"9999"}},
+    {"op":"transfer","request":"0001","set":{"cmask":"0073"}}]}"#;
+
+/// Each host may make one change; IF1 asks for two.
+const TWICE: &[u8] = br#"{"quota":1,"if1":[
+    {"op":"transfer","request":"0001","set":
+    {"cmask":"00f3","arb2":"a48c","ctrl":"0088","dataa1":"2211","dataa2":"4433","datab1":"6655","datab2":"8877"}},
+    {"op":"transfer","request":"0001","set":
+    {"cmask":"00f3","arb2":"a48c","ctrl":"0088","dataa1":"2211","dataa2":"4433","datab1":"6655","datab2":"8877"}}],
+  "if2":[{"op":"transfer","request":"0002","set":
+    {"cmask":"00f3","arb2":"a48c","ctrl":"0088","dataa1":"2211","dataa2":"4433","datab1":"6655","datab2":"8877"}}]}"#;
+
+/// Object 64, and loop back on the bus.
+const LAST_OBJECT: &[u8] = br#"{"profile":2,"if1":[
+    {"op":"transfer","request":"0000","set":{"cmask":"0090","ctrl":"2000"}},
+    {"op":"interrupt"},{"op":"flags","flag":"intpnd"}],
+  "bus":[{"op":"loopback","on":1},{"op":"round"},{"op":"status"}]}"#;
+
+/// What a script comes to in threads over this memory, as text.
+fn text_in_threads<R: SharedRam + Sync + Drop, T: Threads + Wait + Sync>(
+    rt: &T,
+    alloc: Global,
+    bytes: &[u8],
+) -> Result<String, Fail> {
+    let script = read_script(alloc, bytes)?;
+    let outcome = run_threads::<R, FreeGate, T>(rt, alloc, &script, &FreeGate)?;
+    Ok(outcome_text(alloc, &outcome)?)
+}
+
+/// Runs a script in threads with a gate.
+fn run_gated<R: SharedRam + Sync + Drop, G: Gate + Sync, T: Threads + Wait + Sync>(
+    rt: &T,
+    alloc: Global,
+    bytes: &[u8],
+    gate: &G,
+) -> Result<Result<Outcome, RunError>, Fail> {
+    let script = read_script(alloc, bytes)?;
+    Ok(run_threads::<R, G, T>(rt, alloc, &script, gate))
+}
+
+/// Both hosts see what the other wrote, which no run on one thread can answer.
+fn hosts_wait_for_each_other<R: SharedRam + Sync + Drop, T: Threads + Wait + Abort + Sync>(
+    rt: &T,
+    alloc: Global,
+) -> Result<(), Fail> {
+    let gate = Together::new();
+    let outcome = run_gated::<R, Together, T>(rt, alloc, WAIT_FOR_EACH_OTHER, &gate)??;
+    let want = "if1 write 01 00000000 00000000 8000 0000000000000000\nif1 until 02 newdat yes\n\
+if2 write 02 00000000 00000000 8000 0000000000000000\nif2 until 01 newdat yes\n\
+final 01 00000000 00000000 8000 0000000000000000\nfinal 02 00000000 00000000 8000 0000000000000000\n";
+    assert_eq!(rt; outcome_text(alloc, &outcome)?.as_str(), want);
+    Ok(())
+}
+
+#[test]
+fn hosts_wait_for_each_other_on_words(rt: HostRuntime) -> Result<(), Fail> {
+    hosts_wait_for_each_other::<WordRam, HostRuntime>(&rt, rt.alloc())
+}
+
+#[test]
+fn hosts_wait_for_each_other_on_one_word(rt: HostRuntime) -> Result<(), Fail> {
+    hosts_wait_for_each_other::<RootRam, HostRuntime>(&rt, rt.alloc())
+}
+
+#[test]
+fn a_gate_holds_the_first_port_in_order(rt: HostRuntime) -> Result<(), Fail> {
+    let all = HeldFrom { port: None, line: 1 };
+    let held = run_gated::<WordRam, HeldFrom, HostRuntime>(&rt, rt.alloc(), WAIT_FOR_EACH_OTHER, &all)?.err();
+    let first = RunError::Held { port: PortName::If1, line: 1 };
+    assert_eq!(rt; held, Some(first));
+    let second = HeldFrom { port: Some(PortName::If2), line: 1 };
+    let held = run_gated::<WordRam, HeldFrom, HostRuntime>(&rt, rt.alloc(), LOOK_ONCE, &second)?.err();
+    let other = RunError::Held { port: PortName::If2, line: 1 };
+    assert_eq!(rt; held, Some(other));
+    Ok(())
+}
+
+#[test]
+fn a_memory_that_is_refused_is_want_of_memory(rt: HostRuntime) -> Result<(), Fail> {
+    let refused = run_gated::<Refusing, FreeGate, HostRuntime>(&rt, rt.alloc(), WRITE, &FreeGate)?.err();
+    assert_eq!(rt; refused, Some(RunError::Memory));
+    Ok(())
+}
+
+#[test]
+fn a_quota_past_the_form_is_refused(rt: HostRuntime) -> Result<(), Fail> {
+    let refused = run_gated::<RootRam, FreeGate, HostRuntime>(&rt, rt.alloc(), br#"{"quota":65}"#, &FreeGate)?.err();
+    assert_eq!(rt; refused, Some(RunError::Quota));
+    assert!(rt; run_gated::<RootRam, FreeGate, HostRuntime>(&rt, rt.alloc(), br#"{"quota":64}"#, &FreeGate)?.is_ok());
+    assert!(rt; run_gated::<WordRam, FreeGate, HostRuntime>(&rt, rt.alloc(), br#"{"quota":4096}"#, &FreeGate)?.is_ok());
+    Ok(())
+}
+
+#[test]
+fn a_spent_port_leaves_the_others(rt: HostRuntime) -> Result<(), Fail> {
+    let want = "if1 write 01 a48c0000 00000000 0088 1122334455667788\nif1 spent 01\n\
+if2 write 02 a48c0000 00000000 0088 1122334455667788\n\
+final 01 a48c0000 00000000 0088 1122334455667788\nfinal 02 a48c0000 00000000 0088 1122334455667788\n";
+    for _ in 0..20u8 {
+        assert_eq!(rt; text_in_threads::<WordRam, HostRuntime>(&rt, rt.alloc(), TWICE)?.as_str(), want);
+        assert_eq!(rt; text_in_threads::<RootRam, HostRuntime>(&rt, rt.alloc(), TWICE)?.as_str(), want);
+    }
+    Ok(())
+}
+
+#[test]
+fn a_write_is_answered(rt: HostRuntime) -> Result<(), Fail> {
+    let want = "if1 write 01 a48c0000 00000000 0088 1122334455667788\n\
+final 01 a48c0000 00000000 0088 1122334455667788\n";
+    assert_eq!(rt; text_in_threads::<WordRam, HostRuntime>(&rt, rt.alloc(), WRITE)?.as_str(), want);
+    assert_eq!(rt; text_in_threads::<RootRam, HostRuntime>(&rt, rt.alloc(), WRITE)?.as_str(), want);
+    Ok(())
+}
+
+#[test]
+fn both_profiles_and_loop_back_run(rt: HostRuntime) -> Result<(), Fail> {
+    let want = "if1 write 64 00000000 00000000 2000 0000000000000000\nif1 interrupt 0040\n\
+if1 flags intpnd 8000000000000000\nbus loopback 1\nbus idle\nbus status 0000\n\
+final 64 00000000 00000000 2000 0000000000000000\n";
+    assert_eq!(rt; text_in_threads::<WordRam, HostRuntime>(&rt, rt.alloc(), LAST_OBJECT)?.as_str(), want);
+    assert_eq!(rt; text_in_threads::<RootRam, HostRuntime>(&rt, rt.alloc(), LAST_OBJECT)?.as_str(), want);
+    Ok(())
+}
+
+/// The answers to the lines of IF1, and where a gate stopped them, over a memory of which each port may make one change.
+fn first_lines<G: Gate>(
+    alloc: Global,
+    script: &Script,
+    gate: &G,
+) -> Result<(Option<usize>, String), Fail> {
+    let (ram, if1, _if2, _bus) = RootRam::open_ram(alloc, script.profile, script.quota)?;
+    let mut log = Vec::with_capacity(alloc, script.if1.len())?;
+    let mut access = On::new(&ram, if1);
+    let stopped = run_port(&mut access, PortName::If1, script, gate, &mut log);
+    Ok((stopped, text_of(alloc, PortName::If1, &log)?))
+}
+
+#[test]
+fn a_port_runs_as_far_as_its_gate_lets_it(rt: HostRuntime) -> Result<(), Fail> {
+    let script = read_script(rt.alloc(), SPENT)?;
+    let (stopped, text) = first_lines(rt.alloc(), &script, &FreeGate)?;
+    assert_eq!(rt; stopped, None);
+    let all = "if1 write 01 a48c0000 00000000 0088 1122334455667788\nif1 spent 01\n\
+if1 read 01 a48c0000 00000000 0088 1122334455667788\n";
+    assert_eq!(rt; text.as_str(), all);
+    let (stopped, text) = first_lines(rt.alloc(), &script, &HeldFrom { port: None, line: 1 })?;
+    assert_eq!(rt; stopped, Some(1));
+    let one = "if1 write 01 a48c0000 00000000 0088 1122334455667788\n";
+    assert_eq!(rt; text.as_str(), one);
+    Ok(())
+}

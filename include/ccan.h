@@ -1,0 +1,244 @@
+/* libccan: a Bosch C_CAN controller (User's Manual 1.2) as a proved library for C11 and C++.
+ *
+ * A chip is the message RAM with its three ports: the hosts behind the interface registers IF1 and IF2, and the bus. A
+ * ccan_chip has a handle for each, and each handle may be used by a thread of its own, without a lock. docs/EMBEDDING.md
+ * shows how, from ccan_open to a running example.
+ *
+ * What is proved, for each call as it is written here:
+ *  - It is safe for every number that it is given, it ends whatever the other threads do, and it waits for nothing. Only
+ *    ccan_open takes memory.
+ *  - A call on a host's handle and one on the bus's handle stand for the same events of the message RAM, the same answer and
+ *    the same registers as the line of that name in a script of the program `ccan`.
+ *  - There is one history of the message RAM from ccan_open to ccan_end. It holds what each call did, once, in the order of
+ *    the calls on its handle, and each call answers what a memory of one thread answers at that place. ccan_end gives the
+ *    records that this history leaves.
+ *  - It answers the numbers below, in just the cases that are said at each call. Where a call is refused, that is for each
+ *    number but 0, CCAN_BUSY and CCAN_SPENT, handle and output stay as they were.
+ * Not proved, and not claimed: how long a call takes, and that a thread is ever run.
+ *
+ * What C promises. The proofs assume it, and no call can check it:
+ *  1. A ccan_chip begins as CCAN_CHIP_CLOSED. C neither reads nor writes the insides of a chip or a handle, and neither
+ *     copies nor moves them. Only handles of such a chip are passed to a call.
+ *  2. A handle is in one call at a time. Which thread calls may change, if the calls are ordered by the start or the join of
+ *     a thread, a mutex, or a seq_cst atomic. Different handles of one chip may be in calls at the same time.
+ *  3. ccan_open, ccan_end and ccan_is_open take the whole chip: no call on one of its handles runs at that time.
+ *  4. Each pointer leads to a valid object of its type, none is null, and no two arguments of a call overlap. A call
+ *     writes to an output that may have held anything.
+ *  5. malloc, realloc and free are of one allocator, whose blocks are aligned to 16. No call is made from a signal handler,
+ *     nor in the child of a fork of a process with several threads.
+ *  6. A chip that is let go without ccan_end loses its memory.
+ * A call on a closed handle is safe, and so is a second ccan_end: both answer CCAN_CLOSED. */
+#ifndef CCAN_H
+#define CCAN_H
+#include <stdbool.h>
+#include <stddef.h>
+#include <stdint.h>
+#ifdef __cplusplus
+extern "C" {
+#endif
+
+/* A host's handle, IF1 or IF2. */
+typedef struct { bool ccan_private_full; void *ccan_private_at; } ccan_host;
+/* The bus's handle. */
+typedef struct { bool ccan_private_full; void *ccan_private_at; } ccan_bus;
+
+/* A chip, in memory of the caller's. Handles of different threads lie on cache lines of their own. */
+typedef struct {
+    ccan_host if1;
+    uint64_t ccan_private_apart[14];
+    ccan_host if2;
+    uint64_t ccan_private_apart_too[14];
+    ccan_bus bus;
+} ccan_chip;
+
+/* A chip that is closed, as each begins. */
+#define CCAN_CHIP_CLOSED { { false, NULL }, { 0 }, { false, NULL }, { 0 }, { false, NULL } }
+
+/* What a call answers. Where several apply, the call says which comes first. */
+enum ccan_code {
+    CCAN_DONE = 0,
+    CCAN_CLOSED = 1,         /* the handle is closed, or a handle of the chip is */
+    CCAN_BUSY = 2,           /* each try of a change was lost to a change of another port */
+    CCAN_SPENT = 3,          /* the port has made as many changes as its quota */
+    CCAN_NO_MEMORY = 4,      /* malloc refused */
+    CCAN_SHARED = 5,         /* C has broken its promises: somebody else holds the memory */
+    CCAN_PROFILE_RANGE = 6,  /* the profile is neither 1 nor 2 */
+    CCAN_NODES_RANGE = 7,    /* there are more than 8 other nodes */
+    CCAN_QUOTA_RANGE = 8,    /* the quota isn't 1 to 4096 */
+    CCAN_TRIES_RANGE = 9,    /* the tries aren't 1 to 1000 */
+    CCAN_REGISTER_RANGE = 10,/* no register has this number */
+    CCAN_OBJECT_RANGE = 11,  /* the chip has no object of this number */
+    CCAN_FLAG_RANGE = 12,    /* no flag has this number */
+    CCAN_TURNS_RANGE = 13,   /* the turns aren't 1 to 1000000 */
+    CCAN_NODE_RANGE = 14,    /* the bus has no node of this number */
+    CCAN_GROUPS_RANGE = 15,  /* the groups aren't 1 to 10000 */
+    CCAN_FRAMES_RANGE = 16,  /* there are more than 8 frames */
+    CCAN_FRAME_RANGE = 17,   /* an identifier has more than 11 or 29 bits, or a length is more than 15 */
+    CCAN_FAULT_RANGE = 18,   /* no fault has this number */
+    CCAN_SENDERS = 19        /* a frame's node isn't 1 to the number of other nodes, or has another frame */
+};
+
+/* The text of a code, without an end of line; for another number "no code". This function is not proved. */
+static inline const char *ccan_text(uint32_t code)
+{
+    static const char *const texts[] = {
+        "done", "the handle is closed", "each try was lost to a change of another port",
+        "the port has made as many changes as its quota", "out of memory", "somebody else holds the memory",
+        "the profile is out of range", "the number of nodes is out of range", "the quota is out of range",
+        "the number of tries is out of range", "no such register", "no such object", "no such flag",
+        "the number of turns is out of range", "no such node", "the number of groups is out of range",
+        "too many frames", "an identifier or a length is out of range", "no such fault",
+        "a sender is none of the other nodes, or sends twice" };
+    return code < sizeof texts / sizeof texts[0] ? texts[code] : "no code";
+}
+
+/* ---- opening and ending */
+
+/* The record of a message object, by the bits of its registers. */
+typedef struct {
+    uint32_t masks;       /* Mask 2 above Mask 1: MXtd 31, MDir 30, Msk28 to Msk0 in bits 28 to 0 */
+    uint32_t arbitration; /* Arbitration 2 above 1: MsgVal 31, Xtd 30, Dir 29, ID28 to ID0 in bits 28 to 0 */
+    uint16_t control;     /* NewDat 15, MsgLst 14, IntPnd 13, UMask 12, TxIE 11, RxIE 10, RmtEn 9, TxRqst 8, EoB 7,
+                             the data length code in bits 3 to 0 */
+    uint8_t bytes[8];     /* the data, byte 0 first */
+} ccan_record;
+
+typedef struct {
+    uint32_t objects;         /* 32 or 64 */
+    ccan_record records[64];  /* object k at k - 1; zero past the last object */
+} ccan_final;
+
+/* Opens a chip whose records and registers are all zero, all of it or nothing. `profile` is 1 for 32 message objects, 2 for
+ * 64; `nodes` how many other nodes are on the bus, 0 to 8; `quota` how many changes each port may make, 1 to 4096; `tries`
+ * how often a change may be tried, 1 to 1000. Answers the first of CCAN_PROFILE_RANGE, CCAN_NODES_RANGE, CCAN_QUOTA_RANGE and
+ * CCAN_TRIES_RANGE that applies; else CCAN_NO_MEMORY or CCAN_DONE. A chip that was open ends, where it answers CCAN_DONE. */
+uint32_t ccan_open(ccan_chip *chip, uint32_t profile, uint32_t nodes, uint64_t quota, uint32_t tries);
+
+/* Whether all three handles are open. */
+bool ccan_is_open(const ccan_chip *chip);
+
+/* Ends a chip, frees its memory, and gives the records that its history leaves. The chip is then closed, and may be opened
+ * again. CCAN_CLOSED where it isn't open. */
+uint32_t ccan_end(ccan_chip *chip, ccan_final *out);
+
+/* ---- a host: each call answers CCAN_CLOSED first, where its handle is closed */
+
+enum ccan_register {
+    CCAN_CMASK, CCAN_MASK1, CCAN_MASK2, CCAN_ARB1, CCAN_ARB2, CCAN_CTRL,
+    CCAN_DATAA1, CCAN_DATAA2, CCAN_DATAB1, CCAN_DATAB2
+};
+
+enum ccan_flag { CCAN_NEWDAT, CCAN_MSGLST, CCAN_INTPND, CCAN_TXRQST, CCAN_MSGVAL };
+
+/* Writes an interface register; its reserved bits are dropped. The message RAM has no part in it. CCAN_REGISTER_RANGE. */
+uint32_t ccan_set(ccan_host *host, uint32_t reg, uint16_t value);
+
+/* Reads an interface register; its reserved bits are 0. The message RAM has no part in it. CCAN_REGISTER_RANGE. */
+uint32_t ccan_get(ccan_host *host, uint32_t reg, uint16_t *out);
+
+/* Writes the Command Request register: makes the transfer that the Command Mask register says, between the interface
+ * registers and the object that the low six bits of `request` name (0 is the last object). CCAN_DONE: the transfer is in the
+ * history, and the registers show it. CCAN_BUSY, CCAN_SPENT: the message RAM and the registers are as they were. */
+uint32_t ccan_request(ccan_host *host, uint16_t request);
+
+/* A flag of all objects, that of object k in bit k - 1, each as a look of its own shows it. CCAN_FLAG_RANGE. */
+uint32_t ccan_flags(ccan_host *host, uint32_t flag, uint64_t *out);
+
+/* The interrupt value: the number of the first object whose look shows IntPnd, or 0. */
+uint32_t ccan_interrupt(ccan_host *host, uint16_t *out);
+
+/* Looks at an object until it shows the flag, at most `turns` times: 1 where a look did, else 0. The first of
+ * CCAN_OBJECT_RANGE, CCAN_FLAG_RANGE and CCAN_TURNS_RANGE that applies. */
+uint32_t ccan_until(ccan_host *host, uint32_t object, uint32_t flag, uint32_t turns, uint32_t *out);
+
+/* ---- the bus: each call answers CCAN_CLOSED first, where its handle is closed */
+
+enum ccan_load_kind { CCAN_LOAD_NOTHING, CCAN_LOAD_LOADED, CCAN_LOAD_HELD, CCAN_LOAD_BUSY, CCAN_LOAD_SPENT };
+
+typedef struct {
+    uint32_t kind;    /* an enum ccan_load_kind */
+    uint32_t object;  /* the object, 0 with CCAN_LOAD_NOTHING */
+    ccan_record held; /* its record after the start with CCAN_LOAD_LOADED, else zero */
+} ccan_loaded;
+
+/* The controller chooses the object to send, and starts it, where it is on and has none. CCAN_BUSY and CCAN_SPENT go with the
+ * kinds of that name: the object wasn't started. */
+uint32_t ccan_load(ccan_bus *bus, ccan_loaded *out);
+
+/* What another node sends. A switch is 0 for no, and each other number is yes. */
+typedef struct {
+    uint32_t id;      /* of 11 bits, or of 29 where it is extended */
+    uint8_t node;     /* 1 to the number of other nodes */
+    uint8_t xtd;      /* switch: an extended identifier */
+    uint8_t rtr;      /* switch: a remote frame */
+    uint8_t dlc;      /* the data length code, 0 to 15; from 8 on it means eight bytes */
+    uint8_t bytes[8]; /* the data, byte 0 first; what is past the length doesn't count */
+} ccan_offer;
+
+/* What spoils the frame that wins. */
+enum ccan_fault { CCAN_QUIET, CCAN_STUFF, CCAN_FORM, CCAN_BIT1, CCAN_BIT0, CCAN_CRC };
+
+enum ccan_round_kind {
+    CCAN_IDLE,      /* no frame contended */
+    CCAN_SENT,      /* the controller's frame was sent, and its object finished */
+    CCAN_RECEIVED,  /* another node's frame was sent; `stored` has it, or no object takes it */
+    CCAN_PASSED,    /* another node's frame was sent, and the controller is off */
+    CCAN_COLLISION, /* two or more frames with the same bits of arbitration were sent */
+    CCAN_NO_ACK,    /* no other node is on, so nobody acknowledged the frame */
+    CCAN_FAULT,     /* the fault spoiled the frame */
+    CCAN_LOOPED,    /* in loop back mode the controller sent to itself */
+    CCAN_ROUND_BUSY, CCAN_ROUND_SPENT /* a step of the message RAM at `object` was given up; all else stands */
+};
+
+typedef struct {
+    uint32_t kind;             /* an enum ccan_round_kind */
+    uint32_t object;           /* the object that was sent, or at which a step was given up; else 0 */
+    ccan_record finished;      /* its record after the finish, where it was finished; else zero */
+    uint32_t stored;           /* the object that stored the frame, 0 where none did */
+    ccan_record stored_record; /* its record after the store; else zero */
+} ccan_outcome;
+
+/* Plays a round: loads as ccan_load does; then the frames of all nodes that are on contend, the one with the lowest
+ * identifier wins, and `fault` spoils it where it isn't CCAN_QUIET. `offers` are `count` frames, not null even for 0. The first
+ * of CCAN_FRAMES_RANGE, CCAN_FRAME_RANGE, CCAN_FAULT_RANGE and CCAN_SENDERS that applies; else CCAN_BUSY and CCAN_SPENT
+ * go with the kinds of that name, and `out` is written. */
+uint32_t ccan_round(ccan_bus *bus, const ccan_offer *offers, size_t count, uint32_t fault, ccan_outcome *out);
+
+/* The Status register: BOff 7, EWarn 6, EPass 5, RxOk 4, TxOk 3, the last error code in bits 2 to 0. The status interrupt is
+ * then no longer pending. */
+uint32_t ccan_status(ccan_bus *bus, uint16_t *out);
+
+enum ccan_state { CCAN_ACTIVE, CCAN_PASSIVE, CCAN_OFF };
+
+typedef struct {
+    uint32_t tec;   /* the transmit error counter, 0 to 263 */
+    uint32_t rec;   /* the receive error counter, 0 to 255 */
+    uint32_t state; /* an enum ccan_state */
+} ccan_counts;
+
+/* The error counters of a node; node 0 is the controller. CCAN_NODE_RANGE. */
+uint32_t ccan_counters(ccan_bus *bus, uint32_t node, ccan_counts *out);
+
+/* Sets SIE and EIE of the CAN Control register, two switches: 0 is off, each other number is on. */
+uint32_t ccan_control(ccan_bus *bus, uint32_t sie, uint32_t eie);
+
+/* Clears Init, from where on groups of recessive bits count for a controller that is off. */
+uint32_t ccan_init(ccan_bus *bus);
+
+/* Lets 1 to 10000 groups of eleven recessive bits pass, and gives the controller's state, an enum ccan_state.
+ * CCAN_GROUPS_RANGE. */
+uint32_t ccan_recessive(ccan_bus *bus, uint32_t groups, uint32_t *out);
+
+/* Sets loop back mode, a switch. */
+uint32_t ccan_loop_back(ccan_bus *bus, uint32_t on);
+
+/* The interrupt value as the bus knows it: 0x8000 while the status interrupt is pending, else as ccan_interrupt. */
+uint32_t ccan_bus_interrupt(ccan_bus *bus, uint16_t *out);
+
+/* As ccan_flags. CCAN_FLAG_RANGE. */
+uint32_t ccan_bus_flags(ccan_bus *bus, uint32_t flag, uint64_t *out);
+
+#ifdef __cplusplus
+}
+#endif
+#endif

@@ -1,0 +1,76 @@
+/* Each request for memory of ccan_open is refused in turn: it answers CCAN_NO_MEMORY, the chip stays as it was, and nothing is
+ * lost. Once it is open, no call asks for memory. Link with -Wl,--wrap=malloc,--wrap=realloc,--wrap=free. */
+#include <ccan.h>
+#include <stdio.h>
+#include <stdlib.h>
+
+static long left = -1, live;
+
+void *__real_malloc(size_t size);
+void *__real_realloc(void *old, size_t size);
+void __real_free(void *block);
+
+static int refused(void)
+{
+    if (left == 0)
+        return 1;
+    if (left > 0)
+        left--;
+    return 0;
+}
+
+void *__wrap_malloc(size_t size)
+{
+    void *block = refused() ? NULL : __real_malloc(size);
+    live += block != NULL;
+    return block;
+}
+
+void *__wrap_realloc(void *old, size_t size)
+{
+    void *block = refused() ? NULL : __real_realloc(old, size);
+    live += block != NULL && old == NULL;
+    return block;
+}
+
+void __wrap_free(void *block)
+{
+    live -= block != NULL;
+    __real_free(block);
+}
+
+int main(void)
+{
+    static ccan_chip chip = CCAN_CHIP_CLOSED;
+    static ccan_final last;
+    long number = 0;
+    uint32_t code;
+    for (;; number++) {
+        left = number;
+        code = ccan_open(&chip, 2, 8, 4096, 100);
+        left = -1;
+        if (code == CCAN_DONE)
+            break;
+        if (code != CCAN_NO_MEMORY || ccan_is_open(&chip) || live != 0) {
+            printf("request %ld refused: %s, %ld blocks left\n", number + 1, ccan_text(code), live);
+            return 1;
+        }
+    }
+    left = 0;
+    uint64_t word;
+    ccan_outcome outcome;
+    ccan_offer none;
+    if (ccan_set(&chip.if1, CCAN_CMASK, 0x0090) || ccan_request(&chip.if1, 7) || ccan_flags(&chip.if2, CCAN_NEWDAT, &word)
+        || ccan_round(&chip.bus, &none, 0, CCAN_QUIET, &outcome)) {
+        printf("a call asked for memory\n");
+        return 1;
+    }
+    left = -1;
+    code = ccan_end(&chip, &last);
+    if (code != CCAN_DONE || live != 0 || ccan_request(&chip.if1, 7) != CCAN_CLOSED) {
+        printf("end: %s, %ld blocks left\n", ccan_text(code), live);
+        return 1;
+    }
+    printf("%ld requests for memory refused in turn: nothing opened, nothing lost\n", number);
+    return 0;
+}
