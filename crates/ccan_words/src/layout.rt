@@ -4,7 +4,8 @@ ghost use Rattle.ccan_words.specs.Layout.{IsNumber};
 
 use ccan_object::Profile;
 
-/// Where the words of a memory lie: the word of each object, and the words of each version, which a change's number names.
+/// Where the words of a memory lie: the word of each object, and the words of each version, which a change's number
+/// names.
 pub trait Layout {
     ghost use Rattle.std.specs.Prelude.{ℕ, Bool};
     ghost use Rattle.ccan_object.specs.declared.profile.Profile.{Profile};

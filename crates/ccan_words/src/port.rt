@@ -2,8 +2,8 @@ use crate::words::{Key, Seat};
 use ccan_ram::PortName;
 use std::marker::Model;
 
-/// A port of a memory: the right to act for it. Contracts see to which memory it belongs, whose it is, and the history that
-/// it has seen.
+/// A port of a memory: the right to act for it. Contracts see to which memory it belongs, whose it is, and the
+/// history that it has seen.
 #[derive(Drop)]
 pub struct Port {
     pub(crate) seat: Seat,

@@ -1,5 +1,6 @@
 //! The steps of a seat on the words. No other file of this crate calls `atomic_table`'s steps: all others speak of
-//! histories. Each step at a port has two functions, since a proof picks what a step is made for where `Brand` is passed.
+//! histories. Each step at a port has two functions, since a proof picks what a step is made for where `Brand` is
+//! passed.
 ghost use Rattle.std.specs.Prelude.{◌≡◌, ◌<◌, ◌≤◌, [], length, Some, None};
 ghost use Rattle.std.specs.Slots.{slots_items, slots_len, IsFull};
 ghost use Rattle.atomic_table.specs.Table.{Final, Seen};

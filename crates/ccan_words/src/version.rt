@@ -7,7 +7,8 @@ ghost use Rattle.ccan_object.specs.Record.{IsRecord, zero_record};
 ghost use Rattle.ccan_words.specs.declared.view.Held.{Held};
 ghost use Rattle.ccan_words.specs.Layout.{IsNumber};
 ghost use Rattle.ccan_words.specs.Port.{numbers_of};
-ghost use Rattle.ccan_words.specs.Version.{Finds, IsContent, IsNextFor, IsReady, IsReadyIn, IsRecordOf, IsSeatOf, IsWrittenIn, Publishes, PublishesIn};
+ghost use Rattle.ccan_words.specs.Version.{Finds, IsContent, IsNextFor, IsReadyIn, IsRecordOf, IsSeatOf};
+ghost use Rattle.ccan_words.specs.Version.{IsWrittenIn, PublishesIn};
 
 use crate::layout::Layout;
 use crate::steps::{exchange, look, note, read};
@@ -15,8 +16,8 @@ use crate::words::{Seat, Words};
 use ccan_object::{ObjectNo, Record, pack, unpack};
 use ccan_ram::{Change, Changed, Draft, PortName};
 
-/// A version that a port is to publish: what a change makes of the record of an object, after the version that the port's
-/// draft found.
+/// A version that a port is to publish: what a change makes of the record of an object, after the version that the
+/// port's draft found.
 #[derive(Clone, Copy, Debug)]
 pub struct Version {
     /// Whose change it is.
@@ -130,8 +131,8 @@ fn fetch<L: Layout>(words: &Words<L>, seat: &mut Seat, number: u64, object: usiz
     record_in([a, b, c])
 }
 
-/// Writes the version and publishes it, unless a change that contends came first. Gives the number that the object's word
-/// held: the old one where the version was published.
+/// Writes the version and publishes it, unless a change that contends came first. Gives the number that the object's
+/// word held: the old one where the version was published.
 pub fn publish<L: Layout>(words: &Words<L>, seat: &mut Seat, version: &Version) -> u64
     requires table { numbers_of seat.old.table_id ≡ words.now.name }
     requires content { IsContent version.now }

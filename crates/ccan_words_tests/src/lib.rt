@@ -1,5 +1,5 @@
-//! Tests of the shared memories, over both layouts: worked examples with a forced order of the ports' steps, and ports in
-//! threads of their own. `Contended` is an access whose every try of a change is disturbed by another port.
+//! Tests of the shared memories, over both layouts: worked examples with a forced order of the ports' steps, and
+//! ports in threads of their own. `Contended` is an access whose every try of a change is disturbed by another port.
 #![tactic(auto)]
 
 pub mod contended;

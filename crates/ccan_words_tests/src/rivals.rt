@@ -206,8 +206,10 @@ pub fn three_at_work<R: SharedRam + Sync, T: Threads + Sync>(
             requires held { Holds (R.memory shared.now).profile a }
         { work(shared, if1, a, first_task, turns, tries) },
         move ||
-            requires memory { ((R.pass if2).memory ≡ R.memory shared.now) × ((R.pass bus).memory ≡ R.memory shared.now) }
-            requires held { Holds (R.memory shared.now).profile b × Holds (R.memory shared.now).profile c }
+            requires memory { ((R.pass if2).memory ≡ R.memory shared.now)
+                × ((R.pass bus).memory ≡ R.memory shared.now) }
+            requires held { Holds (R.memory shared.now).profile b
+                × Holds (R.memory shared.now).profile c }
         {
             join(
                 rt,

@@ -41,8 +41,8 @@ fn start_of_an_invalid_object<R: SharedRam + Drop>(rt: &impl Abort, alloc: std::
     assert_eq!(rt; draft.number(), 131073);
 }
 
-/// What comes of a commit of IF1 at object 4 after a change of IF2 at another object or the same, and what a change of IF1
-/// then leaves.
+/// What comes of a commit of IF1 at object 4 after a change of IF2 at another object or the same, and what a change
+/// of IF1 then leaves.
 fn commit_after<R: SharedRam + Drop>(
     rt: &impl Abort,
     alloc: std::alloc::Global,
@@ -166,8 +166,8 @@ fn a_port_is_spent_after_its_quota(rt: HostRuntime) {
     spent_after::<RootRam>(&rt, rt.alloc(), 1, 131073);
 }
 
-/// A scan whose store loses every try is refused with its tries and the number of the last change that contends. It goes on
-/// at the object where it was refused.
+/// A scan whose store loses every try is refused with its tries and the number of the last change that contends. It
+/// goes on at the object where it was refused.
 fn scan_is_resumed<R: SharedRam + Drop>(rt: &impl Abort, alloc: std::alloc::Global) {
     let Ok((ram, mut if1, _if2, bus)) = R::open_ram(alloc, Profile::One, 64) else {
         panic!(rt; "no memory")

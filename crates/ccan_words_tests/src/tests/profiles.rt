@@ -1,8 +1,8 @@
 //! Memories of 32 and of 64 objects.
 use super::*;
 
-/// A write at the object that a request of 0 names, and what the memory then shows, there and at two other requests, and
-/// leaves.
+/// A write at the object that a request of 0 names, and what the memory then shows, there and at two other requests,
+/// and leaves.
 fn write_last_object<R: SharedRam>(
     rt: &impl Abort,
     alloc: std::alloc::Global,
@@ -46,7 +46,8 @@ fn write_last_object<R: SharedRam>(
     }
 }
 
-/// The interrupt value and the word of IntPnd flags, after a write of that flag at the object that a request of 0 names.
+/// The interrupt value and the word of IntPnd flags, after a write of that flag at the object that a request of 0
+/// names.
 fn pending_of_last_object<R: SharedRam + Drop>(
     rt: &impl Abort,
     alloc: std::alloc::Global,
