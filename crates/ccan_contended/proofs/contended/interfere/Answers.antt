@@ -1,5 +1,5 @@
 use Rattle.std.proofs.Common.{arith}
-use Rattle.ccan_contended.proofs.Steps.{they_act, transfer_fits}
+use Rattle.ccan_contended.proofs.PlainCalls.{they_act, transfer_fits}
 use Rattle.ccan_contended.proofs.contended.interfere.Goals as goal
 
 pub returns-clause-acts : goal.returns-clause-acts

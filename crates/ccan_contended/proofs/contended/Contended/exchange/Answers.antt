@@ -1,5 +1,5 @@
 use Rattle.std.proofs.Common.{arith}
-use Rattle.ccan_contended.proofs.Steps.{exchanges}
+use Rattle.ccan_contended.proofs.PlainCalls.{exchanges}
 use Rattle.ccan_contended.proofs.contended.Contended.exchange.Goals as goal
 
 pub returns-clause-exchanges : goal.returns-clause-exchanges

@@ -1,5 +1,5 @@
 use Rattle.ccan_ram.proofs.Calls.{Goes-weaker}
-use Rattle.ccan_contended.proofs.Steps.{acts_for}
+use Rattle.ccan_contended.proofs.PlainCalls.{acts_for}
 use Rattle.ccan_contended.proofs.contended.Contended.go_on.Goals as goal
 
 pub returns-in-Some-clause-others : goal.returns-in-Some-clause-others

@@ -2,7 +2,8 @@ use Rattle.std.proofs.Common.{◌≡◌, arith, sym, ◌∙◌}
 use Rattle.ccan_ram.proofs.Calls.{Goes-none, Goes-weaker}
 use Rattle.ccan_ram.proofs.Histories.{nobody}
 use Rattle.ccan_contended.specs.Contended.{contended_terms}
-use Rattle.ccan_contended.proofs.Steps.{looks, lost_more, not_now, exchanged, begins_same, ends_same, bus_same, acts_for}
+use Rattle.ccan_contended.proofs.PlainCalls.{looks, begins_same, ends_same, bus_same, acts_for}
+use Rattle.ccan_contended.proofs.Tries.{lost_more, not_now, exchanged}
 use Rattle.ccan_contended.proofs.contended.ContendedAccess.change.Goals as goal
 
 pub returns-in-None-clause-attempts : goal.returns-in-None-clause-attempts

@@ -2,7 +2,7 @@ use Rattle.std.proofs.Common.{◌≡◌, ◌<◌, ◌+◌}
 use Rattle.ccan_ram.specs.Access.{Goes}
 use Rattle.ccan_ram.specs.Array.{passes_of}
 use Rattle.ccan_contended.specs.Contended.{contended}
-use Rattle.ccan_contended.proofs.Steps.{SoFar}
+use Rattle.ccan_contended.proofs.Tries.{SoFar}
 use Rattle.ccan_contended.proofs.contended.ContendedAccess.change.Given as goal
 
 -- the tries so far were lost, each to one transfer of the other host
