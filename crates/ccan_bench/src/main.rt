@@ -4,8 +4,10 @@
 //! transfers; without a word nothing.
 #![tactic(auto)]
 
+mod made;
 mod scripts;
 
+use crate::made::transfers;
 use anyhow::Result;
 use std::env;
 
@@ -13,7 +15,7 @@ fn main(rt: HostRuntime) -> Result<()> {
     for word in env::args(&rt)? {
         match word.as_str() {
             "measure" => scripts::measure(&rt, rt.alloc())?,
-            "transfers" => print!(&rt; "{}", scripts::transfers(rt.alloc())?)?,
+            "transfers" => print!(&rt; "{}", transfers(rt.alloc())?)?,
             _ => (),
         }
     }
