@@ -4,11 +4,13 @@
 //! a word nothing.
 #![tactic(auto)]
 
+mod made;
 mod memories;
 mod rivals;
 mod scripts;
 mod timing;
 
+use crate::made::transfers;
 use crate::memories::measure_memory;
 use anyhow::Result;
 use ccan_words::{RootRam, WordRam};
@@ -22,7 +24,7 @@ fn main(rt: HostRuntime) -> Result<()> {
                 measure_memory::<WordRam>(&rt, rt.alloc(), "a word for each object")?;
                 measure_memory::<RootRam>(&rt, rt.alloc(), "one word for all objects")?;
             }
-            "transfers" => print!(&rt; "{}", scripts::transfers(rt.alloc())?)?,
+            "transfers" => print!(&rt; "{}", transfers(rt.alloc())?)?,
             _ => (),
         }
     }

@@ -1,5 +1,5 @@
 -- Lines that say what values say.
-use Rattle.std.proofs.Common.{◌≡◌, ◌+◌, ℕ, suc, List, [], ◌∷◌, ◌++◌, length, refl, ap, ap₂, sym, ◌∙◌}
+use Rattle.std.proofs.Common.{◌≡◌, suc, List, [], ◌∷◌, ◌++◌, length, refl, ap, ap₂}
 use Rattle.serde_json.specs.Data.{Data}
 use Rattle.ccan_script.specs.Lines.{AreLines}
 

@@ -11,7 +11,6 @@ use Rattle.ccan_script.specs.declared.bus_line.BusLine.{BusLine}
 use Rattle.ccan_script.specs.declared.bus_line.BusLine.TheVariants.{Round}
 use Rattle.ccan_script.specs.BusOp.{bus_op}
 use Rattle.ccan_script.specs.BusLine.{AreSenders-prop, BusSays, BusSaysBy}
-use Rattle.ccan_script.specs.Round.{SaysRound}
 
 same_round : (a b : RoundLine) → a.send.items ≡ b.send.items → a.fault ≡ b.fault → a ≡ b
 same_round a b sends fault = λ i. record {

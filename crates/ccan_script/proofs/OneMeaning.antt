@@ -9,13 +9,11 @@ use Rattle.std.specs.declared.cmp.Ordering.{Ordering}
 use Rattle.std.specs.declared.cmp.Ordering.TheVariants.{Less, Equal, Greater}
 use Rattle.serde_json.specs.Data.{Data}
 use Rattle.serde_json.specs.Find.{get}
-use Rattle.ccan_object.specs.declared.profile.Profile.{Profile}
 use Rattle.ccan_ram.specs.declared.port.PortName.{PortName}
 use Rattle.ccan_ram.specs.declared.port.PortName.TheVariants as port
 use Rattle.ccan_ram.specs.Port.{port_index}
 use Rattle.ccan_script.specs.declared.script_error.ScriptError.{ScriptError}
 use Rattle.ccan_script.specs.declared.host_line.HostLine.{HostLine}
-use Rattle.ccan_script.specs.declared.bus_line.BusLine.{BusLine}
 use Rattle.ccan_script.specs.HostLine.{HostSays}
 use Rattle.ccan_script.specs.BusLine.{BusSays}
 use Rattle.ccan_script.specs.Order.{OrderPlace, names, number_in_order, order_by, share}

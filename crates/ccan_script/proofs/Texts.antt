@@ -1,11 +1,10 @@
 -- From what a value means to what the bytes mean.
-use Rattle.std.proofs.Common.{◌≡◌, ℕ, List, Bool, true, false, Option, Some, None, Result, Ok, Err, cond, nat_le, nat_lt, ◌&&◌, ◌==◌, length, inl, inr, option_and_then, option_map, is_some}
+use Rattle.std.proofs.Common.{◌≡◌, ℕ, List, Bool, true, false, Option, Some, None, Result, Ok, Err, cond, nat_le, nat_lt, ◌&&◌, ◌==◌, length, inl, inr, option_and_then, option_map}
 use Rattle.std.specs.Prelude.{IsUtf8}
 use Rattle.std.specs.List.{slice_get}
 use Rattle.std.specs.Option.{option_map_or}
 use Rattle.serde_json.specs.Data.{Data}
 use Rattle.serde_json.specs.Errors.{IsMemory}
-use Rattle.serde_json.specs.Find.{as_array, as_number, as_u64}
 use Rattle.serde_json.specs.Read.{read}
 use Rattle.serde_json.specs.declared.error.Error.{Error}
 use Rattle.ccan_script.specs.declared.list_name.ListName.{ListName}

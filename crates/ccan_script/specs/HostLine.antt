@@ -34,7 +34,8 @@ settings_of d = option_map_or settings_in (get (codes "set") d) (Some [])
 
 -- an object of the members that a transfer has, and no others, each of its shape
 unfoldable pub is_transfer : Data → Bool
-is_transfer d = has_only (codes "op" ∷ codes "request" ∷ codes "set" ∷ []) d && (is_some (request_in d) && is_some (settings_of d))
+is_transfer d =
+    has_only (codes "op" ∷ codes "request" ∷ codes "set" ∷ []) d && (is_some (request_in d) && is_some (settings_of d))
 
 -- the line that it stands for
 unfoldable pub transfer_of : Data → HostLine

@@ -1,10 +1,8 @@
-use Rattle.std.proofs.Common.{◌≡◌, ◌∙◌, List, Some, ap, sym, option_map, codes}
+use Rattle.std.proofs.Common.{◌≡◌, ◌∙◌, Some, ap, sym, option_map}
 use Rattle.std.proofs.lemmas.Result.{err_from_is_err_and}
-use Rattle.serde_json.specs.Find.{get}
 use Rattle.serde_json.specs.View.{view}
-use Rattle.ccan_ram.specs.declared.port.PortName.{PortName}
 use Rattle.ccan_script.specs.LineCounts.{count_of}
-use Rattle.ccan_script.specs.Order.{ChecksTimes, named_ports}
+use Rattle.ccan_script.specs.Order.{named_ports}
 use Rattle.ccan_script.proofs.Orders.{bad_check, bad_names, named_are, named_is, no_share, read_default, share_default}
 use Rattle.ccan_script.proofs.Unless.{unless_weaker}
 use Rattle.ccan_script.proofs.order.read_order.Goals as goal

@@ -1,4 +1,4 @@
-use Rattle.std.proofs.Common.{◌≡◌, ◌∙◌, [], ◌∷◌, ◌++◌, ap, sym, subst, Some, is_some, length, arith, append_assoc, length-append, string_bytes, string_cmp}
+use Rattle.std.proofs.Common.{◌≡◌, ◌∙◌, [], ◌∷◌, ◌++◌, ap, sym, subst, Some, is_some, arith, append_assoc, length-append, string_cmp}
 use Rattle.std.specs.List.Sorted.{IsStrictlySortedBy}
 use Rattle.std.specs.Map.{keys_of}
 use Rattle.serde_json.specs.View.{members_view, view}
@@ -24,7 +24,7 @@ push-requires c =
     let here = ap (λ name. setting name (view c.in-Some.value.now)) (sym c.as_str.ensures.value) ∙ sym c.in_ok-setting.ensures in
     let set = set_more so_far.0 e c.loop-name.set.items c.in_ok-setting.field-0 so_far.2 here in
     let sorted = subst (λ es. IsStrictlySortedBy string_cmp (keys_of es)) (all ∙ sym (append_assoc so_far.0 (e ∷ []) left))
-        c.iter-name-items.ensures.ordered in
+    c.iter-name-items.ensures.ordered in
     let ten = few (so_far.0 ++ e ∷ []) left sorted (ap is_some set) in
     (omega arith, omega (arith, so_far.3, length-append so_far.0 (e ∷ []), ten))
 
@@ -34,8 +34,7 @@ loop-name-preserved c =
     let e : Entry = (c.in-Some.name.now, c.in-Some.value.now) in
     let left = c.next.new.self in
     let all : c.args.members.now.entries ≡ so_far.0 ++ e ∷ left = so_far.1 ∙ ap (λ es. so_far.0 ++ es) c.in-Some.ensures.steps in
-    let here = ap (λ name. setting name (view c.in-Some.value.now)) (sym c.as_str.ensures.value) ∙ sym c.in_ok-setting.ensures in
-    (
+    let here = ap (λ name. setting name (view c.in-Some.value.now)) (sym c.as_str.ensures.value) ∙ sym c.in_ok-setting.ensures in (
       so_far.0 ++ e ∷ [],
       all ∙ sym (append_assoc so_far.0 (e ∷ []) left),
       set_more so_far.0 e c.loop-name.set.items c.in_ok-setting.field-0 so_far.2 here ∙ ap Some (sym c.push.ensures.items),

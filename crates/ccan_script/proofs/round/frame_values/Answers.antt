@@ -1,6 +1,5 @@
-use Rattle.std.proofs.Common.{◌≡◌, ◌∙◌, ◌≤◌, None, Some, ap, sym, arith, length, option_map}
-use Rattle.serde_json.specs.Find.{as_array}
-use Rattle.serde_json.specs.View.{items_view, view}
+use Rattle.std.proofs.Common.{◌∙◌, ap, sym, arith, option_map}
+use Rattle.serde_json.specs.View.{view}
 use Rattle.ccan_script.proofs.Frames.{frames_absent, frames_no_list, frames_are, frames_many, frames_few}
 use Rattle.ccan_script.proofs.round.frame_values.Goals as goal
 
