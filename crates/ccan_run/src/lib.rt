@@ -13,9 +13,9 @@
 //! ```
 //!
 //! The memory of an ordered run is one that three threads could share with no lock, with its three ports in one thread.
-//! Before each of its lines a port meets both others, so that it has seen all that any of them has. That is why no other
-//! events stand between those of a line, and why each line is answered as by a one-thread memory. Nothing at run time tests
-//! it: the one history that the memory's end gives has no room for another event.
+//! Before each of its lines a port meets both others, so that it has seen all that any of them has. That is why no
+//! other events stand between those of a line, and why each line is answered as by a one-thread memory. Nothing at run
+//! time tests it: the one history that the memory's end gives has no room for another event.
 //!
 //! What a line stands for is said once, for hosts and for the bus, over any access: which events it adds, what it answers,
 //! and how it leaves what the next line of its port finds ([`Side`], [`run_lines`]). The text of a script is a relation
