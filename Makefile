@@ -3,7 +3,7 @@ SCRIPT ?= examples/first_write.json
 PREFIX ?= /usr/local
 export SCRIPT PREFIX
 
-.PHONY: help run try test install bench sweep hostile c-test schema clean
+.PHONY: help run try test install bench sweep hostile soak c-test schema clean
 
 help:
 	@tools/targets
@@ -33,6 +33,10 @@ hostile:
 	@tools/build
 	tools/fail_streams crates/ccan/out/ccan examples/first_write.json
 	tools/spoil_scripts crates/ccan/out/ccan examples/*.json
+
+soak:
+	@tools/build
+	tools/soak crates/ccan/out/ccan
 
 c-test:
 	@tools/c_test
