@@ -7,7 +7,7 @@ use arrayvec::ArrayVec;
 use ccan_object::Reg;
 use serde_json::{Map, Value};
 
-/// Registers with the numbers that they are set to, each register once.
+/// Registers with the numbers that they are set to, each register once, in the order of their names in a script.
 pub type RegisterSet = ArrayVec<(Reg, u16), 10>;
 
 /// The register of a name in a script.

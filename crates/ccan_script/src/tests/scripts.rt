@@ -53,8 +53,8 @@ fn reads_host_lines(rt: HostRuntime) -> Result<(), Fail> {
     };
     assert_eq!(rt; *request, 1);
     let want = [
-        (Reg::CMask, 0x00f3),
         (Reg::Arb2, 0xa48c),
+        (Reg::CMask, 0x00f3),
         (Reg::Ctrl, 0x0088),
         (Reg::DataA1, 0x2211),
         (Reg::DataA2, 0x4433),
