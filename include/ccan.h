@@ -5,16 +5,16 @@
  * shows how, from ccan_open to a running example.
  *
  * What is proved, for each call as it is written here:
- *  - It is safe for every number that it is given, it ends whatever the other threads do, and it waits for nothing. Only
- *    ccan_open takes memory.
+ *  - It is safe for every number that it is given, it ends whatever the other threads do, and it waits for nothing.
  *  - A call on a host's handle and one on the bus's handle stand for the same events of the message RAM, the same answer and
  *    the same registers as the line of that name in a script of the program `ccan`.
  *  - There is one history of the message RAM from ccan_open to ccan_end. It holds what each call did, once, in the order of
  *    the calls on its handle, and each call answers what a memory of one thread answers at that place. ccan_end gives the
  *    records that this history leaves.
  *  - It answers the numbers below, in just the cases that are said at each call. Where a call is refused, that is for each
- *    number but 0, CCAN_BUSY and CCAN_SPENT, handle and output stay as they were.
- * Not proved, and not claimed: how long a call takes, and that a thread is ever run.
+ *    number but 0, CCAN_BUSY, CCAN_SPENT and CCAN_SHARED, handle and output stay as they were.
+ * Only tested: that no call but ccan_open takes memory, and that CCAN_SHARED never comes where C keeps its promises. Not
+ * proved, and not claimed: how long a call takes, and that a thread is ever run.
  *
  * What C promises. The proofs assume it, and no call can check it:
  *  1. A ccan_chip begins as CCAN_CHIP_CLOSED. C neither reads nor writes the insides of a chip or a handle, and neither
@@ -110,15 +110,16 @@ typedef struct {
 
 /* Opens a chip whose records and registers are all zero, all of it or nothing. `profile` is 1 for 32 message objects, 2 for
  * 64; `nodes` how many other nodes are on the bus, 0 to 8; `quota` how many changes each port may make, 1 to 4096; `tries`
- * how often a change may be tried, 1 to 1000. Answers the first of CCAN_PROFILE_RANGE, CCAN_NODES_RANGE, CCAN_QUOTA_RANGE and
- * CCAN_TRIES_RANGE that applies; else CCAN_NO_MEMORY or CCAN_DONE. A chip that was open ends, where it answers CCAN_DONE. */
+ * how often a change may be tried, 1 to 1000. Answers the first of CCAN_PROFILE_RANGE, CCAN_NODES_RANGE, CCAN_QUOTA_RANGE
+ * and CCAN_TRIES_RANGE that applies; else CCAN_NO_MEMORY or CCAN_DONE. A chip that was open ends, without its records, where
+ * it answers CCAN_DONE. */
 uint32_t ccan_open(ccan_chip *chip, uint32_t profile, uint32_t nodes, uint64_t quota, uint32_t tries);
 
 /* Whether all three handles are open. */
 bool ccan_is_open(const ccan_chip *chip);
 
 /* Ends a chip, frees its memory, and gives the records that its history leaves. The chip is then closed, and may be opened
- * again. CCAN_CLOSED where it isn't open. */
+ * again. CCAN_CLOSED where it isn't open; CCAN_SHARED closes the chip, and leaves `out` as it was. */
 uint32_t ccan_end(ccan_chip *chip, ccan_final *out);
 
 /* ---- a host: each call answers CCAN_CLOSED first, where its handle is closed */
@@ -161,8 +162,8 @@ typedef struct {
     ccan_record held; /* its record after the start with CCAN_LOAD_LOADED, else zero */
 } ccan_loaded;
 
-/* The controller chooses the object to send, and starts it, where it is on and has none. CCAN_BUSY and CCAN_SPENT go with the
- * kinds of that name: the object wasn't started. */
+/* The controller chooses the object to send, and starts it, where it is on and has none. CCAN_BUSY and CCAN_SPENT go with
+ * the kinds of that name: the object wasn't started. */
 uint32_t ccan_load(ccan_bus *bus, ccan_loaded *out);
 
 /* What another node sends. A switch is 0 for no, and each other number is yes. */
@@ -199,8 +200,8 @@ typedef struct {
 } ccan_outcome;
 
 /* Plays a round: loads as ccan_load does; then the frames of all nodes that are on contend, the one with the lowest
- * identifier wins, and `fault` spoils it where it isn't CCAN_QUIET. `offers` are `count` frames, not null even for 0. The first
- * of CCAN_FRAMES_RANGE, CCAN_FRAME_RANGE, CCAN_FAULT_RANGE and CCAN_SENDERS that applies; else CCAN_BUSY and CCAN_SPENT
+ * identifier wins, and `fault` spoils it where it isn't CCAN_QUIET. `offers` are `count` frames, not null even for 0. The
+ * first of CCAN_FRAMES_RANGE, CCAN_FRAME_RANGE, CCAN_FAULT_RANGE and CCAN_SENDERS that applies; else CCAN_BUSY and CCAN_SPENT
  * go with the kinds of that name, and `out` is written. */
 uint32_t ccan_round(ccan_bus *bus, const ccan_offer *offers, size_t count, uint32_t fault, ccan_outcome *out);
 

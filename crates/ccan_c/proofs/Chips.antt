@@ -4,7 +4,6 @@ use Rattle.ccan_ram.specs.declared.port.PortName.TheVariants.{If1, If2, Bus}
 use Rattle.ccan_ram.specs.SharedRam.{Memory, Pass, opened}
 use Rattle.ccan_c.specs.declared.chip.Chip.{Chip}
 use Rattle.ccan_c.specs.declared.handle.Handle.{Handle}
-use Rattle.ccan_c.specs.declared.held.Held.{Held}
 use Rattle.ccan_c.specs.Held.{IsOpenAs, IsOpening}
 use Rattle.ccan_c.specs.Chip.{AllOpen}
 

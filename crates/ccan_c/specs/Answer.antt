@@ -1,5 +1,5 @@
 -- How C sees the answers to lines. Source: this project's own.
-use Rattle.std.specs.Prelude.{ℕ, Bool, Option, Some, None}
+use Rattle.std.specs.Prelude.{ℕ, Option, Some, None}
 use Rattle.ccan_object.specs.declared.record.Record.{Record}
 use Rattle.ccan_object.specs.Record.{zero_record}
 use Rattle.ccan_bus.specs.declared.answer.LoadAnswer.{LoadAnswer}
@@ -64,8 +64,8 @@ c_round_with kind object found stored =
       stored_record = c_record (stored_record stored);
     }
 
--- what came of a round: which kind of answer, the object that was sent or at which a step was given up, its record where it
--- was finished, and the object that stored the frame, with its record
+-- what came of a round: which kind of answer, the object that was sent or at which a step was given up, its record where
+-- it was finished, and the object that stored the frame, with its record
 abbrev pub c_round : RoundAnswer → ShownOutcome
 c_round round.Idle = c_round_with 0 0 zero_record None
 c_round (round.Sent object finished) = c_round_with 1 object finished None

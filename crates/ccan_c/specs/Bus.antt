@@ -1,5 +1,5 @@
 -- What the calls on the bus's handle stand for: the lines of the bus in a script. Source: this project's own.
-use Rattle.std.specs.Prelude.{ℕ, ◌≡◌, ◌≤◌, ◌==◌, Bool, not, List, map, Option, Some, None, MatchBool, MatchOption, nat_le, if◌then◌else◌}
+use Rattle.std.specs.Prelude.{ℕ, ◌≡◌, ◌==◌, Bool, not, Option, Some, MatchBool, MatchOption, nat_le}
 use Rattle.ccan_ram.specs.Access.{Goes}
 use Rattle.ccan_bus.specs.Bus.{LedTo}
 use Rattle.ccan_script.specs.declared.bus_line.BusLine.{BusLine}
@@ -52,7 +52,8 @@ Does line held after result =
 -- the error counters of one of the nodes
 abbrev pub CountsNode : {Out : Type 0} → ℕ → (LineAnswer → Out) → Held → Option Held → ℕ → Out → Type 0
 CountsNode node shown held after result out =
-    MatchBool (nat_le node held.nodes) (Answers (line.Counters node) shown held after result out) (IsRefused node_range held after result)
+    MatchBool (nat_le node held.nodes) (Answers (line.Counters node) shown held after result out)
+    (IsRefused node_range held after result)
 
 -- groups of recessive bits
 abbrev pub Recovers : {Out : Type 0} → ℕ → (LineAnswer → Out) → Held → Option Held → ℕ → Out → Type 0

@@ -1,5 +1,5 @@
 -- The three handles of a chip. Source: this project's own.
-use Rattle.std.specs.Prelude.{ℕ, ◌≡◌, ◌&&◌, Bool, Option, Some, None, is_some}
+use Rattle.std.specs.Prelude.{ℕ, ◌≡◌, ◌&&◌, Bool, Some, None, is_some}
 use Rattle.ccan_object.specs.declared.profile.Profile.{Profile}
 use Rattle.ccan_ram.specs.declared.ending.Final.{Final}
 use Rattle.ccan_ram.specs.declared.port.PortName.TheVariants.{If1, If2, Bus}
@@ -14,7 +14,8 @@ use Rattle.ccan_c.specs.Settings.{profile_numbered}
 
 -- all three are open
 abbrev pub are_open : Chip → Bool
-are_open chip = is_some chip.if1.handle.seal.value && (is_some chip.if2.handle.seal.value && is_some chip.bus.handle.seal.value)
+are_open chip =
+    is_some chip.if1.handle.seal.value && (is_some chip.if2.handle.seal.value && is_some chip.bus.handle.seal.value)
 
 -- all three are open, and this holds of what they stand for
 abbrev pub AllOpen : Chip → (Held → Held → Held → Type 0) → Type 0
@@ -37,8 +38,10 @@ pub record Opens (profile : Profile) (nodes quota tries : ℕ) (chip : Chip) : T
 
 -- C gets the records that the one history leaves of which all three ports have seen a part
 abbrev pub EndsWith : Chip → ShownFinal → Type 0
-EndsWith chip out = AllOpen chip (λ h k l. (final : Final) × Ends (pass_of h) (pass_of k) (pass_of l) final × IsFinal final out)
+EndsWith chip out =
+    AllOpen chip (λ h k l. (final : Final) × Ends (pass_of h) (pass_of k) (pass_of l) final × IsFinal final out)
 
 -- the same for a profile by its number
 abbrev pub OpensAs : ℕ → ℕ → ℕ → ℕ → Chip → Type 0
-OpensAs number nodes quota tries chip = (profile : Profile) × (profile_numbered number ≡ Some profile) × Opens profile nodes quota tries chip
+OpensAs number nodes quota tries chip =
+    (profile : Profile) × (profile_numbered number ≡ Some profile) × Opens profile nodes quota tries chip

@@ -1,5 +1,5 @@
 -- The numbers that calls from C answer, for each of which the header has a name. Source: this project's own.
-use Rattle.std.specs.Prelude.{ℕ, ◌≡◌}
+use Rattle.std.specs.Prelude.{ℕ}
 
 abbrev pub done : ℕ
 done = 0

@@ -1,5 +1,5 @@
 -- What an open handle stands for. Source: this project's own.
-use Rattle.std.specs.Prelude.{ℕ, ◌≡◌, Option, Some, None}
+use Rattle.std.specs.Prelude.{ℕ, ◌≡◌, Option, Some}
 use Rattle.ccan_object.specs.Interface.{zero_registers}
 use Rattle.ccan_ram.specs.Access.{Passes}
 use Rattle.ccan_ram.specs.SharedRam.{Pass, passes_of}

@@ -102,11 +102,13 @@ Requests request held after result =
 abbrev pub ReadsFlag : ℕ → Held → Option Held → ℕ → ℕ → Type 0
 ReadsFlag number held after result out =
     MatchOption (flag_numbered number) (IsRefused flag_range held after result)
-    (λ flag. (result ≡ done) × IsOpenAs (RunsHost (line.Flags flag) (answer.Flags flag out (pass_of held).memory.profile) held) after)
+    (λ flag. (result ≡ done)
+    × IsOpenAs (RunsHost (line.Flags flag) (answer.Flags flag out (pass_of held).memory.profile) held) after)
 
 -- the interrupt value
 abbrev pub ReadsInterrupt : Held → Option Held → ℕ → ℕ → Type 0
-ReadsInterrupt held after result out = (result ≡ done) × IsOpenAs (RunsHost line.Interrupt (answer.Interrupt out) held) after
+ReadsInterrupt held after result out =
+    (result ≡ done) × IsOpenAs (RunsHost line.Interrupt (answer.Interrupt out) held) after
 
 -- whether the number is that of an object
 abbrev pub is_object : Profile → ℕ → Bool

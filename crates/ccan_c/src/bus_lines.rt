@@ -25,7 +25,8 @@ impl Held {
 
     /// The error counters of a node. None where there is no such node.
     pub(crate) fn count(&mut self, node: u32) -> Option<LineAnswer>
-        ensures none { IfNone result ((nat_le node self.old.nodes ≡ false) × (self.new ≡ self.old)) }
+        ensures none { IfNone result ((nat_le node self.old.nodes ≡ false)
+            × (self.new ≡ self.old)) }
         ensures some { IfSome result (λ answer. (nat_le node self.old.nodes ≡ true)
             × RunsBus (BusLine.Counters node) answer self.old self.new) }
     {
@@ -37,7 +38,8 @@ impl Held {
 
     /// Plays a round. None where a sender is none of the other nodes, or sends twice.
     pub(crate) fn play(&mut self, sends: Sends, fault: Fault) -> Option<LineAnswer>
-        ensures none { IfNone result ((AreSenders self.old.nodes sends.items → ⊥) × (self.new ≡ self.old)) }
+        ensures none { IfNone result ((AreSenders self.old.nodes sends.items → ⊥)
+            × (self.new ≡ self.old)) }
         ensures some { IfSome result (λ answer. AreSenders self.old.nodes sends.items
             × ((round : RoundLine) × (round.send.items ≡ sends.items) × (round.fault ≡ fault)
             × RunsBus (BusLine.Round round) answer self.old self.new)) }

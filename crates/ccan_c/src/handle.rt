@@ -49,7 +49,8 @@ impl Handle {
     }
 
     pub(crate) fn into_held(self) -> Option<Box<Held, Global>>
-        ensures { MatchOption result (self.seal.value ≡ None) (λ b. self.seal.value ≡ Some b.value) }
+        ensures { MatchOption result (self.seal.value ≡ None)
+            (λ b. self.seal.value ≡ Some b.value) }
     {
         let Handle { full, seal } = self;
         if full { Some(seal.into_box()) } else { None }

@@ -54,7 +54,8 @@ impl Held {
 
     /// The object of this number, where the chip has it.
     fn object_numbered(&self, number: u32) -> Option<ObjectNo>
-        ensures known { IsSome result ↔ IsTrue (is_object (pass_of self.now).memory.profile number) }
+        ensures known { IsSome result
+            ↔ IsTrue (is_object (pass_of self.now).memory.profile number) }
         ensures value { IfSome result (λ object. (object ≡ number)
             × Holds (pass_of self.now).memory.profile object) }
     {
@@ -68,7 +69,8 @@ impl Held {
     pub(crate) fn wait(&mut self, object: u32, flag: u32, turns: u32) -> Result<bool, u32>
         ensures { MatchResult result
             (λ shown. WaitsFor object flag turns self.old (Some self.new) done (number_of shown))
-            (λ code. (code ≢ done) × ((out : ℕ) → WaitsFor object flag turns self.old (Some self.new) code out)) }
+            (λ code. (code ≢ done) × ((out : ℕ)
+            → WaitsFor object flag turns self.old (Some self.new) code out)) }
     {
         let Some(object) = self.object_numbered(object) else {
             return Err(OBJECT_RANGE);

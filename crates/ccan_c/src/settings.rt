@@ -30,7 +30,8 @@ fn profile_numbered(number: u32) -> Option<Profile>
 impl Settings {
     /// Reads the settings that C gives, and tells the first that is out of its range.
     pub(crate) fn read(profile: u32, nodes: u32, quota: u64, tries: u32) -> Result<Settings, u32>
-        ensures fault { IfErr result (λ code. settings_fault profile nodes quota tries ≡ Some code) }
+        ensures fault { IfErr result
+            (λ code. settings_fault profile nodes quota tries ≡ Some code) }
         ensures none { IfOk result (λ settings. settings_fault profile nodes quota tries ≡ None) }
         ensures read { IfOk result (λ settings. (profile_numbered profile ≡ Some settings.profile)
             × (settings.nodes ≡ nodes) × (settings.quota ≡ quota) × (settings.tries ≡ tries)) }
