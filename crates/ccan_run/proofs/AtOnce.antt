@@ -1,5 +1,5 @@
 -- Ports that run their lines in threads of their own.
-use Rattle.std.proofs.Common.{ℕ, ◌≡◌, Bool, List, [], ◌++◌, refl, sym, ap, subst, ◌∙◌, arith}
+use Rattle.std.proofs.Common.{ℕ, ◌≡◌, Bool, List, [], refl, sym, ap, subst, ◌∙◌, arith}
 use Rattle.std.specs.Prelude.{Option, None, IfSome}
 use Rattle.std.proofs.lemmas.List.{append-nil}
 use Rattle.ccan_object.specs.declared.profile.Profile.{Profile}

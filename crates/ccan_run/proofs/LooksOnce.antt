@@ -1,5 +1,5 @@
 -- Looks, where nobody else acts: each shows what the history leaves, and none changes it. So what looks tell is determined.
-use Rattle.std.proofs.Common.{◌≡◌, ◌<◌, ◌≤◌, ◌+◌, ℕ, zero, suc, Bool, true, false, List, [], ◌∷◌, ◌++◌, ◌⊎◌, inl, inr, length, refl, sym, ap, ap₂, subst, ◌∙◌, append_assoc, arith, true≢false, ◌||◌}
+use Rattle.std.proofs.Common.{◌≡◌, ◌<◌, ◌+◌, ℕ, zero, suc, Bool, true, false, List, [], ◌∷◌, ◌++◌, ◌⊎◌, inl, inr, length, refl, sym, ap, ap₂, subst, ◌∙◌, append_assoc, arith, true≢false, ◌||◌}
 use Rattle.std.specs.List.{list_any}
 use Rattle.ccan_object.specs.declared.record.Record.{Record}
 use Rattle.ccan_object.specs.Profile.{objects_in}
@@ -9,7 +9,7 @@ use Rattle.ccan_ram.specs.declared.flag.Flag.TheVariants.{IntPnd}
 use Rattle.ccan_ram.specs.Flags.{flag_of}
 use Rattle.ccan_ram.specs.History.{IsLegal, record_at}
 use Rattle.ccan_ram.specs.Terms.{Terms}
-use Rattle.ccan_ram.specs.Attempt.{IsLook, look_at}
+use Rattle.ccan_ram.specs.Attempt.{look_at}
 use Rattle.ccan_ram.proofs.Alone.{looks_alone}
 use Rattle.ccan_ram.proofs.Histories.{IsLegal-older}
 use Rattle.ccan_handler.specs.Watch.{Looks, in_turn, NoneShows, FirstShows, Watches, Interrupts, ReadsFlags, flag_word}

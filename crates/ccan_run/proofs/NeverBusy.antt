@@ -1,6 +1,6 @@
 -- No line is busy where nothing contends: a refused change as Busy has lost each of its tries, and none is lost there.
-use Rattle.std.proofs.Common.{◌≡◌, ◌≤◌, ℕ, zero, suc, Bool, true, false, List, [], ◌∷◌, ◌++◌, ◌&&◌, ◌||◌, Option, Some, None, Result, Ok, Err, refl, sym, ap, subst, ◌∙◌, cond, arith}
-use Rattle.std.specs.Prelude.{MatchBool, All, ◌⊎◌}
+use Rattle.std.proofs.Common.{◌≡◌, ◌≤◌, ℕ, zero, suc, Bool, true, false, List, [], ◌∷◌, ◌++◌, Result, Ok, Err, refl, cond, arith}
+use Rattle.std.specs.Prelude.{MatchBool, All}
 use Rattle.std.proofs.lemmas.List.Elements.{All-cons, All-nil}
 use Rattle.ccan_object.specs.declared.record.Record.{Record}
 use Rattle.ccan_object.specs.Command.{is_write, is_pure_read}
@@ -25,8 +25,8 @@ use Rattle.ccan_bus.specs.declared.answer.RoundAnswer.TheVariants as round
 use Rattle.ccan_bus.specs.declared.round_line.RoundLine.{RoundLine}
 use Rattle.ccan_bus.specs.Past.{BusPast, hears_itself}
 use Rattle.ccan_bus.specs.Load.{Loads}
-use Rattle.ccan_bus.specs.LoopBack.{LoopsBack, IsLoopRefused, AtFinish, AtScan}
-use Rattle.ccan_bus.specs.Round.{Round, Contends, Transfers, Continues, IsRefused, RefusedFinish, RefusedScan, refusal_of_round}
+use Rattle.ccan_bus.specs.LoopBack.{IsLoopRefused, AtFinish, AtScan}
+use Rattle.ccan_bus.specs.Round.{Round, Transfers, Continues, IsRefused, RefusedFinish, RefusedScan, refusal_of_round}
 use Rattle.ccan_script.specs.declared.host_line.HostLine.{HostLine}
 use Rattle.ccan_script.specs.declared.host_line.HostLine.TheVariants as host
 use Rattle.ccan_script.specs.declared.bus_line.BusLine.{BusLine}

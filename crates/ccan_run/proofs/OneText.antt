@@ -35,7 +35,7 @@ use Rattle.ccan_run.specs.BusPort.{BusLineMeans, Only}
 use Rattle.ccan_run.specs.Lines.{LinesMean}
 use Rattle.ccan_run.specs.Ordered.{PortLine, of_if1, of_if2, of_bus, Three, PortLineMeans, terms_of, opening, lines_of, answers_text, finals_text}
 use Rattle.ccan_run.specs.Laws.{HasOneText}
-use Rattle.ccan_run.proofs.LooksOnce.{legal_first, watches_once, interrupts_once, words_once}
+use Rattle.ccan_run.proofs.LooksOnce.{watches_once, interrupts_once, words_once}
 use Rattle.ccan_run.proofs.LoadsOnce.{loads_once}
 use Rattle.ccan_run.proofs.RoundsOnce.{rounds_once}
 

@@ -1,12 +1,11 @@
 -- A round, where nobody else acts: what was loaded, who is on and what the line sends decide what it adds and answers.
-use Rattle.std.proofs.Common.{◌≡◌, ◌≢◌, ◌≤◌, ◌<◌, ◌==◌, ℕ, Bool, true, false, cond, List, [], ◌∷◌, ◌++◌, length, map, get_or, Option, Some, None, Result, Ok, Err, refl, sym, ap, ap₂, subst, ◌∙◌, true≢false, arith}
-use Rattle.std.specs.List.{filter}
+use Rattle.std.proofs.Common.{◌≡◌, ◌≢◌, ◌≤◌, ◌==◌, ℕ, Bool, true, false, cond, List, [], ◌++◌, length, map, Option, Some, None, Result, Ok, Err, refl, sym, ap, ap₂, subst, ◌∙◌, true≢false, arith}
 use Rattle.std.proofs.lemmas.List.Elements.{filter_passes}
 use Rattle.ccan_object.specs.declared.record.Record.{Record}
 use Rattle.ccan_accept.specs.declared.frame.Frame.{Frame}
 use Rattle.ccan_ram.specs.declared.change.Change.TheVariants.{Finish, Store}
 use Rattle.ccan_ram.specs.declared.change.Changed.{Changed}
-use Rattle.ccan_ram.specs.declared.change.Changed.TheVariants.{Done, NotNow}
+use Rattle.ccan_ram.specs.declared.change.Changed.TheVariants.{Done}
 use Rattle.ccan_ram.specs.declared.change.Refused.{Refused}
 use Rattle.ccan_ram.specs.declared.change.Refused.TheVariants.{Busy, Spent}
 use Rattle.ccan_ram.specs.declared.event.Event.{Event}
@@ -19,19 +18,17 @@ use Rattle.ccan_confine.specs.declared.bus_event.BusEvent.TheVariants.{Sent, Rec
 use Rattle.ccan_confine.specs.declared.status_event.StatusEvent.TheVariants as status
 use Rattle.ccan_bus.specs.declared.round_line.RoundLine.{RoundLine}
 use Rattle.ccan_bus.specs.declared.answer.LoadAnswer.{LoadAnswer}
-use Rattle.ccan_bus.specs.declared.answer.LoadAnswer.TheVariants as load
 use Rattle.ccan_bus.specs.declared.answer.RoundAnswer.{RoundAnswer}
 use Rattle.ccan_bus.specs.declared.answer.RoundAnswer.TheVariants as answer
 use Rattle.ccan_bus.specs.Arbitration.{Collide, arbitration_bits}
 use Rattle.ccan_bus.specs.RoundLine.{code_of}
 use Rattle.ccan_bus.specs.Past.{BusPast, is_on, hears_itself, happens}
 use Rattle.ccan_bus.specs.Contenders.{IsWonBy, contenders, contenders_of, frames_of, own_frame, sends_least}
-use Rattle.ccan_bus.specs.Load.{Loads}
 use Rattle.ccan_bus.specs.Round.{Round, Contends, Transfers, Continues, IsSuccess, shared, is_node, RefusedFinish, RefusedScan, refusal_of_round}
 use Rattle.ccan_run.proofs.LooksOnce.{legal_first}
 use Rattle.ccan_run.proofs.ScansOnce.{scans_once}
 use Rattle.ccan_run.proofs.LoadsOnce.{loads_once, one_loaded, some_none}
-use Rattle.ccan_run.proofs.LoopsOnce.{refusal, finish_reply, receive_reply, Same, ends_once, loops_once}
+use Rattle.ccan_run.proofs.LoopsOnce.{finish_reply, receive_reply, Same, ends_once, loops_once}
 use Rattle.ccan_run.proofs.WinsOnce.{collide_or_win, some_win, won_once}
 
 -- who wins is on

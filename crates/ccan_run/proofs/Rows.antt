@@ -5,7 +5,7 @@ use Rattle.std.proofs.lemmas.List.{append-nil}
 use Rattle.ccan_ram.specs.declared.event.Event.{Event}
 use Rattle.ccan_ram.specs.Terms.{Terms}
 use Rattle.ccan_ram.specs.Access.{Passes, Goes}
-use Rattle.ccan_ram.proofs.Calls.{Goes-then, Goes-none, Goes-weaker}
+use Rattle.ccan_ram.proofs.Calls.{Goes-then, Goes-weaker}
 use Rattle.ccan_run.specs.Side.{GoesOn}
 use Rattle.ccan_run.specs.Gate.{ran}
 use Rattle.ccan_run.specs.Lines.{LinesMean, Run}

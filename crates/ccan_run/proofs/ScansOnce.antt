@@ -1,17 +1,17 @@
 -- Scans, where nobody else acts: which objects fit is decided by what the history leaves, so that a scan's end is determined.
-use Rattle.std.proofs.Common.{◌≡◌, ◌<◌, ◌≤◌, ◌+◌, ◌-◌, ◌==◌, ℕ, zero, suc, Bool, true, false, List, [], ◌∷◌, ◌++◌, ◌⊎◌, inl, inr, Result, Ok, Err, cond, refl, sym, ap, ap₂, subst, ◌∙◌, arith, true≢false}
+use Rattle.std.proofs.Common.{◌≡◌, ◌<◌, ◌≤◌, ◌+◌, ◌-◌, ◌==◌, ℕ, zero, suc, Bool, true, false, List, [], ◌∷◌, ◌++◌, inl, inr, Result, Ok, Err, cond, refl, sym, ap, ap₂, subst, ◌∙◌, arith, true≢false}
 use Rattle.ccan_object.specs.declared.record.Record.{Record}
 use Rattle.ccan_object.specs.Profile.{objects_in}
 use Rattle.ccan_ram.specs.declared.change.Change.{Change}
 use Rattle.ccan_ram.specs.declared.change.Changed.{Changed}
 use Rattle.ccan_ram.specs.declared.change.Changed.TheVariants.{Done, NotNow}
 use Rattle.ccan_ram.specs.declared.change.Refused.{Refused}
-use Rattle.ccan_ram.specs.declared.change.Refused.TheVariants.{Busy, Spent}
+use Rattle.ccan_ram.specs.declared.change.Refused.TheVariants.{Spent}
 use Rattle.ccan_ram.specs.declared.event.Event.{Event}
 use Rattle.ccan_ram.specs.Change.{fits, changed}
 use Rattle.ccan_ram.specs.History.{IsLegal, record_at, changes_by, next_number}
 use Rattle.ccan_ram.specs.Terms.{Terms}
-use Rattle.ccan_ram.specs.Attempt.{IsLook, Attempt, look_at}
+use Rattle.ccan_ram.specs.Attempt.{look_at}
 use Rattle.ccan_ram.specs.Laws.{answer_alone, events_alone}
 use Rattle.ccan_ram.proofs.Alone.{looks_alone, attempts_alone}
 use Rattle.ccan_ram.proofs.Histories.{IsLegal-older}

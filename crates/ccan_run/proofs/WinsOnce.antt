@@ -1,5 +1,5 @@
 -- Arbitration comes out in one way: frames collide or one of them wins, and it is one.
-use Rattle.std.proofs.Common.{◌≡◌, ◌≢◌, ◌<◌, ℕ, Bool, true, false, List, [], ◌∷◌, ◌⊎◌, inl, inr, get_or, length, map, refl, sym, ap, subst, ◌∙◌, true≢false, arith}
+use Rattle.std.proofs.Common.{◌≡◌, ℕ, Bool, true, false, List, [], ◌∷◌, inl, inr, get_or, length, map, sym, ap, ◌∙◌, true≢false, arith}
 use Rattle.std.proofs.lemmas.List.{get_or_default}
 use Rattle.ccan_accept.specs.declared.frame.Frame.{Frame}
 use Rattle.ccan_bus.specs.Arbitration.{Wins, Collide, arbitration_bits, list_at, precedes}

@@ -1,4 +1,4 @@
-use Rattle.std.proofs.Common.{◌≡◌, ap, ◌∙◌}
+use Rattle.std.proofs.Common.{ap, ◌∙◌}
 use Rattle.ccan_run.proofs.AtOnce.{ran_from_opened}
 use Rattle.ccan_run.proofs.port_run.run_opened.Goals as goal
 

@@ -1,4 +1,4 @@
-use Rattle.std.proofs.Common.{◌≡◌, refl}
+use Rattle.std.proofs.Common.{refl}
 use Rattle.ccan_script.specs.Reader.{fields_of}
 use Rattle.ccan_run.specs.Threads.{HaveRun}
 use Rattle.ccan_run.proofs.AtOnce.{at_once}
