@@ -26,6 +26,8 @@ bench:
 sweep:
 	@tools/build
 	tools/refuse_memory crates/ccan/out/ccan examples/spent_quota.json examples/spent_quota.json.stdout
+	tools/refuse_memory crates/ccan/out/ccan examples/spent_quota.json examples/spent_quota.json.stdout threads
+	tools/refuse_memory crates/ccan/out/ccan examples/spent_quota.json /dev/null walk
 	@tools/build ccan_open
 	tools/refuse_opening crates/ccan_open/out/ccan_open
 

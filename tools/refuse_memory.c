@@ -1,18 +1,19 @@
-/* Refuses the N-th request for memory, N from the environment variable REFUSE, and says on the file of the environment
+/* Refuses the N-th request for memory or for a thread, N from the environment variable REFUSE, and says on the file of the environment
    variable REFUSED that it did. At the end it writes the number of blocks that were given out and not given back into the
    file of the environment variable LEFT. To be preloaded under the program. */
 #define _GNU_SOURCE
 #include <dlfcn.h>
 #include <errno.h>
 #include <fcntl.h>
+#include <pthread.h>
 #include <stddef.h>
 #include <stdio.h>
 #include <stdlib.h>
 #include <string.h>
 #include <unistd.h>
 
-static long requests;
-static long left;
+static _Atomic long requests;
+static _Atomic long left;
 
 /* Writes a text into the file that an environment variable names, with no request for memory of its own. */
 static void note(const char *variable, const char *text) {
@@ -28,8 +29,8 @@ static void note(const char *variable, const char *text) {
 /* Whether this request is the one. */
 static int refused(void) {
     const char *which = getenv("REFUSE");
-    requests++;
-    if (which == NULL || requests != atol(which)) {
+    long number = ++requests;
+    if (which == NULL || number != atol(which)) {
         return 0;
     }
     note("REFUSED", "refused\n");
@@ -98,6 +99,14 @@ void free(void *block) {
     }
     left -= block != NULL;
     next(block);
+}
+
+int pthread_create(pthread_t *thread, const pthread_attr_t *attributes, void *(*run)(void *), void *with) {
+    static int (*next)(pthread_t *, const pthread_attr_t *, void *(*)(void *), void *);
+    if (next == NULL) {
+        next = (int (*)(pthread_t *, const pthread_attr_t *, void *(*)(void *), void *))dlsym(RTLD_NEXT, "pthread_create");
+    }
+    return refused() ? EAGAIN : next(thread, attributes, run, with);
 }
 
 __attribute__((destructor)) static void at_the_end(void) {
