@@ -5,10 +5,10 @@ mod rivals;
 mod scripts;
 
 use ccan_bus::RoundAnswer;
-use ccan_object::{ObjectNo, Profile, Record};
-use ccan_ram::{Final, Flag, On, PortName, SharedRam};
-use ccan_run::{FreeGate, Gate, Outcome, RunError, run_port, run_threads};
-use ccan_script::{LineAnswer, Script, print_final, print_line, read_script};
+use ccan_object::Record;
+use ccan_ram::{On, PortName, SharedRam};
+use ccan_run::{FreeGate, Gate, Outcome, RunError, print_outcome, read_input, run_port, run_threads};
+use ccan_script::{LineAnswer, Script, print_line, read_script};
 use ccan_words::{RootRam, WordRam};
 use std::alloc::{AllocError, Global};
 use std::process::Abort;
@@ -25,25 +25,9 @@ fn text_of(alloc: Global, port: PortName, answers: &[LineAnswer]) -> Result<Stri
     Ok(text)
 }
 
-/// The text of the objects at the end.
-fn objects_of(alloc: Global, last: &Final) -> Result<String, AllocError> {
-    let mut text = String::new(alloc);
-    for number in 1..=64u8 {
-        let Some(object) = ObjectNo::new(number) else {
-            continue;
-        };
-        if let Some(line) = print_final(object, &last.records[usize::from(number - 1)]) {
-            text.push_str(line.as_str())?;
-        }
-    }
-    Ok(text)
-}
-
-/// The text of an outcome: IF1, IF2, bus, and the objects.
-fn outcome_text(alloc: Global, outcome: &Outcome) -> Result<String, AllocError> {
-    let mut text = text_of(alloc, PortName::If1, &outcome.if1)?;
-    text.push_str(&text_of(alloc, PortName::If2, &outcome.if2)?)?;
-    text.push_str(&text_of(alloc, PortName::Bus, &outcome.bus)?)?;
-    text.push_str(&objects_of(alloc, &outcome.last)?)?;
+/// What is printed of an outcome.
+fn printed(alloc: Global, outcome: &Outcome) -> Result<Vec<u8>, Fail> {
+    let mut text: Vec<u8> = Vec::new(alloc);
+    print_outcome(outcome, &mut text)?;
     Ok(text)
 }

@@ -44,15 +44,16 @@ const LAST_OBJECT: &[u8] = br#"{"profile":2,"if1":[
     {"op":"interrupt"},{"op":"flags","flag":"intpnd"}],
   "bus":[{"op":"loopback","on":1},{"op":"round"},{"op":"status"}]}"#;
 
-/// What a script comes to in threads over this memory, as text.
+/// What a script comes to in threads over this memory, from its bytes to what is printed.
 fn text_in_threads<R: SharedRam + Sync + Drop, T: Threads + Wait + Sync>(
     rt: &T,
     alloc: Global,
     bytes: &[u8],
-) -> Result<String, Fail> {
-    let script = read_script(alloc, bytes)?;
+) -> Result<Vec<u8>, Fail> {
+    let mut input = bytes;
+    let script = read_input(alloc, &mut input)?;
     let outcome = run_threads::<R, FreeGate, T>(rt, alloc, &script, &FreeGate)?;
-    Ok(outcome_text(alloc, &outcome)?)
+    printed(alloc, &outcome)
 }
 
 /// Runs a script in threads with a gate.
@@ -76,7 +77,7 @@ fn hosts_wait_for_each_other<R: SharedRam + Sync + Drop, T: Threads + Wait + Abo
     let want = "if1 write 01 00000000 00000000 8000 0000000000000000\nif1 until 02 newdat yes\n\
 if2 write 02 00000000 00000000 8000 0000000000000000\nif2 until 01 newdat yes\n\
 final 01 00000000 00000000 8000 0000000000000000\nfinal 02 00000000 00000000 8000 0000000000000000\n";
-    assert_eq!(rt; outcome_text(alloc, &outcome)?.as_str(), want);
+    assert!(rt; printed(alloc, &outcome)?.as_slice() == want.as_bytes());
     Ok(())
 }
 
@@ -125,8 +126,8 @@ fn a_spent_port_leaves_the_others(rt: HostRuntime) -> Result<(), Fail> {
 if2 write 02 a48c0000 00000000 0088 1122334455667788\n\
 final 01 a48c0000 00000000 0088 1122334455667788\nfinal 02 a48c0000 00000000 0088 1122334455667788\n";
     for _ in 0..20u8 {
-        assert_eq!(rt; text_in_threads::<WordRam, HostRuntime>(&rt, rt.alloc(), TWICE)?.as_str(), want);
-        assert_eq!(rt; text_in_threads::<RootRam, HostRuntime>(&rt, rt.alloc(), TWICE)?.as_str(), want);
+        assert!(rt; text_in_threads::<WordRam, HostRuntime>(&rt, rt.alloc(), TWICE)?.as_slice() == want.as_bytes());
+        assert!(rt; text_in_threads::<RootRam, HostRuntime>(&rt, rt.alloc(), TWICE)?.as_slice() == want.as_bytes());
     }
     Ok(())
 }
@@ -135,8 +136,8 @@ final 01 a48c0000 00000000 0088 1122334455667788\nfinal 02 a48c0000 00000000 008
 fn a_write_is_answered(rt: HostRuntime) -> Result<(), Fail> {
     let want = "if1 write 01 a48c0000 00000000 0088 1122334455667788\n\
 final 01 a48c0000 00000000 0088 1122334455667788\n";
-    assert_eq!(rt; text_in_threads::<WordRam, HostRuntime>(&rt, rt.alloc(), WRITE)?.as_str(), want);
-    assert_eq!(rt; text_in_threads::<RootRam, HostRuntime>(&rt, rt.alloc(), WRITE)?.as_str(), want);
+    assert!(rt; text_in_threads::<WordRam, HostRuntime>(&rt, rt.alloc(), WRITE)?.as_slice() == want.as_bytes());
+    assert!(rt; text_in_threads::<RootRam, HostRuntime>(&rt, rt.alloc(), WRITE)?.as_slice() == want.as_bytes());
     Ok(())
 }
 
@@ -145,8 +146,8 @@ fn both_profiles_and_loop_back_run(rt: HostRuntime) -> Result<(), Fail> {
     let want = "if1 write 64 00000000 00000000 2000 0000000000000000\nif1 interrupt 0040\n\
 if1 flags intpnd 8000000000000000\nbus loopback 1\nbus idle\nbus status 0000\n\
 final 64 00000000 00000000 2000 0000000000000000\n";
-    assert_eq!(rt; text_in_threads::<WordRam, HostRuntime>(&rt, rt.alloc(), LAST_OBJECT)?.as_str(), want);
-    assert_eq!(rt; text_in_threads::<RootRam, HostRuntime>(&rt, rt.alloc(), LAST_OBJECT)?.as_str(), want);
+    assert!(rt; text_in_threads::<WordRam, HostRuntime>(&rt, rt.alloc(), LAST_OBJECT)?.as_slice() == want.as_bytes());
+    assert!(rt; text_in_threads::<RootRam, HostRuntime>(&rt, rt.alloc(), LAST_OBJECT)?.as_slice() == want.as_bytes());
     Ok(())
 }
 
