@@ -20,6 +20,7 @@ fn laws_hold() {
 fn reads_a_script_to_the_end_of_the_input(rt: HostRuntime) -> Result<(), Fail> {
     let mut reader = Pieces {
         rest: WRITE.as_bytes(),
+        step: 64,
         calls: 0,
         fault: None,
     };
@@ -64,6 +65,7 @@ fn tells_why_input_is_no_script(rt: HostRuntime) {
     }
     let mut reader = Pieces {
         rest: WRITE.as_bytes(),
+        step: 64,
         calls: 2,
         fault: Some(Fault::Fails(std::io::ErrorKind::Interrupted)),
     };

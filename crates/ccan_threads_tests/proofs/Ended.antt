@@ -46,7 +46,7 @@ pub at_once : (contends : ℕ → ℕ → Bool) (memory : Memory) (script : Scri
     → Ends if1 if2 bus outcome.last → RunsAtOnce contends script outcome
 at_once contends memory script if1 if2 bus outcome is first second third end =
     let profile : outcome.last.profile ≡ script.profile =
-        end.profile_is ∙ ap (λ (m : Memory). m.profile) first.same_memory ∙ is.profile_is in
+    end.profile_is ∙ ap (λ (m : Memory). m.profile) first.same_memory ∙ is.profile_is in
     record {
       memory = memory;
       memory_is = is;

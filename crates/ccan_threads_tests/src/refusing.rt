@@ -1,7 +1,5 @@
 use ccan_object::{ObjectNo, Profile, Record};
-use ccan_ram::{
-    Change, Changed, CommitError, Draft, Final, OpenError, Refused, SharedRam, Tries,
-};
+use ccan_ram::{Change, Changed, CommitError, Draft, Final, OpenError, Refused, SharedRam, Tries};
 use ccan_words::{Port, WordRam};
 use std::alloc::Global;
 

@@ -7,7 +7,9 @@ mod scripts;
 use ccan_bus::RoundAnswer;
 use ccan_object::Record;
 use ccan_ram::{On, PortName, SharedRam};
-use ccan_run::{FreeGate, Gate, Outcome, RunError, print_outcome, read_input, run_port, run_threads};
+use ccan_run::{
+    FreeGate, Gate, Outcome, RunError, print_outcome, read_input, run_port, run_threads,
+};
 use ccan_script::{LineAnswer, Script, print_line, read_script};
 use ccan_words::{RootRam, WordRam};
 use std::alloc::{AllocError, Global};

@@ -7,7 +7,12 @@ use std::fmt::Write as _;
 const LINES: u16 = 1_000;
 
 /// A host's line that sets one register and writes its group.
-fn push_write(script: &mut String, command: &str, register: &str, value: u16) -> Result<(), AllocError> {
+fn push_write(
+    script: &mut String,
+    command: &str,
+    register: &str,
+    value: u16,
+) -> Result<(), AllocError> {
     write!(
         script,
         ",{{\"op\":\"transfer\",\"request\":\"0001\",\"set\":{{\"cmask\":\"{command}\",\"{register}\":\"{value:04x}\"}}}}"
@@ -90,8 +95,12 @@ fn never_falls(answers: &[LineAnswer]) -> bool {
 fn no_change_of_three_rivals_is_lost(rt: HostRuntime) -> Result<(), Fail> {
     let bytes = script_of_rivals(rt.alloc())?;
     let script = read_script(rt.alloc(), bytes.as_bytes())?;
-    let outcome =
-        run_threads::<WordRam, FreeGate, HostRuntime>(&rt, rt.alloc(), &script, &FreeGate)?;
+    let outcome = run_threads::<WordRam, FreeGate, HostRuntime>(
+        &rt,
+        rt.alloc(),
+        &script,
+        &FreeGate,
+    )?;
     assert!(rt; counts_in_turn(&outcome.if1, true));
     assert!(rt; counts_in_turn(&outcome.if2, false));
     assert!(rt; outcome.bus.len() == usize::from(LINES) + 1);

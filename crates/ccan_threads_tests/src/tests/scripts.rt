@@ -93,30 +93,76 @@ fn hosts_wait_for_each_other_on_one_word(rt: HostRuntime) -> Result<(), Fail> {
 
 #[test]
 fn a_gate_holds_the_first_port_in_order(rt: HostRuntime) -> Result<(), Fail> {
-    let all = HeldFrom { port: None, line: 1 };
-    let held = run_gated::<WordRam, HeldFrom, HostRuntime>(&rt, rt.alloc(), WAIT_FOR_EACH_OTHER, &all)?.err();
-    let first = RunError::Held { port: PortName::If1, line: 1 };
+    let all = HeldFrom {
+        port: None,
+        line: 1,
+    };
+    let held = run_gated::<WordRam, HeldFrom, HostRuntime>(
+        &rt,
+        rt.alloc(),
+        WAIT_FOR_EACH_OTHER,
+        &all,
+    )?.err();
+    let first = RunError::Held {
+        port: PortName::If1,
+        line: 1,
+    };
     assert_eq!(rt; held, Some(first));
-    let second = HeldFrom { port: Some(PortName::If2), line: 1 };
-    let held = run_gated::<WordRam, HeldFrom, HostRuntime>(&rt, rt.alloc(), LOOK_ONCE, &second)?.err();
-    let other = RunError::Held { port: PortName::If2, line: 1 };
+    let second = HeldFrom {
+        port: Some(PortName::If2),
+        line: 1,
+    };
+    let held = run_gated::<WordRam, HeldFrom, HostRuntime>(
+        &rt,
+        rt.alloc(),
+        LOOK_ONCE,
+        &second,
+    )?.err();
+    let other = RunError::Held {
+        port: PortName::If2,
+        line: 1,
+    };
     assert_eq!(rt; held, Some(other));
     Ok(())
 }
 
 #[test]
 fn a_memory_that_is_refused_is_want_of_memory(rt: HostRuntime) -> Result<(), Fail> {
-    let refused = run_gated::<Refusing, FreeGate, HostRuntime>(&rt, rt.alloc(), WRITE, &FreeGate)?.err();
+    let refused = run_gated::<Refusing, FreeGate, HostRuntime>(
+        &rt,
+        rt.alloc(),
+        WRITE,
+        &FreeGate,
+    )?.err();
     assert_eq!(rt; refused, Some(RunError::Memory));
     Ok(())
 }
 
 #[test]
 fn a_quota_past_the_form_is_refused(rt: HostRuntime) -> Result<(), Fail> {
-    let refused = run_gated::<RootRam, FreeGate, HostRuntime>(&rt, rt.alloc(), br#"{"quota":65}"#, &FreeGate)?.err();
+    let refused = run_gated::<RootRam, FreeGate, HostRuntime>(
+        &rt,
+        rt.alloc(),
+        br#"{"quota":65}"#,
+        &FreeGate,
+    )?.err();
     assert_eq!(rt; refused, Some(RunError::Quota));
-    assert!(rt; run_gated::<RootRam, FreeGate, HostRuntime>(&rt, rt.alloc(), br#"{"quota":64}"#, &FreeGate)?.is_ok());
-    assert!(rt; run_gated::<WordRam, FreeGate, HostRuntime>(&rt, rt.alloc(), br#"{"quota":4096}"#, &FreeGate)?.is_ok());
+    assert!(rt;
+        run_gated::<RootRam, FreeGate, HostRuntime>(
+            &rt,
+            rt.alloc(),
+            br#"{"quota":64}"#,
+            &FreeGate
+        )?.is_ok()
+    );
+    assert!(rt;
+        run_gated::<WordRam, FreeGate, HostRuntime>(
+            &rt,
+            rt.alloc(),
+            br#"{"quota":4096}"#,
+            &FreeGate
+        )?.is_ok()
+    );
     Ok(())
 }
 
@@ -126,8 +172,14 @@ fn a_spent_port_leaves_the_others(rt: HostRuntime) -> Result<(), Fail> {
 if2 write 02 a48c0000 00000000 0088 1122334455667788\n\
 final 01 a48c0000 00000000 0088 1122334455667788\nfinal 02 a48c0000 00000000 0088 1122334455667788\n";
     for _ in 0..20u8 {
-        assert!(rt; text_in_threads::<WordRam, HostRuntime>(&rt, rt.alloc(), TWICE)?.as_slice() == want.as_bytes());
-        assert!(rt; text_in_threads::<RootRam, HostRuntime>(&rt, rt.alloc(), TWICE)?.as_slice() == want.as_bytes());
+        assert!(rt;
+            text_in_threads::<WordRam, HostRuntime>(&rt, rt.alloc(), TWICE)?.as_slice()
+                == want.as_bytes()
+        );
+        assert!(rt;
+            text_in_threads::<RootRam, HostRuntime>(&rt, rt.alloc(), TWICE)?.as_slice()
+                == want.as_bytes()
+        );
     }
     Ok(())
 }
@@ -136,8 +188,14 @@ final 01 a48c0000 00000000 0088 1122334455667788\nfinal 02 a48c0000 00000000 008
 fn a_write_is_answered(rt: HostRuntime) -> Result<(), Fail> {
     let want = "if1 write 01 a48c0000 00000000 0088 1122334455667788\n\
 final 01 a48c0000 00000000 0088 1122334455667788\n";
-    assert!(rt; text_in_threads::<WordRam, HostRuntime>(&rt, rt.alloc(), WRITE)?.as_slice() == want.as_bytes());
-    assert!(rt; text_in_threads::<RootRam, HostRuntime>(&rt, rt.alloc(), WRITE)?.as_slice() == want.as_bytes());
+    assert!(rt;
+        text_in_threads::<WordRam, HostRuntime>(&rt, rt.alloc(), WRITE)?.as_slice()
+            == want.as_bytes()
+    );
+    assert!(rt;
+        text_in_threads::<RootRam, HostRuntime>(&rt, rt.alloc(), WRITE)?.as_slice()
+            == want.as_bytes()
+    );
     Ok(())
 }
 
@@ -146,8 +204,14 @@ fn both_profiles_and_loop_back_run(rt: HostRuntime) -> Result<(), Fail> {
     let want = "if1 write 64 00000000 00000000 2000 0000000000000000\nif1 interrupt 0040\n\
 if1 flags intpnd 8000000000000000\nbus loopback 1\nbus idle\nbus status 0000\n\
 final 64 00000000 00000000 2000 0000000000000000\n";
-    assert!(rt; text_in_threads::<WordRam, HostRuntime>(&rt, rt.alloc(), LAST_OBJECT)?.as_slice() == want.as_bytes());
-    assert!(rt; text_in_threads::<RootRam, HostRuntime>(&rt, rt.alloc(), LAST_OBJECT)?.as_slice() == want.as_bytes());
+    assert!(rt;
+        text_in_threads::<WordRam, HostRuntime>(&rt, rt.alloc(), LAST_OBJECT)?.as_slice()
+            == want.as_bytes()
+    );
+    assert!(rt;
+        text_in_threads::<RootRam, HostRuntime>(&rt, rt.alloc(), LAST_OBJECT)?.as_slice()
+            == want.as_bytes()
+    );
     Ok(())
 }
 
@@ -172,7 +236,14 @@ fn a_port_runs_as_far_as_its_gate_lets_it(rt: HostRuntime) -> Result<(), Fail> {
     let all = "if1 write 01 a48c0000 00000000 0088 1122334455667788\nif1 spent 01\n\
 if1 read 01 a48c0000 00000000 0088 1122334455667788\n";
     assert_eq!(rt; text.as_str(), all);
-    let (stopped, text) = first_lines(rt.alloc(), &script, &HeldFrom { port: None, line: 1 })?;
+    let (stopped, text) = first_lines(
+        rt.alloc(),
+        &script,
+        &HeldFrom {
+            port: None,
+            line: 1,
+        },
+    )?;
     assert_eq!(rt; stopped, Some(1));
     let one = "if1 write 01 a48c0000 00000000 0088 1122334455667788\n";
     assert_eq!(rt; text.as_str(), one);
