@@ -104,8 +104,9 @@ fn no_change_of_three_rivals_is_lost(rt: HostRuntime) -> Result<(), Fail> {
     assert!(rt; counts_in_turn(&outcome.if1, true));
     assert!(rt; counts_in_turn(&outcome.if2, false));
     assert!(rt; outcome.bus.len() == usize::from(LINES) + 1);
-    let last = counts_in(&outcome.last.records[0]);
-    assert_eq!(rt; last, (u32::from(LINES), u32::from(LINES)));
+    let last = outcome.last;
+    let counts = counts_in(&last.records[0]);
+    assert_eq!(rt; counts, (u32::from(LINES), u32::from(LINES)));
     assert!(rt; never_falls(&outcome.bus));
     Ok(())
 }
