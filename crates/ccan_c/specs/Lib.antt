@@ -7,6 +7,7 @@ pub mod Held
 pub mod Together
 pub mod Chip
 pub mod Renewal
+pub mod Copying
 pub mod Call
 pub mod Host
 pub mod Bus

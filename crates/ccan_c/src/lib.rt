@@ -6,6 +6,7 @@ mod bus_handle;
 mod bus_lines;
 mod chip;
 mod code;
+mod copying;
 mod ending;
 mod handle;
 mod held;
