@@ -6,7 +6,7 @@ use Rattle.ccan_object.specs.Profile.{objects_in}
 use Rattle.ccan_ram.specs.declared.ending.Final.{Final}
 use Rattle.ccan_ram.specs.declared.event.Event.{Event}
 use Rattle.ccan_ram.specs.declared.port.PortName.{PortName}
-use Rattle.ccan_ram.specs.declared.port.PortName.TheVariants.{If1}
+use Rattle.ccan_ram.specs.declared.port.PortName.TheVariants.{If1, If2, Bus}
 use Rattle.ccan_ram.specs.Ending.{Ends, final_records}
 use Rattle.ccan_ram.specs.History.{IsLegal, NobodyElse, BeginsWith, events_of, changes_by}
 use Rattle.ccan_ram.specs.SharedRam.{Memory, Pass, IsMemoryOf}
@@ -56,6 +56,14 @@ pub record IsRenewal (h k l h' k' l' : Held) : Type 0 where
 abbrev pub Renews : Chip → Chip → Type 0
 Renews old new = AllOpen old (λ h k l. AllOpen new (λ h' k' l'. IsRenewal h k l h' k' l'))
 
+-- the ports of one memory, each in its place
+pub record AreThree (h k l : Held) : Type 0 where
+  pub second : (pass_of h).memory ≡ (pass_of k).memory
+  pub third : (pass_of h).memory ≡ (pass_of l).memory
+  pub named_if1 : (pass_of h).port ≡ If1
+  pub named_if2 : (pass_of k).port ≡ If2
+  pub named_bus : (pass_of l).port ≡ Bus
+
 -- each handle stands for what it stood for
 pub record StandsAs (old new : Chip) : Type 0 where
   pub if1 : new.if1.handle.seal.value ≡ old.if1.handle.seal.value
@@ -66,9 +74,12 @@ pub record StandsAs (old new : Chip) : Type 0 where
 abbrev pub has_room : Held → Bool
 has_room held = nat_le (objects_in (pass_of held).memory.profile) (pass_of held).memory.quota
 
--- closed where a handle is closed; else the range, where a port may not make a change for each object
+-- the range where IF1 has not; else done, or the memory ran out, or somebody else held the old one
+abbrev pub MayTell : Held → ℕ → Type 0
+MayTell held result =
+    MatchBool (has_room held) ((result ≡ done) ⊎ ((result ≡ no_memory) ⊎ (result ≡ shared))) (result ≡ quota_range)
+
+-- closed where a handle is closed; else what the handle of IF1 tells
 abbrev pub RenewalTells : Chip → ℕ → Type 0
 RenewalTells chip result =
-    MatchBool (are_open chip) (AllOpen chip (λ h k l. MatchBool (has_room h)
-    ((result ≡ done) ⊎ ((result ≡ no_memory) ⊎ (result ≡ shared))) (result ≡ quota_range)))
-    (result ≡ closed)
+    MatchBool (are_open chip) (AllOpen chip (λ h k l. MayTell h result)) (result ≡ closed)

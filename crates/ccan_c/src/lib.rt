@@ -16,6 +16,7 @@ mod host_lines;
 mod numbers;
 mod offer;
 mod opening;
+mod renewal;
 mod seal;
 mod settings;
 mod shared_port;
@@ -40,6 +41,7 @@ pub use host::{ccan_flags, ccan_get, ccan_interrupt, ccan_request, ccan_set, cca
 pub use host_handle::HostHandle;
 pub use offer::Offer;
 pub use opening::{ccan_is_open, ccan_open};
+pub use renewal::ccan_renew;
 pub use shown_counters::ShownCounters;
 pub use shown_final::ShownFinal;
 pub use shown_load::ShownLoad;
