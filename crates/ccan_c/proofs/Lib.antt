@@ -3,3 +3,4 @@ pub mod Chips
 pub mod Lines
 pub mod Calls
 pub mod Writes
+pub mod Renewals

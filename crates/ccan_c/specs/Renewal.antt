@@ -83,3 +83,9 @@ MayTell held result =
 abbrev pub RenewalTells : Chip → ℕ → Type 0
 RenewalTells chip result =
     MatchBool (are_open chip) (AllOpen chip (λ h k l. MayTell h result)) (result ≡ closed)
+
+-- a chip that ends right after it was renewed ends with the records from before
+abbrev pub RenewedEndsAlike : Type 0
+RenewedEndsAlike =
+    (h k l h' k' l' : Held) (final : Final) → AreThree h' k' l' → (renewal : IsRenewal h k l h' k' l')
+    → Ends (pass_of h') (pass_of k') (pass_of l') final → final.records ≡ renewal.final.records

@@ -41,7 +41,7 @@ pub use host::{ccan_flags, ccan_get, ccan_interrupt, ccan_request, ccan_set, cca
 pub use host_handle::HostHandle;
 pub use offer::Offer;
 pub use opening::{ccan_is_open, ccan_open};
-pub use renewal::ccan_renew;
+pub use renewal::{ccan_renew, renewed_chips_end_alike};
 pub use shown_counters::ShownCounters;
 pub use shown_final::ShownFinal;
 pub use shown_load::ShownLoad;

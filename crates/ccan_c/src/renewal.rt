@@ -3,6 +3,7 @@ ghost use Rattle.std.specs.Prelude.{◌≡◌, ◌⊎◌};
 ghost use Rattle.ccan_c.specs.Codes.{closed, done, no_memory, quota_range, shared};
 ghost use Rattle.ccan_c.specs.Chip.{IsClosed};
 ghost use Rattle.ccan_c.specs.Renewal.{AreThree, IsRenewal, MayTell, RenewalTells, Renews, StandsAs};
+ghost use Rattle.ccan_c.specs.Renewal.{RenewedEndsAlike};
 
 use crate::chip::Chip;
 use crate::code::{CLOSED, DONE, NO_MEMORY, QUOTA_RANGE, SHARED};
@@ -81,3 +82,9 @@ pub extern "C" fn ccan_renew(alloc: Global, chip: &mut Chip) -> u32
     }
     code
 }
+
+/// A chip that ends right after it was renewed ends with the records from before. The function does nothing: its contract
+/// is this law.
+pub fn renewed_chips_end_alike()
+    ensures { RenewedEndsAlike }
+{}
