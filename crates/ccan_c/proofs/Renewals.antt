@@ -1,11 +1,11 @@
 -- A renewed chip that ends at once.
-use Rattle.std.proofs.Common.{◌≡◌, ℕ, List, [], ◌∷◌, ◌++◌, length, length-append, append_assoc, sym, refl, ap, subst, ◌∙◌, arith}
+use Rattle.std.proofs.Common.{◌≡◌, List, [], ◌∷◌, ◌++◌, length, length-append, append_assoc, sym, refl, ap, subst, ◌∙◌, arith}
 use Rattle.ccan_object.specs.declared.profile.Profile.{Profile}
 use Rattle.ccan_ram.specs.declared.event.Event.{Event}
 use Rattle.ccan_ram.specs.declared.port.PortName.{PortName}
 use Rattle.ccan_ram.specs.declared.port.PortName.TheVariants.{If1, If2, Bus}
 use Rattle.ccan_ram.specs.Ending.{IsPart, final_records}
-use Rattle.ccan_ram.specs.History.{NobodyElse, BeginsWith, events_of}
+use Rattle.ccan_ram.specs.History.{NobodyElse, events_of}
 use Rattle.ccan_ram.specs.SharedRam.{Memory, Pass}
 use Rattle.ccan_ram.proofs.Histories.{events_of-append, none_undisturbed}
 use Rattle.ccan_c.specs.Renewal.{HasSeen, RenewedEndsAlike}

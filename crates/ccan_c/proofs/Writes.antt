@@ -1,7 +1,6 @@
 -- IF1 copies records.
 use Rattle.std.proofs.Common.{◌≡◌, ◌<◌, ◌≤◌, ◌+◌, ◌==◌, ℕ, Bool, true, false, List, [], ◌∷◌, ◌++◌, get_or, length, replicate, length-append, append_assoc, ◌-◌, lit≤, cond, sym, refl, ap, subst, ◌∙◌, arith, eq-eqb}
 use Rattle.std.specs.Prelude.{Result}
-use Rattle.ccan_object.specs.declared.command.CommandMask.{CommandMask}
 use Rattle.ccan_object.specs.declared.record.Record.{Record}
 use Rattle.ccan_object.specs.Command.{command_in}
 use Rattle.ccan_object.specs.Record.{zero_record}
@@ -150,9 +149,9 @@ all_copied profile records seen legal alone (history, is) all = record {
   alone = alone;
   changes = all.changes;
   left = sym (listed profile seen records (are_all profile records (history, is)) (record {
-        each = all.each;
-        rest = λ k past few. ap (λ rs. get_or rs k zero_record) is ∙ zero_past profile history k past few;
-      }));
+    each = all.each;
+    rest = λ k past few. ap (λ rs. get_or rs k zero_record) is ∙ zero_past profile history k past few;
+  }));
 }
 
 -- ---- the ports meet

@@ -1,10 +1,8 @@
-use Rattle.std.proofs.Common.{◌≡◌, ◌<◌, ℕ, get_or, refl, sym, subst, ap, ◌∙◌, arith}
+use Rattle.std.proofs.Common.{◌≡◌, get_or, refl, sym, subst, ap, ◌∙◌, arith}
 use Rattle.ccan_object.specs.Record.{zero_record}
 use Rattle.ccan_ram.specs.SharedRam.{IsWithin}
 use Rattle.ccan_object.specs.declared.profile.Profile.{Profile}
-use Rattle.ccan_object.specs.declared.record.Record.{Record}
 use Rattle.ccan_object.specs.Profile.{objects_in}
-use Rattle.ccan_ram.specs.declared.port.PortName.TheVariants.{If1}
 use Rattle.ccan_ram.specs.History.{IsLegal}
 use Rattle.ccan_ram.specs.SharedRam.{Memory}
 use Rattle.ccan_c.specs.Copying.{IsPut}

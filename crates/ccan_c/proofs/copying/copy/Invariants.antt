@@ -1,7 +1,5 @@
-use Rattle.std.proofs.Common.{◌≡◌, ◌<◌, ◌+◌, ℕ, get_or}
-use Rattle.ccan_object.specs.Record.{zero_record}
 use Rattle.ccan_ram.specs.declared.port.PortName.TheVariants.{If1}
-use Rattle.ccan_ram.specs.History.{NobodyElse, changes_by, record_at}
+use Rattle.ccan_ram.specs.History.{NobodyElse}
 use Rattle.ccan_ram.specs.SharedRam.{CanSee, IsSamePort}
 use Rattle.ccan_c.proofs.Writes.{IsCopied}
 use Rattle.ccan_c.proofs.copying.copy.Given as goal

@@ -1,4 +1,4 @@
-use Rattle.std.proofs.Common.{◌≡◌, ℕ, Some, sym, ap, subst, ◌∙◌}
+use Rattle.std.proofs.Common.{sym, ap, subst, ◌∙◌}
 use Rattle.ccan_c.specs.declared.chip.Chip.{Chip}
 use Rattle.ccan_c.specs.declared.handle.Handle.{Handle}
 use Rattle.ccan_c.specs.declared.held.Held.{Held}
@@ -35,8 +35,7 @@ pub returns-then-code-ne-SHARED-clause-code : goal.returns-then-code-ne-SHARED-c
 returns-then-code-ne-SHARED-clause-code c =
     let taken = c.in-Some-Some-Some in
     let was = c.replace-if1.ensures.value in
-    on_true _ _ _ (sym c.is_open.ensures ∙ c.if-not-is_open.false)
-    (
+    on_true _ _ _ (sym c.is_open.ensures ∙ c.if-not-is_open.false) (
       taken.if1.value,
       taken.if2.value,
       taken.bus.value,
@@ -50,8 +49,7 @@ pub returns-else-code-ne-SHARED-clause-code : goal.returns-else-code-ne-SHARED-c
 returns-else-code-ne-SHARED-clause-code c =
     let taken = c.in-Some-Some-Some in
     let was = c.replace-if1.ensures.value in
-    on_true _ _ _ (sym c.is_open.ensures ∙ c.if-not-is_open.false)
-    (
+    on_true _ _ _ (sym c.is_open.ensures ∙ c.if-not-is_open.false) (
       taken.if1.value,
       taken.if2.value,
       taken.bus.value,
