@@ -30,7 +30,7 @@ use Rattle.ccan_ram.specs.Laws.{as_one_thread, events_alone}
 use Rattle.ccan_ram.specs.SharedRam.{Memory, Pass, CanSee, IsWithin, IsSamePort, Meets, IsMemoryOf, opened, passes_of}
 use Rattle.ccan_ram.specs.Terms.{Terms}
 use Rattle.ccan_ram.proofs.Alone.{attempts_alone}
-use Rattle.ccan_ram.proofs.Histories.{undisturbed_parts, events_of-append}
+use Rattle.ccan_ram.proofs.Histories.{IsLegal-older, changes_by-append, undisturbed_parts, events_of-append}
 use Rattle.ccan_ram.proofs.Undisturbed.{attempts_undisturbed}
 use Rattle.ccan_c.specs.Copying.{AreLeft, HaveCopied, IsPut}
 
@@ -172,6 +172,18 @@ begins_further : (newest newer older : List Event) → BeginsWith newest newer �
 begins_further newest newer older (last, is) (more, is') =
     (last ++ more, is ∙ ap (λ es. last ++ es) is' ∙ sym (append_assoc last more older))
 
+-- what a port has seen is legal where it is a part of what is
+within_older : (memory : Memory) (more older : List Event) → IsWithin memory (more ++ older) → IsWithin memory older
+within_older memory more older h = record {
+  legal = IsLegal-older memory.profile more older h.legal;
+  within = λ port. (let most = h.within port in let parts = changes_by-append port more older in omega (arith, most, parts));
+}
+
+sees_part : (memory : Memory) (pass : Pass) (history : List Event) → pass.memory ≡ memory → IsWithin memory history
+    → BeginsWith history pass.seen → CanSee pass
+sees_part memory pass history same within (more, is) =
+    subst (λ (m : Memory). IsWithin m pass.seen) (sym same) (within_older memory more pass.seen (subst (IsWithin memory) is within))
+
 -- a port that had done nothing, and did nothing, has no event there
 own_none : (name : PortName) (old new : Pass) (history : List Event) (memory : Memory) → old ≡ opened memory name → new.port ≡ old.port
     → events_of old.port new.seen ≡ events_of old.port old.seen → events_of name history ≡ []
@@ -212,6 +224,7 @@ module _ (memory : Memory) (copied second third : Pass) (between last second_aft
     copy = copy;
     if1_has = record {
       memory_is = then.same_a.memory ∙ (first.same_a.memory ∙ same);
+      sees = sees_part between.memory last then.history then.same_a.memory then.legal then.part_a;
       begins = begins_last;
       own = subst (λ (p : PortName). events_of p last.seen ≡ events_of p copied.seen) (sym (then.same_a.port ∙ first.same_a.port))
           (subst (λ (p : PortName). events_of p last.seen ≡ events_of p between.seen) first.same_a.port then.shared_a.own_a
@@ -219,11 +232,15 @@ module _ (memory : Memory) (copied second third : Pass) (between last second_aft
     };
     if2_has = record {
       memory_is = first.same_b.memory ∙ ap (λ (p : Pass). p.memory) second_is;
+      sees = sees_part copied.memory second_after first.history
+          (first.same_b.memory ∙ (ap (λ (p : Pass). p.memory) second_is ∙ sym same)) first.legal first.part_b;
       begins = first.shared_b.begins_a;
       own = own_none If2 second second_after copied.seen memory second_is first.same_b.port first.shared_b.own_b none_of_if2;
     };
     bus_has = record {
       memory_is = then.same_b.memory ∙ ap (λ (p : Pass). p.memory) third_is;
+      sees = sees_part between.memory third_after then.history
+          (then.same_b.memory ∙ (ap (λ (p : Pass). p.memory) third_is ∙ sym (first.same_a.memory ∙ same))) then.legal then.part_b;
       begins = begins_further third_after.seen between.seen copied.seen then.shared_b.begins_a first.shared_a.begins_a;
       own = own_none Bus third third_after copied.seen memory third_is then.same_b.port then.shared_b.own_b none_of_bus;
     };

@@ -8,7 +8,7 @@ use Rattle.ccan_ram.specs.declared.event.Event.{Event}
 use Rattle.ccan_ram.specs.declared.port.PortName.TheVariants.{If1, If2, Bus}
 use Rattle.ccan_ram.specs.Ending.{Ends, final_records}
 use Rattle.ccan_ram.specs.History.{IsLegal, NobodyElse, BeginsWith, events_of, changes_by}
-use Rattle.ccan_ram.specs.SharedRam.{Memory, Pass, IsMemoryOf}
+use Rattle.ccan_ram.specs.SharedRam.{Memory, Pass, CanSee, IsMemoryOf}
 use Rattle.ccan_c.specs.declared.held.Held.{Held}
 use Rattle.ccan_c.specs.declared.chip.Chip.{Chip}
 use Rattle.ccan_c.specs.Chip.{AllOpen, are_open}
@@ -22,9 +22,10 @@ pub record IsCopy (profile : Profile) (records : List Record) (history : List Ev
   pub changes : changes_by If1 history ≡ objects_in profile
   pub left : final_records profile history ≡ records
 
--- a port of the memory has seen all of the history, and has made no event that is not in it
+-- a port of the memory has seen all of the history, and has made no event that is not in it; all that it has seen is legal
 pub record HasSeen (memory : Memory) (history : List Event) (pass : Pass) : Type 0 where
   pub memory_is : pass.memory ≡ memory
+  pub sees : CanSee pass
   pub begins : BeginsWith pass.seen history
   pub own : events_of pass.port pass.seen ≡ events_of pass.port history
 
