@@ -10,10 +10,10 @@
  *    the same registers as the line of that name in a script of the program `ccan`.
  *  - There is one history of the message RAM from ccan_open to ccan_end. It holds what each call did, once, in the order of
  *    the calls on its handle, and each call answers what a memory of one thread answers at that place. ccan_end gives the
- *    records that this history leaves.
+ *    records that this history leaves. ccan_renew ends one history, and begins the next with the records of the first.
  *  - It answers the numbers below, in just the cases that are said at each call. Where a call is refused, that is for each
  *    number but 0, CCAN_BUSY, CCAN_SPENT and CCAN_SHARED, handle and output stay as they were.
- * Only tested: that no call but ccan_open takes memory, and that CCAN_SHARED never comes where C keeps its promises. Not
+ * Only tested: that no call but ccan_open and ccan_renew takes memory, and that CCAN_SHARED never comes where C keeps its promises. Not
  * proved, and not claimed: how long a call takes, and that a thread is ever run.
  *
  * What C promises. The proofs assume it, and no call can check it:
@@ -21,7 +21,7 @@
  *     copies nor moves them. Only handles of such a chip are passed to a call.
  *  2. A handle is in one call at a time. Which thread calls may change, if the calls are ordered by the start or the join of
  *     a thread, a mutex, or a seq_cst atomic. Different handles of one chip may be in calls at the same time.
- *  3. ccan_open, ccan_end and ccan_is_open take the whole chip: no call on one of its handles runs at that time.
+ *  3. ccan_open, ccan_renew, ccan_end and ccan_is_open take the whole chip: no call on one of its handles runs at that time.
  *  4. Each pointer leads to a valid object of its type, none is null, and no two arguments of a call overlap. A call
  *     writes to an output that may have held anything.
  *  5. malloc, realloc and free are of one allocator, whose blocks are aligned to 16. No call is made from a signal handler,
@@ -64,7 +64,7 @@ enum ccan_code {
     CCAN_SHARED = 5,         /* C has broken its promises: somebody else holds the memory */
     CCAN_PROFILE_RANGE = 6,  /* the profile is neither 1 nor 2 */
     CCAN_NODES_RANGE = 7,    /* there are more than 8 other nodes */
-    CCAN_QUOTA_RANGE = 8,    /* the quota isn't 1 to 4096 */
+    CCAN_QUOTA_RANGE = 8,    /* the quota isn't 1 to 4096, or is less than a renewal needs */
     CCAN_TRIES_RANGE = 9,    /* the tries aren't 1 to 1000 */
     CCAN_REGISTER_RANGE = 10,/* no register has this number */
     CCAN_OBJECT_RANGE = 11,  /* the chip has no object of this number */
@@ -121,6 +121,17 @@ bool ccan_is_open(const ccan_chip *chip);
 /* Ends a chip, frees its memory, and gives the records that its history leaves. The chip is then closed, and may be opened
  * again. CCAN_CLOSED where it isn't open; CCAN_SHARED closes the chip, and leaves `out` as it was. */
 uint32_t ccan_end(ccan_chip *chip, ccan_final *out);
+
+/* Gives the chip a new message RAM of the same profile and quota, so that each port may make as many changes again, but for
+ * IF1: it writes the records of the old one into the new one, which is a change for each of the 32 or 64 objects. All else
+ * of the chip stays: the interface registers, the tries, the error counters, the Status register, the enables, and what is
+ * loaded. CCAN_DONE: the old history has ended as with ccan_end. A new one begins with what IF1 wrote, and nobody did
+ * anything else in it; that part leaves the records with which the old history ended, and each handle has seen it. What a
+ * handle sees later goes on from there.
+ * CCAN_CLOSED where the chip isn't open; else CCAN_QUOTA_RANGE where the quota is less than the number of objects; else
+ * CCAN_NO_MEMORY, CCAN_SHARED, which closes the chip, or CCAN_DONE. The new memory is taken before the old one is given
+ * back. */
+uint32_t ccan_renew(ccan_chip *chip);
 
 /* ---- a host: each call answers CCAN_CLOSED first, where its handle is closed */
 

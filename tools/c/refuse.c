@@ -1,5 +1,5 @@
-/* Each request for memory of ccan_open is refused in turn: it answers CCAN_NO_MEMORY, the chip stays as it was, and nothing is
- * lost. Once it is open, no call asks for memory. Link with -Wl,--wrap=malloc,--wrap=realloc,--wrap=free. */
+/* Each request for memory of ccan_open and of ccan_renew is refused in turn: they answer CCAN_NO_MEMORY, the chip stays as it
+ * was, and nothing is lost. Once it is open, no other call asks for memory. Link with -Wl,--wrap=malloc,--wrap=realloc,--wrap=free. */
 #include <ccan.h>
 #include <stdio.h>
 #include <stdlib.h>
@@ -39,6 +39,25 @@ void __wrap_free(void *block)
     __real_free(block);
 }
 
+/* Refuses each request of a renewal in turn, of a chip whose object 7 alone has NewDat. Gives how many there were, 0 where
+ * something is wrong. */
+static long renew(ccan_chip *chip)
+{
+    long before = live, number = 0;
+    uint64_t word;
+    for (;; number++) {
+        left = number;
+        uint32_t code = ccan_renew(chip);
+        left = -1;
+        if (code != CCAN_DONE && code != CCAN_NO_MEMORY)
+            return 0;
+        if (!ccan_is_open(chip) || live != before || ccan_flags(&chip->if2, CCAN_NEWDAT, &word) || word != 0x40)
+            return 0;
+        if (code == CCAN_DONE)
+            return number;
+    }
+}
+
 int main(void)
 {
     static ccan_chip chip = CCAN_CHIP_CLOSED;
@@ -60,17 +79,23 @@ int main(void)
     uint64_t word;
     ccan_outcome outcome;
     ccan_offer none;
-    if (ccan_set(&chip.if1, CCAN_CMASK, 0x0090) || ccan_request(&chip.if1, 7) || ccan_flags(&chip.if2, CCAN_NEWDAT, &word)
+    if (ccan_set(&chip.if1, CCAN_CMASK, 0x0090) || ccan_set(&chip.if1, CCAN_CTRL, 0x8000) || ccan_request(&chip.if1, 7) || ccan_flags(&chip.if2, CCAN_NEWDAT, &word)
         || ccan_round(&chip.bus, &none, 0, CCAN_QUIET, &outcome)) {
         printf("a call asked for memory\n");
         return 1;
     }
     left = -1;
+    long renewals = renew(&chip);
+    if (renewals == 0) {
+        printf("a refused renewal changed the chip, or lost memory\n");
+        return 1;
+    }
     code = ccan_end(&chip, &last);
     if (code != CCAN_DONE || live != 0 || ccan_request(&chip.if1, 7) != CCAN_CLOSED) {
         printf("end: %s, %ld blocks left\n", ccan_text(code), live);
         return 1;
     }
     printf("%ld requests for memory refused in turn: nothing opened, nothing lost\n", number);
+    printf("%ld requests of a renewal refused in turn: the chip stays as it was\n", renewals);
     return 0;
 }

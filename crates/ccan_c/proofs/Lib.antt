@@ -2,3 +2,5 @@ pub mod AsBox
 pub mod Chips
 pub mod Lines
 pub mod Calls
+pub mod Writes
+pub mod Renewals

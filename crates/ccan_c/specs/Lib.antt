@@ -6,6 +6,8 @@ pub mod Seals
 pub mod Held
 pub mod Together
 pub mod Chip
+pub mod Renewal
+pub mod Copying
 pub mod Call
 pub mod Host
 pub mod Bus

@@ -4,12 +4,10 @@ ghost use Rattle.std.specs.Arc.{arc_value};
 ghost use Rattle.ccan_ram.specs.declared.port.PortName.TheVariants.{Bus, If1, If2};
 ghost use Rattle.ccan_ram.specs.Ending.{Ends};
 ghost use Rattle.ccan_c.specs.Codes.{closed, done, shared};
-ghost use Rattle.ccan_c.specs.Held.{pass_of};
 ghost use Rattle.ccan_c.specs.Chip.{EndsWith, IsClosed, are_open};
 
 use crate::chip::Chip;
 use crate::code::{CLOSED, DONE, SHARED};
-use crate::held::Held;
 use crate::shared_port::SharedPort;
 use crate::shown_final::ShownFinal;
 use ccan_ram::{Final, SharedRam};
@@ -18,17 +16,14 @@ use std::mem::replace;
 use std::sync::Arc;
 
 /// The records of a memory that its three ports give back. None where somebody else holds it.
-fn ended(if1: Held, if2: Held, bus: Held) -> Option<Final>
-    requires second { (pass_of if1).memory ≡ (pass_of if2).memory }
-    requires third { (pass_of if1).memory ≡ (pass_of bus).memory }
-    requires named_if1 { (pass_of if1).port ≡ If1 }
-    requires named_if2 { (pass_of if2).port ≡ If2 }
-    requires named_bus { (pass_of bus).port ≡ Bus }
-    ensures { IfSome result (Ends (pass_of if1) (pass_of if2) (pass_of bus)) }
+pub(crate) fn ended(if1: SharedPort, if2: SharedPort, bus: SharedPort) -> Option<Final>
+    requires second { if1.port.memory ≡ if2.port.memory }
+    requires third { if1.port.memory ≡ bus.port.memory }
+    requires named_if1 { if1.port.port ≡ If1 }
+    requires named_if2 { if2.port.port ≡ If2 }
+    requires named_bus { bus.port.port ≡ Bus }
+    ensures { IfSome result (Ends if1.port if2.port bus.port) }
 {
-    let Held { access: if1, .. } = if1;
-    let Held { access: if2, .. } = if2;
-    let Held { access: bus, .. } = bus;
     let SharedPort { ram, port: if1 } = if1;
     let SharedPort {
         ram: second,
@@ -70,9 +65,9 @@ pub extern "C" fn ccan_end(alloc: Global, chip: &mut Chip, out: &mut ShownFinal)
         unreachable!();
     };
     match ended(
-        Box::into_inner(if1),
-        Box::into_inner(if2),
-        Box::into_inner(bus),
+        Box::into_inner(if1).access,
+        Box::into_inner(if2).access,
+        Box::into_inner(bus).access,
     ) {
         Some(last) => {
             *out = ShownFinal::of(&last);

@@ -27,6 +27,7 @@ fn hold(
 ) -> Option<Handle>
     requires belongs { port.memory ≡ ram.now.value.words }
     requires profile { port.memory.profile ≡ settings.now.profile }
+    requires quota { port.memory.quota ≡ settings.now.quota }
     ensures { IfSome result (λ handle.
         IsOpenAs (IsOpening port settings.now.nodes settings.now.tries) handle.seal.value) }
 {
@@ -35,6 +36,7 @@ fn hold(
     };
     let held = Held {
         access: SharedPort { ram, port },
+        quota: settings.quota,
         tries: settings.tries,
         registers: Iface::new(),
         nodes: settings.nodes,

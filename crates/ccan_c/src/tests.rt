@@ -9,6 +9,7 @@ use crate::host::{ccan_flags, ccan_get, ccan_interrupt, ccan_request, ccan_set, 
 use crate::host_handle::HostHandle;
 use crate::offer::Offer;
 use crate::opening::{ccan_is_open, ccan_open};
+use crate::renewal::ccan_renew;
 use crate::shown_counters::ShownCounters;
 use crate::shown_final::ShownFinal;
 use crate::shown_load::ShownLoad;
@@ -206,4 +207,58 @@ fn numbers_out_of_range_are_refused(rt: HostRuntime) {
     assert_eq!(rt; ccan_loop_back(alloc, bus, 1), 0);
     assert_eq!(rt; ccan_round(alloc, bus, &[], 0, &mut outcome), 0);
     assert_eq!(rt; outcome.kind, 0);
+}
+
+#[test]
+fn a_renewal_keeps_records_and_registers(rt: HostRuntime) {
+    let alloc = rt.alloc();
+    let mut chip = Chip::closed(alloc);
+    assert_eq!(rt; ccan_renew(alloc, &mut chip), 1);
+    assert_eq!(rt; ccan_open(alloc, &mut chip, 1, 0, 64, 100), 0);
+    assert_eq!(rt; ccan_set(alloc, &mut chip.if1, 0, 0x00f3), 0);
+    assert_eq!(rt; ccan_set(alloc, &mut chip.if1, 4, 0xa48c), 0);
+    assert_eq!(rt; ccan_request(alloc, &mut chip.if1, 5), 0);
+    assert_eq!(rt; ccan_renew(alloc, &mut chip), 0);
+    assert!(rt; ccan_is_open(&chip));
+    assert_eq!(rt; shown(alloc, &mut chip.if1, 0), 0x00f3);
+    assert_eq!(rt; shown(alloc, &mut chip.if1, 4), 0xa48c);
+    set(alloc, &mut chip.if2, &[(0, 0x0073)]);
+    assert_eq!(rt; ccan_request(alloc, &mut chip.if2, 5), 0);
+    assert_eq!(rt; shown(alloc, &mut chip.if2, 4), 0xa48c);
+    assert_eq!(rt; ccan_request(alloc, &mut chip.if2, 6), 0);
+    assert_eq!(rt; shown(alloc, &mut chip.if2, 4), 0);
+}
+
+#[test]
+fn a_renewal_keeps_the_status(rt: HostRuntime) {
+    let alloc = rt.alloc();
+    let mut chip = Chip::closed(alloc);
+    let mut outcome = no_outcome();
+    assert_eq!(rt; ccan_open(alloc, &mut chip, 1, 1, 64, 100), 0);
+    assert_eq!(rt;
+        ccan_round(alloc, &mut chip.bus, &[offer(1)], 0, &mut outcome),
+        0
+    );
+    assert_eq!(rt; outcome.kind, 2);
+    assert_eq!(rt; ccan_renew(alloc, &mut chip), 0);
+    let mut word = 0;
+    assert_eq!(rt; ccan_status(alloc, &mut chip.bus, &mut word), 0);
+    assert_eq!(rt; word, 0x0010);
+}
+
+#[test]
+fn a_renewal_costs_if1_a_change_for_each_object(rt: HostRuntime) {
+    let alloc = rt.alloc();
+    let mut chip = Chip::closed(alloc);
+    assert_eq!(rt; ccan_open(alloc, &mut chip, 1, 0, 31, 100), 0);
+    assert_eq!(rt; ccan_renew(alloc, &mut chip), 8);
+    assert!(rt; ccan_is_open(&chip));
+    assert_eq!(rt; ccan_open(alloc, &mut chip, 2, 0, 65, 100), 0);
+    assert_eq!(rt; ccan_renew(alloc, &mut chip), 0);
+    set(alloc, &mut chip.if1, &[(0, 0x0090)]);
+    assert_eq!(rt; ccan_request(alloc, &mut chip.if1, 1), 0);
+    assert_eq!(rt; ccan_request(alloc, &mut chip.if1, 1), 3);
+    set(alloc, &mut chip.if2, &[(0, 0x0090)]);
+    assert_eq!(rt; ccan_request(alloc, &mut chip.if2, 1), 0);
+    assert_eq!(rt; ccan_request(alloc, &mut chip.if2, 1), 0);
 }
