@@ -1,6 +1,6 @@
 /* Times calls of the library from C: a read that clears nothing, a write of a whole object, the flags of 32 objects, and the
- * same writes while the other host writes to an object of its own and the bus reads flags, each in a thread of its own.
- * Prints nanoseconds a call, the median of the chips that it opens. */
+ * same writes while the other host writes to an object of its own in a thread of its own. Prints nanoseconds a call, the
+ * median of the chips that it opens. */
 #define _POSIX_C_SOURCE 200809L
 #include <ccan.h>
 #include <pthread.h>
@@ -65,24 +65,15 @@ static void *second_host(void *nothing)
     return nothing;
 }
 
-static void *bus(void *nothing)
+static double writes_beside_the_other(void)
 {
-    uint64_t shown;
-    for (int i = 0; i < QUOTA; i++)
-        must(ccan_bus_flags(&chip.bus, CCAN_NEWDAT, &shown));
-    return nothing;
-}
-
-static double writes_beside_others(void)
-{
-    pthread_t second, third;
-    if (pthread_create(&second, NULL, second_host, NULL) != 0 || pthread_create(&third, NULL, bus, NULL) != 0) {
+    pthread_t second;
+    if (pthread_create(&second, NULL, second_host, NULL) != 0) {
         fprintf(stderr, "no thread\n");
         exit(1);
     }
     double took = writes();
     pthread_join(second, NULL);
-    pthread_join(third, NULL);
     return took;
 }
 
@@ -109,6 +100,6 @@ int main(void)
     measure("a read into the registers", reads);
     measure("a full write", writes);
     measure("32 looks of a flag", flags);
-    measure("a full write beside two other threads", writes_beside_others);
+    measure("a full write beside the other host", writes_beside_the_other);
     return 0;
 }
