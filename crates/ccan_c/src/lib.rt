@@ -1,4 +1,18 @@
-//! A C_CAN controller for programs in C.
+//! A C_CAN controller for programs in C: what `include/ccan.h` declares.
+//!
+//! A chip lies in memory of C's and has three handles, one for each port. A handle is a mark and a pointer that says
+//! nothing of what it leads to: a port of the memory without a lock with a share of that memory, interface registers, and
+//! a bus. A call takes these out of its handle, runs the line of its name as a script would, and puts them back, so it
+//! means what that line means, in one history of all three handles.
+//!
+//! ```text
+//!  thread A     thread B     thread C
+//!  chip.if1     chip.if2     chip.bus        in memory of C's, on cache lines of their own
+//!      |            |            |
+//!    Held         Held         Held          a port, registers, a bus
+//!      \------------|------------/
+//!              one WordRam
+//! ```
 #![tactic(auto)]
 
 mod bus;
