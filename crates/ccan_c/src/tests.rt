@@ -262,3 +262,9 @@ fn a_renewal_costs_if1_a_change_for_each_object(rt: HostRuntime) {
     assert_eq!(rt; ccan_request(alloc, &mut chip.if2, 1), 0);
     assert_eq!(rt; ccan_request(alloc, &mut chip.if2, 1), 0);
 }
+
+#[test]
+fn laws_hold() {
+    crate::handle::handles_may_cross();
+    crate::renewal::renewed_chips_end_alike();
+}
