@@ -40,6 +40,7 @@ fn runs_a_script_in_order(rt: HostRuntime) -> Result<(), Fail> {
 fn laws_hold() {
     ccan_script::laws::one_meaning();
     ccan_run::laws::no_line_is_busy();
+    ccan_run::laws::one_text();
     ccan_run::laws::answers_have_events();
 }
 
