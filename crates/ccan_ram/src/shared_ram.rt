@@ -58,7 +58,8 @@ pub trait SharedRam {
         ensures if2 { IfOk result (λ all. pass all.2 ≡ opened (memory all.0) If2) }
         ensures bus { IfOk result (λ all. pass all.3 ≡ opened (memory all.0) Bus) }
         ensures range { IfOk result (λ all. (1 ≤ quota) × (quota ≤ MAX_QUOTA)) }
-        ensures refused { IfErr result (λ why. (why ≡ QuotaRange) ↔ ((quota < 1) ⊎ (MAX_QUOTA < quota))) };
+        ensures refused { IfErr result (λ why. (why ≡ QuotaRange)
+            ↔ ((quota < 1) ⊎ (MAX_QUOTA < quota))) };
 
     /// How many objects the memory has.
     fn profile(&self) -> Profile
@@ -69,8 +70,8 @@ pub trait SharedRam {
         requires memory { (pass port.old).memory ≡ memory self.now }
         requires held { Holds (memory self.now).profile object }
         ensures memory { (pass port.new).memory ≡ (pass port.old).memory }
-        ensures looks { AddsLook (passes_of contends (pass port.old)) (passes_of contends (pass port.new))
-            object result };
+        ensures looks { AddsLook (passes_of contends (pass port.old))
+            (passes_of contends (pass port.new)) object result };
 
     /// A look, as the beginning of a change.
     fn prepare(&self, port: &mut Self::Port, object: ObjectNo) -> Draft
@@ -94,7 +95,8 @@ pub trait SharedRam {
         requires memory { (pass port.old).memory ≡ memory self.now }
         requires drawn { IsDrawn contends draft (pass port.old) }
         ensures memory { (pass port.new).memory ≡ (pass port.old).memory }
-        ensures commits { AddsCommit contends (pass port.old) (pass port.new) draft change.now result }
+        ensures commits { AddsCommit contends (pass port.old) (pass port.new)
+            draft change.now result }
         ensures tells { CommitTells draft change.now result };
 
     /// Prepares and commits a change, in at most so many tries.
@@ -108,8 +110,8 @@ pub trait SharedRam {
         requires memory { (pass port.old).memory ≡ memory self.now }
         requires held { Holds (memory self.now).profile object }
         ensures memory { (pass port.new).memory ≡ (pass port.old).memory }
-        ensures attempts { AddsAttempt (passes_of contends (pass port.old)) (passes_of contends (pass port.new))
-            object change.now tries result }
+        ensures attempts { AddsAttempt (passes_of contends (pass port.old))
+            (passes_of contends (pass port.new)) object change.now tries result }
         ensures tells { Tells change.now tries result }
         ensures few { FewTries (memory self.now).quota tries result };
 
