@@ -58,6 +58,27 @@ static long renew(ccan_chip *chip)
     }
 }
 
+/* Each call on a handle once, while every request for memory is refused; object 7 alone has NewDat then. Whether each was done. */
+static int all_calls(ccan_chip *chip)
+{
+    uint64_t word;
+    uint32_t number;
+    uint16_t value;
+    ccan_loaded loaded;
+    ccan_counts counts;
+    ccan_outcome outcome;
+    ccan_offer none;
+    return !ccan_set(&chip->if1, CCAN_CMASK, 0x0090) && !ccan_set(&chip->if1, CCAN_CTRL, 0x8000)
+        && !ccan_request(&chip->if1, 7) && !ccan_get(&chip->if1, CCAN_CTRL, &value)
+        && !ccan_flags(&chip->if2, CCAN_NEWDAT, &word) && !ccan_interrupt(&chip->if2, &value)
+        && !ccan_until(&chip->if2, 7, CCAN_NEWDAT, 3, &number)
+        && !ccan_load(&chip->bus, &loaded) && !ccan_round(&chip->bus, &none, 0, CCAN_QUIET, &outcome)
+        && !ccan_status(&chip->bus, &value) && !ccan_control(&chip->bus, 1, 1) && !ccan_init(&chip->bus)
+        && !ccan_recessive(&chip->bus, 128, &number) && !ccan_loop_back(&chip->bus, 0)
+        && !ccan_counters(&chip->bus, 0, &counts)
+        && !ccan_bus_flags(&chip->bus, CCAN_NEWDAT, &word) && !ccan_bus_interrupt(&chip->bus, &value);
+}
+
 int main(void)
 {
     static ccan_chip chip = CCAN_CHIP_CLOSED;
@@ -76,11 +97,7 @@ int main(void)
         }
     }
     left = 0;
-    uint64_t word;
-    ccan_outcome outcome;
-    ccan_offer none;
-    if (ccan_set(&chip.if1, CCAN_CMASK, 0x0090) || ccan_set(&chip.if1, CCAN_CTRL, 0x8000) || ccan_request(&chip.if1, 7) || ccan_flags(&chip.if2, CCAN_NEWDAT, &word)
-        || ccan_round(&chip.bus, &none, 0, CCAN_QUIET, &outcome)) {
+    if (!all_calls(&chip)) {
         printf("a call asked for memory\n");
         return 1;
     }
@@ -90,7 +107,9 @@ int main(void)
         printf("a refused renewal changed the chip, or lost memory\n");
         return 1;
     }
+    left = 0;
     code = ccan_end(&chip, &last);
+    left = -1;
     if (code != CCAN_DONE || live != 0 || ccan_request(&chip.if1, 7) != CCAN_CLOSED) {
         printf("end: %s, %ld blocks left\n", ccan_text(code), live);
         return 1;

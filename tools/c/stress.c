@@ -1,5 +1,7 @@
 /* Three threads, one for each port of a chip, with 4,096 changes each; many chips, one after another. On objects of their own
- * each port must find at the end what it wrote last; on one object all changes that were answered must be there, each once.
+ * each port must find at the end what it wrote last; on one object one of the three ports' last data must be there, and each
+ * port must have been answered as many changes as its quota allows. That none is lost or made twice in between is counted by
+ * the tests of the memories and of the threads.
  * Usage: stress [own|one] [chips] */
 #include <ccan.h>
 #include <pthread.h>
