@@ -1,6 +1,6 @@
-/* Times calls of the library from C: a read that clears nothing, a write of a whole object, the flags of 32 objects, and the
- * same writes while the other host writes to an object of its own in a thread of its own. Prints nanoseconds a call, the
- * median of the chips that it opens. */
+/* Times calls of the library from C: a wait that one look ends, a read that clears nothing, a write of a whole object, the
+ * flags of 32 objects, and the same writes while the other host writes to an object of its own in a thread of its own. Prints
+ * nanoseconds a call, the median of the chips that it opens. */
 #define _POSIX_C_SOURCE 200809L
 #include <ccan.h>
 #include <pthread.h>
@@ -47,6 +47,15 @@ static double writes(void)
 {
     must(ccan_set(&chip.if1, CCAN_CMASK, 0x00f3));
     return transfers(&chip.if1, 1);
+}
+
+static double waits(void)
+{
+    uint32_t shown;
+    double start = now();
+    for (int i = 0; i < QUOTA; i++)
+        must(ccan_until(&chip.if1, 1, CCAN_MSGVAL, 1, &shown));
+    return (now() - start) / QUOTA;
 }
 
 static double flags(void)
@@ -97,6 +106,7 @@ static void measure(const char *name, double (*run)(void))
 
 int main(void)
 {
+    measure("a wait of one look", waits);
     measure("a read into the registers", reads);
     measure("a full write", writes);
     measure("32 looks of a flag", flags);

@@ -5,9 +5,11 @@ ghost use Rattle.ccan_object.specs.Profile.{Holds};
 use crate::rivals::three_writers;
 use crate::timing::{median, tenths};
 use anyhow::{Result, bail};
-use ccan_handler::flags;
+use ccan_handler::{flags, until};
 use ccan_object::{CommandMask, Iface, ObjectNo, Profile, Record, Reg};
 use ccan_ram::{Access, Change, Flag, On, SharedRam, Tries};
+use ccan_run::Side;
+use ccan_script::{HostLine, LineAnswer, RegisterSet};
 use std::alloc::Global;
 use std::rt::Clock;
 use std::thread::Threads;
@@ -93,6 +95,23 @@ fn time_flags<A: Access>(clock: &impl Clock, access: &mut A) -> Result<u64> {
     Ok(time)
 }
 
+/// Waits for a flag that the object has, so that the first look shows it.
+fn time_waits<A: Access>(clock: &impl Clock, access: &mut A) -> Result<u64> {
+    let object = ObjectNo::from_request(access.profile(), 1);
+    let mut shown = 0u64;
+    let start = Instant::now(clock)?;
+    for _ in 0..STEPS {
+        if until(access, object, Flag::MsgVal, 1) {
+            shown = shown.saturating_add(1);
+        }
+    }
+    let time = tenths(start.elapsed(clock)?, u64::from(STEPS));
+    if shown != u64::from(STEPS) {
+        bail!("a look did not show the flag");
+    }
+    Ok(time)
+}
+
 /// Makes a change as often as the port's quota allows.
 fn time_changes<A: Access>(
     clock: &impl Clock,
@@ -118,6 +137,50 @@ fn time_changes<A: Access>(
     Ok(time)
 }
 
+/// Runs the line of a transfer of object 1 as often as the port's quota allows, with this Command Mask register.
+fn time_lines<A: Access>(
+    clock: &impl Clock,
+    access: &mut A,
+    command: u16,
+    quota: u64,
+) -> Result<u64> {
+    let mut registers = Iface::new();
+    registers.set(Reg::CMask, command);
+    let Some(tries) = Tries::new(1000) else {
+        bail!("so many tries are allowed")
+    };
+    let line = HostLine::Transfer {
+        request: 1,
+        set: RegisterSet::new(),
+    };
+    let mut made = 0u64;
+    let start = Instant::now(clock)?;
+    for _ in 0..quota {
+        let answer = registers.run_line(access, &line, tries);
+        if matches!(answer, LineAnswer::Write(..) | LineAnswer::Read(..)) {
+            made = made.saturating_add(1);
+        }
+    }
+    let time = tenths(start.elapsed(clock)?, quota);
+    if made != quota {
+        bail!("a line was not made");
+    }
+    Ok(time)
+}
+
+/// The median over several memories of the time of a transfer line.
+fn lines<R: SharedRam + Drop>(clock: &impl Clock, alloc: Global, command: u16) -> Result<u64> {
+    let mut times = Vec::new(alloc);
+    for _ in 0..MEMORIES {
+        let Ok((ram, if1, _if2, _bus)) = R::open_ram(alloc, Profile::One, R::MAX_QUOTA) else {
+            bail!("no memory")
+        };
+        let mut host = On::new(&ram, if1);
+        times.push(time_lines(clock, &mut host, command, R::MAX_QUOTA)?)?;
+    }
+    Ok(median(times)?)
+}
+
 /// The median over several memories of the time of a change.
 fn changes<R: SharedRam + Drop>(clock: &impl Clock, alloc: Global, change: &Change) -> Result<u64> {
     let mut times = Vec::new(alloc);
@@ -131,8 +194,8 @@ fn changes<R: SharedRam + Drop>(clock: &impl Clock, alloc: Global, change: &Chan
     Ok(median(times)?)
 }
 
-/// The medians of the times of a look, of a read into the registers and of a flag word.
-fn reads<R: SharedRam + Drop>(clock: &impl Clock, alloc: Global) -> Result<(u64, u64, u64)> {
+/// The medians of the times of a look, of a read into the registers, of a wait that one look ends, and of a flag word.
+fn reads<R: SharedRam + Drop>(clock: &impl Clock, alloc: Global) -> Result<[u64; 4]> {
     let Ok((ram, if1, _if2, _bus)) = R::open_ram(alloc, Profile::One, R::MAX_QUOTA) else {
         bail!("no memory")
     };
@@ -148,13 +211,20 @@ fn reads<R: SharedRam + Drop>(clock: &impl Clock, alloc: Global) -> Result<(u64,
     }
     let mut looks = Vec::new(alloc);
     let mut fills = Vec::new(alloc);
+    let mut waits = Vec::new(alloc);
     let mut words = Vec::new(alloc);
     for _ in 0..RUNS {
         looks.push(time_looks(clock, &mut host)?)?;
         fills.push(time_reads(clock, &mut host)?)?;
+        waits.push(time_waits(clock, &mut host)?)?;
         words.push(time_flags(clock, &mut host)?)?;
     }
-    Ok((median(looks)?, median(fills)?, median(words)?))
+    Ok([
+        median(looks)?,
+        median(fills)?,
+        median(waits)?,
+        median(words)?,
+    ])
 }
 
 /// A line of the table: tenths of a nanosecond.
@@ -182,13 +252,16 @@ pub fn measure_memory<R: SharedRam + Sync + Drop>(
     name: &str,
 ) -> Result<()> {
     println!(rt; "memory with {name}")?;
-    let (look, read, word) = reads::<R>(rt, alloc)?;
+    let [look, read, wait, word] = reads::<R>(rt, alloc)?;
     print_time(rt, "look", look)?;
     print_time(rt, "read into registers", read)?;
+    print_time(rt, "wait of one look", wait)?;
     print_time(rt, "32 looks of a flag", word)?;
     print_time(rt, "full write", changes::<R>(rt, alloc, &write_all())?)?;
     let clear = Change::Clear(CommandMask::of(0x007f));
     print_time(rt, "clearing read", changes::<R>(rt, alloc, &clear)?)?;
+    print_time(rt, "line of a read", lines::<R>(rt, alloc, 0x0073)?)?;
+    print_time(rt, "line of a full write", lines::<R>(rt, alloc, 0x00f3)?)?;
     let apart = three_writers::<R, _>(rt, alloc, [1, 2, 3])?;
     print_writers(rt, "three writers apart", apart)?;
     let together = three_writers::<R, _>(rt, alloc, [1, 1, 1])?;

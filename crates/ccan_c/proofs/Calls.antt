@@ -4,10 +4,10 @@ use Rattle.std.specs.declared.option.Option.{Option}
 use Rattle.ccan_c.specs.declared.held.Held.{Held}
 use Rattle.ccan_c.specs.Call.{IsCall}
 
--- what the handle stands for was taken out, and this came of it there
-pub on_taken : (o p : Option Held) (code : ℕ) (held moved : Held) (what : Held → Type 0)
-    → o ≡ Some held → moved ≡ held → what moved → IsCall o p code what
-on_taken o p code held moved what taken same h = subst (λ (z : Option Held). IsCall z p code what) (sym taken) (subst what same h)
+-- the handle is open, and this came of it
+pub on_open : (o p : Option Held) (code : ℕ) (held : Held) (what : Held → Type 0)
+    → o ≡ Some held → what held → IsCall o p code what
+on_open o p code held what is_open h = subst (λ (z : Option Held). IsCall z p code what) (sym is_open) h
 
 -- a number that was known
 pub on_known : {X : Type 0} (o : Option X) (x : X) (P : Type 0) (Q : X → Type 0) → Some x ≡ o → Q x → MatchOption o P Q

@@ -10,5 +10,6 @@ pub mod Renewal
 pub mod Copying
 pub mod Call
 pub mod Host
+pub mod Lending
 pub mod Bus
 pub mod Round

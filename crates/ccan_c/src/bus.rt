@@ -19,11 +19,10 @@ use crate::shown_load::ShownLoad;
 use crate::shown_outcome::ShownOutcome;
 use crate::shown_words::{flags_shown, state_shown, word_shown};
 use ccan_script::{BusLine, MAX_FRAMES};
-use std::alloc::Global;
 
 /// The controller chooses an object to send, and starts it.
 #[unsafe(no_mangle)]
-pub extern "C" fn ccan_load(alloc: Global, bus: &mut BusHandle, out: &mut ShownLoad) -> u32
+pub extern "C" fn ccan_load(bus: &mut BusHandle, out: &mut ShownLoad) -> u32
     ensures call { IsCall (held_on bus.old) (held_on bus.new) result
         (λ held. Answers line.Load load_shown held (held_on bus.new) result out.new) }
     ensures refused { result ≡ closed → out.new ≡ out.old }
@@ -31,14 +30,14 @@ pub extern "C" fn ccan_load(alloc: Global, bus: &mut BusHandle, out: &mut ShownL
     if !bus.handle.is_open() {
         return CLOSED;
     }
-    let answer = bus.run(alloc, &BusLine::Load);
+    let answer = bus.run(&BusLine::Load);
     *out = ShownLoad::of(&answer);
     code_of(&answer)
 }
 
 /// Reads the Status register. The status interrupt is then no longer pending.
 #[unsafe(no_mangle)]
-pub extern "C" fn ccan_status(alloc: Global, bus: &mut BusHandle, out: &mut u16) -> u32
+pub extern "C" fn ccan_status(bus: &mut BusHandle, out: &mut u16) -> u32
     ensures call { IsCall (held_on bus.old) (held_on bus.new) result
         (λ held. Answers line.Status word_shown held (held_on bus.new) result out.new) }
     ensures refused { result ≡ closed → out.new ≡ out.old }
@@ -46,64 +45,56 @@ pub extern "C" fn ccan_status(alloc: Global, bus: &mut BusHandle, out: &mut u16)
     if !bus.handle.is_open() {
         return CLOSED;
     }
-    let answer = bus.run(alloc, &BusLine::Status);
+    let answer = bus.run(&BusLine::Status);
     *out = word_shown(&answer);
     code_of(&answer)
 }
 
 /// Sets SIE and EIE, the enables of the status interrupt. 0 is off, each other number is on.
 #[unsafe(no_mangle)]
-pub extern "C" fn ccan_control(alloc: Global, bus: &mut BusHandle, sie: u32, eie: u32) -> u32
+pub extern "C" fn ccan_control(bus: &mut BusHandle, sie: u32, eie: u32) -> u32
     ensures { IsCall (held_on bus.old) (held_on bus.new) result
         (λ held. Does (line.Control (is_on sie) (is_on eie)) held (held_on bus.new) result) }
 {
     if !bus.handle.is_open() {
         return CLOSED;
     }
-    let answer = bus.run(
-        alloc,
-        &BusLine::Control {
-            sie: sie != 0,
-            eie: eie != 0,
-        },
-    );
+    let answer = bus.run(&BusLine::Control {
+        sie: sie != 0,
+        eie: eie != 0,
+    });
     code_of(&answer)
 }
 
 /// Clears Init, from where on groups count for a controller that is off.
 #[unsafe(no_mangle)]
-pub extern "C" fn ccan_init(alloc: Global, bus: &mut BusHandle) -> u32
+pub extern "C" fn ccan_init(bus: &mut BusHandle) -> u32
     ensures { IsCall (held_on bus.old) (held_on bus.new) result
         (λ held. Does line.Init held (held_on bus.new) result) }
 {
     if !bus.handle.is_open() {
         return CLOSED;
     }
-    let answer = bus.run(alloc, &BusLine::Init);
+    let answer = bus.run(&BusLine::Init);
     code_of(&answer)
 }
 
 /// Sets loop back mode. 0 is off, each other number is on.
 #[unsafe(no_mangle)]
-pub extern "C" fn ccan_loop_back(alloc: Global, bus: &mut BusHandle, on: u32) -> u32
+pub extern "C" fn ccan_loop_back(bus: &mut BusHandle, on: u32) -> u32
     ensures { IsCall (held_on bus.old) (held_on bus.new) result
         (λ held. Does (line.LoopBack (is_on on)) held (held_on bus.new) result) }
 {
     if !bus.handle.is_open() {
         return CLOSED;
     }
-    let answer = bus.run(alloc, &BusLine::LoopBack(on != 0));
+    let answer = bus.run(&BusLine::LoopBack(on != 0));
     code_of(&answer)
 }
 
 /// Lets groups of eleven recessive bits pass, and tells the controller's state.
 #[unsafe(no_mangle)]
-pub extern "C" fn ccan_recessive(
-    alloc: Global,
-    bus: &mut BusHandle,
-    groups: u32,
-    out: &mut u32,
-) -> u32
+pub extern "C" fn ccan_recessive(bus: &mut BusHandle, groups: u32, out: &mut u32) -> u32
     ensures call { IsCall (held_on bus.old) (held_on bus.new) result
         (λ held. Recovers groups state_shown held (held_on bus.new) result out.new) }
     ensures refused { (result ≡ closed) ⊎ (result ≡ groups_range) → out.new ≡ out.old }
@@ -114,14 +105,14 @@ pub extern "C" fn ccan_recessive(
     if groups == 0 || groups > 10_000 {
         return GROUPS_RANGE;
     }
-    let answer = bus.run(alloc, &BusLine::Recessive(groups as u16));
+    let answer = bus.run(&BusLine::Recessive(groups as u16));
     *out = state_shown(&answer);
     code_of(&answer)
 }
 
 /// Reads the interrupt value: 0x8000 the status interrupt, else the first object with IntPnd, or 0.
 #[unsafe(no_mangle)]
-pub extern "C" fn ccan_bus_interrupt(alloc: Global, bus: &mut BusHandle, out: &mut u16) -> u32
+pub extern "C" fn ccan_bus_interrupt(bus: &mut BusHandle, out: &mut u16) -> u32
     ensures call { IsCall (held_on bus.old) (held_on bus.new) result
         (λ held. Answers line.Interrupt word_shown held (held_on bus.new) result out.new) }
     ensures refused { result ≡ closed → out.new ≡ out.old }
@@ -129,19 +120,14 @@ pub extern "C" fn ccan_bus_interrupt(alloc: Global, bus: &mut BusHandle, out: &m
     if !bus.handle.is_open() {
         return CLOSED;
     }
-    let answer = bus.run(alloc, &BusLine::Interrupt);
+    let answer = bus.run(&BusLine::Interrupt);
     *out = word_shown(&answer);
     code_of(&answer)
 }
 
 /// Reads a flag of all objects, that of object k in bit k - 1.
 #[unsafe(no_mangle)]
-pub extern "C" fn ccan_bus_flags(
-    alloc: Global,
-    bus: &mut BusHandle,
-    flag: u32,
-    out: &mut u64,
-) -> u32
+pub extern "C" fn ccan_bus_flags(bus: &mut BusHandle, flag: u32, out: &mut u64) -> u32
     ensures call { IsCall (held_on bus.old) (held_on bus.new) result
         (λ held. ReadsFlag flag flags_shown held (held_on bus.new) result out.new) }
     ensures refused { (result ≡ closed) ⊎ (result ≡ flag_range) → out.new ≡ out.old }
@@ -152,19 +138,14 @@ pub extern "C" fn ccan_bus_flags(
     let Some(flag) = flag_numbered(flag) else {
         return FLAG_RANGE;
     };
-    let answer = bus.run(alloc, &BusLine::Flags(flag));
+    let answer = bus.run(&BusLine::Flags(flag));
     *out = flags_shown(&answer);
     code_of(&answer)
 }
 
 /// Reads the error counters of a node, node 0 being the controller.
 #[unsafe(no_mangle)]
-pub extern "C" fn ccan_counters(
-    alloc: Global,
-    bus: &mut BusHandle,
-    node: u32,
-    out: &mut ShownCounters,
-) -> u32
+pub extern "C" fn ccan_counters(bus: &mut BusHandle, node: u32, out: &mut ShownCounters) -> u32
     ensures call { IsCall (held_on bus.old) (held_on bus.new) result
         (λ held. CountsNode node counters_shown held (held_on bus.new) result out.new) }
     ensures refused { (result ≡ closed) ⊎ (result ≡ node_range) → out.new ≡ out.old }
@@ -172,10 +153,7 @@ pub extern "C" fn ccan_counters(
     if !bus.handle.is_open() {
         return CLOSED;
     }
-    let mut held = bus.handle.take(alloc);
-    let answer = held.count(node);
-    bus.handle.put(held);
-    match answer {
+    match bus.handle.seal.as_mut().count(node) {
         Some(answer) => {
             *out = ShownCounters::of(&answer);
             code_of(&answer)
@@ -188,7 +166,6 @@ pub extern "C" fn ccan_counters(
 /// where there is one.
 #[unsafe(no_mangle)]
 pub extern "C" fn ccan_round(
-    alloc: Global,
     bus: &mut BusHandle,
     offers: &[Offer],
     fault: u32,
@@ -210,10 +187,7 @@ pub extern "C" fn ccan_round(
     let Some(fault) = fault_numbered(fault) else {
         return FAULT_RANGE;
     };
-    let mut held = bus.handle.take(alloc);
-    let answer = held.play(sends, fault);
-    bus.handle.put(held);
-    match answer {
+    match bus.handle.seal.as_mut().play(sends, fault) {
         Some(answer) => {
             *out = ShownOutcome::of(&answer);
             code_of(&answer)

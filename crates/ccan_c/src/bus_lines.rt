@@ -5,7 +5,6 @@ use crate::offer::Sends;
 use ccan_bus::{Fault, RoundLine};
 use ccan_run::Side;
 use ccan_script::{BusLine, LineAnswer};
-use std::alloc::Global;
 
 impl Held {
     ghost use Rattle.std.specs.Prelude.{◌≡◌, IfNone, IfSome, false, nat_le, true};
@@ -55,14 +54,11 @@ impl BusHandle {
     ghost use Rattle.ccan_c.specs.Bus.{RunsOn, held_on};
 
     /// Runs a line that fits however many nodes there are.
-    pub(crate) fn run(&mut self, alloc: Global, line: &BusLine) -> LineAnswer
+    pub(crate) fn run(&mut self, line: &BusLine) -> LineAnswer
         requires open { IsSome (held_on self.old) }
         requires fits { (nodes : ℕ) → BusFits nodes line.now }
         ensures { RunsOn line.now result (held_on self.old) (held_on self.new) }
     {
-        let mut held = self.handle.take(alloc);
-        let answer = held.run_bus(line);
-        self.handle.put(held);
-        answer
+        self.handle.seal.as_mut().run_bus(line)
     }
 }

@@ -3,7 +3,6 @@ ghost use Rattle.std.specs.Prelude.{◌≡◌, ◌≢◌, Some, None, is_some, I
 use crate::held::Held;
 use crate::seal::Seal;
 use std::alloc::Global;
-use std::mem::replace;
 use std::ptr::null_mut;
 
 /// A handle of a port, or a place for one.
@@ -54,25 +53,6 @@ impl Handle {
     {
         let Handle { full, seal } = self;
         if full { Some(seal.into_box()) } else { None }
-    }
-
-    /// Takes out what an open handle stands for, and leaves a place.
-    pub(crate) fn take(&mut self, alloc: Global) -> Box<Held, Global>
-        requires { IsSome self.old.seal.value }
-        ensures taken { self.old.seal.value ≡ Some result.value }
-        ensures left { self.new.seal.value ≡ None }
-    {
-        match replace(self, Handle::closed(alloc)).into_held() {
-            Some(held) => held,
-            None => unreachable!(),
-        }
-    }
-
-    /// Puts it back.
-    pub(crate) fn put(&mut self, held: Box<Held, Global>)
-        ensures { self.new.seal.value ≡ Some held.value }
-    {
-        *self = Handle::open(held);
     }
 }
 

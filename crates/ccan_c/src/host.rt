@@ -7,11 +7,10 @@ ghost use Rattle.ccan_c.specs.Host.{Gets, ReadsFlag, ReadsInterrupt, Requests, S
 use crate::code::{CLOSED, DONE, FLAG_RANGE, REGISTER_RANGE, code_of};
 use crate::host_handle::HostHandle;
 use crate::numbers::{flag_numbered, number_of, register_numbered};
-use std::alloc::Global;
 
 /// Writes an interface register. The message RAM has no part in it.
 #[unsafe(no_mangle)]
-pub extern "C" fn ccan_set(alloc: Global, host: &mut HostHandle, register: u32, value: u16) -> u32
+pub extern "C" fn ccan_set(host: &mut HostHandle, register: u32, value: u16) -> u32
     ensures { IsCall (held_by host.old) (held_by host.new) result
         (λ held. Sets register value held (held_by host.new) result) }
 {
@@ -21,20 +20,13 @@ pub extern "C" fn ccan_set(alloc: Global, host: &mut HostHandle, register: u32, 
     let Some(register) = register_numbered(register) else {
         return REGISTER_RANGE;
     };
-    let mut held = host.handle.take(alloc);
-    held.registers.set(register, value);
-    host.handle.put(held);
+    host.handle.seal.as_mut().registers.set(register, value);
     DONE
 }
 
 /// Reads an interface register. The message RAM has no part in it.
 #[unsafe(no_mangle)]
-pub extern "C" fn ccan_get(
-    alloc: Global,
-    host: &mut HostHandle,
-    register: u32,
-    out: &mut u16,
-) -> u32
+pub extern "C" fn ccan_get(host: &mut HostHandle, register: u32, out: &mut u16) -> u32
     ensures call { IsCall (held_by host.old) (held_by host.new) result
         (λ held. Gets register held (held_by host.new) result out.new) }
     ensures refused { result ≢ done → out.new ≡ out.old }
@@ -45,30 +37,26 @@ pub extern "C" fn ccan_get(
     let Some(register) = register_numbered(register) else {
         return REGISTER_RANGE;
     };
-    let held = host.handle.take(alloc);
-    *out = held.registers.get(register);
-    host.handle.put(held);
+    *out = host.handle.seal.as_mut().registers.get(register);
     DONE
 }
 
 /// Writes the Command Request register: the transfer that the Command Mask register says, with the object of the request.
 #[unsafe(no_mangle)]
-pub extern "C" fn ccan_request(alloc: Global, host: &mut HostHandle, request: u16) -> u32
+pub extern "C" fn ccan_request(host: &mut HostHandle, request: u16) -> u32
     ensures { IsCall (held_by host.old) (held_by host.new) result
         (λ held. Requests request held (held_by host.new) result) }
 {
     if !host.handle.is_open() {
         return CLOSED;
     }
-    let mut held = host.handle.take(alloc);
-    let answer = held.request(request);
-    host.handle.put(held);
+    let answer = host.handle.seal.as_mut().request(request);
     code_of(&answer)
 }
 
 /// Reads a flag of all objects, that of object k in bit k - 1.
 #[unsafe(no_mangle)]
-pub extern "C" fn ccan_flags(alloc: Global, host: &mut HostHandle, flag: u32, out: &mut u64) -> u32
+pub extern "C" fn ccan_flags(host: &mut HostHandle, flag: u32, out: &mut u64) -> u32
     ensures call { IsCall (held_by host.old) (held_by host.new) result
         (λ held. ReadsFlag flag held (held_by host.new) result out.new) }
     ensures refused { result ≢ done → out.new ≡ out.old }
@@ -79,15 +67,13 @@ pub extern "C" fn ccan_flags(alloc: Global, host: &mut HostHandle, flag: u32, ou
     let Some(flag) = flag_numbered(flag) else {
         return FLAG_RANGE;
     };
-    let mut held = host.handle.take(alloc);
-    *out = held.flags(flag);
-    host.handle.put(held);
+    *out = host.handle.seal.as_mut().flags(flag);
     DONE
 }
 
 /// Reads the interrupt value: the number of the first object with IntPnd, or 0.
 #[unsafe(no_mangle)]
-pub extern "C" fn ccan_interrupt(alloc: Global, host: &mut HostHandle, out: &mut u16) -> u32
+pub extern "C" fn ccan_interrupt(host: &mut HostHandle, out: &mut u16) -> u32
     ensures call { IsCall (held_by host.old) (held_by host.new) result
         (λ held. ReadsInterrupt held (held_by host.new) result out.new) }
     ensures refused { result ≢ done → out.new ≡ out.old }
@@ -95,16 +81,13 @@ pub extern "C" fn ccan_interrupt(alloc: Global, host: &mut HostHandle, out: &mut
     if !host.handle.is_open() {
         return CLOSED;
     }
-    let mut held = host.handle.take(alloc);
-    *out = held.interrupt();
-    host.handle.put(held);
+    *out = host.handle.seal.as_mut().interrupt();
     DONE
 }
 
 /// Looks at an object until it shows the flag, at most so many times. 1 where it did, else 0.
 #[unsafe(no_mangle)]
 pub extern "C" fn ccan_until(
-    alloc: Global,
     host: &mut HostHandle,
     object: u32,
     flag: u32,
@@ -118,10 +101,7 @@ pub extern "C" fn ccan_until(
     if !host.handle.is_open() {
         return CLOSED;
     }
-    let mut held = host.handle.take(alloc);
-    let answer = held.wait(object, flag, turns);
-    host.handle.put(held);
-    match answer {
+    match host.handle.seal.as_mut().wait(object, flag, turns) {
         Ok(shown) => {
             *out = number_of(shown);
             DONE

@@ -26,6 +26,9 @@ impl Model for Seal {
 }
 
 impl Seal {
+    ghost use Rattle.std.specs.Borrow.{sem};
+    ghost use Rattle.ccan_c.specs.Lending.{LendsHeld};
+
     pub fn of(held: Box<Held, Global>) -> Seal
         ensures { result.value ≡ Some held.value }
     {
@@ -64,6 +67,15 @@ impl Seal {
         ensures { result.value ≡ None }
     {
         Seal { ptr, alloc }
+    }
+
+    /// What the box holds, where it is.
+    pub fn as_mut(&mut self) -> &mut Held
+        requires { IsSome self.old.value }
+        ensures* writes_back { sem 𝓛 (LendsHeld self.entry result) }
+        ensures value { self.old.value ≡ Some result.now }
+    {
+        unsafe { &mut *(self.ptr as *mut Held) }
     }
 }
 

@@ -26,6 +26,7 @@ impl Access for SharedPort {
         self.ram.profile()
     }
 
+    #[inline(always)]
     fn look(&mut self, object: ObjectNo) -> Record {
         self.ram.look(&mut self.port, object)
     }

@@ -16,7 +16,6 @@ use crate::shown_load::ShownLoad;
 use crate::shown_outcome::ShownOutcome;
 use crate::shown_record::ShownRecord;
 use ccan_object::Record;
-use std::alloc::Global;
 use std::process::Abort;
 
 /// A place for final records.
@@ -46,9 +45,9 @@ fn a_chip_opens_and_ends(rt: HostRuntime) {
 }
 
 /// The register of this number as a host reads it.
-fn shown(alloc: Global, host: &mut HostHandle, register: u32) -> u16 {
+fn shown(host: &mut HostHandle, register: u32) -> u16 {
     let mut value = 0;
-    ccan_get(alloc, host, register, &mut value);
+    ccan_get(host, register, &mut value);
     value
 }
 
@@ -56,30 +55,30 @@ fn shown(alloc: Global, host: &mut HostHandle, register: u32) -> u16 {
 fn what_one_host_writes_the_other_reads(rt: HostRuntime) {
     let alloc = rt.alloc();
     let mut chip = Chip::closed(alloc);
-    assert_eq!(rt; ccan_set(alloc, &mut chip.if1, 0, 0x00f3), 1);
+    assert_eq!(rt; ccan_set(&mut chip.if1, 0, 0x00f3), 1);
     assert_eq!(rt; ccan_open(alloc, &mut chip, 1, 0, 64, 100), 0);
-    assert_eq!(rt; ccan_set(alloc, &mut chip.if1, 10, 0x00f3), 10);
-    assert_eq!(rt; ccan_set(alloc, &mut chip.if1, 0, 0x00f3), 0);
-    assert_eq!(rt; ccan_set(alloc, &mut chip.if1, 4, 0xa48c), 0);
-    assert_eq!(rt; ccan_set(alloc, &mut chip.if1, 5, 0x2088), 0);
-    assert_eq!(rt; ccan_set(alloc, &mut chip.if1, 6, 0x2211), 0);
-    assert_eq!(rt; ccan_request(alloc, &mut chip.if1, 5), 0);
-    assert_eq!(rt; ccan_set(alloc, &mut chip.if2, 0, 0x007f), 0);
-    assert_eq!(rt; ccan_request(alloc, &mut chip.if2, 5), 0);
-    assert_eq!(rt; shown(alloc, &mut chip.if2, 4), 0xa48c);
-    assert_eq!(rt; shown(alloc, &mut chip.if2, 6), 0x2211);
+    assert_eq!(rt; ccan_set(&mut chip.if1, 10, 0x00f3), 10);
+    assert_eq!(rt; ccan_set(&mut chip.if1, 0, 0x00f3), 0);
+    assert_eq!(rt; ccan_set(&mut chip.if1, 4, 0xa48c), 0);
+    assert_eq!(rt; ccan_set(&mut chip.if1, 5, 0x2088), 0);
+    assert_eq!(rt; ccan_set(&mut chip.if1, 6, 0x2211), 0);
+    assert_eq!(rt; ccan_request(&mut chip.if1, 5), 0);
+    assert_eq!(rt; ccan_set(&mut chip.if2, 0, 0x007f), 0);
+    assert_eq!(rt; ccan_request(&mut chip.if2, 5), 0);
+    assert_eq!(rt; shown(&mut chip.if2, 4), 0xa48c);
+    assert_eq!(rt; shown(&mut chip.if2, 6), 0x2211);
     let mut word = 0;
-    assert_eq!(rt; ccan_flags(alloc, &mut chip.if1, 4, &mut word), 0);
+    assert_eq!(rt; ccan_flags(&mut chip.if1, 4, &mut word), 0);
     assert_eq!(rt; word, 0x10);
-    assert_eq!(rt; ccan_flags(alloc, &mut chip.if1, 5, &mut word), 12);
+    assert_eq!(rt; ccan_flags(&mut chip.if1, 5, &mut word), 12);
     let mut value = 7;
-    assert_eq!(rt; ccan_interrupt(alloc, &mut chip.if2, &mut value), 0);
+    assert_eq!(rt; ccan_interrupt(&mut chip.if2, &mut value), 0);
     assert_eq!(rt; value, 0);
     let mut shows = 7;
-    assert_eq!(rt; ccan_until(alloc, &mut chip.if2, 5, 4, 1, &mut shows), 0);
+    assert_eq!(rt; ccan_until(&mut chip.if2, 5, 4, 1, &mut shows), 0);
     assert_eq!(rt; shows, 1);
-    assert_eq!(rt; ccan_until(alloc, &mut chip.if2, 33, 4, 1, &mut shows), 11);
-    assert_eq!(rt; ccan_until(alloc, &mut chip.if2, 5, 4, 0, &mut shows), 13);
+    assert_eq!(rt; ccan_until(&mut chip.if2, 33, 4, 1, &mut shows), 11);
+    assert_eq!(rt; ccan_until(&mut chip.if2, 5, 4, 0, &mut shows), 13);
 }
 
 #[test]
@@ -87,18 +86,18 @@ fn a_quota_is_spent(rt: HostRuntime) {
     let alloc = rt.alloc();
     let mut chip = Chip::closed(alloc);
     assert_eq!(rt; ccan_open(alloc, &mut chip, 1, 0, 1, 1), 0);
-    assert_eq!(rt; ccan_set(alloc, &mut chip.if1, 0, 0x0090), 0);
-    assert_eq!(rt; ccan_request(alloc, &mut chip.if1, 1), 0);
-    assert_eq!(rt; ccan_request(alloc, &mut chip.if1, 1), 3);
+    assert_eq!(rt; ccan_set(&mut chip.if1, 0, 0x0090), 0);
+    assert_eq!(rt; ccan_request(&mut chip.if1, 1), 0);
+    assert_eq!(rt; ccan_request(&mut chip.if1, 1), 3);
     let mut last = nothing();
     assert_eq!(rt; ccan_end(alloc, &mut chip, &mut last), 0);
-    assert_eq!(rt; ccan_request(alloc, &mut chip.if1, 1), 1);
+    assert_eq!(rt; ccan_request(&mut chip.if1, 1), 1);
 }
 
 /// Sets registers of a host, each by its number.
-fn set(alloc: Global, host: &mut HostHandle, settings: &[(u32, u16)]) {
+fn set(host: &mut HostHandle, settings: &[(u32, u16)]) {
     for (register, value) in settings {
-        ccan_set(alloc, host, *register, *value);
+        ccan_set(host, *register, *value);
     }
 }
 
@@ -130,45 +129,34 @@ fn a_frame_is_stored_and_one_is_sent(rt: HostRuntime) {
     let alloc = rt.alloc();
     let mut chip = Chip::closed(alloc);
     let mut outcome = no_outcome();
-    assert_eq!(rt; ccan_round(alloc, &mut chip.bus, &[], 0, &mut outcome), 1);
+    assert_eq!(rt; ccan_round(&mut chip.bus, &[], 0, &mut outcome), 1);
     assert_eq!(rt; outcome.kind, 77);
     assert_eq!(rt; ccan_open(alloc, &mut chip, 1, 1, 64, 100), 0);
-    set(
-        alloc,
-        &mut chip.if1,
-        &[(0, 0x00f3), (4, 0x848c), (5, 0x0488)],
-    );
-    assert_eq!(rt; ccan_request(alloc, &mut chip.if1, 5), 0);
-    assert_eq!(rt;
-        ccan_round(alloc, &mut chip.bus, &[offer(1)], 0, &mut outcome),
-        0
-    );
+    set(&mut chip.if1, &[(0, 0x00f3), (4, 0x848c), (5, 0x0488)]);
+    assert_eq!(rt; ccan_request(&mut chip.if1, 5), 0);
+    assert_eq!(rt; ccan_round(&mut chip.bus, &[offer(1)], 0, &mut outcome), 0);
     assert_eq!(rt; outcome.kind, 2);
     assert_eq!(rt; outcome.stored, 5);
     assert_eq!(rt; outcome.stored_record.control, 0xa482);
     let mut word = 0;
-    assert_eq!(rt; ccan_status(alloc, &mut chip.bus, &mut word), 0);
+    assert_eq!(rt; ccan_status(&mut chip.bus, &mut word), 0);
     assert_eq!(rt; word, 0x0010);
-    assert_eq!(rt; ccan_bus_interrupt(alloc, &mut chip.bus, &mut word), 0);
+    assert_eq!(rt; ccan_bus_interrupt(&mut chip.bus, &mut word), 0);
     assert_eq!(rt; word, 5);
     let mut newdat = 0;
-    assert_eq!(rt; ccan_bus_flags(alloc, &mut chip.bus, 0, &mut newdat), 0);
+    assert_eq!(rt; ccan_bus_flags(&mut chip.bus, 0, &mut newdat), 0);
     assert_eq!(rt; newdat, 0x10);
-    set(
-        alloc,
-        &mut chip.if2,
-        &[(0, 0x00f3), (4, 0xa400), (5, 0x0981)],
-    );
-    assert_eq!(rt; ccan_request(alloc, &mut chip.if2, 2), 0);
+    set(&mut chip.if2, &[(0, 0x00f3), (4, 0xa400), (5, 0x0981)]);
+    assert_eq!(rt; ccan_request(&mut chip.if2, 2), 0);
     let mut loaded = ShownLoad {
         kind: 77,
         object: 0,
         held: ShownRecord::of(&Record::zero()),
     };
-    assert_eq!(rt; ccan_load(alloc, &mut chip.bus, &mut loaded), 0);
+    assert_eq!(rt; ccan_load(&mut chip.bus, &mut loaded), 0);
     assert_eq!(rt; loaded.kind, 1);
     assert_eq!(rt; loaded.object, 2);
-    assert_eq!(rt; ccan_round(alloc, &mut chip.bus, &[], 0, &mut outcome), 0);
+    assert_eq!(rt; ccan_round(&mut chip.bus, &[], 0, &mut outcome), 0);
     assert_eq!(rt; outcome.kind, 1);
     assert_eq!(rt; outcome.object, 2);
     assert_eq!(rt; outcome.finished.control, 0x2881);
@@ -181,31 +169,31 @@ fn numbers_out_of_range_are_refused(rt: HostRuntime) {
     assert_eq!(rt; ccan_open(alloc, &mut chip, 2, 1, 64, 100), 0);
     let mut outcome = no_outcome();
     let bus = &mut chip.bus;
-    assert_eq!(rt; ccan_round(alloc, bus, &[offer(1); 9], 0, &mut outcome), 16);
+    assert_eq!(rt; ccan_round(bus, &[offer(1); 9], 0, &mut outcome), 16);
     let mut wide = offer(1);
     wide.id = 0x800;
-    assert_eq!(rt; ccan_round(alloc, bus, &[wide], 0, &mut outcome), 17);
-    assert_eq!(rt; ccan_round(alloc, bus, &[offer(1)], 6, &mut outcome), 18);
-    assert_eq!(rt; ccan_round(alloc, bus, &[offer(2)], 0, &mut outcome), 19);
+    assert_eq!(rt; ccan_round(bus, &[wide], 0, &mut outcome), 17);
+    assert_eq!(rt; ccan_round(bus, &[offer(1)], 6, &mut outcome), 18);
+    assert_eq!(rt; ccan_round(bus, &[offer(2)], 0, &mut outcome), 19);
     assert_eq!(rt; outcome.kind, 77);
     let mut counters = ShownCounters {
         tec: 9,
         rec: 9,
         state: 9,
     };
-    assert_eq!(rt; ccan_counters(alloc, bus, 2, &mut counters), 14);
-    assert_eq!(rt; ccan_counters(alloc, bus, 1, &mut counters), 0);
+    assert_eq!(rt; ccan_counters(bus, 2, &mut counters), 14);
+    assert_eq!(rt; ccan_counters(bus, 1, &mut counters), 0);
     assert_eq!(rt; counters.tec, 0);
     assert_eq!(rt; counters.rec, 0);
     assert_eq!(rt; counters.state, 0);
-    assert_eq!(rt; ccan_control(alloc, bus, 1, 0), 0);
-    assert_eq!(rt; ccan_init(alloc, bus), 0);
+    assert_eq!(rt; ccan_control(bus, 1, 0), 0);
+    assert_eq!(rt; ccan_init(bus), 0);
     let mut state = 9;
-    assert_eq!(rt; ccan_recessive(alloc, bus, 0, &mut state), 15);
-    assert_eq!(rt; ccan_recessive(alloc, bus, 128, &mut state), 0);
+    assert_eq!(rt; ccan_recessive(bus, 0, &mut state), 15);
+    assert_eq!(rt; ccan_recessive(bus, 128, &mut state), 0);
     assert_eq!(rt; state, 0);
-    assert_eq!(rt; ccan_loop_back(alloc, bus, 1), 0);
-    assert_eq!(rt; ccan_round(alloc, bus, &[], 0, &mut outcome), 0);
+    assert_eq!(rt; ccan_loop_back(bus, 1), 0);
+    assert_eq!(rt; ccan_round(bus, &[], 0, &mut outcome), 0);
     assert_eq!(rt; outcome.kind, 0);
 }
 
@@ -215,18 +203,18 @@ fn a_renewal_keeps_records_and_registers(rt: HostRuntime) {
     let mut chip = Chip::closed(alloc);
     assert_eq!(rt; ccan_renew(alloc, &mut chip), 1);
     assert_eq!(rt; ccan_open(alloc, &mut chip, 1, 0, 64, 100), 0);
-    assert_eq!(rt; ccan_set(alloc, &mut chip.if1, 0, 0x00f3), 0);
-    assert_eq!(rt; ccan_set(alloc, &mut chip.if1, 4, 0xa48c), 0);
-    assert_eq!(rt; ccan_request(alloc, &mut chip.if1, 5), 0);
+    assert_eq!(rt; ccan_set(&mut chip.if1, 0, 0x00f3), 0);
+    assert_eq!(rt; ccan_set(&mut chip.if1, 4, 0xa48c), 0);
+    assert_eq!(rt; ccan_request(&mut chip.if1, 5), 0);
     assert_eq!(rt; ccan_renew(alloc, &mut chip), 0);
     assert!(rt; ccan_is_open(&chip));
-    assert_eq!(rt; shown(alloc, &mut chip.if1, 0), 0x00f3);
-    assert_eq!(rt; shown(alloc, &mut chip.if1, 4), 0xa48c);
-    set(alloc, &mut chip.if2, &[(0, 0x0073)]);
-    assert_eq!(rt; ccan_request(alloc, &mut chip.if2, 5), 0);
-    assert_eq!(rt; shown(alloc, &mut chip.if2, 4), 0xa48c);
-    assert_eq!(rt; ccan_request(alloc, &mut chip.if2, 6), 0);
-    assert_eq!(rt; shown(alloc, &mut chip.if2, 4), 0);
+    assert_eq!(rt; shown(&mut chip.if1, 0), 0x00f3);
+    assert_eq!(rt; shown(&mut chip.if1, 4), 0xa48c);
+    set(&mut chip.if2, &[(0, 0x0073)]);
+    assert_eq!(rt; ccan_request(&mut chip.if2, 5), 0);
+    assert_eq!(rt; shown(&mut chip.if2, 4), 0xa48c);
+    assert_eq!(rt; ccan_request(&mut chip.if2, 6), 0);
+    assert_eq!(rt; shown(&mut chip.if2, 4), 0);
 }
 
 #[test]
@@ -235,14 +223,11 @@ fn a_renewal_keeps_the_status(rt: HostRuntime) {
     let mut chip = Chip::closed(alloc);
     let mut outcome = no_outcome();
     assert_eq!(rt; ccan_open(alloc, &mut chip, 1, 1, 64, 100), 0);
-    assert_eq!(rt;
-        ccan_round(alloc, &mut chip.bus, &[offer(1)], 0, &mut outcome),
-        0
-    );
+    assert_eq!(rt; ccan_round(&mut chip.bus, &[offer(1)], 0, &mut outcome), 0);
     assert_eq!(rt; outcome.kind, 2);
     assert_eq!(rt; ccan_renew(alloc, &mut chip), 0);
     let mut word = 0;
-    assert_eq!(rt; ccan_status(alloc, &mut chip.bus, &mut word), 0);
+    assert_eq!(rt; ccan_status(&mut chip.bus, &mut word), 0);
     assert_eq!(rt; word, 0x0010);
 }
 
@@ -255,12 +240,12 @@ fn a_renewal_costs_if1_a_change_for_each_object(rt: HostRuntime) {
     assert!(rt; ccan_is_open(&chip));
     assert_eq!(rt; ccan_open(alloc, &mut chip, 2, 0, 65, 100), 0);
     assert_eq!(rt; ccan_renew(alloc, &mut chip), 0);
-    set(alloc, &mut chip.if1, &[(0, 0x0090)]);
-    assert_eq!(rt; ccan_request(alloc, &mut chip.if1, 1), 0);
-    assert_eq!(rt; ccan_request(alloc, &mut chip.if1, 1), 3);
-    set(alloc, &mut chip.if2, &[(0, 0x0090)]);
-    assert_eq!(rt; ccan_request(alloc, &mut chip.if2, 1), 0);
-    assert_eq!(rt; ccan_request(alloc, &mut chip.if2, 1), 0);
+    set(&mut chip.if1, &[(0, 0x0090)]);
+    assert_eq!(rt; ccan_request(&mut chip.if1, 1), 0);
+    assert_eq!(rt; ccan_request(&mut chip.if1, 1), 3);
+    set(&mut chip.if2, &[(0, 0x0090)]);
+    assert_eq!(rt; ccan_request(&mut chip.if2, 1), 0);
+    assert_eq!(rt; ccan_request(&mut chip.if2, 1), 0);
 }
 
 #[test]

@@ -53,11 +53,13 @@ impl<L: Layout> SharedRam for Ram<L> {
         self.words.key().profile
     }
 
+    #[inline(always)]
     fn look(&self, port: &mut Port, object: ObjectNo) -> Record {
         let (_number, held) = found(&self.words, &mut port.seat, port.name, number_of(object));
         held
     }
 
+    #[inline(always)]
     fn prepare(&self, port: &mut Port, object: ObjectNo) -> Draft {
         let (number, held) = found(&self.words, &mut port.seat, port.name, number_of(object));
         Draft::new(object, held, number)

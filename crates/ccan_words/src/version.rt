@@ -91,6 +91,7 @@ pub fn record_in(words: [u64; 3]) -> Record
 }
 
 /// A look of a port at an object: the number of the last change that contends with it, and its record.
+#[inline(always)]
 pub fn found<L: Layout>(
     words: &Words<L>,
     seat: &mut Seat,
@@ -110,6 +111,7 @@ pub fn found<L: Layout>(
 }
 
 /// The record of an object in the version that a look found.
+#[inline(always)]
 fn fetch<L: Layout>(words: &Words<L>, seat: &mut Seat, number: u64, object: usize) -> Record
     requires table { numbers_of seat.old.table_id ≡ words.now.name }
     requires object { Holds words.now.profile object }

@@ -1,19 +1,8 @@
-use Rattle.std.proofs.Common.{subst}
-use Rattle.ccan_c.specs.declared.held.Held.{Held}
-use Rattle.ccan_c.specs.Bus.{RunsBus}
+use Rattle.std.proofs.Common.{refl}
 use Rattle.ccan_c.proofs.bus_handle.BusHandle.run.Goals as goal
 
-pub run_bus-answer-requires : goal.run_bus-answer-requires
-run_bus-answer-requires c = c.requires.fits _
+pub run_bus-requires : goal.run_bus-requires
+run_bus-requires c = c.requires.fits _
 
 pub returns : goal.returns
-returns c =
-    let run = c.run_bus-answer in (
-      c.take-held.result.value,
-      c.take-held.ensures.taken,
-      (
-        run.new.self,
-        c.put.ensures,
-        subst (λ (held : Held). RunsBus c.args.line.now run.result held run.new.self) c.deref_mut.ensures.value run.ensures,
-      ),
-    )
+returns c = (c.as_mut.result.now, c.as_mut.ensures.value, (c.run_bus.new.self, refl, c.run_bus.ensures))

@@ -41,7 +41,8 @@ X = Inside E
 abbrev stayed : Stays (F.ended).signature.params (F.ended).kept
 stayed = (stay_dropped From yes, tt)
 
-module _ {M : Type 1} {𝓤 : Ura M} (𝓛 : Logic 𝓤) (at_mem : Memory → SProp 𝓤) (run : Routine → Fun 𝓤) (𝓣 : Tables 𝓤 𝓛.H) where
+module _ {M : Type 1} {𝓤 : Ura M} (𝓛 : Logic 𝓤) (at_mem : Memory → SProp 𝓤) (run : Routine
+    → Fun 𝓤) (𝓣 : Tables 𝓤 𝓛.H) where
   open 𝓛 use {H}
 
   -- by what the seal has: the box
@@ -55,13 +56,18 @@ module _ {M : Type 1} {𝓤 : Ura M} (𝓛 : Logic 𝓤) (at_mem : Memory → SP
       let made : To.Denot = record { ptr = v.ptr; alloc = v.alloc; value = v.value } in
       qed 𝓛 (‵ ftrue ∷ ‵ (fsep (Seal.the_row.own_val z.0.3.0 z.0.4.0) ftrue) ∷ []) ∵ drop ! $ fsplit ! $
       rewrite ! 0 (λ (o : Option X). ‵ (Seal.the_row.own_val (record { ptr = v.ptr; alloc = v.alloc; value = o }) z.0.4.0)) held refl $ use1 𝓛 (‵ ((B E).own_val v z.0.4.0)) (id⊢ 𝓤 _) $
-      box_out E ! v z.0.4.0 (λ b o hv e ws fa. box_in E ! v b o v.value e refl $ use1 𝓛 (‵ (To.own_val made (word E hv b o ∷ []))) (id⊢ 𝓤 _) $ move ! (1 ∷ []) $ drop ! $
+      box_out E ! v z.0.4.0 (λ b o hv e ws fa. box_in E ! v b o v.value e refl $
+      use1 𝓛 (‵ (To.own_val made (word E hv b o ∷ []))) (id⊢ 𝓤 _) $ move ! (1 ∷ []) $ drop ! $
       let w = word E hv b o in
       let Γ : List (Item 𝓤) = ‵ (To.own_val made (w ∷ [])) ∷ [] in
       by ! (subst (λ (us : List Val). ent 𝓤 (types.Kit.⋆ 𝓛 Γ) (WpFn 𝓤 H 𝓣.C 𝓣.Λ code.function (us ++ []) Post)) (sym ws)
-      (qed 𝓛 Γ ∵ enter ! 𝓣.C 𝓣.Λ code.function (w ∷ []) _ $ alloc_all ! (λ ls. pass_all ! refl (box_typed E hv b o fa, tt) $
-      sets ! (of_opd ! (get_in ! (fld ! refl (stop !)) (sub ! 0 refl (whole !)))) refl (tt, tt) $ sets ! (of_opd ! (get_in ! (fld ! refl (stop !)) (sub ! 1 refl (whole !)))) refl fa $ sets ! (of_opd ! (get ! refl)) refl (tt, tt) $
-      sets ! (agg ! (and_then ! (get ! refl) (and_then ! (get ! refl) (no_more !)))) refl (box_typed E hv b o fa) $ returns ! (look_at ! 0 refl) $ free_all ! refl $
+      (qed 𝓛 Γ ∵ enter ! 𝓣.C 𝓣.Λ code.function (w ∷ []) _ $
+      alloc_all ! (λ ls. pass_all ! refl (box_typed E hv b o fa, tt) $
+      sets ! (of_opd ! (get_in ! (fld ! refl (stop !)) (sub ! 0 refl (whole !)))) refl (tt, tt) $
+      sets ! (of_opd ! (get_in ! (fld ! refl (stop !)) (sub ! 1 refl (whole !)))) refl fa $
+      sets ! (of_opd ! (get ! refl)) refl (tt, tt) $
+      sets ! (agg ! (and_then ! (get ! refl) (and_then ! (get ! refl) (no_more !)))) refl (box_typed E hv b o fa) $
+      returns ! (look_at ! 0 refl) $ free_all ! refl $
       suffices ! _ (ends_at 𝓛 F.ended stayed (F.clauses 𝓛 at_mem run) z w made (tt, tt) (tt, tt)) $ says ! held $
       nothing ! $ nothing ! $ fjoin ! $ join ! $ nothing ! $ join ! $ done !))))
 
