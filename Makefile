@@ -35,6 +35,7 @@ hostile:
 	@tools/build
 	tools/fail_streams crates/ccan/out/ccan examples/first_write.json
 	tools/spoil_scripts crates/ccan/out/ccan examples/*.json
+	tools/check_refusals crates/ccan/out/ccan
 
 soak:
 	@tools/build
