@@ -33,9 +33,7 @@ returns-in-Err-Spent-clause-attempts g c =
 
 pub returns-clause-few : goal.returns-clause-few
 returns-clause-few g c =
-    let s = c.port.inside in
-    let here =
-    subst CanSee c.port.view_is (seen_within s.seat.table_id s.key.profile s.name s.used s.key.quota s.seat.me c.port.invariant) in
+    let here = subst CanSee c.port.view_is (seen_within c.port.inside c.port.invariant) in
     let few =
     few_so_far g.L.Layout.contends c.args.port.now c.loop-turn.port c.args.object c.args.change.now c.loop-turn.turn c.loop-turn.last
     here c.loop-turn.invariant.lost in
