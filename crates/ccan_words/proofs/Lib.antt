@@ -9,6 +9,7 @@ pub mod Seats
 pub mod Reading
 pub mod Making
 pub mod Ports
+pub mod Stepping
 pub mod Looking
 pub mod Committing
 pub mod Meeting
