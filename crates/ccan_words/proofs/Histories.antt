@@ -1,7 +1,9 @@
 -- Facts on histories: which changes stand in one, under which number, and what they left.
 use native.Mathlib.Decide.{ℕ_discrete}
 use mathlib.Core.Logic.{dite}
-use Rattle.std.proofs.Common.{append_assoc, ◌≡◌, ◌≢◌, ℕ, zero, suc, ◌+◌, ◌*◌, ◌<◌, ◌≤◌, ◌==◌, ◌&&◌, ◌⊎◌, ◌^◌, Bool, true, false, cond, [], ◌∷◌, ◌++◌, replicate, sym, refl, ap, ◌∙◌, subst, inl, inr, ⊎_elim, arith, eq-eqb, ne_eqb, true≢false, lit<, lit≤}
+use Rattle.std.proofs.Common.{append_assoc, ◌≡◌, ◌≢◌, ℕ, zero, suc, ◌+◌, ◌*◌, ◌<◌, ◌≤◌, ◌==◌, ◌&&◌, ◌⊎◌, ◌^◌, Bool, true}
+use Rattle.std.proofs.Common.{false, cond, [], ◌∷◌, ◌++◌, replicate, sym, refl, ap, ◌∙◌, subst, inl, inr, ⊎_elim, arith}
+use Rattle.std.proofs.Common.{eq-eqb, ne_eqb, true≢false, lit<, lit≤}
 use Rattle.std.specs.Prelude.{slice_index_or}
 use Rattle.std.proofs.lemmas.Bool.{eqb-true}
 use Rattle.ccan_object.specs.declared.record.Record.{Record}
@@ -128,7 +130,8 @@ next_is_new h p at few t =
     let here : changes_by m.port h ≡ changes_by p h = ap (λ (q : PortName). changes_by q h) (sym (port_at p m.port same)) in omega arith
 
 -- a number names one change
-pub stands_one : (h : History) (n : ℕ) (at at' : History) → ((q : PortName) → changes_by q h < 65535) → Stands h n at → Stands h n at'
+pub stands_one : (h : History) (n : ℕ) (at at' : History) → ((q : PortName) → changes_by q h < 65535) → Stands h n at
+    → Stands h n at'
     → at ≡ at'
 stands_one [] n at at' few t u = absurd t
 stands_one (e ∷ h) n at at' few t u =

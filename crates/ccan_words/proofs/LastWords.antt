@@ -1,5 +1,6 @@
 -- The words at the end.
-use Rattle.std.proofs.Common.{◌≡◌, ◌≢◌, ℕ, zero, suc, ◌+◌, ◌-◌, ◌<◌, ◌≤◌, ◌++◌, Bool, List, [], ◌∷◌, length, map, get_or, set, replicate, Some, None, sym, refl, ap, ◌∙◌, subst, arith, add-zero, lit<, lit≤}
+use Rattle.std.proofs.Common.{◌≡◌, ◌≢◌, ℕ, zero, suc, ◌+◌, ◌-◌, ◌<◌, ◌≤◌, ◌++◌, Bool, List, [], ◌∷◌, length, map, get_or, set}
+use Rattle.std.proofs.Common.{replicate, Some, None, sym, refl, ap, ◌∙◌, subst, arith, add-zero, lit<, lit≤}
 use Rattle.std.proofs.lemmas.List.{get_or-replicate, get_or-set_same, get_or-set_other}
 use Rattle.std.specs.List.{range_with_len}
 use mathlib.Core.Logic.{dite}
@@ -115,7 +116,8 @@ pub listed_none : (log : History) → AreListed 0 log (replicate 64 zero_record)
 listed_none log = record { each = λ k l. absurd (omega arith); rest = λ k l u. get_or-replicate 64 k zero_record zero_record u }
 
 -- one record more
-pub listed_more : (i : ℕ) (log : History) (r : Record) (records : List Record) → length records ≡ 64 → i < 64 → r ≡ record_at (i + 1) log
+pub listed_more : (i : ℕ) (log : History) (r : Record) (records : List Record) → length records ≡ 64 → i < 64
+    → r ≡ record_at (i + 1) log
     → AreListed i log records → AreListed (i + 1) log (set records i r)
 listed_more i log r records count few is all = record {
   each = λ k l.
@@ -167,7 +169,8 @@ part_at p x a log is begins own = record {
 
 pub ended : {profile : Profile} {most : ℕ} {contends : ℕ → ℕ → Bool} (F : Form profile most contends) (s : State (Unit {0}) View)
     (r : Keeps F s)
-    (ws : List ℕ) (id : ℕ) (v : View) (a b c : Pass) (xa xb xc : Held) (final : Final) → get_elem? s.views id ≡ some v → s.words ≡ ws
+    (ws : List ℕ) (id : ℕ) (v : View) (a b c : Pass) (xa xb xc : Held) (final : Final) → get_elem? s.views id ≡ some v
+    → s.words ≡ ws
     → v ≡ three_held xa xb xc → HasSeen If1 xa a → HasSeen If2 xb b → HasSeen Bus xc c → final.profile ≡ profile
     → final.profile ≡ a.memory.profile
     → LeaveRecords F ws final.records → Ends a b c final

@@ -1,7 +1,8 @@
 pub mod Histories
 pub mod Views
 pub mod Notes
-pub mod Keeping
+pub mod SeatMoves
+pub mod LoadsAndStores
 pub mod Exchanging
 pub mod Parting
 pub mod Tables

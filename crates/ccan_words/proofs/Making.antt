@@ -1,5 +1,6 @@
 -- The words of a version.
-use Rattle.std.proofs.Common.{◌≡◌, ◌≢◌, ℕ, zero, suc, ◌+◌, ◌<◌, ◌≤◌, Bool, List, [], ◌∷◌, get_or, sym, ap, ◌∙◌, subst, arith, length, take, ◌++◌, zero-le}
+use Rattle.std.proofs.Common.{◌≡◌, ◌≢◌, ℕ, zero, suc, ◌+◌, ◌<◌, ◌≤◌, Bool, List, [], ◌∷◌, get_or, sym, ap, ◌∙◌, subst, arith}
+use Rattle.std.proofs.Common.{length, take, ◌++◌, zero-le}
 use mathlib.Core.Logic.{dite}
 use native.Mathlib.Decide.{ℕ_discrete}
 use Rattle.ccan_object.specs.declared.profile.Profile.{Profile}
@@ -33,7 +34,8 @@ module _ {profile : Profile} {most : ℕ} {contends : ℕ → ℕ → Bool} (F :
       (λ i c. (latest contends z.object h).none (same ∙ none) i c))
 
   -- and where one was found
-  pub next_kept : (at : History) (word w : ℕ) (x : Held) → word < F.width → IsBeside F z.object word → z.old ≢ 0 → BeginsWith x.seen at
+  pub next_kept : (at : History) (word w : ℕ) (x : Held) → word < F.width → IsBeside F z.object word → z.old ≢ 0
+      → BeginsWith x.seen at
       → last_number contends z.object at ≡ z.old → ((h : History) → Stands x.seen z.old h → w ≡ get_or (F.content h) word 0)
       → IsNextWord F z at word w
   next_kept at word w x inside out nz part is read h legal few b same =

@@ -1,5 +1,6 @@
 -- A seat that is split, two that are joined, and the table at the start.
-use Rattle.std.proofs.Common.{Bool, ◌≡◌, ◌≢◌, ℕ, zero, suc, ◌≤◌, ◌⊎◌, List, [], ◌∷◌, ◌++◌, set, get_or, length, replicate, sym, refl, ap, ◌∙◌, subst, inl, inr, ⊎_elim, arith, Option, Some, None, zero-le}
+use Rattle.std.proofs.Common.{Bool, ◌≡◌, ◌≢◌, ℕ, zero, suc, ◌≤◌, ◌⊎◌, List, [], ◌∷◌, ◌++◌, set, get_or, length, replicate}
+use Rattle.std.proofs.Common.{sym, refl, ap, ◌∙◌, subst, inl, inr, ⊎_elim, arith, Option, Some, None, zero-le}
 use Rattle.std.proofs.lemmas.List.{length-replicate}
 use mathlib.Core.Option.{some, some-injective, some-ne-none}
 use lib.ListN.{get_elem?}
@@ -33,20 +34,20 @@ holding-all c If2 y e = cc
 holding-all c Bus y e = cc
 
 module _ {profile : Profile} {most : ℕ} {contends : ℕ → ℕ → Bool} (F : Form profile most contends) where
-  abbrev St : Type 0
-  St = State (Unit {0}) View
+  abbrev TableState : Type 0
+  TableState = State (Unit {0}) View
 
-  abbrev with_views : St → List View → St
+  abbrev with_views : TableState → List View → TableState
   with_views s vs = record { words = s.words; homes = s.homes; views = vs }
 
   -- where a holding of the new seats was
-  pub record Was (s : St) (p : PortName) (y : Held) (i : ℕ) : Type 0 where
+  pub record Was (s : TableState) (p : PortName) (y : Held) (i : ℕ) : Type 0 where
     pub view : View
     pub seat : get_elem? s.views i ≡ some view
     pub held : holding p view ≡ Some y
 
   -- the same holdings at other seats
-  reseated : (s : St) (r : Keeps F s) (vs : List View)
+  reseated : (s : TableState) (r : Keeps F s) (vs : List View)
       → ((i : ℕ) (p : PortName) (u : View) (y : Held) → get_elem? vs i ≡ some u → holding p u ≡ Some y → (j : ℕ) × Was s p y j)
       → ((i j : ℕ) (p : PortName) (u t : View) (x y : Held) → get_elem? vs i ≡ some u → get_elem? vs j ≡ some t → holding p u ≡ Some x
       → holding p t ≡ Some y → i ≡ j) → Keeps F (with_views s vs)
@@ -69,7 +70,8 @@ module _ {profile : Profile} {most : ℕ} {contends : ℕ → ℕ → Bool} (F :
       (λ (n : q ≢ p). absurd (holding-nothing q y (sym (holding-with_held_other p q o nothing n) ∙ e)))
       (port_discrete q p)
 
-  held_without : (p q : PortName) (v : View) (y : Held) → holding q (with_held p None v) ≡ Some y → (q ≢ p) × (holding q v ≡ Some y)
+  held_without : (p q : PortName) (v : View) (y : Held) → holding q (with_held p None v) ≡ Some y
+      → (q ≢ p) × (holding q v ≡ Some y)
   held_without p q v y e = ⊎_elim
       (λ (same : q ≡ p). let t : holding p (with_held p None v) ≡ Some y = subst
       (λ (z : PortName). holding z (with_held p None v) ≡ Some y) same e in
@@ -77,7 +79,7 @@ module _ {profile : Profile} {most : ℕ} {contends : ℕ → ℕ → Bool} (F :
       (λ (n : q ≢ p). (n, sym (holding-with_held_other p q None v n) ∙ e))
       (port_discrete q p)
 
-  module _ (s : St) (r : Keeps F s) (id : ℕ) (p : PortName) (v : View) (at : get_elem? s.views id ≡ some v) where
+  module _ (s : TableState) (r : Keeps F s) (id : ℕ) (p : PortName) (v : View) (at : get_elem? s.views id ≡ some v) where
     abbrev left : View
     left = with_held p None v
 
@@ -143,7 +145,7 @@ module _ {profile : Profile} {most : ℕ} {contends : ℕ → ℕ → Bool} (F :
       g)
       f
 
-  module _ (s : St) (r : Keeps F s) (id other : ℕ) (v w : View) (at : get_elem? s.views id ≡ some v)
+  module _ (s : TableState) (r : Keeps F s) (id other : ℕ) (v w : View) (at : get_elem? s.views id ≡ some v)
       (there : get_elem? s.views other ≡ some w) where
     abbrev both : View
     both = together v w

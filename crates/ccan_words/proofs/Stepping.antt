@@ -1,14 +1,13 @@
 -- From a step on a memory's words to the step on its table, whose rule reads the table's key.
 use Rattle.std.proofs.Common.{◌≡◌, ℕ, ◌+◌, ◌<◌, Bool, sym, ap, ◌∙◌, subst, arith, lit≤}
 use Rattle.atomic_table.specs.Seated.{TableId}
-use Rattle.atomic_table.specs.Table.{State, Allows}
+use Rattle.atomic_table.specs.Table.{Allows}
 use Rattle.ccan_object.specs.declared.profile.Profile.{Profile}
 use Rattle.ccan_object.specs.declared.profile.Profile.TheVariants.{One, Two}
 use Rattle.ccan_object.specs.Profile.{Holds}
 use Rattle.ccan_ram.specs.declared.port.PortName.{PortName}
 use Rattle.ccan_ram.specs.History.{changes_by}
 use Rattle.ccan_ram.specs.SharedRam.{Memory}
-use Rattle.ccan_words.specs.declared.view.View.{View}
 use Rattle.ccan_words.specs.declared.words.Key.{Key}
 use Rattle.ccan_words.specs.Layout.{Form, Lies, IsNumber}
 use Rattle.ccan_words.specs.Rule.{Keeps}
@@ -16,6 +15,7 @@ use Rattle.ccan_words.specs.Plays.{Knows, IsNoting}
 use Rattle.ccan_words.specs.Port.{numbers_of, memory_in}
 use Rattle.ccan_words.specs.Words.{AreWords}
 use Rattle.ccan_words.proofs.Ports.{WordSeat}
+use Rattle.ccan_words.proofs.SeatMoves.{TableState}
 use Rattle.ccan_words.proofs.Tables.{same_table}
 
 -- every memory has object 1
@@ -43,7 +43,7 @@ module _ {profile : Profile} {most : ℕ} {contends : ℕ → ℕ → Bool} {F :
 module _ {most : ℕ} {contends : ℕ → ℕ → Bool} (form : (u : Profile) → Form u most contends) {key own : Key}
     (keys : key ≡ own) where
   -- what holds by the rule of the memory's key holds by that of the table's
-  pub by_key : (holds : (State (Unit {0}) View → Type 0) → Type 0)
+  pub by_key : (holds : (TableState → Type 0) → Type 0)
       → holds (Keeps (form own.profile)) → holds (Keeps (form key.profile))
   by_key holds h = subst (λ (k : Key). holds (Keeps (form k.profile))) (sym keys) h
 
@@ -65,7 +65,7 @@ module _ {most : ℕ} {contends : ℕ → ℕ → Bool} (form : (u : Profile) �
     may_step seat named {deed} to_deed word inside f told step = (
       of_table named,
       (let wide = words.wide in omega arith),
-      by_key (λ (rule : State (Unit {0}) View → Type 0). Allows rule table.slots seat.id seat.me word f (told deed))
+      by_key (λ (rule : TableState → Type 0). Allows rule table.slots seat.id seat.me word f (told deed))
           (subst (λ (u : Profile). Allows (Keeps (form own.profile)) table.slots seat.id seat.me word f (told u))
           (profile_is ∙ sym to_deed) step),
     )

@@ -1,8 +1,8 @@
 use Rattle.std.proofs.Common.{arith}
-use Rattle.atomic_table.specs.Table.{State, Joins}
-use Rattle.ccan_words.specs.declared.view.View.{View}
+use Rattle.atomic_table.specs.Table.{Joins}
 use Rattle.ccan_words.specs.View.{nothing, together}
 use Rattle.ccan_words.proofs.Parting.{joins}
+use Rattle.ccan_words.proofs.SeatMoves.{TableState}
 use Rattle.ccan_words.proofs.Stepping.{first_inside, of_table, by_key}
 use Rattle.ccan_words.proofs.steps.join.Goals as goal
 
@@ -18,7 +18,7 @@ join_seat-requires g c =
       c.requires.none,
       (let wide = w.1.wide in omega arith),
       by_key form w.0
-          (λ (rule : State (Unit {0}) View → Type 0).
+          (λ (rule : TableState → Type 0).
           Joins rule here.id here.me.0 other.id other.me.0 (together here.me.0 other.me.0) nothing)
           (joins (form c.words.inside.key.profile) here.id other.id here.me.0 other.me.0),
     )

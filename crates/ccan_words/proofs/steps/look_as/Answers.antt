@@ -2,7 +2,7 @@ use Rattle.std.proofs.Common.{◌≡◌, ℕ, ◌∙◌, ap, sym, subst}
 use Rattle.ccan_object.specs.declared.profile.Profile.{Profile}
 use Rattle.ccan_object.specs.Profile.{Holds}
 use Rattle.ccan_words.specs.Plays.{Looks}
-use Rattle.ccan_words.proofs.Keeping.{looks}
+use Rattle.ccan_words.proofs.LoadsAndStores.{looks}
 use Rattle.ccan_words.proofs.Stepping.{cell_inside, profile_is, may_step}
 use Rattle.ccan_words.proofs.steps.look_as.Goals as goal
 

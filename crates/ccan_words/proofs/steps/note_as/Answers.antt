@@ -2,7 +2,7 @@ use Rattle.std.proofs.Common.{◌≡◌, ◌<◌, ◌≤◌, ◌∙◌, length, 
 use Rattle.ccan_object.specs.declared.profile.Profile.{Profile}
 use Rattle.ccan_ram.specs.History.{next_number}
 use Rattle.ccan_words.specs.Plays.{Notes}
-use Rattle.ccan_words.proofs.Keeping.{notes}
+use Rattle.ccan_words.proofs.LoadsAndStores.{notes}
 use Rattle.ccan_words.proofs.Stepping.{place_inside, next_is_number, profile_is, may_step}
 use Rattle.ccan_words.proofs.steps.note_as.Goals as goal
 

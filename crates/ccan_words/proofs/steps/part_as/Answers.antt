@@ -1,8 +1,8 @@
 use Rattle.std.proofs.Common.{None, arith}
-use Rattle.atomic_table.specs.Table.{State, Splits}
-use Rattle.ccan_words.specs.declared.view.View.{View}
+use Rattle.atomic_table.specs.Table.{Splits}
 use Rattle.ccan_words.specs.View.{holding, only, with_held}
 use Rattle.ccan_words.proofs.Parting.{splits}
+use Rattle.ccan_words.proofs.SeatMoves.{TableState}
 use Rattle.ccan_words.proofs.Stepping.{first_inside, of_table, by_key}
 use Rattle.ccan_words.proofs.steps.part_as.Goals as goal
 
@@ -17,7 +17,7 @@ split_seat-requires g c =
       of_table form w.0 w.1 c.words.view_is c.requires.table,
       (let wide = w.1.wide in omega arith),
       by_key form w.0
-          (λ (rule : State (Unit {0}) View → Type 0).
+          (λ (rule : TableState → Type 0).
           Splits rule c.args.seat.now.id v (with_held p None v) (only p (holding p v)))
           (splits (form s.key.profile) c.args.seat.now.id p v),
     )

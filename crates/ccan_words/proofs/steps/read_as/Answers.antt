@@ -1,7 +1,7 @@
 use Rattle.std.proofs.Common.{◌<◌, sym, subst}
 use Rattle.ccan_object.specs.declared.profile.Profile.{Profile}
 use Rattle.ccan_words.specs.Plays.{Reads}
-use Rattle.ccan_words.proofs.Keeping.{reads}
+use Rattle.ccan_words.proofs.LoadsAndStores.{reads}
 use Rattle.ccan_words.proofs.Stepping.{place_inside, profile_is, may_step}
 use Rattle.ccan_words.proofs.steps.read_as.Goals as goal
 

@@ -1,5 +1,5 @@
 use Rattle.ccan_words.specs.Plays.{Watches}
-use Rattle.ccan_words.proofs.Keeping.{watches}
+use Rattle.ccan_words.proofs.LoadsAndStores.{watches}
 use Rattle.ccan_words.proofs.Stepping.{first_held, cell_inside, may_step}
 use Rattle.ccan_words.proofs.steps.watch_as.Goals as goal
 
