@@ -47,7 +47,8 @@ abbrev after : Version → History → Held → Held
 after z h x = record { seen = change_of z ∷ h; note = []; quota = x.quota }
 
 module _ {profile : Profile} {most : ℕ} {contends : ℕ → ℕ → Bool} (F : Form profile most contends) (lies : Lies F) where
-  module _ (s : TableState) (r : Keeps F s) (id : ℕ) (me : Knows) (word : ℕ) (z : Version) (x : Held) (held : holding z.port me.0 ≡ Some x)
+  module _ (s : TableState) (r : Keeps F s) (id : ℕ) (me : Knows) (word : ℕ) (z : Version) (x : Held)
+      (held : holding z.port me.0 ≡ Some x)
       (is : word ≡ F.cell z.object) (d : IsDrafted F z x) (at : get_elem? s.views id ≡ some me.0) where
     abbrev v : View
     v = me.0
@@ -111,7 +112,8 @@ module _ {profile : Profile} {most : ℕ} {contends : ℕ → ℕ → Bool} (F :
     within : Within w v
     within q y h =
         ⊎_elim
-        (λ (eq : q ≡ p). (x, subst (λ (u : PortName). holding u v ≡ Some x) (sym eq) held, ap (λ (u : Held). u.quota) (as_own q y eq h)))
+        (λ (eq : q ≡ p).
+        (x, subst (λ (u : PortName). holding u v ≡ Some x) (sym eq) held, ap (λ (u : Held). u.quota) (as_own q y eq h)))
         (λ (n : q ≢ p).
         let t = seen_by_all q log' v y (other_holding q y n h) in
         (t.0, t.1, ap (λ (u : Held). u.quota) t.2))
@@ -128,7 +130,8 @@ module _ {profile : Profile} {most : ℕ} {contends : ℕ → ℕ → Bool} (F :
       here : z.before ≡ record_at z.object r.log
       here =
           sym d.before_is
-          ∙ sym (unchanged contends r.log d.at z.object (few_all F lies s r) begins (head ∙ sym d.old_is) z.object (lies.itself z.object))
+          ∙ sym (unchanged contends r.log d.at z.object (few_all F lies s r) begins (head ∙ sym d.old_is) z.object
+          (lies.itself z.object))
 
       sound : IsSound profile r.quota log'
       sound = record {
@@ -137,7 +140,8 @@ module _ {profile : Profile} {most : ℕ} {contends : ℕ → ℕ → Bool} (F :
         few = λ q.
             ⊎_elim
             (λ (eq : q ≡ p).
-            subst (λ (u : PortName). changes_by u log' ≤ r.quota) (sym eq) (let c = changes_mine z r.log in let c' = room in omega arith))
+            subst (λ (u : PortName). changes_by u log' ≤ r.quota) (sym eq)
+            (let c = changes_mine z r.log in let c' = room in omega arith))
             (λ (n : q ≢ p). let c = changes_not z q r.log n in let b = r.sound.few q in omega arith)
             (port_discrete q p);
       }
@@ -209,7 +213,8 @@ module _ {profile : Profile} {most : ℕ} {contends : ℕ → ℕ → Bool} (F :
         w s r id me word z x held is d at,
         keeps,
         tt,
-        subst (λ (b : Bool). Keeps F (with_view s (set s.words word (either b z.number n0)) id (w s r id me word z x held is d at)))
+        subst (λ (b : Bool).
+            Keeps F (with_view s (set s.words word (either b z.number n0)) id (w s r id me word z x held is d at)))
             (sym (eq-eqb n0 z.old hit)) (done s r id me word z x held is d at hit),
         record {
           log = r.log;

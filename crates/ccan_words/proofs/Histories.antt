@@ -57,7 +57,8 @@ port_at Bus If2 e = absurd (omega arith)
 port_at Bus Bus e = refl
 
 pub port_discrete : (p q : PortName) → (p ≡ q) ⊎ (p ≢ q)
-port_discrete p q = dite (ℕ_discrete (port_index p) (port_index q)) (λ e. inl (port_at p q e)) (λ n. inr (λ e. n (ap port_index e)))
+port_discrete p q =
+    dite (ℕ_discrete (port_index p) (port_index q)) (λ e. inl (port_at p q e)) (λ n. inr (λ e. n (ap port_index e)))
 
 pub same_own : (p : PortName) → same_port p p ≡ true
 same_own p = eq-eqb (port_index p) (port_index p) refl
@@ -127,7 +128,8 @@ next_is_new h p at few t =
     let k = m.made in
     let o = m.from_one in
     let same : port_index p ≡ port_index m.port = omega arith in
-    let here : changes_by m.port h ≡ changes_by p h = ap (λ (q : PortName). changes_by q h) (sym (port_at p m.port same)) in omega arith
+    let here : changes_by m.port h ≡ changes_by p h = ap (λ (q : PortName). changes_by q h) (sym (port_at p m.port same)) in
+    omega arith
 
 -- a number names one change
 pub stands_one : (h : History) (n : ℕ) (at at' : History) → ((q : PortName) → changes_by q h < 65535) → Stands h n at
@@ -178,7 +180,8 @@ module _ (contends : ℕ → ℕ → Bool) where
       })
       (when (is_change e && contends e.object k))
 
-  -- where the number of the last change that contends is what it was, the objects that share the word have the records that they had
+  -- where the number of the last change that contends is what it was, the objects that share the word have the records
+  -- that they had
   pub unchanged : (h g : History) (k : ℕ) → ((q : PortName) → changes_by q h < 65535) → BeginsWith h g
       → last_number contends k h ≡ last_number contends k g
       → (i : ℕ) → contends i k ≡ true → record_at i h ≡ record_at i g

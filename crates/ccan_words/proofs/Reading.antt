@@ -68,4 +68,5 @@ module _ {profile : Profile} {most : ℕ} {contends : ℕ → ℕ → Bool} (F :
       let held = only_holds p (see log' x) me' (only_sees p x log' me me' view t.view) in
       let on = (t.goes_on x (only_holds p x me view)).0 in
       let good = record_is k s.0 (stands_records t.log found s.0 on.sound.records s.1) in
-      value nz p (see log' x) s.0 (record_at k s.0) held (inr s.1) good (λ j l. shows.value k j s.0 object s.2 l) ∙ s.3 k (lies.itself k))
+      value nz p (see log' x) s.0 (record_at k s.0) held (inr s.1) good (λ j l. shows.value k j s.0 object s.2 l)
+      ∙ s.3 k (lies.itself k))

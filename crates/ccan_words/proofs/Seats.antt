@@ -23,7 +23,8 @@ pub only_changes : (p : PortName) (x y : Held) (h : History) (me me' : Knows) �
     → me' ≡ (with_held p (Some y) (see_all h me.0), me.1) → IsSeatOf p y me'
 only_changes p x y h me me' e f =
     f ∙ (ap (λ (m : Knows). (with_held p (Some y) (see_all h m.0), m.1)) e
-    ∙ ((λ i. (with_held p (Some y) (see_all-only p h (Some x) i), [])) ∙ (λ i. (with_held-only p (Some (see h x)) (Some y) i, []))))
+    ∙ ((λ i. (with_held p (Some y) (see_all-only p h (Some x) i), []))
+    ∙ (λ i. (with_held-only p (Some (see h x)) (Some y) i, []))))
 
 -- its port noted a word
 pub noted : (p : PortName) (j b : ℕ) (x : Held) (me me' : Knows) → IsSeatOf p x me → Notes p j b me me'
