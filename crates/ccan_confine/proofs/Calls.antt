@@ -1,9 +1,12 @@
 -- Each call of the counters against the list of events: from what it makes of the value, the value of the longer list.
-use Rattle.std.proofs.Common.{◌≡◌, ℕ, ◌+◌, ◌<◌, ◌≤◌, Bool, true, false, ◌&&◌, ◌||◌, not, cond, nat_le, List, ◌∷◌, refl, sym, ap, subst, ◌∙◌, ◌⊎◌, inl, inr, zero-add, arith}
+use Rattle.std.proofs.Common.{◌≡◌, ℕ, ◌+◌, ◌<◌, ◌≤◌, Bool, true, false, ◌&&◌, ◌||◌, not, cond, nat_le, List, ◌∷◌, refl, sym}
+use Rattle.std.proofs.Common.{ap, subst, ◌∙◌, ◌⊎◌, inl, inr, zero-add, arith}
 use Rattle.std.proofs.lemmas.Bool.{lt-leb, le-leb}
 use Rattle.ccan_confine.specs.declared.bus_event.BusEvent.{BusEvent}
 use Rattle.ccan_confine.specs.declared.node_state.NodeState.{NodeState}
-use Rattle.ccan_confine.specs.Counters.{is_off, state_of, NodeEvent, Bus, Groups, ClearInit, clears_init, levels_after_all, is_recovering_after, groups_to_return, life_of, since_off, Counts, counts_of, AreAfter, AddsEvent, new_counts, counts_after, counts_cleared, is_recovering}
+use Rattle.ccan_confine.specs.Counters.{is_off, state_of, NodeEvent, Bus, Groups, ClearInit, clears_init, levels_after_all}
+use Rattle.ccan_confine.specs.Counters.{is_recovering_after, groups_to_return, life_of, since_off, Counts, counts_of}
+use Rattle.ccan_confine.specs.Counters.{AreAfter, AddsEvent, new_counts, counts_after, counts_cleared, is_recovering}
 use Rattle.ccan_confine.specs.Laws.{GroupsCountOnlyWhileRecovering, OnlyTheFirstClearingCounts}
 use Rattle.ccan_confine.proofs.Steps.{with_event, same_counts, counts-back, counts-there, groups-below}
 
@@ -93,7 +96,8 @@ listed_counted number self recovers below host events held =
     let with_it = with_counted number k (sym (ap is_recovering held) ∙ recovers) in
     let fewer : k.groups + number < groups_to_return = subst (λ (c : Counts). c.groups + number < groups_to_return) held below in
     ap (counts_more number) held
-    ∙ sym (there_with host events (Groups number) (counts_more number) with_it (lt-leb groups_to_return (k.groups + number) fewer))
+    ∙ sym (there_with host events (Groups number) (counts_more number) with_it
+    (lt-leb groups_to_return (k.groups + number) fewer))
 
 pub listed_back : (number : ℕ) (self : Counts) → is_recovering self ≡ true → groups_to_return ≤ self.groups + number
     → AddsEvent (Groups number) self (new_counts self.host)

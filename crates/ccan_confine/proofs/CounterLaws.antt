@@ -1,5 +1,6 @@
 -- The laws of the error counters.
-use Rattle.std.proofs.Common.{◌≡◌, ℕ, ◌+◌, ◌<◌, ◌≤◌, Bool, true, false, cond, nat_le, List, [], ◌∷◌, ◌++◌, refl, sym, ap, ◌∙◌, inl, inr, append_assoc, arith}
+use Rattle.std.proofs.Common.{◌≡◌, ℕ, ◌+◌, ◌<◌, ◌≤◌, Bool, true, false, cond, nat_le, List, [], ◌∷◌, ◌++◌, refl, sym, ap, ◌∙◌}
+use Rattle.std.proofs.Common.{inl, inr, append_assoc, arith}
 use Rattle.std.proofs.lemmas.Bool.{cases_Bool, or_parts, or_right, lt-leb, le-leb, leb-true, leb-false}
 use Rattle.std.proofs.lemmas.Bool.Decides.{nat_tests}
 use Rattle.std.proofs.lemmas.List.Sums.{sum_by-cons}
@@ -7,8 +8,13 @@ use Rattle.std.proofs.lemmas.List.Folds.{list_any-append}
 use Rattle.std.proofs.lemmas.List.Elements.{Contains-push, Contains-append_left, Contains-append_right}
 use Rattle.ccan_confine.specs.declared.bus_event.BusEvent.{BusEvent}
 use Rattle.ccan_confine.specs.declared.bus_event.BusEvent.TheVariants.{Sent, Received, SendFault, SendNoAck, ReceiveFault}
-use Rattle.ccan_confine.specs.Counters.{Levels, no_errors, passive_limit, off_limit, send_fault_step, most_rec, groups_to_return, is_off, reaches, by_table, NodeEvent, Bus, Groups, ClearInit, groups_of, groups_in, clears_init, is_clearing, levels_of, since_off, since_clearing, is_back, life_of, levels_after_all, counts_in_life, is_recovering}
-use Rattle.ccan_confine.specs.Laws.{CountersAreBounded, OffNodesKeepTheirCounters, GoesOff, OnlySendFaultsLeadOff, OnWithoutSendFaults, NotBackBeforeTheGroups, NotBackBeforeInit, NotBackBeforeTheGroupsAfterInit, BackWithTheGroups, BackWithTheGroupsAfterInit}
+use Rattle.ccan_confine.specs.Counters.{Levels, no_errors, passive_limit, off_limit, send_fault_step, most_rec}
+use Rattle.ccan_confine.specs.Counters.{groups_to_return, is_off, reaches, by_table, NodeEvent, Bus, Groups, ClearInit}
+use Rattle.ccan_confine.specs.Counters.{groups_of, groups_in, clears_init, is_clearing, levels_of, since_off, since_clearing}
+use Rattle.ccan_confine.specs.Counters.{is_back, life_of, levels_after_all, counts_in_life, is_recovering}
+use Rattle.ccan_confine.specs.Laws.{CountersAreBounded, OffNodesKeepTheirCounters, GoesOff, OnlySendFaultsLeadOff}
+use Rattle.ccan_confine.specs.Laws.{OnWithoutSendFaults, NotBackBeforeTheGroups, NotBackBeforeInit}
+use Rattle.ccan_confine.specs.Laws.{NotBackBeforeTheGroupsAfterInit, BackWithTheGroups, BackWithTheGroupsAfterInit}
 use Rattle.ccan_confine.proofs.Steps.{levels-off, since_clearing-none, groups-more, life-more, is_back-life}
 use Rattle.ccan_confine.proofs.Calls.{no_more}
 
@@ -190,7 +196,8 @@ back_after_init_law number later before earlier event goes none few enough =
     let below : counting true (later ++ ClearInit ∷ before) < groups_to_return = rw (counting-init later before none) few in
     let more : groups_to_return ≤ counting true (Groups number ∷ (later ++ ClearInit ∷ before)) =
     rw (counting-init-groups number later before none) enough in
-    sym (ap (λ events. levels_after_all true (Groups number ∷ events)) (append_assoc later (ClearInit ∷ before) (event ∷ earlier)))
+    sym (ap (λ events. levels_after_all true (Groups number ∷ events))
+    (append_assoc later (ClearInit ∷ before) (event ∷ earlier)))
     ∙ comes_back true number event earlier (later ++ ClearInit ∷ before) goes below more
 
 -- of a node that is on an error in an own frame alone makes it go off: a missing acknowledgement counts below 128 only

@@ -2,7 +2,7 @@
 use Rattle.std.proofs.Common.{[], ◌∷◌, ◌++◌}
 use Rattle.ccan_confine.specs.Status.{Happened, Enabled, WasRead}
 use Rattle.ccan_confine.specs.Laws.{ReadsClear}
-use Rattle.ccan_confine.proofs.StatusCalls.{pending_read, pending_enabled}
+use Rattle.ccan_confine.proofs.PendingInterrupt.{pending_read, pending_enabled}
 
 pub read_law : ReadsClear
 read_law [] earlier none pending = pending_read earlier pending

@@ -1,8 +1,12 @@
 -- What one event makes of the counters after a list.
-use Rattle.std.proofs.Common.{◌≡◌, ℕ, ◌+◌, Bool, true, false, ◌&&◌, ◌||◌, not, cond, nat_le, List, [], ◌∷◌, refl, sym, ap, ◌∙◌, inl, inr, zero-add}
+use Rattle.std.proofs.Common.{◌≡◌, ℕ, ◌+◌, Bool, true, false, ◌&&◌, ◌||◌, not, cond, nat_le, List, [], ◌∷◌, refl, sym, ap}
+use Rattle.std.proofs.Common.{◌∙◌, inl, inr, zero-add}
 use Rattle.std.proofs.lemmas.Bool.{cases_Bool, or_parts}
 use Rattle.std.proofs.lemmas.List.Sums.{sum_by-cons}
-use Rattle.ccan_confine.specs.Counters.{Levels, is_off, levels_after, NodeEvent, Bus, Groups, ClearInit, groups_of, groups_in, clears_init, is_clearing, levels_of, since_off, since_clearing, counted, groups_to_return, is_back, life_of, Counts, counts_in_life, counts_of, new_counts, is_recovering}
+use Rattle.ccan_confine.specs.Counters.{Levels, is_off, levels_after, NodeEvent, Bus, Groups, ClearInit, groups_of, groups_in}
+use Rattle.ccan_confine.specs.Counters.{clears_init, is_clearing, levels_of, since_off, since_clearing, counted}
+use Rattle.ccan_confine.specs.Counters.{groups_to_return, is_back, life_of, Counts, counts_in_life, counts_of, new_counts}
+use Rattle.ccan_confine.specs.Counters.{is_recovering}
 
 -- what an event makes of the levels of a life
 abbrev pub levels_by : NodeEvent → Levels → Levels

@@ -1,7 +1,8 @@
 -- The error counters of a node over the whole list of what happened to it, and the states that they mean: CAN
 -- Specification 2.0, "Fault Confinement", and ISO 11898-1. That going off sets Init and the way back waits for its
 -- clearing: C_CAN User's Manual 1.2, "CAN Control Register". What is this project's own is marked (own).
-use Rattle.std.specs.Prelude.{ℕ, ◌≡◌, ◌+◌, ◌-◌, Bool, true, false, ◌&&◌, ◌||◌, not, nat_le, min, List, [], ◌∷◌, sum_by, if◌then◌else◌}
+use Rattle.std.specs.Prelude.{ℕ, ◌≡◌, ◌+◌, ◌-◌, Bool, true, false, ◌&&◌, ◌||◌, not, nat_le, min, List, [], ◌∷◌, sum_by}
+use Rattle.std.specs.Prelude.{if◌then◌else◌}
 use Rattle.std.specs.List.{list_any}
 use Rattle.ccan_confine.specs.declared.bus_event.BusEvent.{BusEvent}
 use Rattle.ccan_confine.specs.declared.bus_event.BusEvent.TheVariants.{Sent, Received, SendFault, SendNoAck, ReceiveFault}

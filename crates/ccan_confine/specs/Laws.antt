@@ -4,7 +4,9 @@ use Rattle.std.specs.Prelude.{ℕ, ◌≡◌, ◌+◌, ◌<◌, ◌≤◌, Bool,
 use Rattle.std.specs.List.{list_any}
 use Rattle.ccan_confine.specs.declared.bus_event.BusEvent.{BusEvent}
 use Rattle.ccan_confine.specs.declared.bus_event.BusEvent.TheVariants.{SendFault}
-use Rattle.ccan_confine.specs.Counters.{Levels, NodeEvent, Bus, Groups, ClearInit, no_errors, is_off, off_limit, send_fault_step, most_rec, groups_to_return, groups_in, clears_init, levels_after_all, is_recovering_after, counts_of}
+use Rattle.ccan_confine.specs.Counters.{Levels, NodeEvent, Bus, Groups, ClearInit, no_errors, is_off, off_limit}
+use Rattle.ccan_confine.specs.Counters.{send_fault_step, most_rec, groups_to_return, groups_in, clears_init, levels_after_all}
+use Rattle.ccan_confine.specs.Counters.{is_recovering_after, counts_of}
 use Rattle.ccan_confine.specs.Status.{StatusStep, Happened, Enabled, WasRead, IsPending}
 
 -- no counter leaves its range, and the transmit error counter of a node that is on is below that of bus off

@@ -1,7 +1,8 @@
 -- The Status register of the controller and its interrupt, over the whole list of what happened to it: C_CAN User's
 -- Manual 1.2, "Status Register" and "CAN Control Register" (SIE and EIE). That a group of recessive bits makes nothing
 -- pending by itself and that EPass follows the counters in bus off too are this project's own.
-use Rattle.std.specs.Prelude.{ℕ, ◌≡◌, ◌≢◌, ◌+◌, ◌^◌, ◌↔◌, Bool, true, false, ◌&&◌, ◌||◌, not, IsTrue, ◌⊎◌, Option, Some, None, unwrap_or, List, ◌∷◌, ◌++◌, slice_get, if◌then◌else◌}
+use Rattle.std.specs.Prelude.{ℕ, ◌≡◌, ◌≢◌, ◌+◌, ◌^◌, ◌↔◌, Bool, true, false, ◌&&◌, ◌||◌, not, IsTrue, ◌⊎◌, Option, Some, None}
+use Rattle.std.specs.Prelude.{unwrap_or, List, ◌∷◌, ◌++◌, slice_get, if◌then◌else◌}
 use Rattle.std.specs.List.{list_any, filter_map}
 use Rattle.ccan_confine.specs.declared.status_event.StatusEvent.{StatusEvent}
 use Rattle.ccan_confine.specs.StatusEvent.{code_of, is_sent, is_received, is_transfer_or_error}

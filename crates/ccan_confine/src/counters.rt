@@ -1,5 +1,8 @@
 ghost use Rattle.std.specs.Prelude.{◌≡◌, ℕ, ◌+◌, ◌-◌, ◌<◌, ◌≤◌, Bool, true, false, nat_le, List, [], ◌∷◌, if◌then◌else◌};
-ghost use Rattle.ccan_confine.specs.Counters.{NodeEvent, Bus, Groups, ClearInit, reaches, is_off, by_table, state_of, passive_limit, rec_after_passive, groups_to_return, levels_after_all, is_recovering_after, AreAfter, AddsEvent, new_counts, counts_after, counts_cleared, is_recovering};
+ghost use Rattle.ccan_confine.specs.Counters.{NodeEvent, Bus, Groups, ClearInit, reaches, is_off, by_table, state_of};
+ghost use Rattle.ccan_confine.specs.Counters.{passive_limit, rec_after_passive, groups_to_return, levels_after_all};
+ghost use Rattle.ccan_confine.specs.Counters.{is_recovering_after, AreAfter, AddsEvent, new_counts, counts_after};
+ghost use Rattle.ccan_confine.specs.Counters.{counts_cleared, is_recovering};
 
 use crate::bus_event::BusEvent;
 use crate::node_state::NodeState;

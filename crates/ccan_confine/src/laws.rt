@@ -1,7 +1,10 @@
 //! Laws of the error counters and of the Status register, each proved of every list of events. The functions do
 //! nothing: their contracts are the laws.
 
-ghost use Rattle.ccan_confine.specs.Laws.{BackWithTheGroups, BackWithTheGroupsAfterInit, CountersAreBounded, EnablingMakesNothingPending, GroupsCountOnlyWhileRecovering, NotBackBeforeInit, NotBackBeforeTheGroups, NotBackBeforeTheGroupsAfterInit, OffNodesKeepTheirCounters, OnWithoutSendFaults, OnlySendFaultsLeadOff, OnlyTheFirstClearingCounts, ReadsClear};
+ghost use Rattle.ccan_confine.specs.Laws.{BackWithTheGroups, BackWithTheGroupsAfterInit, CountersAreBounded};
+ghost use Rattle.ccan_confine.specs.Laws.{EnablingMakesNothingPending, GroupsCountOnlyWhileRecovering, NotBackBeforeInit};
+ghost use Rattle.ccan_confine.specs.Laws.{NotBackBeforeTheGroups, NotBackBeforeTheGroupsAfterInit, OffNodesKeepTheirCounters};
+ghost use Rattle.ccan_confine.specs.Laws.{OnWithoutSendFaults, OnlySendFaultsLeadOff, OnlyTheFirstClearingCounts, ReadsClear};
 
 /// No counter leaves its range, and TEC of a node that is on is below 256.
 pub fn counters_are_bounded()

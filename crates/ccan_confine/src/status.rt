@@ -1,7 +1,8 @@
 ghost use Rattle.std.specs.Prelude.{◌≡◌, ℕ, ◌<◌, ◌↔◌, IsTrue, false, List, [], ◌∷◌, if◌then◌else◌};
 ghost use Rattle.ccan_confine.specs.StatusEvent.{HasFaultCode};
 ghost use Rattle.ccan_confine.specs.Counters.{Levels, is_off, reaches};
-ghost use Rattle.ccan_confine.specs.Status.{StatusStep, Happened, Enabled, WasRead, IsPending, IsHeldAfter, AddsStep, nothing_held, warning_limit, raises, held_after, word_held, word_after};
+ghost use Rattle.ccan_confine.specs.Status.{StatusStep, Happened, Enabled, WasRead, IsPending, IsHeldAfter, AddsStep};
+ghost use Rattle.ccan_confine.specs.Status.{nothing_held, warning_limit, raises, held_after, word_held, word_after};
 
 use crate::counters::{Counters, PASSIVE};
 use crate::status_event::StatusEvent;

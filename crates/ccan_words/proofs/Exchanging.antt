@@ -1,5 +1,7 @@
 -- An exchange of an object's word keeps the rule.
-use Rattle.std.proofs.Common.{◌≡◌, ◌≢◌, ℕ, ◌+◌, ◌*◌, ◌<◌, ◌≤◌, Bool, true, false, List, [], ◌∷◌, set, get_or, length, eqb, sym, refl, ap, ◌∙◌, subst, ⊎_elim, arith, Some, length-set, get_or-set_other, get_or-set_same, ne_eqb, eq-eqb, zero-le}
+use Rattle.std.proofs.Common.{◌≡◌, ◌≢◌, ℕ, ◌+◌, ◌*◌, ◌<◌, ◌≤◌, Bool, true, false, List, [], ◌∷◌, set, get_or, length, eqb}
+use Rattle.std.proofs.Common.{sym, refl, ap, ◌∙◌, subst, ⊎_elim, arith, Some, length-set, get_or-set_other, get_or-set_same}
+use Rattle.std.proofs.Common.{ne_eqb, eq-eqb, zero-le}
 use mathlib.Core.Option.{some}
 use mathlib.Core.Logic.{dite}
 use native.Mathlib.Decide.{ℕ_discrete}
@@ -18,9 +20,11 @@ use Rattle.ccan_words.specs.View.{History, holding, see_all, with_held}
 use Rattle.ccan_words.specs.Layout.{Form, IsNumber, Lies}
 use Rattle.ccan_words.specs.Rule.{IsSound, Stands, Fits, Keeps, Heads, Versions}
 use Rattle.ccan_words.specs.Plays.{Knows, GoesOn, Makes, change_of, Exchanges, IsDrafted}
-use Rattle.ccan_words.proofs.Histories.{when, chosen, passed, port_discrete, same_own, same_not, changes_by_own, unchanged, begins_again, begins_through, begins_further}
+use Rattle.ccan_words.proofs.Histories.{when, chosen, passed, port_discrete, same_own, same_not, changes_by_own, unchanged}
+use Rattle.ccan_words.proofs.Histories.{begins_again, begins_through, begins_further}
 use Rattle.ccan_words.proofs.Views.{holding-with_held_same, holding-with_held_other, seen_by_all, Within}
-use Rattle.ccan_words.proofs.Keeping.{St, with_view, moved, goes_by, sees, few_all, below_top, sound_for, on_for, is_next, standing, saw, not_held, of_other}
+use Rattle.ccan_words.proofs.SeatMoves.{TableState, with_view, sound_for, is_next, not_held, of_other}
+use Rattle.ccan_words.proofs.SeatMoves.{moved, goes_by, sees, on_for, standing, saw, below_top, few_all}
 
 -- ---- a history with one change more
 
@@ -43,7 +47,8 @@ abbrev after : Version → History → Held → Held
 after z h x = record { seen = change_of z ∷ h; note = []; quota = x.quota }
 
 module _ {profile : Profile} {most : ℕ} {contends : ℕ → ℕ → Bool} (F : Form profile most contends) (lies : Lies F) where
-  module _ (s : St F lies) (r : Keeps F s) (id : ℕ) (me : Knows) (word : ℕ) (z : Version) (x : Held) (held : holding z.port me.0 ≡ Some x)
+  module _ (s : TableState) (r : Keeps F s) (id : ℕ) (me : Knows) (word : ℕ) (z : Version) (x : Held)
+      (held : holding z.port me.0 ≡ Some x)
       (is : word ≡ F.cell z.object) (d : IsDrafted F z x) (at : get_elem? s.views id ≡ some me.0) where
     abbrev v : View
     v = me.0
@@ -92,7 +97,7 @@ module _ {profile : Profile} {most : ℕ} {contends : ℕ → ℕ → Bool} (F :
 
     next_kept : (q : PortName) → changes_by q r.log < most → (i : ℕ) → i < F.width
         → get_or ws (F.place (next_number q r.log) i) 0 ≡ get_or s.words (F.place (next_number q r.log) i) 0
-    next_kept q fq i l = place_apart (next_number q r.log) i (is_next F lies r.log q fq) l
+    next_kept q fq i l = place_apart (next_number q r.log) i (is_next r.log q fq) l
 
     -- the port's own holding, and another's
     own_holding : (y : Held) → holding p w ≡ Some y → y0 ≡ y
@@ -107,7 +112,8 @@ module _ {profile : Profile} {most : ℕ} {contends : ℕ → ℕ → Bool} (F :
     within : Within w v
     within q y h =
         ⊎_elim
-        (λ (eq : q ≡ p). (x, subst (λ (u : PortName). holding u v ≡ Some x) (sym eq) held, ap (λ (u : Held). u.quota) (as_own q y eq h)))
+        (λ (eq : q ≡ p).
+        (x, subst (λ (u : PortName). holding u v ≡ Some x) (sym eq) held, ap (λ (u : Held). u.quota) (as_own q y eq h)))
         (λ (n : q ≢ p).
         let t = seen_by_all q log' v y (other_holding q y n h) in
         (t.0, t.1, ap (λ (u : Held). u.quota) t.2))
@@ -124,7 +130,8 @@ module _ {profile : Profile} {most : ℕ} {contends : ℕ → ℕ → Bool} (F :
       here : z.before ≡ record_at z.object r.log
       here =
           sym d.before_is
-          ∙ sym (unchanged contends r.log d.at z.object (few_all F lies s r) begins (head ∙ sym d.old_is) z.object (lies.itself z.object))
+          ∙ sym (unchanged contends r.log d.at z.object (few_all F lies s r) begins (head ∙ sym d.old_is) z.object
+          (lies.itself z.object))
 
       sound : IsSound profile r.quota log'
       sound = record {
@@ -133,7 +140,8 @@ module _ {profile : Profile} {most : ℕ} {contends : ℕ → ℕ → Bool} (F :
         few = λ q.
             ⊎_elim
             (λ (eq : q ≡ p).
-            subst (λ (u : PortName). changes_by u log' ≤ r.quota) (sym eq) (let c = changes_mine z r.log in let c' = room in omega arith))
+            subst (λ (u : PortName). changes_by u log' ≤ r.quota) (sym eq)
+            (let c = changes_mine z r.log in let c' = room in omega arith))
             (λ (n : q ≢ p). let c = changes_not z q r.log n in let b = r.sound.few q in omega arith)
             (port_discrete q p);
       }
@@ -154,14 +162,14 @@ module _ {profile : Profile} {most : ℕ} {contends : ℕ → ℕ → Bool} (F :
           → get_or ws (F.place n j) 0 ≡ get_or (F.content h) j 0
       published n j h named ends l =
           subst (λ (u : ℕ × History). get_or ws (F.place u.0 j) 0 ≡ get_or (F.content u.1) j 0) (λ i. (named i, sym ends i))
-          (place_apart (next_number p r.log) j (is_next F lies r.log p few) l
-          ∙ (fx.note few j (let f = d.full in omega arith) ∙ d.words j l r.log r.sound.legal (below_top F lies s r) begins head))
+          (place_apart (next_number p r.log) j (is_next r.log p few) l
+          ∙ (fx.note few j (let f = d.full in omega arith) ∙ d.words j l r.log r.sound.legal (below_top F s r) begins head))
 
       versions : Versions F ws log'
       versions n j h t l =
           ⊎_elim
           (λ (a : (true ≡ true) × (next_number p r.log ≡ n) × (h ≡ log')). published n j h a.1 a.2 l)
-          (λ (a : Stands r.log n h). place_apart n j (standing F lies s r n h a) l ∙ r.versions n j h a l)
+          (λ (a : Stands r.log n h). place_apart n j (standing F s r n h a) l ∙ r.versions n j h a l)
           t
 
       own_fits : Fits F ws log' p y0
@@ -174,21 +182,21 @@ module _ {profile : Profile} {most : ℕ} {contends : ℕ → ℕ → Bool} (F :
           subst (λ (u : PortName). Fits F ws log' u y) (sym eq) (subst (Fits F ws log' p) (as_own q y eq h) own_fits))
           (λ (n : q ≢ p).
           let t = seen_by_all q log' v y (other_holding q y n h) in
-          sees F lies s.words ws r.log log' q t.0 y (changes_not z q r.log n) t.2 (next_kept q) (r.seats id q v t.0 at t.1))
+          sees F s.words ws r.log log' q t.0 y (changes_not z q r.log n) t.2 (next_kept q) (r.seats id q v t.0 at t.1))
           (port_discrete q p)
 
-      done : Keeps F (with_view F lies s ws id w)
+      done : Keeps F (with_view s ws id w)
       done =
-          moved F lies s r id v w ws log' at within sound (length-set s.words word z.number ∙ r.wide) heads versions fits
+          moved F s r id v w ws log' at within sound (length-set s.words word z.number ∙ r.wide) heads versions fits
           (λ q y none f.
-          goes_by F lies s.words ws r.log log' q y (begins_further (change_of z) _ _ (begins_again r.log))
-          (of_other F lies p q (change_of z) r.log refl (not_held F lies p q v x held none)) (next_kept q) f)
+          goes_by F s.words ws r.log log' q y (begins_further (change_of z) _ _ (begins_again r.log))
+          (of_other p q (change_of z) r.log refl (not_held p q v x held none)) (next_kept q) f)
 
       makes : (y : Held) → holding p v ≡ Some y → Makes profile p log' me (w, me.1) y
       makes y h =
           let same : x ≡ y = cc in
           subst (Makes profile p log' me (w, me.1)) same
-          (record { view = refl; sound = sound_for F lies r.quota x.quota log' (r.one_quota id p v x at held) sound })
+          (record { view = refl; sound = sound_for r.quota x.quota log' (r.one_quota id p v x at held) sound })
 
   pub exchanges : (slots id : ℕ) (me : Knows) (word : ℕ) (z : Version) (x : Held) → holding z.port me.0 ≡ Some x
       → word ≡ F.cell z.object → IsDrafted F z x
@@ -198,14 +206,15 @@ module _ {profile : Profile} {most : ℕ} {contends : ℕ → ℕ → Bool} (F :
       let n0 : ℕ = get_or s.words word 0 in
       let found_last : n0 ≡ last_number contends z.object r.log =
       subst (λ (i : ℕ). get_or s.words i 0 ≡ last_number contends z.object r.log) (sym is) (r.heads z.object d.held) in
-      let on : (y : Held) → holding z.port v ≡ Some y → GoesOn profile z.port y r.log = λ y h. on_for F lies s r id z.port v y at h in
-      let seen = saw F lies s r id v r.log at r.sound (begins_again r.log) (λ q. refl) (λ k. refl) (λ n h t. t) (λ q none. refl) in
+      let on : (y : Held) → holding z.port v ≡ Some y → GoesOn profile z.port y r.log = λ y h. on_for F s r id z.port v y at h in
+      let seen = saw F s r id v r.log at r.sound (begins_again r.log) (λ q. refl) (λ k. refl) (λ n h t. t) (λ q none. refl) in
       dite (ℕ_discrete n0 z.old)
       (λ hit. (
         w s r id me word z x held is d at,
         keeps,
         tt,
-        subst (λ (b : Bool). Keeps F (with_view F lies s (set s.words word (either b z.number n0)) id (w s r id me word z x held is d at)))
+        subst (λ (b : Bool).
+            Keeps F (with_view s (set s.words word (either b z.number n0)) id (w s r id me word z x held is d at)))
             (sym (eq-eqb n0 z.old hit)) (done s r id me word z x held is d at hit),
         record {
           log = r.log;
@@ -219,8 +228,8 @@ module _ {profile : Profile} {most : ℕ} {contends : ℕ → ℕ → Bool} (F :
         see_all r.log v,
         keeps,
         tt,
-        subst (λ (b : Bool). Keeps F (with_view F lies s (set s.words word (either b z.number n0)) id (see_all r.log v)))
+        subst (λ (b : Bool). Keeps F (with_view s (set s.words word (either b z.number n0)) id (see_all r.log v)))
             (sym (ne_eqb n0 z.old miss))
-            (subst (λ (us : List ℕ). Keeps F (with_view F lies s us id (see_all r.log v))) (sym (set-get_or s.words word 0)) seen),
+            (subst (λ (us : List ℕ). Keeps F (with_view s us id (see_all r.log v))) (sym (set-get_or s.words word 0)) seen),
         record { log = r.log; goes_on = on; found_last = found_last; done = λ hit. absurd (miss hit); lost = λ _. refl },
       ))

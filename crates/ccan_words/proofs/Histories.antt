@@ -1,7 +1,9 @@
 -- Facts on histories: which changes stand in one, under which number, and what they left.
 use native.Mathlib.Decide.{ℕ_discrete}
 use mathlib.Core.Logic.{dite}
-use Rattle.std.proofs.Common.{append_assoc, ◌≡◌, ◌≢◌, ℕ, zero, suc, ◌+◌, ◌*◌, ◌<◌, ◌≤◌, ◌==◌, ◌&&◌, ◌⊎◌, ◌^◌, Bool, true, false, cond, [], ◌∷◌, ◌++◌, replicate, sym, refl, ap, ◌∙◌, subst, inl, inr, ⊎_elim, arith, eq-eqb, ne_eqb, true≢false, lit<, lit≤}
+use Rattle.std.proofs.Common.{append_assoc, ◌≡◌, ◌≢◌, ℕ, zero, suc, ◌+◌, ◌*◌, ◌<◌, ◌≤◌, ◌==◌, ◌&&◌, ◌⊎◌, ◌^◌, Bool, true}
+use Rattle.std.proofs.Common.{false, cond, [], ◌∷◌, ◌++◌, replicate, sym, refl, ap, ◌∙◌, subst, inl, inr, ⊎_elim, arith}
+use Rattle.std.proofs.Common.{eq-eqb, ne_eqb, true≢false, lit<, lit≤}
 use Rattle.std.specs.Prelude.{slice_index_or}
 use Rattle.std.proofs.lemmas.Bool.{eqb-true}
 use Rattle.ccan_object.specs.declared.record.Record.{Record}
@@ -55,7 +57,8 @@ port_at Bus If2 e = absurd (omega arith)
 port_at Bus Bus e = refl
 
 pub port_discrete : (p q : PortName) → (p ≡ q) ⊎ (p ≢ q)
-port_discrete p q = dite (ℕ_discrete (port_index p) (port_index q)) (λ e. inl (port_at p q e)) (λ n. inr (λ e. n (ap port_index e)))
+port_discrete p q =
+    dite (ℕ_discrete (port_index p) (port_index q)) (λ e. inl (port_at p q e)) (λ n. inr (λ e. n (ap port_index e)))
 
 pub same_own : (p : PortName) → same_port p p ≡ true
 same_own p = eq-eqb (port_index p) (port_index p) refl
@@ -125,10 +128,12 @@ next_is_new h p at few t =
     let k = m.made in
     let o = m.from_one in
     let same : port_index p ≡ port_index m.port = omega arith in
-    let here : changes_by m.port h ≡ changes_by p h = ap (λ (q : PortName). changes_by q h) (sym (port_at p m.port same)) in omega arith
+    let here : changes_by m.port h ≡ changes_by p h = ap (λ (q : PortName). changes_by q h) (sym (port_at p m.port same)) in
+    omega arith
 
 -- a number names one change
-pub stands_one : (h : History) (n : ℕ) (at at' : History) → ((q : PortName) → changes_by q h < 65535) → Stands h n at → Stands h n at'
+pub stands_one : (h : History) (n : ℕ) (at at' : History) → ((q : PortName) → changes_by q h < 65535) → Stands h n at
+    → Stands h n at'
     → at ≡ at'
 stands_one [] n at at' few t u = absurd t
 stands_one (e ∷ h) n at at' few t u =
@@ -175,7 +180,8 @@ module _ (contends : ℕ → ℕ → Bool) where
       })
       (when (is_change e && contends e.object k))
 
-  -- where the number of the last change that contends is what it was, the objects that share the word have the records that they had
+  -- where the number of the last change that contends is what it was, the objects that share the word have the records
+  -- that they had
   pub unchanged : (h g : History) (k : ℕ) → ((q : PortName) → changes_by q h < 65535) → BeginsWith h g
       → last_number contends k h ≡ last_number contends k g
       → (i : ℕ) → contends i k ≡ true → record_at i h ≡ record_at i g

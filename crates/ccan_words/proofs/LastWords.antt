@@ -1,5 +1,6 @@
 -- The words at the end.
-use Rattle.std.proofs.Common.{◌≡◌, ◌≢◌, ℕ, zero, suc, ◌+◌, ◌-◌, ◌<◌, ◌≤◌, ◌++◌, Bool, List, [], ◌∷◌, length, map, get_or, set, replicate, Some, None, sym, refl, ap, ◌∙◌, subst, arith, add-zero, lit<, lit≤}
+use Rattle.std.proofs.Common.{◌≡◌, ◌≢◌, ℕ, zero, suc, ◌+◌, ◌-◌, ◌<◌, ◌≤◌, ◌++◌, Bool, List, [], ◌∷◌, length, map, get_or, set}
+use Rattle.std.proofs.Common.{replicate, Some, None, sym, refl, ap, ◌∙◌, subst, arith, add-zero, lit<, lit≤}
 use Rattle.std.proofs.lemmas.List.{get_or-replicate, get_or-set_same, get_or-set_other}
 use Rattle.std.specs.List.{range_with_len}
 use mathlib.Core.Logic.{dite}
@@ -39,7 +40,8 @@ at_read (y ∷ l) (suc i) x e = at_read l i x e
 
 -- ---- the record of an object
 
-module _ {profile : Profile} {most : ℕ} {contends : ℕ → ℕ → Bool} (F : Form profile most contends) (lies : Lies F) (shows : Shows F)
+module _ {profile : Profile} {most : ℕ} {contends : ℕ → ℕ → Bool} (F : Form profile most contends) (lies : Lies F)
+    (shows : Shows F)
     (ws : List ℕ) (k n : ℕ) (object : Holds profile k) (is : get_or ws (F.cell k) 0 ≡ n) where
   module _ (log : History) (t : Settles F ws log) where
     is_last : n ≡ last_number contends k log
@@ -82,7 +84,8 @@ listed_from f zero (suc m) start r d [] count each rest = absurd (omega arith)
 listed_from f zero (suc m) start r d (x ∷ xs) count each rest =
     let first : x ≡ r = rest 0 (omega arith) (omega arith) in
     let more =
-    listed_from f zero m start r d xs (omega arith) (λ k l. absurd (omega arith)) (λ k l u. rest (suc k) (omega arith) (omega arith)) in
+    listed_from f zero m start r d xs (omega arith) (λ k l. absurd (omega arith))
+    (λ k l u. rest (suc k) (omega arith) (omega arith)) in
     λ i. first i ∷ more i
 listed_from f (suc n) m start r d [] count each rest = absurd (omega arith)
 listed_from f (suc n) m start r d (x ∷ xs) count each rest =
@@ -107,7 +110,8 @@ pub listed : (profile : Profile) (log : History) (records : List Record) → len
 listed profile log records count all =
     let most = most_objects profile in
     let sum : objects_in profile + (64 - objects_in profile) ≡ 64 = omega arith in
-    listed_from (λ k. record_at k log) (objects_in profile) (64 - objects_in profile) 1 zero_record zero_record records (count ∙ sym sum)
+    listed_from (λ k. record_at k log) (objects_in profile) (64 - objects_in profile) 1 zero_record zero_record records
+    (count ∙ sym sum)
     (λ k l. all.each k l ∙ ap (λ (n : ℕ). record_at n log) (let e : k + 1 ≡ 1 + k = omega arith in e))
     (λ k l u. all.rest k l (omega arith))
 
@@ -115,7 +119,8 @@ pub listed_none : (log : History) → AreListed 0 log (replicate 64 zero_record)
 listed_none log = record { each = λ k l. absurd (omega arith); rest = λ k l u. get_or-replicate 64 k zero_record zero_record u }
 
 -- one record more
-pub listed_more : (i : ℕ) (log : History) (r : Record) (records : List Record) → length records ≡ 64 → i < 64 → r ≡ record_at (i + 1) log
+pub listed_more : (i : ℕ) (log : History) (r : Record) (records : List Record) → length records ≡ 64 → i < 64
+    → r ≡ record_at (i + 1) log
     → AreListed i log records → AreListed (i + 1) log (set records i r)
 listed_more i log r records count few is all = record {
   each = λ k l.
@@ -139,14 +144,20 @@ three_held a b c = record { if1 = Some a; if2 = Some b; bus = Some c }
 pub three : (ma mb mc m1 m2 : Knows) (a b c : Held) → IsSeatOf If1 a ma → IsSeatOf If2 b mb → IsSeatOf Bus c mc
     → m1 ≡ (together ma.0 mb.0, ma.1) → m2 ≡ (together m1.0 mc.0, m1.1) → m2.0 ≡ three_held a b c
 three ma mb mc m1 m2 a b c va vb vc e f =
-    let first : m1.0 ≡ record { if1 = Some a; if2 = Some b; bus = None } = ap (λ (m : Knows). m.0) e ∙ (λ i. together (va i).0 (vb i).0) in
+    let first : m1.0 ≡ record { if1 = Some a; if2 = Some b; bus = None } =
+    ap (λ (m : Knows). m.0) e ∙ (λ i. together (va i).0 (vb i).0) in
     ap (λ (m : Knows). m.0) f ∙ (λ i. together (first i) (vc i).0)
 
-pub settled : {profile : Profile} {most : ℕ} {contends : ℕ → ℕ → Bool} (F : Form profile most contends) (s : State (Unit {0}) View)
+pub settled : {profile : Profile} {most : ℕ} {contends : ℕ → ℕ → Bool} (F : Form profile most contends)
+    (s : State (Unit {0}) View)
     (r : Keeps F s)
     → Settles F s.words r.log
 settled F s r = record {
-  sound = record { legal = r.sound.legal; records = r.sound.records; few = λ q. (let a = r.sound.few q in let t = r.top in omega arith) };
+  sound = record {
+    legal = r.sound.legal;
+    records = r.sound.records;
+    few = λ q. (let a = r.sound.few q in let t = r.top in omega arith);
+  };
   wide = r.wide;
   heads = r.heads;
   versions = r.versions;
@@ -167,7 +178,8 @@ part_at p x a log is begins own = record {
 
 pub ended : {profile : Profile} {most : ℕ} {contends : ℕ → ℕ → Bool} (F : Form profile most contends) (s : State (Unit {0}) View)
     (r : Keeps F s)
-    (ws : List ℕ) (id : ℕ) (v : View) (a b c : Pass) (xa xb xc : Held) (final : Final) → get_elem? s.views id ≡ some v → s.words ≡ ws
+    (ws : List ℕ) (id : ℕ) (v : View) (a b c : Pass) (xa xb xc : Held) (final : Final) → get_elem? s.views id ≡ some v
+    → s.words ≡ ws
     → v ≡ three_held xa xb xc → HasSeen If1 xa a → HasSeen If2 xb b → HasSeen Bus xc c → final.profile ≡ profile
     → final.profile ≡ a.memory.profile
     → LeaveRecords F ws final.records → Ends a b c final
@@ -177,7 +189,8 @@ ended {profile} F s r ws id v a b c xa xb xc final at same is ha hb hc whole own
     let fa = r.seats id If1 w xa here refl in
     let fb = r.seats id If2 w xb here refl in
     let fc = r.seats id Bus w xc here refl in
-    let left : final.records ≡ final_records profile r.log = value r.log (subst (λ (l : List ℕ). Settles F l r.log) same (settled F s r)) in
+    let left : final.records ≡ final_records profile r.log =
+    value r.log (subst (λ (l : List ℕ). Settles F l r.log) same (settled F s r)) in
     record {
       profile_is = own;
       history = r.log;

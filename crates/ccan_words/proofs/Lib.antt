@@ -1,7 +1,8 @@
 pub mod Histories
 pub mod Views
 pub mod Notes
-pub mod Keeping
+pub mod SeatMoves
+pub mod LoadsAndStores
 pub mod Exchanging
 pub mod Parting
 pub mod Tables
@@ -9,6 +10,7 @@ pub mod Seats
 pub mod Reading
 pub mod Making
 pub mod Ports
+pub mod Stepping
 pub mod Looking
 pub mod Committing
 pub mod Meeting

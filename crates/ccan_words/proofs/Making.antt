@@ -1,5 +1,6 @@
 -- The words of a version.
-use Rattle.std.proofs.Common.{◌≡◌, ◌≢◌, ℕ, zero, suc, ◌+◌, ◌<◌, ◌≤◌, Bool, List, [], ◌∷◌, get_or, sym, ap, ◌∙◌, subst, arith, length, take, ◌++◌, zero-le}
+use Rattle.std.proofs.Common.{◌≡◌, ◌≢◌, ℕ, zero, suc, ◌+◌, ◌<◌, ◌≤◌, Bool, List, [], ◌∷◌, get_or, sym, ap, ◌∙◌, subst, arith}
+use Rattle.std.proofs.Common.{length, take, ◌++◌, zero-le}
 use mathlib.Core.Logic.{dite}
 use native.Mathlib.Decide.{ℕ_discrete}
 use Rattle.ccan_object.specs.declared.profile.Profile.{Profile}
@@ -17,14 +18,16 @@ use Rattle.ccan_words.proofs.Notes.{taken_same, taken_before, taken_length}
 use Rattle.ccan_words.proofs.Seats.{noted, only_holds}
 use Rattle.ccan_words.proofs.Histories.{latest, unchanged, stands_after}
 
-module _ {profile : Profile} {most : ℕ} {contends : ℕ → ℕ → Bool} (F : Form profile most contends) (lies : Lies F) (makes : Makes F)
+module _ {profile : Profile} {most : ℕ} {contends : ℕ → ℕ → Bool} (F : Form profile most contends) (lies : Lies F)
+    (makes : Makes F)
     (z : Version) (object : Holds profile z.object) where
   -- a word of the changed record
   pub next_inside : (at : History) (word i w : ℕ) → i < 3 → F.offset z.object + i ≡ word → IsContent z
       → w ≡ get_or z.content i 0 → IsNextWord F z at word w
   next_inside at word i w l is content e h legal few b same =
       e ∙ (ap (λ (ws : List ℕ). get_or ws i 0) content.0
-      ∙ (sym (makes.value z.port z.object i z.change z.before h object l) ∙ ap (λ (n : ℕ). get_or (F.content (change_of z ∷ h)) n 0) is))
+      ∙ (sym (makes.value z.port z.object i z.change z.before h object l)
+      ∙ ap (λ (n : ℕ). get_or (F.content (change_of z ∷ h)) n 0) is))
 
   -- a word beside it, where no version was found
   pub next_blank : (at : History) (word : ℕ) → word < F.width → IsBeside F z.object word → z.old ≡ 0 → IsNextWord F z at word 0
@@ -33,7 +36,8 @@ module _ {profile : Profile} {most : ℕ} {contends : ℕ → ℕ → Bool} (F :
       (λ i c. (latest contends z.object h).none (same ∙ none) i c))
 
   -- and where one was found
-  pub next_kept : (at : History) (word w : ℕ) (x : Held) → word < F.width → IsBeside F z.object word → z.old ≢ 0 → BeginsWith x.seen at
+  pub next_kept : (at : History) (word w : ℕ) (x : Held) → word < F.width → IsBeside F z.object word → z.old ≢ 0
+      → BeginsWith x.seen at
       → last_number contends z.object at ≡ z.old → ((h : History) → Stands x.seen z.old h → w ≡ get_or (F.content h) word 0)
       → IsNextWord F z at word w
   next_kept at word w x inside out nz part is read h legal few b same =
@@ -50,7 +54,8 @@ long_enough (suc n) m f = let e = f (omega arith) in omega arith
 
 module _ {profile : Profile} {most : ℕ} {contends : ℕ → ℕ → Bool} (F : Form profile most contends) (z : Version) where
   pub written_none : (x : Held) (me : Knows) → IsSeatOf z.port x me → IsWritten F z x 0 me
-  written_none x me e = record { note = x.note; view = e; full = λ l. absurd (omega arith); words = λ at b s j l. absurd (omega arith) }
+  written_none x me e =
+      record { note = x.note; view = e; full = λ l. absurd (omega arith); words = λ at b s j l. absurd (omega arith) }
 
   -- the seat as it was, after a step that tells nothing
   pub written_still : (x : Held) (i : ℕ) (m m' : Knows) → m' ≡ m → IsWritten F z x i m → IsWritten F z x i m'

@@ -1,5 +1,6 @@
 -- A seat that is split, two that are joined, and the table at the start.
-use Rattle.std.proofs.Common.{Bool, ◌≡◌, ◌≢◌, ℕ, zero, suc, ◌≤◌, ◌⊎◌, List, [], ◌∷◌, ◌++◌, set, get_or, length, replicate, sym, refl, ap, ◌∙◌, subst, inl, inr, ⊎_elim, arith, Option, Some, None, zero-le}
+use Rattle.std.proofs.Common.{Bool, ◌≡◌, ◌≢◌, ℕ, zero, suc, ◌≤◌, ◌⊎◌, List, [], ◌∷◌, ◌++◌, set, get_or, length, replicate}
+use Rattle.std.proofs.Common.{sym, refl, ap, ◌∙◌, subst, inl, inr, ⊎_elim, arith, Option, Some, None, zero-le}
 use Rattle.std.proofs.lemmas.List.{length-replicate}
 use mathlib.Core.Option.{some, some-injective, some-ne-none}
 use lib.ListN.{get_elem?}
@@ -33,22 +34,23 @@ holding-all c If2 y e = cc
 holding-all c Bus y e = cc
 
 module _ {profile : Profile} {most : ℕ} {contends : ℕ → ℕ → Bool} (F : Form profile most contends) where
-  abbrev St : Type 0
-  St = State (Unit {0}) View
+  abbrev TableState : Type 0
+  TableState = State (Unit {0}) View
 
-  abbrev with_views : St → List View → St
+  abbrev with_views : TableState → List View → TableState
   with_views s vs = record { words = s.words; homes = s.homes; views = vs }
 
   -- where a holding of the new seats was
-  pub record Was (s : St) (p : PortName) (y : Held) (i : ℕ) : Type 0 where
+  pub record Was (s : TableState) (p : PortName) (y : Held) (i : ℕ) : Type 0 where
     pub view : View
     pub seat : get_elem? s.views i ≡ some view
     pub held : holding p view ≡ Some y
 
   -- the same holdings at other seats
-  reseated : (s : St) (r : Keeps F s) (vs : List View)
+  reseated : (s : TableState) (r : Keeps F s) (vs : List View)
       → ((i : ℕ) (p : PortName) (u : View) (y : Held) → get_elem? vs i ≡ some u → holding p u ≡ Some y → (j : ℕ) × Was s p y j)
-      → ((i j : ℕ) (p : PortName) (u t : View) (x y : Held) → get_elem? vs i ≡ some u → get_elem? vs j ≡ some t → holding p u ≡ Some x
+      → ((i j : ℕ) (p : PortName) (u t : View) (x y : Held) → get_elem? vs i ≡ some u → get_elem? vs j ≡ some t
+      → holding p u ≡ Some x
       → holding p t ≡ Some y → i ≡ j) → Keeps F (with_views s vs)
   reseated s r vs was apart = record {
     log = r.log;
@@ -65,11 +67,13 @@ module _ {profile : Profile} {most : ℕ} {contends : ℕ → ℕ → Bool} (F :
 
   held_by_only : (p q : PortName) (o : Option Held) (y : Held) → holding q (only p o) ≡ Some y → (q ≡ p) × (o ≡ Some y)
   held_by_only p q o y e = ⊎_elim
-      (λ (same : q ≡ p). (same, sym (holding-with_held_same p o nothing) ∙ subst (λ (z : PortName). holding z (only p o) ≡ Some y) same e))
+      (λ (same : q ≡ p).
+      (same, sym (holding-with_held_same p o nothing) ∙ subst (λ (z : PortName). holding z (only p o) ≡ Some y) same e))
       (λ (n : q ≢ p). absurd (holding-nothing q y (sym (holding-with_held_other p q o nothing n) ∙ e)))
       (port_discrete q p)
 
-  held_without : (p q : PortName) (v : View) (y : Held) → holding q (with_held p None v) ≡ Some y → (q ≢ p) × (holding q v ≡ Some y)
+  held_without : (p q : PortName) (v : View) (y : Held) → holding q (with_held p None v) ≡ Some y
+      → (q ≢ p) × (holding q v ≡ Some y)
   held_without p q v y e = ⊎_elim
       (λ (same : q ≡ p). let t : holding p (with_held p None v) ≡ Some y = subst
       (λ (z : PortName). holding z (with_held p None v) ≡ Some y) same e in
@@ -77,7 +81,7 @@ module _ {profile : Profile} {most : ℕ} {contends : ℕ → ℕ → Bool} (F :
       (λ (n : q ≢ p). (n, sym (holding-with_held_other p q None v n) ∙ e))
       (port_discrete q p)
 
-  module _ (s : St) (r : Keeps F s) (id : ℕ) (p : PortName) (v : View) (at : get_elem? s.views id ≡ some v) where
+  module _ (s : TableState) (r : Keeps F s) (id : ℕ) (p : PortName) (v : View) (at : get_elem? s.views id ≡ some v) where
     abbrev left : View
     left = with_held p None v
 
@@ -122,7 +126,8 @@ module _ {profile : Profile} {most : ℕ} {contends : ℕ → ℕ → Bool} (F :
         (at_end cut right t j f))
         (at_end cut right u i e))
 
-  pub splits : (id : ℕ) (p : PortName) (v : View) → Splits {S = Unit {0}} (Keeps F) id v (with_held p None v) (only p (holding p v))
+  pub splits : (id : ℕ) (p : PortName) (v : View)
+      → Splits {S = Unit {0}} (Keeps F) id v (with_held p None v) (only p (holding p v))
   splits id p v s r at = split_keeps s r id p v at
 
   -- which seat the holding of a seat was at
@@ -134,7 +139,8 @@ module _ {profile : Profile} {most : ℕ} {contends : ℕ → ℕ → Bool} (F :
       (λ (x : (i ≡ id) × ((a ≡ id) ⊎ (a ≡ other))). ⊎_elim
       (λ (y : (j ≡ id) × ((b ≡ id) ⊎ (b ≡ other))). x.0 ∙ sym y.0)
       (λ (y : (j ≢ id) × (j ≢ other) × (b ≡ j)).
-      ⊎_elim (λ (z : a ≡ id). absurd (y.0 (sym y.2 ∙ (sym same ∙ z)))) (λ (z : a ≡ other). absurd (y.1 (sym y.2 ∙ (sym same ∙ z)))) x.1)
+      ⊎_elim (λ (z : a ≡ id). absurd (y.0 (sym y.2 ∙ (sym same ∙ z))))
+      (λ (z : a ≡ other). absurd (y.1 (sym y.2 ∙ (sym same ∙ z)))) x.1)
       g)
       (λ (x : (i ≢ id) × (i ≢ other) × (a ≡ i)). ⊎_elim
       (λ (y : (j ≡ id) × ((b ≡ id) ⊎ (b ≡ other))).
@@ -143,7 +149,7 @@ module _ {profile : Profile} {most : ℕ} {contends : ℕ → ℕ → Bool} (F :
       g)
       f
 
-  module _ (s : St) (r : Keeps F s) (id other : ℕ) (v w : View) (at : get_elem? s.views id ≡ some v)
+  module _ (s : TableState) (r : Keeps F s) (id other : ℕ) (v w : View) (at : get_elem? s.views id ≡ some v)
       (there : get_elem? s.views other ≡ some w) where
     abbrev both : View
     both = together v w
@@ -154,12 +160,14 @@ module _ {profile : Profile} {most : ℕ} {contends : ℕ → ℕ → Bool} (F :
     was : (i : ℕ) (q : PortName) (u : View) (y : Held) → get_elem? new i ≡ some u → holding q u ≡ Some y
         → (j : ℕ) × Was s q y j × From id other i j
     was i q u y e h = ⊎_elim
-        (λ (a : (i ≡ other) × (nothing ≡ u)). absurd (holding-nothing q y (subst (λ (z : View). holding q z ≡ Some y) (sym a.1) h)))
+        (λ (a : (i ≡ other) × (nothing ≡ u)).
+        absurd (holding-nothing q y (subst (λ (z : View). holding q z ≡ Some y) (sym a.1) h)))
         (λ (a : (i ≢ other) × (get_elem? (set s.views id both) i ≡ some u)). ⊎_elim
         (λ (b : (i ≡ id) × (both ≡ u)). ⊎_elim
         (λ (c : holding q v ≡ Some y). (id, record { view = v; seat = at; held = c }, inl (b.0, inl refl)))
         (λ (c : holding q w ≡ Some y). (other, record { view = w; seat = there; held = c }, inl (b.0, inr refl)))
-        (one_of (holding q v) (holding q w) y (sym (holding-together q v w) ∙ subst (λ (z : View). holding q z ≡ Some y) (sym b.1) h)))
+        (one_of (holding q v) (holding q w) y
+        (sym (holding-together q v w) ∙ subst (λ (z : View). holding q z ≡ Some y) (sym b.1) h)))
         (λ (b : (i ≢ id) × (get_elem? s.views i ≡ some u)). (i, record { view = u; seat = b.1; held = h }, inr (b.0, a.0, refl)))
         (at_set s.views id i both u a.1))
         (at_set (set s.views id both) other i nothing u e)
@@ -171,7 +179,8 @@ module _ {profile : Profile} {most : ℕ} {contends : ℕ → ℕ → Bool} (F :
         one_from id other m.0 n.0 i j (r.apart m.0 n.0 q m.1.view n.1.view x y m.1.seat n.1.seat m.1.held n.1.held) m.2 n.2)
 
   pub joins : (id other : ℕ) (v w : View) → Joins {S = Unit {0}} (Keeps F) id v other w (together v w) nothing
-  joins id other v w s r at ne there = join_keeps s r id other v w at (sym (set_else s.views id other (together v w) (λ e. ne e)) ∙ there)
+  joins id other v w s r at ne there =
+      join_keeps s r id other v w at (sym (set_else s.views id other (together v w) (λ e. ne e)) ∙ there)
 
   first_seat : (l : List View) (v u : View) (i : ℕ) → l ≡ [] → get_elem? (v ∷ l) i ≡ some u → (i ≡ 0) × (v ≡ u)
   first_seat l v u zero e h = (refl, some-injective v u h)

@@ -1,20 +1,18 @@
 -- What is known of a port.
-use Rattle.std.proofs.Common.{◌≡◌, ◌≢◌, ℕ, ◌≤◌, Bool, List, [], sym, refl, ap, ◌∙◌, subst, arith}
+use Rattle.std.proofs.Common.{◌≡◌, ◌≢◌, ℕ, ◌≤◌, Bool, sym, refl, ap, ◌∙◌, subst, arith}
 use Rattle.atomic_table.specs.Seated.{TableId}
-use Rattle.ccan_object.specs.declared.profile.Profile.{Profile}
+use Rattle.atomic_table.specs.declared.shared.Seat.{Seat}
 use Rattle.ccan_ram.specs.declared.port.PortName.{PortName}
-use Rattle.ccan_ram.specs.declared.event.Event.{Event}
 use Rattle.ccan_ram.specs.History.{events_of, changes_by, last_number, BeginsWith}
-use Rattle.ccan_ram.specs.Terms.{Terms}
-use Rattle.ccan_ram.specs.Access.{Goes}
-use Rattle.ccan_ram.specs.SharedRam.{Pass, IsWithin, CanSee, IsSamePort, passes_of}
+use Rattle.ccan_ram.specs.SharedRam.{Pass, IsWithin, CanSee, IsSamePort}
 use Rattle.ccan_ram.specs.Ending.{IsPart}
-use Rattle.ccan_ram.proofs.Calls.{Goes-none}
 use Rattle.ccan_words.specs.declared.view.Held.{Held}
+use Rattle.ccan_words.specs.declared.view.View.{View}
+use Rattle.ccan_words.specs.declared.port.Port.TheInside.{Inside}
 use Rattle.ccan_words.specs.View.{History}
 use Rattle.ccan_words.specs.Layout.{IsNumber}
 use Rattle.ccan_words.specs.Rule.{IsSound}
-use Rattle.ccan_words.specs.Plays.{Knows, GoesOn}
+use Rattle.ccan_words.specs.Plays.{GoesOn}
 use Rattle.ccan_words.specs.Version.{IsSeatOf}
 use Rattle.ccan_words.specs.Port.{memory_in, pass_of, IsPort}
 use Rattle.ccan_words.proofs.Histories.{numbered, latest}
@@ -30,50 +28,59 @@ last_is_number contends most k h few nz =
     let b = few m.port in
     record { port = m.port; count = m.count; is = m.is; from_one = m.from_one; up_to = omega arith }
 
-module _ (tb : TableId) (profile : Profile) (p : PortName) (used quota : ℕ) (me : Knows) (i : IsPort me profile p used quota) where
-  abbrev pub old : Pass
-  old = pass_of tb profile quota p me.0
+-- a seat on the words
+abbrev pub WordSeat : Type 0
+WordSeat = Seat (Unit {0}) View
 
+-- what contracts see of a port with these fields
+abbrev pub pass : Inside → Pass
+pass s = pass_of s.seat.table_id s.key.profile s.key.quota s.name s.seat.me.0
+
+-- the fields keep the port's invariant
+abbrev pub IsPortOf : Inside → Type 0
+IsPortOf s = IsPort s.seat.me s.key.profile s.name s.used s.key.quota
+
+-- the port after a step, which left it this seat
+abbrev pub with_seat : Inside → WordSeat → Inside
+with_seat s seat = record s { seat = seat }
+
+module _ (s : Inside) (i : IsPortOf s) where
   abbrev pub x : Held
   x = i.held
 
-  pub seen_is : old.seen ≡ x.seen
-  seen_is = only_seen p x me i.view
+  pub seen_is : (pass s).seen ≡ x.seen
+  seen_is = only_seen s.name x s.seat.me i.view
 
-  pub part : (log : History) → GoesOn profile p x log → IsPart old log
-  part log on = record { begins = subst (BeginsWith log) (sym seen_is) on.part; own = on.own ∙ ap (events_of p) (sym seen_is) }
+  pub part : (log : History) → GoesOn s.key.profile s.name x log → IsPart (pass s) log
+  part log on = record {
+    begins = subst (BeginsWith log) (sym seen_is) on.part;
+    own = on.own ∙ ap (events_of s.name) (sym seen_is);
+  }
 
-  pub sound : (h : History) → IsSound profile x.quota h → IsSound profile quota h
-  sound h s = subst (λ (n : ℕ). IsSound profile n h) i.most s
+  pub sound : (h : History) → IsSound s.key.profile x.quota h → IsSound s.key.profile s.key.quota h
+  sound h k = subst (λ (n : ℕ). IsSound s.key.profile n h) i.most k
 
-  pub within : (h : History) → IsSound profile x.quota h → IsWithin old.memory h
-  within h s = let t = sound h s in record { legal = t.legal; within = t.few }
+  pub within : (h : History) → IsSound s.key.profile x.quota h → IsWithin (pass s).memory h
+  within h k = let t = sound h k in record { legal = t.legal; within = t.few }
 
-  pub seen_within : CanSee old
-  seen_within = subst (IsWithin old.memory) (sym seen_is) (record { legal = i.sound.legal; within = i.sound.few })
+  pub seen_within : CanSee (pass s)
+  seen_within = subst (IsWithin (pass s).memory) (sym seen_is) (record { legal = i.sound.legal; within = i.sound.few })
 
-  pub count_is : changes_by p old.seen ≡ used
-  count_is = ap (changes_by p) seen_is ∙ sym i.made
+  pub count_is : changes_by s.name (pass s).seen ≡ s.used
+  count_is = ap (changes_by s.name) seen_is ∙ sym i.made
 
   -- the port after a step by which it made nothing
-  pub kept : (me' : Knows) (y : Held) → IsSeatOf p y me' → y.quota ≡ x.quota → IsSound profile x.quota y.seen
-      → changes_by p y.seen ≡ changes_by p x.seen → IsPort me' profile p used quota
-  kept me' y v m s e = record {
+  pub kept : (to : WordSeat) (y : Held) → IsSeatOf s.name y to.me → y.quota ≡ x.quota → IsSound s.key.profile x.quota y.seen
+      → changes_by s.name y.seen ≡ changes_by s.name x.seen → IsPortOf (with_seat s to)
+  kept to y v m k e = record {
     held = y;
     view = v;
     made = i.made ∙ sym e;
     most = m ∙ i.most;
-    sound = sound y.seen s;
+    sound = sound y.seen k;
     room = i.room;
     few = i.few;
   }
 
-  pub same_port_as : (tb' : TableId) (me' : Knows) → tb' ≡ tb → IsSamePort old (pass_of tb' profile quota p me'.0)
-  same_port_as tb' me' e = record { memory = ap (λ (u : TableId). memory_in u profile quota) e; port = refl }
-
-  -- the port's call does nothing
-  pub nothing_done : (contends : ℕ → ℕ → Bool) (was : Pass) → old ≡ was → (what : Terms → List Event → List Event → Type 0)
-      → what (passes_of contends old).terms old.seen [] → Goes (passes_of contends was) (passes_of contends was) what
-  nothing_done contends was e what h =
-      subst (λ (q : Pass). Goes (passes_of contends q) (passes_of contends q) what) e
-      (Goes-none (λ seen here. subst (λ (zs : List Event). what (passes_of contends old).terms zs []) (sym here.0) h))
+  pub same_port_as : (to : WordSeat) → to.table_id ≡ s.seat.table_id → IsSamePort (pass s) (pass (with_seat s to))
+  same_port_as to e = record { memory = ap (λ (u : TableId). memory_in u s.key.profile s.key.quota) e; port = refl }

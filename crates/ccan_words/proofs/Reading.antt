@@ -1,5 +1,6 @@
 -- A look reads the record of one version.
-use Rattle.std.proofs.Common.{◌≡◌, ◌≢◌, ℕ, zero, suc, ◌+◌, ◌<◌, ◌≤◌, Bool, [], ◌∷◌, get_or, sym, refl, ap, ◌∙◌, inr, arith, Some, lit<}
+use Rattle.std.proofs.Common.{◌≡◌, ◌≢◌, ℕ, zero, suc, ◌+◌, ◌<◌, ◌≤◌, Bool, [], ◌∷◌, get_or, sym, refl, ap, ◌∙◌, inr, arith}
+use Rattle.std.proofs.Common.{Some, lit<}
 use mathlib.Core.Logic.{dite}
 use native.Mathlib.Decide.{ℕ_discrete}
 use Rattle.ccan_object.specs.declared.profile.Profile.{Profile}
@@ -33,8 +34,10 @@ three_words r a b c e =
 
 module _ {profile : Profile} {most : ℕ} {contends : ℕ → ℕ → Bool} (F : Form profile most contends) where
   -- three words of one version whose change some port has seen
-  pub three_reads : (number k first : ℕ) (a b c : ℕ) (m0 m1 m2 m3 : Knows) (shown : Record) → first ≡ F.offset k → first + 3 ≤ F.width
-      → Reads F (F.place number first) m0 a m1 → Reads F (F.place number (first + 1)) m1 b m2 → Reads F (F.place number (first + 2)) m2 c m3
+  pub three_reads : (number k first : ℕ) (a b c : ℕ) (m0 m1 m2 m3 : Knows) (shown : Record) → first ≡ F.offset k
+      → first + 3 ≤ F.width
+      → Reads F (F.place number first) m0 a m1 → Reads F (F.place number (first + 1)) m1 b m2
+      → Reads F (F.place number (first + 2)) m2 c m3
       → ((r : Record) → IsRecord r → packed r ≡ a ∷ b ∷ c ∷ [] → shown ≡ r) → IsRecordOf F k number m0 shown
   three_reads number k first a b c m0 m1 m2 m3 shown is inside A B C unpacks p x at r held st good words =
       let held1 : holding p m1.0 ≡ Some x = ap (λ (m : Knows). holding p m.0) A.view ∙ held in
@@ -51,8 +54,10 @@ module _ {profile : Profile} {most : ℕ} {contends : ℕ → ℕ → Bool} (F :
       (from 2 (first + 2) (omega arith) (lit< tt) ∙ sym vc)))
 
   -- the record in the version that a look found is the object's
-  pub fetched : (lies : Lies F) (shows : Shows F) (p : PortName) (k found : ℕ) (r : Record) (x : Held) (me me' : Knows) → IsSeatOf p x me
-      → Holds profile k → (t : Looks F p k me found me') → (found ≡ 0 → r ≡ zero_record) → (found ≢ 0 → IsRecordOf F k found me' r)
+  pub fetched : (lies : Lies F) (shows : Shows F) (p : PortName) (k found : ℕ) (r : Record) (x : Held) (me me' : Knows)
+      → IsSeatOf p x me
+      → Holds profile k → (t : Looks F p k me found me') → (found ≡ 0 → r ≡ zero_record)
+      → (found ≢ 0 → IsRecordOf F k found me' r)
       → r ≡ record_at k t.log
   fetched lies shows p k found r x me me' view object t none value =
       dite (ℕ_discrete found 0)
@@ -63,4 +68,5 @@ module _ {profile : Profile} {most : ℕ} {contends : ℕ → ℕ → Bool} (F :
       let held = only_holds p (see log' x) me' (only_sees p x log' me me' view t.view) in
       let on = (t.goes_on x (only_holds p x me view)).0 in
       let good = record_is k s.0 (stands_records t.log found s.0 on.sound.records s.1) in
-      value nz p (see log' x) s.0 (record_at k s.0) held (inr s.1) good (λ j l. shows.value k j s.0 object s.2 l) ∙ s.3 k (lies.itself k))
+      value nz p (see log' x) s.0 (record_at k s.0) held (inr s.1) good (λ j l. shows.value k j s.0 object s.2 l)
+      ∙ s.3 k (lies.itself k))

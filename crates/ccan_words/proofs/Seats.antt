@@ -23,10 +23,12 @@ pub only_changes : (p : PortName) (x y : Held) (h : History) (me me' : Knows) �
     → me' ≡ (with_held p (Some y) (see_all h me.0), me.1) → IsSeatOf p y me'
 only_changes p x y h me me' e f =
     f ∙ (ap (λ (m : Knows). (with_held p (Some y) (see_all h m.0), m.1)) e
-    ∙ ((λ i. (with_held p (Some y) (see_all-only p h (Some x) i), [])) ∙ (λ i. (with_held-only p (Some (see h x)) (Some y) i, []))))
+    ∙ ((λ i. (with_held p (Some y) (see_all-only p h (Some x) i), []))
+    ∙ (λ i. (with_held-only p (Some (see h x)) (Some y) i, []))))
 
 -- its port noted a word
-pub noted : (p : PortName) (j b : ℕ) (x : Held) (me me' : Knows) → IsSeatOf p x me → Notes p j b me me' → IsSeatOf p (note_at j b x) me'
+pub noted : (p : PortName) (j b : ℕ) (x : Held) (me me' : Knows) → IsSeatOf p x me → Notes p j b me me'
+    → IsSeatOf p (note_at j b x) me'
 noted p j b x me me' view t =
     t x (only_holds p x me view)
     ∙ (ap (λ (m : Knows). (with_held p (Some (note_at j b x)) m.0, m.1)) view

@@ -1,5 +1,7 @@
 -- Both layouts are lawful. Source: this project's own.
-use Rattle.std.proofs.Common.{⊎_elim, ◌⊎◌, false, cond, ◌&&◌, Bool, ◌++◌, ◌≡◌, ◌≢◌, ℕ, zero, suc, ◌+◌, ◌-◌, ◌*◌, ◌/◌, ◌%◌, ◌<◌, ◌≤◌, ◌==◌, List, [], ◌∷◌, get_or, sym, refl, ap, ◌∙◌, arith, true, eq-eqb, ne_eqb, true≢false, lit<, lit≤, zero-add, add-zero}
+use Rattle.std.proofs.Common.{⊎_elim, ◌⊎◌, false, cond, ◌&&◌, Bool, ◌++◌, ◌≡◌, ◌≢◌, ℕ, zero, suc, ◌+◌, ◌-◌, ◌*◌, ◌/◌, ◌%◌}
+use Rattle.std.proofs.Common.{◌<◌, ◌≤◌, ◌==◌, List, [], ◌∷◌, get_or, sym, refl, ap, ◌∙◌, arith, true, eq-eqb, ne_eqb}
+use Rattle.std.proofs.Common.{true≢false, lit<, lit≤, zero-add, add-zero}
 use Rattle.std.proofs.lemmas.Bool.{eqb-true}
 use Rattle.ccan_object.specs.declared.profile.Profile.{Profile}
 use Rattle.ccan_object.specs.declared.profile.Profile.TheVariants.{One, Two}

@@ -35,7 +35,16 @@ change_of version = change_at version.port version.object version.change version
 -- no version, where a step is made for none
 abbrev pub no_version : Version
 no_version =
-    record { port = If1; number = 0; object = 0; old = 0; change = Start; before = zero_record; after = zero_record; content = [] }
+    record {
+      port = If1;
+      number = 0;
+      object = 0;
+      old = 0;
+      change = Start;
+      before = zero_record;
+      after = zero_record;
+      content = [];
+    }
 
 -- a word of the port's next version was written
 abbrev pub Notes : PortName → ℕ → ℕ → Knows → Knows → Type 0

@@ -1,4 +1,4 @@
-use Rattle.ccan_confine.proofs.StatusCalls.{pending_enabled}
+use Rattle.ccan_confine.proofs.PendingInterrupt.{pending_enabled}
 use Rattle.ccan_confine.proofs.laws.enabling_makes_nothing_pending.Goals as goal
 
 pub returns : goal.returns

@@ -17,7 +17,8 @@ version_at-requires-clause-number g c =
     let profile = c.args.profile in
     let ws = slots_items c.args.closed.now.words in
     let t = c.requires.settled in
-    end_number (g.L.Layout.form profile) (M.lies profile) (M.shows profile) ws c.args.object c.word_at-number.result c.requires.object
+    end_number (g.L.Layout.form profile) (M.lies profile) (M.shows profile) ws c.args.object c.word_at-number.result
+    c.requires.object
     (ap (λ (i : ℕ). get_or ws i 0) (sym c.cell.ensures) ∙ c.word_at-number.ensures) t.0 t.1 c.if-number-eq0.false
 
 pub returns-then-number-eq0 : goal.returns-then-number-eq0
@@ -26,7 +27,8 @@ returns-then-number-eq0 g c log t =
     let profile = c.args.profile in
     let ws = slots_items c.args.closed.now.words in
     c.zero.ensures
-    ∙ end_none (g.L.Layout.form profile) (M.lies profile) (M.shows profile) ws c.args.object c.word_at-number.result c.requires.object
+    ∙ end_none (g.L.Layout.form profile) (M.lies profile) (M.shows profile) ws c.args.object c.word_at-number.result
+    c.requires.object
     (ap (λ (i : ℕ). get_or ws i 0) (sym c.cell.ensures) ∙ c.word_at-number.ensures) c.if-number-eq0.true log t
 
 pub returns : goal.returns
@@ -34,7 +36,9 @@ returns g c log t =
     let M = g.met.L.Layout in
     let profile = c.args.profile in
     let ws = slots_items c.args.closed.now.words in
-    end_some (g.L.Layout.form profile) (M.lies profile) (M.shows profile) ws c.args.object c.word_at-number.result c.requires.object
+    end_some (g.L.Layout.form profile) (M.lies profile) (M.shows profile) ws c.args.object c.word_at-number.result
+    c.requires.object
     (ap (λ (i : ℕ). get_or ws i 0) (sym c.cell.ensures) ∙ c.word_at-number.ensures)
-    c.offset-first.result c.version_at.result c.record_in.result c.if-number-eq0.false c.offset-first.ensures.value c.version_at.ensures
+    c.offset-first.result c.version_at.result c.record_in.result c.if-number-eq0.false c.offset-first.ensures.value
+    c.version_at.ensures
     c.record_in.ensures log t

@@ -25,4 +25,5 @@ pub returns : goal.returns
 returns g c log t =
     let i = c.loop-i.invariant in
     let number = c.objects.ensures.number in
-    listed c.args.profile log c.loop-i.records i.count (subst (λ n. AreListed n log c.loop-i.records) (omega arith) (i.listed log t))
+    listed c.args.profile log c.loop-i.records i.count
+    (subst (λ n. AreListed n log c.loop-i.records) (omega arith) (i.listed log t))

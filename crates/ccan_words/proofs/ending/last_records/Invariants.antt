@@ -10,5 +10,6 @@ abbrev pub invariant-loop-i : goal.invariant-loop-i
 invariant-loop-i g l =
     record {
       count : length l.records ≡ 64;
-      listed : (log : History) → Settles (g.L.Layout.form l.profile) (slots_items l.closed.words) log → AreListed l.i log l.records;
+      listed : (log : History) → Settles (g.L.Layout.form l.profile) (slots_items l.closed.words) log
+          → AreListed l.i log l.records;
     }

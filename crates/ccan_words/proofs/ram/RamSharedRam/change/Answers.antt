@@ -19,7 +19,8 @@ loop-turn-preserved g c =
 pub returns-in-Ok-clause-attempts : goal.returns-in-Ok-clause-attempts
 returns-in-Ok-clause-attempts g c =
     let drafted = c.prepare-draft.ensures in
-    committed _ _ _ _ c.prepare-draft.result drafted.object c.loop-turn.invariant.lost drafted.looks _ c.in-Ok.changed (omega arith)
+    committed _ _ _ _ c.prepare-draft.result drafted.object c.loop-turn.invariant.lost drafted.looks _ c.in-Ok.changed
+    (omega arith)
     c.in-Ok.ensures.commits
 
 pub returns-in-Ok-clause-tells : goal.returns-in-Ok-clause-tells
@@ -33,11 +34,10 @@ returns-in-Err-Spent-clause-attempts g c =
 
 pub returns-clause-few : goal.returns-clause-few
 returns-clause-few g c =
-    let s = c.port.inside in
-    let here =
-    subst CanSee c.port.view_is (seen_within s.seat.table_id s.key.profile s.name s.used s.key.quota s.seat.me c.port.invariant) in
+    let here = subst CanSee c.port.view_is (seen_within c.port.inside c.port.invariant) in
     let few =
-    few_so_far g.L.Layout.contends c.args.port.now c.loop-turn.port c.args.object c.args.change.now c.loop-turn.turn c.loop-turn.last
+    few_so_far g.L.Layout.contends c.args.port.now c.loop-turn.port c.args.object c.args.change.now c.loop-turn.turn
+    c.loop-turn.last
     here c.loop-turn.invariant.lost in
     let mine = ap (λ (m : Memory). m.quota) c.requires.memory in
     omega arith

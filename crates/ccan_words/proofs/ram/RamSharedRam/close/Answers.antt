@@ -27,4 +27,5 @@ returns g c =
     (record { profile = c.key-profile.result.profile; records = c.last_records-records.result }) f.1.1 f.2 view
     (record { port_is = r.if1.1; seen_is = sym a.2 }) (record { port_is = r.if2.1; seen_is = sym b.2 })
     (record { port_is = r.bus.1; seen_is = sym d.2 }) whole (whole ∙ sym (ap (λ (m : Memory). m.profile) r.if1.0))
-    (subst (λ (u : Profile). LeaveRecords (g.L.Layout.form u) ws c.last_records-records.result) whole c.last_records-records.ensures)
+    (subst (λ (u : Profile). LeaveRecords (g.L.Layout.form u) ws c.last_records-records.result) whole
+    c.last_records-records.ensures)

@@ -9,7 +9,8 @@ pub of_words-requires : goal.of_words-requires
 of_words-requires g c =
     let F = g.L.Layout.form c.args.key.profile in
     let zero_word : ℕ = 0 in
-    let e : c.in_ok-zeros.zeros.items ≡ replicate c.size.result zero_word = c.in_ok-zeros.ensures.items_if_clones_equal (λ y same. same) in
+    let e : c.in_ok-zeros.zeros.items ≡ replicate c.size.result zero_word =
+    c.in_ok-zeros.ensures.items_if_clones_equal (λ y same. same) in
     subst (λ (ws : List ℕ). Keeps F (opening {S = Unit {0}} ws [] (all_ports c.args.key.quota)))
     (sym (c.as_slice.ensures.value ∙ (e ∙ ap (λ (n : ℕ). replicate n zero_word) c.size.ensures)))
     (opens F c.args.key.quota c.requires.quota)
