@@ -26,5 +26,8 @@ decimal_pushed old between new n h small so_far pushed =
 pub length_more : (n : ℕ) → 10 ≤ n → n < 2 ^ 16 → length (decimal n) ≡ length (decimal (n / 10)) + 1
 length_more n h small = ap length (decimal_more n h small) ∙ simp length-append
 
+-- a number of one digit, and how long one is with a digit more
+pub ruleset digit_by_digit = (decimal_one, length_one, length_more)
+
 pub decimal_short : (n : ℕ) → n < 2 ^ 16 → length (decimal n) ≤ 5
 decimal_short n h = length-decimal-le 5 n (omega arith) (omega arith) (omega arith)

@@ -170,7 +170,6 @@ no_fault d e none p = go (fault_at d p.place) (none p.place) p.is
 -- ---- scripts
 
 host_once : (d : Data) (l m : HostLine) → HostSays d l → HostSays d m → l ≡ m
-unfolding HostSays
 host_once d l m h k = h ∙ sym k
 
 same_script : (a b : ScriptFields) → a.profile ≡ b.profile → a.quota ≡ b.quota → a.tries ≡ b.tries → a.nodes ≡ b.nodes

@@ -359,8 +359,11 @@ fn tells_each_refusal(rt: HostRuntime) -> Result<(), Fail> {
 /// Where an allocation is refused, that is told, and nothing else.
 #[test]
 fn tells_want_of_memory(rt: HostRuntime) {
-    let script =
-        r#"{"nodes":1,"if1":[{"op":"interrupt"}],"if2":[{"op":"transfer","request":"0001","set":{"cmask":"0073"}}],"bus":[{"op":"round","send":[{"node":1,"id":1,"dlc":1,"data":"01"}]}],"order":["bus","if2","if1"]}"#;
+    let script = r#"{"nodes":1,
+        "if1":[{"op":"interrupt"}],
+        "if2":[{"op":"transfer","request":"0001","set":{"cmask":"0073"}}],
+        "bus":[{"op":"round","send":[{"node":1,"id":1,"dlc":1,"data":"01"}]}],
+        "order":["bus","if2","if1"]}"#;
     match read_script(rt.alloc(), script.as_bytes()) {
         Ok(read) => assert_eq!(rt; read.order.len(), 3),
         Err(fault) => assert_eq!(rt; fault, ScriptError::Memory),
