@@ -1,5 +1,6 @@
 -- What is wrong with an order, and how often the default order names each port.
-use Rattle.std.proofs.Common.{◌≡◌, ◌≢◌, ◌<◌, ◌+◌, ◌*◌, ◌++◌, ℕ, List, [], ◌∷◌, Option, Some, None, Result, Ok, Err, Vec, IfOk, MatchResult, cond, map, replicate, sum_by, refl, ap, sym, ◌∙◌, arith, eq-eqb, ne_eqb}
+use Rattle.std.proofs.Common.{◌≡◌, ◌≢◌, ◌<◌, ◌+◌, ◌*◌, ◌++◌, ℕ, List, [], ◌∷◌, Option, Some, None, Result, Ok, Err, Vec}
+use Rattle.std.proofs.Common.{IfOk, MatchResult, cond, map, replicate, sum_by, refl, ap, sym, ◌∙◌, arith, eq-eqb, ne_eqb}
 use Rattle.std.proofs.lemmas.Bool.Decides.{nat_tests}
 use Rattle.std.proofs.lemmas.List.Folds.{sum_by-replicate}
 use Rattle.std.proofs.lemmas.List.Sums.{sum_by-append}
@@ -20,7 +21,8 @@ use Rattle.ccan_script.specs.Lines.{AreLines}
 use Rattle.ccan_script.specs.PortLine.{PortSays, port_fault, port_of}
 use Rattle.ccan_script.specs.Places.{IsFaultless, IsFirst, Precedes}
 use Rattle.ccan_script.specs.ListPlace.{list_fault, number_in_list}
-use Rattle.ccan_script.specs.Order.{ChecksTimes, OrderPlace, default_order, named_ports, names, number_in_order, order_by, order_fault, share, times, times_fault}
+use Rattle.ccan_script.specs.Order.{ChecksTimes, OrderPlace, default_order, named_ports, names, number_in_order}
+use Rattle.ccan_script.specs.Order.{order_by, order_fault, share, times, times_fault}
 use Rattle.ccan_script.specs.Reader.{ReadsOrder, UnlessMemory}
 use Rattle.ccan_script.proofs.ListFaults.{no_list}
 

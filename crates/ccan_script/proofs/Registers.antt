@@ -1,5 +1,7 @@
 -- One member more of an object that sets registers, and that it has no more members than there are registers.
-use Rattle.std.proofs.Common.{◌≡◌, ◌≤◌, ℕ, List, [], ◌∷◌, ◌++◌, ◌&&◌, ◌||◌, Bool, true, false, cond, Option, Some, None, Less, is_eq, length, option_map, option_and_then, is_some, map, string_bytes, string_cmp, refl, ap, sym, ◌∙◌, arith, true≢false, bytes_eq}
+use Rattle.std.proofs.Common.{◌≡◌, ◌≤◌, ℕ, List, [], ◌∷◌, ◌++◌, ◌&&◌, ◌||◌, Bool, true, false, cond, Option}
+use Rattle.std.proofs.Common.{Some, None, Less, is_eq, length, option_map, option_and_then, is_some, map, string_bytes}
+use Rattle.std.proofs.Common.{string_cmp, refl, ap, sym, ◌∙◌, arith, true≢false, bytes_eq}
 use Rattle.std.proofs.lemmas.Cmp.{nat_list_eq_equiv}
 use Rattle.std.proofs.lemmas.List.{length-map}
 use Rattle.std.proofs.lemmas.Map.Made.{length-le_from_is_member}
