@@ -21,7 +21,8 @@ length_one n h = ap length (decimal_one n h)
 pub decimal_pushed : (old between new : List ℕ) (n : ℕ) → 10 ≤ n → n < 2 ^ 16 → between ≡ old ++ decimal (n / 10)
     → new ≡ between ++ digit_glyph false (n % 10) ∷ [] → new ≡ old ++ decimal n
 decimal_pushed old between new n h small so_far pushed =
-    pushed ∙ ap (λ t. t ++ digit_glyph false (n % 10) ∷ []) so_far ∙ append_assoc old (decimal (n / 10)) (digit_glyph false (n % 10) ∷ [])
+    pushed ∙ ap (λ t. t ++ digit_glyph false (n % 10) ∷ []) so_far
+    ∙ append_assoc old (decimal (n / 10)) (digit_glyph false (n % 10) ∷ [])
     ∙ ap (λ t. old ++ t) (sym (decimal_more n h small))
 
 pub length_more : (n : ℕ) → 10 ≤ n → n < 2 ^ 16 → length (decimal n) ≡ length (decimal (n / 10)) + 1
