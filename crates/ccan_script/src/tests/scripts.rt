@@ -18,7 +18,8 @@ fn read(rt: &impl Abort, alloc: Global, script: &str) -> Script {
     }
 }
 
-fn number(rt: &impl Abort, number: u8) -> ObjectNo {
+/// The object of this number.
+pub(crate) fn object_no(rt: &impl Abort, number: u8) -> ObjectNo {
     match ObjectNo::new(number) {
         Some(object) => object,
         None => panic!(rt; "no object"),
@@ -76,7 +77,7 @@ fn reads_host_lines(rt: HostRuntime) -> Result<(), Fail> {
     else {
         return Err("no wait".into());
     };
-    assert_eq!(rt; *object, number(&rt, 33));
+    assert_eq!(rt; *object, object_no(&rt, 33));
     assert_eq!(rt; *flag, Flag::MsgLst);
     assert_eq!(rt; *turns, 1_000_000);
     assert!(rt; matches!(script.if2.get(1), Some(HostLine::Interrupt)));
