@@ -1,5 +1,6 @@
 -- The bytes of a text of hexadecimal digits, one after another.
-use Rattle.std.proofs.Common.{◌≡◌, ◌<◌, ◌≤◌, ◌+◌, ◌-◌, ◌*◌, ◌/◌, ◌%◌, ◌==◌, ℕ, zero, suc, List, [], ◌∷◌, ◌++◌, true, length, take, get_or, set, replicate, refl, ap, sym, ◌∙◌, arith, eqb-true}
+use Rattle.std.proofs.Common.{◌≡◌, ◌<◌, ◌≤◌, ◌+◌, ◌-◌, ◌*◌, ◌/◌, ◌%◌, ◌==◌, ℕ, zero, suc, List, [], ◌∷◌, ◌++◌, true}
+use Rattle.std.proofs.Common.{length, take, get_or, set, replicate, refl, ap, sym, ◌∙◌, arith, eqb-true}
 use Rattle.std.proofs.lemmas.List.{take_all}
 use Rattle.std.specs.Char.{digit_value, is_ascii_hexdigit}
 use Rattle.std.specs.List.{list_all}
@@ -75,7 +76,8 @@ pub hexadecimal : (text : List ℕ) → is_data_text text ≡ true → list_all 
 unfolding is_data_text
 hexadecimal text h = and_right (length text % 2 == 0) _ h
 
-hex_at : (text : List ℕ) (n : ℕ) → list_all is_ascii_hexdigit text ≡ true → n < length text → is_ascii_hexdigit (get_or text n 0) ≡ true
+hex_at : (text : List ℕ) (n : ℕ) → list_all is_ascii_hexdigit text ≡ true → n < length text
+    → is_ascii_hexdigit (get_or text n 0) ≡ true
 hex_at [] n h within = absurd (omega arith)
 hex_at (c ∷ cs) zero h within = and_left (is_ascii_hexdigit c) _ h
 hex_at (c ∷ cs) (suc n) h within = hex_at cs n (and_right (is_ascii_hexdigit c) _ h) (omega arith)
@@ -83,8 +85,8 @@ hex_at (c ∷ cs) (suc n) h within = hex_at cs n (and_right (is_ascii_hexdigit c
 pub digit_at : (text : List ℕ) (n : ℕ) → is_data_text text ≡ true → n < length text → is_ascii_hexdigit (get_or text n 0) ≡ true
 digit_at text n h within = hex_at text n (hexadecimal text h) within
 
-pub all_bytes : (n : ℕ) (text bytes : List ℕ) → is_data_text text ≡ true → length text ≤ 16 → n ≡ length text / 2 → bytes ≡ so_far n text
-    → bytes ≡ eight_bytes text
+pub all_bytes : (n : ℕ) (text bytes : List ℕ) → is_data_text text ≡ true → length text ≤ 16 → n ≡ length text / 2
+    → bytes ≡ so_far n text → bytes ≡ eight_bytes text
 unfolding eight_bytes
 all_bytes n text bytes h few is before =
     let pairs = even text h in
@@ -93,4 +95,5 @@ all_bytes n text bytes h few is before =
     let known : length (data_bytes (take (2 * n) text)) ≡ n = ap (λ k. length (data_bytes (take k text))) (sym double)
     ∙ count n text (omega arith) in
     let all : data_bytes (take (2 * n) text) ≡ data_bytes text = ap data_bytes (take_all (2 * n) text whole) in
-    before ∙ ap (λ bs. bs ++ replicate (8 - n) 0) all ∙ ap (λ k. data_bytes text ++ replicate (8 - k) 0) (sym known ∙ ap length all)
+    before ∙ ap (λ bs. bs ++ replicate (8 - n) 0) all
+    ∙ ap (λ k. data_bytes text ++ replicate (8 - k) 0) (sym known ∙ ap length all)

@@ -1,5 +1,6 @@
 -- Numbers in decimal, digit by digit.
-use Rattle.std.proofs.Common.{◌≡◌, ◌<◌, ◌≤◌, ◌+◌, ◌/◌, ◌%◌, ◌^◌, ℕ, List, [], ◌∷◌, ◌++◌, length, decimal, false, ap, sym, ◌∙◌, arith, append_assoc, length-append}
+use Rattle.std.proofs.Common.{◌≡◌, ◌<◌, ◌≤◌, ◌+◌, ◌/◌, ◌%◌, ◌^◌, ℕ, List, [], ◌∷◌, ◌++◌, length, decimal}
+use Rattle.std.proofs.Common.{false, ap, sym, ◌∙◌, arith, append_assoc, length-append}
 use Rattle.std.proofs.lemmas.Bool.Decides.{nat_tests}
 use Rattle.std.proofs.lemmas.Fmt.{decimal_digit, decimal_step, length-decimal-le}
 use Rattle.std.specs.Fmt.{digit_glyph}
@@ -20,11 +21,15 @@ length_one n h = ap length (decimal_one n h)
 pub decimal_pushed : (old between new : List ℕ) (n : ℕ) → 10 ≤ n → n < 2 ^ 16 → between ≡ old ++ decimal (n / 10)
     → new ≡ between ++ digit_glyph false (n % 10) ∷ [] → new ≡ old ++ decimal n
 decimal_pushed old between new n h small so_far pushed =
-    pushed ∙ ap (λ t. t ++ digit_glyph false (n % 10) ∷ []) so_far ∙ append_assoc old (decimal (n / 10)) (digit_glyph false (n % 10) ∷ [])
+    pushed ∙ ap (λ t. t ++ digit_glyph false (n % 10) ∷ []) so_far
+    ∙ append_assoc old (decimal (n / 10)) (digit_glyph false (n % 10) ∷ [])
     ∙ ap (λ t. old ++ t) (sym (decimal_more n h small))
 
 pub length_more : (n : ℕ) → 10 ≤ n → n < 2 ^ 16 → length (decimal n) ≡ length (decimal (n / 10)) + 1
 length_more n h small = ap length (decimal_more n h small) ∙ simp length-append
+
+-- a number of one digit, and how long one is with a digit more
+pub ruleset digit_by_digit = (decimal_one, length_one, length_more)
 
 pub decimal_short : (n : ℕ) → n < 2 ^ 16 → length (decimal n) ≤ 5
 decimal_short n h = length-decimal-le 5 n (omega arith) (omega arith) (omega arith)

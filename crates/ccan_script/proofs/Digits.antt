@@ -1,5 +1,6 @@
 -- One hexadecimal digit more.
-use Rattle.std.proofs.Common.{◌≡◌, ◌<◌, ◌+◌, ◌-◌, ◌*◌, ◌/◌, ◌%◌, ◌^◌, ℕ, zero, suc, List, [], ◌∷◌, ◌++◌, length, false, refl, ap, sym, ◌∙◌, arith, append_assoc, length-append, sub-one}
+use Rattle.std.proofs.Common.{◌≡◌, ◌<◌, ◌+◌, ◌-◌, ◌*◌, ◌/◌, ◌%◌, ◌^◌, ℕ, zero, suc, List, [], ◌∷◌, ◌++◌, length}
+use Rattle.std.proofs.Common.{false, refl, ap, sym, ◌∙◌, arith, append_assoc, length-append, sub-one}
 use Rattle.std.proofs.Math.Nat.{mul-suc, pow-suc}
 use Rattle.std.proofs.lemmas.Nat.{pow-add}
 use Rattle.std.specs.Fmt.{digit_glyph}

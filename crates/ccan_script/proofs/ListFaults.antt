@@ -1,5 +1,7 @@
 -- The faults of a list of lines.
-use Rattle.std.proofs.Common.{◌≡◌, ◌<◌, ◌≤◌, ◌+◌, ℕ, zero, suc, List, [], ◌∷◌, ◌++◌, true, false, Option, Some, None, length, take, map, get_or, option_and_then, refl, ap, sym, ◌∙◌, arith, option_map, nat_lt, inl, inr}
+use Rattle.std.proofs.Common.{◌≡◌, ◌<◌, ◌≤◌, ◌+◌, ℕ, zero, suc, List, [], ◌∷◌, ◌++◌, true, false, Option, Some, None}
+use Rattle.std.proofs.Common.{length, take, map, get_or, option_and_then, option_map, nat_lt, inl, inr}
+use Rattle.std.proofs.Common.{refl, ap, sym, ◌∙◌, arith}
 use Rattle.std.proofs.lemmas.Bool.{cases_lt}
 use Rattle.std.proofs.lemmas.Bool.Decides.{nat_tests}
 use Rattle.std.proofs.lemmas.List.{map-append, take_all, take_more}
@@ -58,6 +60,14 @@ here : (vs : List Value) (i : ℕ) (v : Value) → i < length vs → slice_get (
 here vs i v h = slice_get-map view vs i ∙ ap (option_map view) (slice_get-get_or vs i v h)
 
 module _ (name : ListName) (most : ℕ) (fault : Data → Option LineFault) where
+  -- the faults of a list that has this value
+  abbrev faults_of : Data → ListPlace → Option ScriptError
+  faults_of d = list_fault name most fault (Some d)
+
+  -- the fault of a line that may be there
+  abbrev fault_here : ℕ → Option Data → Option ScriptError
+  fault_here i o = option_map (refusal_at name i) (option_and_then fault o)
+
   pub no_list : IsFaultless number_in_list (list_fault name most fault None)
   unfolding list_fault lines_in can_be_list
   no_list list = refl
@@ -65,62 +75,61 @@ module _ (name : ListName) (most : ℕ) (fault : Data → Option LineFault) wher
   no_list (line i) = refl
 
   module _ (d : Data) where
-    pub not_list : as_array d ≡ None → IsFirst number_in_list (list_fault name most fault (Some d)) (Shape name 0)
+    pub not_list : as_array d ≡ None → IsFirst number_in_list (faults_of d) (Shape name 0)
     unfolding list_fault can_be_list
     not_list none = record { place = list; is = rw none refl; first = go }
       where
-        go : (q : ListPlace) → Precedes (number_in_list q) (number_in_list list) → list_fault name most fault (Some d) q ≡ None
+        go : (q : ListPlace) → Precedes (number_in_list q) (number_in_list list) → faults_of d q ≡ None
         go list h = cc
-        go count h = cc
-        go (line i) h = cc
+        go q h = cc
 
     module _ (vs : List Value) (is : as_array d ≡ Some (items_view vs)) where
-      list_is_list : list_fault name most fault (Some d) list ≡ None
+      list_is_list : faults_of d list ≡ None
       unfolding list_fault can_be_list
       list_is_list = rw is refl
 
-      few_lines : length vs ≤ most → list_fault name most fault (Some d) count ≡ None
+      few_lines : length vs ≤ most → faults_of d count ≡ None
       unfolding list_fault
       few_lines h = let few : nat_lt most (length vs) ≡ false = grind (arith, nat_tests) in
           rw (lines_are d vs is, length-map_view vs, few) refl
 
-      many_lines : most < length vs → list_fault name most fault (Some d) count ≡ Some (TooMany name)
+      many_lines : most < length vs → faults_of d count ≡ Some (TooMany name)
       unfolding list_fault
       many_lines h = let many : nat_lt most (length vs) ≡ true = grind (arith, nat_tests) in
           rw (lines_are d vs is, length-map_view vs, many) refl
 
-      line_at : (i : ℕ) → list_fault name most fault (Some d) (line i) ≡ option_map (refusal_at name i)
-          (option_and_then fault (slice_get (map view vs) i))
+      line_at : (i : ℕ) → faults_of d (line i) ≡ fault_here i (slice_get (map view vs) i)
       unfolding list_fault
       line_at i = rw (lines_are d vs is) refl
 
       -- the fault of a line within the list is that of its value
-      pub line_here : (i : ℕ) (v : Value) → i < length vs → list_fault name most fault (Some d) (line i) ≡ option_map (refusal_at name i)
-          (fault (view (get_or vs i v)))
-      line_here i v h = line_at i ∙ ap (λ (o : Option Data). option_map (refusal_at name i) (option_and_then fault o)) (here vs i v h)
+      pub line_here : (i : ℕ) (v : Value) → i < length vs
+          → faults_of d (line i) ≡ fault_here i (Some (view (get_or vs i v)))
+      line_here i v h = line_at i ∙ ap (fault_here i) (here vs i v h)
 
-      pub line_past : (i : ℕ) → length vs ≤ i → list_fault name most fault (Some d) (line i) ≡ None
-      line_past i h = line_at i ∙ ap (λ (o : Option Data). option_map (refusal_at name i) (option_and_then fault o)) (past_end vs i h)
+      pub line_past : (i : ℕ) → length vs ≤ i → faults_of d (line i) ≡ None
+      line_past i h = line_at i ∙ ap (fault_here i) (past_end vs i h)
 
-      pub too_many : most < length vs → IsFirst number_in_list (list_fault name most fault (Some d)) (TooMany name)
+      pub too_many : most < length vs → IsFirst number_in_list (faults_of d) (TooMany name)
       too_many h = record { place = count; is = many_lines h; first = go }
         where
-          go : (q : ListPlace) → Precedes (number_in_list q) (number_in_list count) → list_fault name most fault (Some d) q ≡ None
+          go : (q : ListPlace) → Precedes (number_in_list q) (number_in_list count) → faults_of d q ≡ None
           go list h = list_is_list
           go count h = cc
           go (line i) h = cc
 
-      pub bad_line : (i : ℕ) (e : ScriptError) → length vs ≤ most → ((j : ℕ) → j < i → list_fault name most fault (Some d) (line j) ≡ None)
-          → list_fault name most fault (Some d) (line i) ≡ Some e → IsFirst number_in_list (list_fault name most fault (Some d)) e
+      pub bad_line : (i : ℕ) (e : ScriptError) → length vs ≤ most
+          → ((j : ℕ) → j < i → faults_of d (line j) ≡ None) → faults_of d (line i) ≡ Some e
+          → IsFirst number_in_list (faults_of d) e
       bad_line i e few passed bad = record { place = line i; is = bad; first = go }
         where
-          go : (q : ListPlace) → Precedes (number_in_list q) (number_in_list (line i)) → list_fault name most fault (Some d) q ≡ None
+          go : (q : ListPlace) → Precedes (number_in_list q) (number_in_list (line i)) → faults_of d q ≡ None
           go list h = list_is_list
           go count h = few_lines few
           go (line j) h = passed j (line_before i j h)
 
-      pub faultless : (i : ℕ) → length vs ≤ most → length vs ≤ i → ((j : ℕ) → j < i → list_fault name most fault (Some d) (line j) ≡ None)
-          → IsFaultless number_in_list (list_fault name most fault (Some d))
+      pub faultless : (i : ℕ) → length vs ≤ most → length vs ≤ i
+          → ((j : ℕ) → j < i → faults_of d (line j) ≡ None) → IsFaultless number_in_list (faults_of d)
       faultless i few h passed list = list_is_list
       faultless i few h passed count = few_lines few
       faultless i few h passed (line j) = elim (cases_lt j i) [

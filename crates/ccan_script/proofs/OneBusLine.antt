@@ -35,5 +35,4 @@ bus_once_by (Some op.Recessive) d l m h k = h ∙ sym k
 bus_once_by (Some op.LoopBack) d l m h k = h ∙ sym k
 
 pub bus_once : (d : Data) (l m : BusLine) → BusSays d l → BusSays d m → l ≡ m
-unfolding BusSays
 bus_once d l m h k = bus_once_by (bus_op d) d l m h k

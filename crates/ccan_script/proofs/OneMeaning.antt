@@ -19,7 +19,8 @@ use Rattle.ccan_script.specs.BusLine.{BusSays}
 use Rattle.ccan_script.specs.Order.{OrderPlace, names, number_in_order, order_by, share}
 use Rattle.ccan_script.specs.Places.{IsFirst}
 use Rattle.ccan_script.specs.ListPlace.{ListPlace, count, line, list, number_in_list}
-use Rattle.ccan_script.specs.Script.{Place, Says, ScriptFields, bus, fault_at, if1, if2, lines_of, members, nodes, number_of, order, profile, quota, tries}
+use Rattle.ccan_script.specs.Script.{Place, Says, ScriptFields, fault_at, lines_of, number_of}
+use Rattle.ccan_script.specs.Script.{bus, if1, if2, members, nodes, order, profile, quota, tries}
 use Rattle.ccan_script.specs.Laws.{HasOneMeaning}
 use Rattle.ccan_script.proofs.Lines.{lines_once}
 use Rattle.ccan_script.proofs.OneBusLine.{bus_once}
@@ -28,149 +29,62 @@ use Rattle.ccan_script.proofs.OneBusLine.{bus_once}
 
 same_list_place : (p q : ListPlace) → number_in_list p ≡ number_in_list q → p ≡ q
 same_list_place list list h = refl
-same_list_place list count h = cc
-same_list_place list (line j) h = cc
-same_list_place count list h = cc
 same_list_place count count h = refl
-same_list_place count (line j) h = cc
-same_list_place (line i) list h = cc
-same_list_place (line i) count h = cc
 same_list_place (line i) (line j) h = cc
+same_list_place p q h = cc
 
 same_port_number : (p q : PortName) → port_index p ≡ port_index q → p ≡ q
 same_port_number port.If1 port.If1 h = refl
-same_port_number port.If1 port.If2 h = absurd (omega arith)
-same_port_number port.If1 port.Bus h = absurd (omega arith)
-same_port_number port.If2 port.If1 h = absurd (omega arith)
 same_port_number port.If2 port.If2 h = refl
-same_port_number port.If2 port.Bus h = absurd (omega arith)
-same_port_number port.Bus port.If1 h = absurd (omega arith)
-same_port_number port.Bus port.If2 h = absurd (omega arith)
 same_port_number port.Bus port.Bus h = refl
+same_port_number p q h = absurd (omega arith)
 
 same_order_place : (p q : OrderPlace) → number_in_order p ≡ number_in_order q → p ≡ q
 same_order_place (names p) (names q) h = ap names (same_list_place p q cc)
-same_order_place (names p) (share n) h = cc
-same_order_place (share n) (names q) h = cc
 same_order_place (share n) (share m) h = ap share (same_port_number n m cc)
+same_order_place p q h = cc
 
+-- the last case is that of two different parts
 same_place : (p q : Place) → number_of p ≡ number_of q → p ≡ q
 same_place members members h = refl
-same_place members profile h = cc
-same_place members quota h = cc
-same_place members tries h = cc
-same_place members nodes h = cc
-same_place members (if1 q) h = cc
-same_place members (if2 q) h = cc
-same_place members (bus q) h = cc
-same_place members (order q) h = cc
-same_place profile members h = cc
 same_place profile profile h = refl
-same_place profile quota h = cc
-same_place profile tries h = cc
-same_place profile nodes h = cc
-same_place profile (if1 q) h = cc
-same_place profile (if2 q) h = cc
-same_place profile (bus q) h = cc
-same_place profile (order q) h = cc
-same_place quota members h = cc
-same_place quota profile h = cc
 same_place quota quota h = refl
-same_place quota tries h = cc
-same_place quota nodes h = cc
-same_place quota (if1 q) h = cc
-same_place quota (if2 q) h = cc
-same_place quota (bus q) h = cc
-same_place quota (order q) h = cc
-same_place tries members h = cc
-same_place tries profile h = cc
-same_place tries quota h = cc
 same_place tries tries h = refl
-same_place tries nodes h = cc
-same_place tries (if1 q) h = cc
-same_place tries (if2 q) h = cc
-same_place tries (bus q) h = cc
-same_place tries (order q) h = cc
-same_place nodes members h = cc
-same_place nodes profile h = cc
-same_place nodes quota h = cc
-same_place nodes tries h = cc
 same_place nodes nodes h = refl
-same_place nodes (if1 q) h = cc
-same_place nodes (if2 q) h = cc
-same_place nodes (bus q) h = cc
-same_place nodes (order q) h = cc
-same_place (if1 p) members h = cc
-same_place (if1 p) profile h = cc
-same_place (if1 p) quota h = cc
-same_place (if1 p) tries h = cc
-same_place (if1 p) nodes h = cc
 same_place (if1 p) (if1 q) h = ap if1 (same_list_place p q cc)
-same_place (if1 p) (if2 q) h = cc
-same_place (if1 p) (bus q) h = cc
-same_place (if1 p) (order q) h = cc
-same_place (if2 p) members h = cc
-same_place (if2 p) profile h = cc
-same_place (if2 p) quota h = cc
-same_place (if2 p) tries h = cc
-same_place (if2 p) nodes h = cc
-same_place (if2 p) (if1 q) h = cc
 same_place (if2 p) (if2 q) h = ap if2 (same_list_place p q cc)
-same_place (if2 p) (bus q) h = cc
-same_place (if2 p) (order q) h = cc
-same_place (bus p) members h = cc
-same_place (bus p) profile h = cc
-same_place (bus p) quota h = cc
-same_place (bus p) tries h = cc
-same_place (bus p) nodes h = cc
-same_place (bus p) (if1 q) h = cc
-same_place (bus p) (if2 q) h = cc
 same_place (bus p) (bus q) h = ap bus (same_list_place p q cc)
-same_place (bus p) (order q) h = cc
-same_place (order p) members h = cc
-same_place (order p) profile h = cc
-same_place (order p) quota h = cc
-same_place (order p) tries h = cc
-same_place (order p) nodes h = cc
-same_place (order p) (if1 q) h = cc
-same_place (order p) (if2 q) h = cc
-same_place (order p) (bus q) h = cc
 same_place (order p) (order q) h = ap order (same_order_place p q cc)
+same_place p q h = cc
 
 -- ---- faults
 
 same_number : (a b : List ℕ) → slice_cmp nat_cmp a b ≡ Equal → a ≡ b
 same_number a b h = (bytes_eq-Decides a b).0 (sym (is_eq-slice_cmp a b) ∙ ap is_eq h)
 
+-- a place has no fault and a fault
+differ : (e : ScriptError) (o : Option ScriptError) → o ≡ None → o ≡ Some e → ⊥
+differ e o a b = cc
+
 module _ (d : Data) (e f : ScriptError) (p : IsFirst number_of (fault_at d) e) (q : IsFirst number_of (fault_at d) f) where
   one_fault : (o : Ordering) → slice_cmp nat_cmp (number_of p.place) (number_of q.place) ≡ o → e ≡ f
-  one_fault Less h = let none : fault_at d p.place ≡ None = q.first p.place h in absurd (differ e (fault_at d p.place) none p.is)
-    where
-      differ : (e : ScriptError) (o : Option ScriptError) → o ≡ None → o ≡ Some e → ⊥
-      differ e o a b = cc
+  one_fault Less h = absurd (differ e (fault_at d p.place) (q.first p.place h) p.is)
   one_fault Equal h = let same : p.place ≡ q.place = same_place p.place q.place (same_number _ _ h) in
       joined (fault_at d p.place) (fault_at d q.place) (ap (fault_at d) same) p.is q.is
     where
       joined : (a b : Option ScriptError) → a ≡ b → a ≡ Some e → b ≡ Some f → e ≡ f
       joined a b x y z = cc
   one_fault Greater h =
-      let before : slice_cmp nat_cmp (number_of q.place) (number_of p.place) ≡ Less = nat_list_cmp_total.antisymm (number_of q.place)
-      (number_of p.place) ∙ ap ordering_reverse h in
+      let before : slice_cmp nat_cmp (number_of q.place) (number_of p.place) ≡ Less =
+      nat_list_cmp_total.antisymm (number_of q.place) (number_of p.place) ∙ ap ordering_reverse h in
       absurd (differ f (fault_at d q.place) (p.first q.place before) q.is)
-    where
-      differ : (e : ScriptError) (o : Option ScriptError) → o ≡ None → o ≡ Some e → ⊥
-      differ e o a b = cc
 
 no_fault : (d : Data) (e : ScriptError) → ((p : Place) → fault_at d p ≡ None) → IsFirst number_of (fault_at d) e → ⊥
-no_fault d e none p = go (fault_at d p.place) (none p.place) p.is
-  where
-    go : (o : Option ScriptError) → o ≡ None → o ≡ Some e → ⊥
-    go o a b = cc
+no_fault d e none p = differ e (fault_at d p.place) (none p.place) p.is
 
 -- ---- scripts
 
 host_once : (d : Data) (l m : HostLine) → HostSays d l → HostSays d m → l ≡ m
-unfolding HostSays
 host_once d l m h k = h ∙ sym k
 
 same_script : (a b : ScriptFields) → a.profile ≡ b.profile → a.quota ≡ b.quota → a.tries ≡ b.tries → a.nodes ≡ b.nodes
@@ -186,7 +100,8 @@ same_script a b profile_is quota_is tries_is nodes_are if1_are if2_are bus_are o
   order = order_is i;
 }
 
-same_counts : (a b : ScriptFields) → a.if1 ≡ b.if1 → a.if2 ≡ b.if2 → a.bus ≡ b.bus → (name : PortName) → lines_of a name ≡ lines_of b name
+same_counts : (a b : ScriptFields) → a.if1 ≡ b.if1 → a.if2 ≡ b.if2 → a.bus ≡ b.bus → (name : PortName)
+    → lines_of a name ≡ lines_of b name
 same_counts a b if1_are if2_are bus_are port.If1 = ap length if1_are
 same_counts a b if1_are if2_are bus_are port.If2 = ap length if2_are
 same_counts a b if1_are if2_are bus_are port.Bus = ap length bus_are

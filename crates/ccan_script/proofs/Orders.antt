@@ -1,5 +1,6 @@
 -- What is wrong with an order, and how often the default order names each port.
-use Rattle.std.proofs.Common.{◌≡◌, ◌≢◌, ◌<◌, ◌+◌, ◌*◌, ◌++◌, ℕ, List, [], ◌∷◌, Option, Some, None, Result, Ok, Err, Vec, IfOk, MatchResult, cond, map, replicate, sum_by, refl, ap, sym, ◌∙◌, arith, eq-eqb, ne_eqb}
+use Rattle.std.proofs.Common.{◌≡◌, ◌≢◌, ◌<◌, ◌+◌, ◌*◌, ◌++◌, ℕ, List, [], ◌∷◌, Option, Some, None, Result, Ok, Err, Vec}
+use Rattle.std.proofs.Common.{IfOk, MatchResult, cond, map, replicate, sum_by, refl, ap, sym, ◌∙◌, arith, eq-eqb, ne_eqb}
 use Rattle.std.proofs.lemmas.Bool.Decides.{nat_tests}
 use Rattle.std.proofs.lemmas.List.Folds.{sum_by-replicate}
 use Rattle.std.proofs.lemmas.List.Sums.{sum_by-append}
@@ -20,7 +21,8 @@ use Rattle.ccan_script.specs.Lines.{AreLines}
 use Rattle.ccan_script.specs.PortLine.{PortSays, port_fault, port_of}
 use Rattle.ccan_script.specs.Places.{IsFaultless, IsFirst, Precedes}
 use Rattle.ccan_script.specs.ListPlace.{list_fault, number_in_list}
-use Rattle.ccan_script.specs.Order.{ChecksTimes, OrderPlace, default_order, named_ports, names, number_in_order, order_by, order_fault, share, times, times_fault}
+use Rattle.ccan_script.specs.Order.{ChecksTimes, OrderPlace, default_order, named_ports, names, number_in_order}
+use Rattle.ccan_script.specs.Order.{order_by, order_fault, share, times, times_fault}
 use Rattle.ccan_script.specs.Reader.{ReadsOrder, UnlessMemory}
 use Rattle.ccan_script.proofs.ListFaults.{no_list}
 
@@ -53,21 +55,24 @@ module _ (lines : PortName → ℕ) where
     missed name h = rw (ne_eqb (times name (named_ports (Some d))) (lines name) (λ e. h (ap (times name) is ∙ e))) refl
 
     module _ (names_ok : IsFaultless number_in_list (list_fault list_name.Order most_names port_fault (Some d))) where
-      pub bad_share : (name : PortName) → times name order ≢ lines name → ((earlier : PortName) → port_index earlier < port_index name
-          → times earlier order ≡ lines earlier)
+      pub bad_share : (name : PortName) → times name order ≢ lines name
+          → ((earlier : PortName) → port_index earlier < port_index name → times earlier order ≡ lines earlier)
           → IsFirst number_in_order (order_fault lines (Some d)) (error.Order name)
       bad_share name bad passed = record { place = share name; is = missed name bad; first = go }
         where
-          go : (q : OrderPlace) → Precedes (number_in_order q) (number_in_order (share name)) → order_fault lines (Some d) q ≡ None
+          go : (q : OrderPlace) → Precedes (number_in_order q) (number_in_order (share name))
+              → order_fault lines (Some d) q ≡ None
           go (names p) before = names_ok p
           go (share m) before = met m (passed m (share_before m name before))
 
-      pub no_share : ((name : PortName) → times name order ≡ lines name) → IsFaultless number_in_order (order_fault lines (Some d))
+      pub no_share : ((name : PortName) → times name order ≡ lines name)
+          → IsFaultless number_in_order (order_fault lines (Some d))
       no_share all (names p) = names_ok p
       no_share all (share name) = met name (all name)
 
   -- names that are at fault
-  pub bad_names : (o : Option Data) (e : ScriptError) → IsFirst number_in_list (list_fault list_name.Order most_names port_fault o) e
+  pub bad_names : (o : Option Data) (e : ScriptError)
+      → IsFirst number_in_list (list_fault list_name.Order most_names port_fault o) e
       → IsFirst number_in_order (order_fault lines o) e
   bad_names o e h = record { place = names h.place; is = h.is; first = go }
     where
@@ -93,12 +98,14 @@ module _ (lines : PortName → ℕ) where
   default_times name =
       let f : PortName → ℕ = λ p. cond (same_port name p) 1 0 in
       sum_by-append f (replicate (lines If1) If1) (replicate (lines If2) If2 ++ replicate (lines Bus) Bus)
-      ∙ ap (λ n. sum_by f (replicate (lines If1) If1) + n) (sum_by-append f (replicate (lines If2) If2) (replicate (lines Bus) Bus))
-      ∙ (λ i. sum_by-replicate f (lines If1) If1 i + (sum_by-replicate f (lines If2) If2 i + sum_by-replicate f (lines Bus) Bus i))
+      ∙ ap (λ n. sum_by f (replicate (lines If1) If1) + n)
+      (sum_by-append f (replicate (lines If2) If2) (replicate (lines Bus) Bus))
+      ∙ (λ i. sum_by-replicate f (lines If1) If1 i
+      + (sum_by-replicate f (lines If2) If2 i + sum_by-replicate f (lines Bus) Bus i))
       ∙ go name
     where
-      go : (name : PortName) → lines If1 * cond (same_port name If1) 1 0 + (lines If2 * cond (same_port name If2) 1 0 + lines Bus * cond
-          (same_port name Bus) 1 0) ≡ lines name
+      go : (name : PortName) → lines If1 * cond (same_port name If1) 1 0
+          + (lines If2 * cond (same_port name If2) 1 0 + lines Bus * cond (same_port name Bus) 1 0) ≡ lines name
       go If1 = omega arith
       go If2 = omega arith
       go Bus = omega arith
@@ -119,7 +126,8 @@ module _ (lines : PortName → ℕ) where
   -- how often the order names the ports is wrong
   pub bad_check : (d : Data) (order : List PortName) → order ≡ named_ports (Some d)
       → IsFaultless number_in_list (list_fault list_name.Order most_names port_fault (Some d))
-      → (e : ScriptError) → ChecksTimes lines order (Err e) → UnlessMemory e (IsFirst number_in_order (order_fault lines (Some d)) e)
+      → (e : ScriptError) → ChecksTimes lines order (Err e)
+      → UnlessMemory e (IsFirst number_in_order (order_fault lines (Some d)) e)
   bad_check d order is names_ok error.NotJson h = absurd h
   bad_check d order is names_ok (error.Shape l i) h = absurd h
   bad_check d order is names_ok (error.Range l i) h = absurd h

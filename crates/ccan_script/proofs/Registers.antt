@@ -1,5 +1,7 @@
 -- One member more of an object that sets registers, and that it has no more members than there are registers.
-use Rattle.std.proofs.Common.{◌≡◌, ◌≤◌, ℕ, List, [], ◌∷◌, ◌++◌, ◌&&◌, ◌||◌, Bool, true, false, cond, Option, Some, None, Less, is_eq, length, option_map, option_and_then, is_some, map, string_bytes, string_cmp, refl, ap, sym, ◌∙◌, arith, true≢false, bytes_eq}
+use Rattle.std.proofs.Common.{◌≡◌, ◌≤◌, ℕ, List, [], ◌∷◌, ◌++◌, ◌&&◌, ◌||◌, Bool, true, false, cond, Option}
+use Rattle.std.proofs.Common.{Some, None, Less, is_eq, length, option_map, option_and_then, is_some, map, string_bytes}
+use Rattle.std.proofs.Common.{string_cmp, refl, ap, sym, ◌∙◌, arith, true≢false, bytes_eq}
 use Rattle.std.proofs.lemmas.Cmp.{nat_list_eq_equiv}
 use Rattle.std.proofs.lemmas.List.{length-map}
 use Rattle.std.proofs.lemmas.Map.Made.{length-le_from_is_member}
@@ -109,8 +111,8 @@ within (e ∷ es) h q there =
     (λ same. list_any_congr nat_list_eq_equiv q (string_bytes e.0) register_names same ∙ is_register e (and_left _ _ each))
     (within es (and_right (is_some (set_by e)) _ each) q)
 
-pub few : (es rest : List Entry) → IsStrictlySortedBy string_cmp (keys_of (es ++ rest)) → is_some (settings (members_view es)) ≡ true
-    → length es ≤ 10
+pub few : (es rest : List Entry) → IsStrictlySortedBy string_cmp (keys_of (es ++ rest))
+    → is_some (settings (members_view es)) ≡ true → length es ≤ 10
 few es rest sorted all =
     let fits = length-le_from_is_member nat_list_eq_equiv (names es) register_names (distinct es rest sorted) (within es all) in
     omega (arith, fits, length-map es (λ e. string_bytes e.0))

@@ -1,5 +1,6 @@
 -- No node sends twice where the nodes that send are distinct.
-use Rattle.std.proofs.Common.{◌≡◌, ◌≤◌, ◌==◌, ◌&&◌, ◌||◌, ℕ, suc, Bool, true, false, not, List, [], ◌∷◌, length, map, refl, ap, sym, ◌∙◌, arith, cond, eqb-true, eq-eqb}
+use Rattle.std.proofs.Common.{◌≡◌, ◌≤◌, ◌==◌, ◌&&◌, ◌||◌, ℕ, suc, Bool, true, false, not, List, [], ◌∷◌}
+use Rattle.std.proofs.Common.{length, map, refl, ap, sym, ◌∙◌, arith, cond, eqb-true, eq-eqb}
 use Rattle.std.specs.List.{list_any}
 use Rattle.serde_json.specs.Data.{Data}
 use Rattle.ccan_accept.specs.declared.frame.Frame.{Frame}
@@ -36,7 +37,8 @@ absent n (s ∷ ss) h = passed n s ss false (or_left (s.0 == n) _ h) ∙ absent 
 missing_with : (n : ℕ) (s : ℕ × Frame) (ss : List (ℕ × Frame)) (b : Bool) → (s.0 == n) ≡ b
     → (length (sends_of n ss) ≡ 0 → list_any (λ m. m == n) (nodes_of ss) ≡ false) → length (sends_of n (s ∷ ss)) ≡ 0
     → list_any (λ m. m == n) (nodes_of (s ∷ ss)) ≡ false
-missing_with n s ss true is later h = let more : suc (length (sends_of n ss)) ≡ 0 = sym (passed n s ss true is) ∙ h in absurd (omega arith)
+missing_with n s ss true is later h =
+    let more : suc (length (sends_of n ss)) ≡ 0 = sym (passed n s ss true is) ∙ h in absurd (omega arith)
 missing_with n s ss false is later h = rw is (later (sym (passed n s ss false is) ∙ h))
 
 missing : (n : ℕ) (ss : List (ℕ × Frame)) → length (sends_of n ss) ≡ 0 → list_any (λ m. m == n) (nodes_of ss) ≡ false

@@ -1,5 +1,6 @@
 -- From what a value means to what the bytes mean.
-use Rattle.std.proofs.Common.{◌≡◌, ℕ, List, Bool, true, false, Option, Some, None, Result, Ok, Err, cond, nat_le, nat_lt, ◌&&◌, ◌==◌, length, inl, inr, option_and_then, option_map}
+use Rattle.std.proofs.Common.{◌≡◌, ℕ, List, Bool, true, false, Option, Some, None, Result, Ok, Err, cond, nat_le}
+use Rattle.std.proofs.Common.{nat_lt, ◌&&◌, ◌==◌, length, inl, inr, option_and_then, option_map}
 use Rattle.std.specs.Prelude.{IsUtf8}
 use Rattle.std.specs.List.{slice_get}
 use Rattle.std.specs.Option.{option_map_or}

@@ -1,5 +1,6 @@
 -- A text of four hexadecimal digits is read as its number.
-use Rattle.std.proofs.Common.{◌≡◌, ◌+◌, ◌*◌, ℕ, List, [], ◌∷◌, ◌&&◌, Bool, true, false, length, get_or, refl, sym, arith, true≢false}
+use Rattle.std.proofs.Common.{◌≡◌, ◌+◌, ◌*◌, ℕ, List, [], ◌∷◌, ◌&&◌, Bool, true, false}
+use Rattle.std.proofs.Common.{length, get_or, refl, sym, arith, true≢false}
 use Rattle.std.specs.Char.{digit_value}
 use Rattle.std.specs.Str.Parse.{digits_value}
 

@@ -11,7 +11,8 @@ use Rattle.ccan_script.specs.declared.line_fault.LineFault.TheVariants.{Shape}
 use Rattle.ccan_script.specs.declared.bus_op.BusOp.{BusOp}
 use Rattle.ccan_script.specs.declared.bus_op.BusOp.TheVariants as op
 use Rattle.ccan_script.specs.declared.bus_line.BusLine.{BusLine}
-use Rattle.ccan_script.specs.declared.bus_line.BusLine.TheVariants.{Load, Round, Status, Control, Interrupt, Flags, Counters, Init, Recessive, LoopBack}
+use Rattle.ccan_script.specs.declared.bus_line.BusLine.TheVariants.{Load, Round, Status, Control, Interrupt, Flags}
+use Rattle.ccan_script.specs.declared.bus_line.BusLine.TheVariants.{Counters, Init, Recessive, LoopBack}
 use Rattle.ccan_script.specs.Limits.{most_groups}
 use Rattle.ccan_script.specs.LineFault.{shape_check, shape_then_range}
 use Rattle.ccan_script.specs.BusOp.{bus_op}
@@ -27,10 +28,10 @@ is_control d =
     has_only (codes "op" ∷ codes "sie" ∷ codes "eie" ∷ []) d
     && (is_some (whole_in (codes "sie") d) && is_some (whole_in (codes "eie") d))
 
-unfoldable pub control_in_range : Data → Bool
+abbrev pub control_in_range : Data → Bool
 control_in_range d = is_within 0 1 (whole_in (codes "sie") d) && is_within 0 1 (whole_in (codes "eie") d)
 
-unfoldable pub control_of : Data → BusLine
+abbrev pub control_of : Data → BusLine
 control_of d = Control (number_in (codes "sie") d == 1) (number_in (codes "eie") d == 1)
 
 -- ---- lines
@@ -52,7 +53,7 @@ bus_fault_by nodes (Some op.Init) d = shape_check (is_bare d)
 bus_fault_by nodes (Some op.Recessive) d = number_fault_of (codes "groups") 1 most_groups d
 bus_fault_by nodes (Some op.LoopBack) d = number_fault_of (codes "on") 0 1 d
 
-unfoldable pub bus_fault : ℕ → Data → Option LineFault
+abbrev pub bus_fault : ℕ → Data → Option LineFault
 bus_fault nodes d = bus_fault_by nodes (bus_op d) d
 
 -- what a line of each operation says
@@ -70,7 +71,7 @@ BusSaysBy (Some op.Recessive) d line = line ≡ Recessive (number_in (codes "gro
 BusSaysBy (Some op.LoopBack) d line = line ≡ LoopBack (number_in (codes "on") d == 1)
 
 -- the line says what the value says
-unfoldable pub BusSays : Data → BusLine → Type 0
+abbrev pub BusSays : Data → BusLine → Type 0
 BusSays d line = BusSaysBy (bus_op d) d line
 
 -- ---- ranges

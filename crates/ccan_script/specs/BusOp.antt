@@ -4,7 +4,8 @@ use Rattle.std.specs.Str.{bytes_eq}
 use Rattle.serde_json.specs.Data.{Data}
 use Rattle.serde_json.specs.Find.{as_str, get}
 use Rattle.ccan_script.specs.declared.bus_op.BusOp.{BusOp}
-use Rattle.ccan_script.specs.declared.bus_op.BusOp.TheVariants.{Load, Round, Status, Control, Interrupt, Flags, Counters, Init, Recessive, LoopBack}
+use Rattle.ccan_script.specs.declared.bus_op.BusOp.TheVariants.{Load, Round, Status, Control, Interrupt, Flags}
+use Rattle.ccan_script.specs.declared.bus_op.BusOp.TheVariants.{Counters, Init, Recessive, LoopBack}
 
 unfoldable pub bus_op_named : List ℕ → Option BusOp
 bus_op_named word =

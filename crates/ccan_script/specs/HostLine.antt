@@ -1,6 +1,7 @@
 -- The lines of a host port in a script: what is wrong with the JSON value of a line, and the line that a value without
 -- fault stands for. Source: this project's own.
-use Rattle.std.specs.Prelude.{ℕ, ◌≡◌, ◌≤◌, ◌&&◌, Bool, codes, List, [], ◌∷◌, Option, Some, None, is_some, unwrap_or, option_and_then}
+use Rattle.std.specs.Prelude.{ℕ, ◌≡◌, ◌≤◌, ◌&&◌, Bool, codes, List, [], ◌∷◌, Option}
+use Rattle.std.specs.Prelude.{Some, None, is_some, unwrap_or, option_and_then}
 use Rattle.std.specs.Option.{option_map_or}
 use Rattle.std.specs.Coded.{le_prop, ×_prop, Unit-prop}
 use Rattle.serde_json.specs.Data.{Data}
@@ -38,7 +39,7 @@ is_transfer d =
     has_only (codes "op" ∷ codes "request" ∷ codes "set" ∷ []) d && (is_some (request_in d) && is_some (settings_of d))
 
 -- the line that it stands for
-unfoldable pub transfer_of : Data → HostLine
+abbrev pub transfer_of : Data → HostLine
 transfer_of d = Transfer (unwrap_or (request_in d) 0) (record { items = unwrap_or (settings_of d) [] })
 
 -- ---- waits
@@ -50,11 +51,11 @@ is_until d =
     && (is_some (whole_in (codes "object") d) && (is_some (flag_in d) && is_some (whole_in (codes "turns") d)))
 
 -- the object is one of the profile, and there are not too many turns
-unfoldable pub until_in_range : Profile → Data → Bool
+abbrev pub until_in_range : Profile → Data → Bool
 until_in_range profile d =
     is_within 1 (objects_in profile) (whole_in (codes "object") d) && is_within 1 most_turns (whole_in (codes "turns") d)
 
-unfoldable pub until_of : Data → HostLine
+abbrev pub until_of : Data → HostLine
 until_of d = Until (number_in (codes "object") d) (flag_of_line d) (number_in (codes "turns") d)
 
 -- ---- lines
@@ -66,7 +67,7 @@ host_fault_by profile (Some op.Until) d = shape_then_range (is_until d) (until_i
 host_fault_by profile (Some op.Interrupt) d = shape_check (is_bare d)
 host_fault_by profile (Some op.Flags) d = shape_check (asks_flag d)
 
-unfoldable pub host_fault : Profile → Data → Option LineFault
+abbrev pub host_fault : Profile → Data → Option LineFault
 host_fault profile d = host_fault_by profile (host_op d) d
 
 unfoldable pub host_line_by : Option HostOp → Data → HostLine
@@ -77,7 +78,7 @@ host_line_by (Some op.Interrupt) d = Interrupt
 host_line_by (Some op.Flags) d = Flags (flag_of_line d)
 
 -- the line says what the value says
-unfoldable pub HostSays : Data → HostLine → Type 0
+abbrev pub HostSays : Data → HostLine → Type 0
 HostSays d line = line ≡ host_line_by (host_op d) d
 
 -- ---- ranges

@@ -1,5 +1,6 @@
 -- The checks of a list of lines, each at its place. Source: this project's own.
-use Rattle.std.specs.Prelude.{ℕ, List, [], ◌∷◌, Option, Some, None, length, option_map, nat_lt, slice_get, option_and_then, if◌then◌else◌}
+use Rattle.std.specs.Prelude.{ℕ, List, [], ◌∷◌, Option, Some, None, length, option_map}
+use Rattle.std.specs.Prelude.{nat_lt, slice_get, option_and_then, if◌then◌else◌}
 use Rattle.serde_json.specs.Data.{Data}
 use Rattle.ccan_script.specs.declared.list_name.ListName.{ListName}
 use Rattle.ccan_script.specs.declared.line_fault.LineFault.{LineFault}

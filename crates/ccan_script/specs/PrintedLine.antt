@@ -33,7 +33,8 @@ field text = 32 ∷ text
 
 -- Arbitration 2 and 1 in eight digits, Mask 2 and 1 in eight, Message Control in four, and the data in sixteen
 unfoldable pub record_text : Record → List ℕ
-record_text r = field (hex 8 (arbitration r)) ++ field (hex 8 (masks r)) ++ field (hex 4 (control r)) ++ field (hex_bytes r.bytes)
+record_text r =
+    field (hex 8 (arbitration r)) ++ field (hex 8 (masks r)) ++ field (hex 4 (control r)) ++ field (hex_bytes r.bytes)
 
 -- a word and the number of an object
 unfoldable pub verb_text : List ℕ → ℕ → List ℕ

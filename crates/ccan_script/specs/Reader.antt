@@ -27,7 +27,8 @@ abbrev pub ReadsNumber : ℕ → ℕ → ℕ → Option Data → Result ℕ Scri
 ReadsNumber least greatest default o (Ok n) = (number_fault least greatest o ≡ None) × (n ≡ number_or default o)
 ReadsNumber least greatest default o (Err e) = number_fault least greatest o ≡ Some e
 
-module _ {L : Type 0} (name : ListName) (most : ℕ) (fault : Data → Option LineFault) (LineSays : Data → L → Type 0) (o : Option Data) where
+module _ {L : Type 0} (name : ListName) (most : ℕ) (fault : Data → Option LineFault) (LineSays : Data → L → Type 0)
+    (o : Option Data) where
   abbrev pub ReadsList : Result (Vec L Global) ScriptError → Type 0
   ReadsList (Ok lines) =
       IsFaultless number_in_list (list_fault name most fault o) × AreLines LineSays (lines_in o) lines.items

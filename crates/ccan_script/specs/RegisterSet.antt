@@ -6,7 +6,8 @@ use Rattle.std.specs.Str.{bytes_eq}
 use Rattle.serde_json.specs.Data.{Data, Members, no_members, member}
 use Rattle.serde_json.specs.Find.{as_object}
 use Rattle.ccan_object.specs.declared.register.Reg.{Reg}
-use Rattle.ccan_object.specs.declared.register.Reg.TheVariants.{CMask, Mask1, Mask2, Arb1, Arb2, Ctrl, DataA1, DataA2, DataB1, DataB2}
+use Rattle.ccan_object.specs.declared.register.Reg.TheVariants.{CMask, Mask1, Mask2, Arb1, Arb2, Ctrl}
+use Rattle.ccan_object.specs.declared.register.Reg.TheVariants.{DataA1, DataA2, DataB1, DataB2}
 use Rattle.ccan_script.specs.Json.{word_in}
 
 abbrev pub register_name : Reg → List ℕ

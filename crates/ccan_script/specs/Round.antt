@@ -1,6 +1,7 @@
 -- The line of a round in a script: the frames that the other nodes send, and what spoils the winner's. Source: this
 -- project's own.
-use Rattle.std.specs.Prelude.{ℕ, ◌≡◌, ◌&&◌, Bool, true, not, ◌==◌, List, [], ◌∷◌, Option, codes, length, map, is_some, nat_le, unwrap_or}
+use Rattle.std.specs.Prelude.{ℕ, ◌≡◌, ◌&&◌, Bool, true, not, ◌==◌, List, [], ◌∷◌, Option}
+use Rattle.std.specs.Prelude.{codes, length, map, is_some, nat_le, unwrap_or}
 use Rattle.std.specs.List.{list_any}
 use Rattle.serde_json.specs.Data.{Data}
 use Rattle.serde_json.specs.Find.{get}

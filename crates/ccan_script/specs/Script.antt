@@ -1,6 +1,7 @@
 -- Which faults a JSON value has as a script, each at its place in the order of the checks, and what the value means: its
 -- script where it has no fault, and else the fault of least place. Source: this project's own.
-use Rattle.std.specs.Prelude.{◌≡◌, ℕ, ◌==◌, ◌&&◌, List, [], ◌∷◌, Option, Some, None, Result, Ok, Err, codes, length, nat_le, option_and_then, unwrap_or, if◌then◌else◌}
+use Rattle.std.specs.Prelude.{◌≡◌, ℕ, ◌==◌, ◌&&◌, List, [], ◌∷◌, Option, Some, None, Result, Ok, Err}
+use Rattle.std.specs.Prelude.{codes, length, nat_le, option_and_then, unwrap_or, if◌then◌else◌}
 use Rattle.std.specs.Option.{option_map_or}
 use Rattle.serde_json.specs.Data.{Data}
 use Rattle.serde_json.specs.Find.{get}
@@ -16,7 +17,8 @@ use Rattle.ccan_script.specs.declared.script_error.ScriptError.{ScriptError}
 use Rattle.ccan_script.specs.declared.script_error.ScriptError.TheVariants.{Shape, Range}
 use Rattle.ccan_script.specs.declared.host_line.HostLine.{HostLine}
 use Rattle.ccan_script.specs.declared.bus_line.BusLine.{BusLine}
-use Rattle.ccan_script.specs.Limits.{most_lines, most_profile, default_profile, default_quota, default_tries, most_nodes, default_nodes}
+use Rattle.ccan_script.specs.Limits.{most_lines, most_profile, default_profile, default_quota}
+use Rattle.ccan_script.specs.Limits.{default_tries, most_nodes, default_nodes}
 use Rattle.ccan_script.specs.Json.{has_only, lines_in, whole}
 use Rattle.ccan_script.specs.Lines.{AreLines}
 use Rattle.ccan_script.specs.HostLine.{host_fault, HostSays}

@@ -3,7 +3,8 @@ ghost use Rattle.serde_json.specs.View.{view};
 ghost use Rattle.ccan_script.specs.Limits.{most_groups};
 ghost use Rattle.ccan_script.specs.Json.{is_bare, number_in};
 ghost use Rattle.ccan_script.specs.LineFault.{ReadsLine, shape_check, shape_then_range};
-ghost use Rattle.ccan_script.specs.BusLine.{is_control, control_in_range, control_of, number_fault_of, bus_fault, BusSays, BusFits};
+ghost use Rattle.ccan_script.specs.BusLine.{is_control, control_in_range, control_of, number_fault_of};
+ghost use Rattle.ccan_script.specs.BusLine.{bus_fault, BusSays, BusFits};
 
 use crate::bus_op::{BusOp, bus_op};
 use crate::flag_line::sole_flag;
@@ -43,7 +44,7 @@ pub enum BusLine {
 }
 
 /// The enables of the status interrupt: their shape first, then their ranges.
-#[tactic(auto, unfolding(crate::specs::BusLine::is_control, crate::specs::BusLine::control_in_range, crate::specs::BusLine::control_of))]
+#[tactic(auto, unfolding(crate::specs::BusLine::is_control))]
 fn control_line(line: &Value) -> Result<BusLine, LineFault>
     ensures { let d = view line.now in
         ReadsLine (shape_then_range (is_control d) (control_in_range d))
@@ -109,7 +110,7 @@ impl ScriptLine for BusLine {
 
     ghost fits = { λ context. BusFits context.nodes };
 
-    #[tactic(auto, unfolding(crate::specs::BusLine::bus_fault, crate::specs::BusLine::bus_fault_by, crate::specs::BusLine::BusSays, crate::specs::BusLine::BusSaysBy, crate::specs::BusLine::control_of))]
+    #[tactic(auto, unfolding(crate::specs::BusLine::bus_fault_by, crate::specs::BusLine::BusSaysBy))]
     fn read(value: &Value, context: LineContext) -> Result<BusLine, LineFault> {
         let Some(op) = bus_op(value) else {
             return Err(LineFault::Shape);

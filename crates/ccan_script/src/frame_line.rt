@@ -3,7 +3,8 @@ ghost use Rattle.serde_json.specs.View.{view};
 ghost use Rattle.ccan_accept.specs.Frame.{data_count};
 ghost use Rattle.ccan_script.specs.Limits.{most_nodes};
 ghost use Rattle.ccan_script.specs.LineFault.{ReadsLine};
-ghost use Rattle.ccan_script.specs.FrameLine.{is_data_text, is_frame, is_in_range, has_its_length, frame_fault, frame_of, words_of, sending_of};
+ghost use Rattle.ccan_script.specs.FrameLine.{is_data_text, is_frame, is_in_range, has_its_length};
+ghost use Rattle.ccan_script.specs.FrameLine.{frame_fault, frame_of, words_of, sending_of};
 ghost use Rattle.ccan_script.specs.FrameParts.{words_in};
 
 use crate::frame_data::{data_in, eight_bytes};

@@ -2,7 +2,9 @@ ghost use Rattle.std.specs.Prelude.{◌≡◌, true, false, option_map, IfOk, If
 ghost use Rattle.serde_json.specs.View.{view};
 ghost use Rattle.ccan_object.specs.Profile.{Holds};
 ghost use Rattle.ccan_script.specs.LineFault.{ReadsLine, shape_then_range};
-ghost use Rattle.ccan_script.specs.HostLine.{request_in, settings_of, is_transfer, transfer_of, is_until, until_in_range, until_of, host_fault, HostSays, HostFits};
+ghost use Rattle.ccan_script.specs.HostLine.{host_fault, HostSays, HostFits};
+ghost use Rattle.ccan_script.specs.HostLine.{request_in, settings_of, is_transfer, transfer_of};
+ghost use Rattle.ccan_script.specs.HostLine.{is_until, until_in_range, until_of};
 
 use crate::flag_line::sole_flag;
 use crate::flag_name::flag_in;
@@ -56,7 +58,7 @@ fn settings_of(line: &Value) -> Option<RegisterSet>
 }
 
 /// A transfer, `None` where the line isn't of that shape.
-#[tactic(auto, unfolding(crate::specs::HostLine::is_transfer, crate::specs::HostLine::transfer_of))]
+#[tactic(auto, unfolding(crate::specs::HostLine::is_transfer))]
 fn transfer_line(line: &Value) -> Option<HostLine>
     ensures none { IfNone result (is_transfer (view line.now) ≡ false) }
     ensures some { IfSome result (λ read. (is_transfer (view line.now) ≡ true)
@@ -79,7 +81,7 @@ fn object_numbered(profile: Profile, number: u64) -> ObjectNo
 }
 
 /// A wait for a flag: its shape first, then its ranges.
-#[tactic(auto, unfolding(crate::specs::HostLine::is_until, crate::specs::HostLine::until_in_range, crate::specs::HostLine::until_of, crate::specs::FlagLine::flag_of_line))]
+#[tactic(auto, unfolding(crate::specs::HostLine::is_until, crate::specs::FlagLine::flag_of_line))]
 fn until_line(line: &Value, profile: Profile) -> Result<HostLine, LineFault>
     ensures reads { let d = view line.now in
         ReadsLine (shape_then_range (is_until d) (until_in_range profile d))
@@ -114,7 +116,7 @@ impl ScriptLine for HostLine {
 
     ghost fits = { λ context. HostFits context.profile };
 
-    #[tactic(auto, unfolding(crate::specs::HostLine::host_fault, crate::specs::HostLine::host_fault_by, crate::specs::HostLine::HostSays, crate::specs::HostLine::host_line_by, crate::specs::HostLine::transfer_of))]
+    #[tactic(auto, unfolding(crate::specs::HostLine::host_fault_by, crate::specs::HostLine::host_line_by))]
     fn read(value: &Value, context: LineContext) -> Result<HostLine, LineFault> {
         match host_op(value) {
             Some(HostOp::Transfer) => transfer_line(value).ok_or(LineFault::Shape),

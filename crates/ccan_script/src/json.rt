@@ -1,11 +1,13 @@
-ghost use Rattle.std.specs.Prelude.{◌≡◌, ◌≤◌, ◌<◌, ◌+◌, ◌*◌, true, ◌∷◌, [], ◌&&◌, map, Some, None, codes, is_some, option_map, string_bytes, IfOk, if◌then◌else◌};
+ghost use Rattle.std.specs.Prelude.{◌≡◌, ◌≤◌, ◌<◌, ◌+◌, ◌*◌, true, ◌∷◌, [], ◌&&◌, map, Some, None, codes};
+ghost use Rattle.std.specs.Prelude.{is_some, option_map, string_bytes, IfOk, if◌then◌else◌};
 ghost use Rattle.std.specs.List.{list_all, list_any};
 ghost use Rattle.std.specs.Char.{digit_value, is_ascii_hexdigit};
 ghost use Rattle.std.specs.Str.{bytes_eq};
 ghost use Rattle.std.specs.BTreeMap.{keys};
 ghost use Rattle.std.specs.Str.Parse.{digits_value};
 ghost use Rattle.serde_json.specs.View.{view};
-ghost use Rattle.ccan_script.specs.Json.{is_four_digits, word_in, whole_in, whole_or_zero, has_only, is_bare, has_number, is_within, number_in};
+ghost use Rattle.ccan_script.specs.Json.{is_four_digits, word_in, whole_in, whole_or_zero, has_only};
+ghost use Rattle.ccan_script.specs.Json.{is_bare, has_number, is_within, number_in};
 ghost use Rattle.ccan_script.specs.LineFault.{shape_check, shape_then_range, ReadsLine};
 
 use crate::line_fault::LineFault;

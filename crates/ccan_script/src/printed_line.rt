@@ -119,7 +119,7 @@ fn push_digit(line: &mut PrintedLine, value: u16)
 }
 
 /// Appends a number in decimal, without leading zeros.
-#[tactic(auto, using(crate::proofs::Decimals::decimal_one, crate::proofs::Decimals::length_one, crate::proofs::Decimals::length_more))]
+#[tactic(auto, using(crate::proofs::Decimals::digit_by_digit))]
 fn push_decimal(line: &mut PrintedLine, value: u16)
     requires { array_string_len line.old + length (decimal value) ≤ 80 }
     ensures bytes { line.new.bytes ≡ line.old.bytes ++ decimal value }

@@ -1,3 +1,4 @@
+mod limits;
 mod refusals;
 mod scripts;
 mod texts;

@@ -7,8 +7,9 @@ use std::process::Abort;
 use std::test::Fail;
 
 /// A write of 0x123 with eight bytes.
-pub(crate) const WRITE: &str =
-    r#"{"if1":[{"op":"transfer","request":"0001","set":{"cmask":"00f3","arb2":"a48c","ctrl":"0088","dataa1":"2211","dataa2":"4433","datab1":"6655","datab2":"8877"}}]}"#;
+pub(crate) const WRITE: &str = r#"{"if1":[{"op":"transfer","request":"0001","set":{
+    "cmask":"00f3","arb2":"a48c","ctrl":"0088",
+    "dataa1":"2211","dataa2":"4433","datab1":"6655","datab2":"8877"}}]}"#;
 
 fn read(rt: &impl Abort, alloc: Global, script: &str) -> Script {
     match read_script(alloc, script.as_bytes()) {
@@ -17,7 +18,8 @@ fn read(rt: &impl Abort, alloc: Global, script: &str) -> Script {
     }
 }
 
-fn number(rt: &impl Abort, number: u8) -> ObjectNo {
+/// The object of this number.
+pub(crate) fn object_no(rt: &impl Abort, number: u8) -> ObjectNo {
     match ObjectNo::new(number) {
         Some(object) => object,
         None => panic!(rt; "no object"),
@@ -62,8 +64,10 @@ fn reads_host_lines(rt: HostRuntime) -> Result<(), Fail> {
         (Reg::DataB2, 0x8877),
     ];
     assert!(rt; set.as_slice() == want.as_slice());
-    let text =
-        r#"{"profile":2,"if2":[{"op":"until","object":33,"flag":"msglst","turns":1000000},{"op":"interrupt"},{"op":"flags","flag":"msgval"}]}"#;
+    let text = r#"{"profile":2,"if2":[
+        {"op":"until","object":33,"flag":"msglst","turns":1000000},
+        {"op":"interrupt"},
+        {"op":"flags","flag":"msgval"}]}"#;
     let script = read(&rt, rt.alloc(), text);
     let HostLine::Until {
         object,
@@ -73,7 +77,7 @@ fn reads_host_lines(rt: HostRuntime) -> Result<(), Fail> {
     else {
         return Err("no wait".into());
     };
-    assert_eq!(rt; *object, number(&rt, 33));
+    assert_eq!(rt; *object, object_no(&rt, 33));
     assert_eq!(rt; *flag, Flag::MsgLst);
     assert_eq!(rt; *turns, 1_000_000);
     assert!(rt; matches!(script.if2.get(1), Some(HostLine::Interrupt)));
@@ -83,8 +87,16 @@ fn reads_host_lines(rt: HostRuntime) -> Result<(), Fail> {
 
 #[test]
 fn reads_bus_lines(rt: HostRuntime) {
-    let text =
-        r#"{"nodes":2,"bus":[{"op":"load"},{"op":"status"},{"op":"control","sie":1,"eie":0},{"op":"interrupt"},{"op":"flags","flag":"txrqst"},{"op":"counters","node":2},{"op":"init"},{"op":"recessive","groups":10000},{"op":"loopback","on":1}]}"#;
+    let text = r#"{"nodes":2,"bus":[
+        {"op":"load"},
+        {"op":"status"},
+        {"op":"control","sie":1,"eie":0},
+        {"op":"interrupt"},
+        {"op":"flags","flag":"txrqst"},
+        {"op":"counters","node":2},
+        {"op":"init"},
+        {"op":"recessive","groups":10000},
+        {"op":"loopback","on":1}]}"#;
     let bus = read(&rt, rt.alloc(), text).bus;
     assert_eq!(rt; bus.len(), 9);
     assert!(rt; matches!(bus.first(), Some(BusLine::Load)));
@@ -109,11 +121,20 @@ fn reads_bus_lines(rt: HostRuntime) {
 
 #[test]
 fn reads_rounds(rt: HostRuntime) -> Result<(), Fail> {
-    let text =
-        r#"{"nodes":2,"bus":[{"op":"round"},{"op":"round","fault":"crc","send":[{"node":2,"id":536870911,"xtd":1,"dlc":15,"data":"0102030405060708"},{"node":1,"id":291,"rtr":1,"dlc":4},{"node":2,"id":0,"dlc":3,"data":"0A0b0C"}]}]}"#;
+    let text = r#"{"nodes":2,"bus":[
+        {"op":"round"},
+        {"op":"round","fault":"crc","send":[
+            {"node":2,"id":536870911,"xtd":1,"dlc":15,"data":"0102030405060708"},
+            {"node":1,"id":291,"rtr":1,"dlc":4},
+            {"node":2,"id":0,"dlc":3,"data":"0A0b0C"}]}]}"#;
     assert!(rt; read_script(rt.alloc(), text.as_bytes()).is_err());
-    let text =
-        r#"{"nodes":2,"bus":[{"op":"round"},{"op":"round","fault":"crc","send":[{"node":2,"id":536870911,"xtd":1,"dlc":15,"data":"0102030405060708"},{"node":1,"id":291,"rtr":1,"dlc":4}]},{"op":"round","fault":"bit0","send":[{"node":2,"id":0,"dlc":3,"data":"0A0b0C"}]}]}"#;
+    let text = r#"{"nodes":2,"bus":[
+        {"op":"round"},
+        {"op":"round","fault":"crc","send":[
+            {"node":2,"id":536870911,"xtd":1,"dlc":15,"data":"0102030405060708"},
+            {"node":1,"id":291,"rtr":1,"dlc":4}]},
+        {"op":"round","fault":"bit0","send":[
+            {"node":2,"id":0,"dlc":3,"data":"0A0b0C"}]}]}"#;
     let bus = read(&rt, rt.alloc(), text).bus;
     let Some(BusLine::Round(empty)) = bus.first() else {
         return Err("no round".into());

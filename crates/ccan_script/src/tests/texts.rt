@@ -1,17 +1,11 @@
 use super::super::*;
+use super::scripts::object_no;
 use ccan_bus::{LoadAnswer, RoundAnswer};
 use ccan_confine::NodeState;
-use ccan_object::{Identifier, ObjectNo, Profile, Record};
+use ccan_object::{Identifier, Profile, Record};
 use ccan_ram::{Flag, PortName};
 use std::process::Abort;
 use std::test::Fail;
-
-fn object(rt: &impl Abort, number: u8) -> ObjectNo {
-    match ObjectNo::new(number) {
-        Some(object) => object,
-        None => panic!(rt; "no object"),
-    }
-}
 
 /// What a line of a port says.
 fn says(rt: &impl Abort, port: PortName, answer: LineAnswer, want: &str) {
@@ -34,14 +28,14 @@ fn message() -> Record {
 
 #[test]
 fn prints_transfers(rt: HostRuntime) {
-    let one = object(&rt, 1);
+    let one = object_no(&rt, 1);
     says(
         &rt,
         PortName::If1,
         LineAnswer::Write(one, message()),
         "if1 write 01 a48c0000 00000000 0088 1122334455667788\n",
     );
-    let last = object(&rt, 64);
+    let last = object_no(&rt, 64);
     says(
         &rt,
         PortName::If1,
@@ -51,7 +45,7 @@ fn prints_transfers(rt: HostRuntime) {
     says(
         &rt,
         PortName::If1,
-        LineAnswer::Read(object(&rt, 32), Record::zero()),
+        LineAnswer::Read(object_no(&rt, 32), Record::zero()),
         "if1 read 32 00000000 00000000 0000 0000000000000000\n",
     );
     let part = Record {
@@ -68,14 +62,14 @@ fn prints_transfers(rt: HostRuntime) {
     says(
         &rt,
         PortName::If2,
-        LineAnswer::Busy(object(&rt, 10)),
+        LineAnswer::Busy(object_no(&rt, 10)),
         "if2 busy 10\n",
     );
 }
 
 #[test]
 fn prints_questions(rt: HostRuntime) {
-    let one = object(&rt, 1);
+    let one = object_no(&rt, 1);
     let if1 = PortName::If1;
     says(
         &rt,
@@ -86,7 +80,7 @@ fn prints_questions(rt: HostRuntime) {
     says(
         &rt,
         if1,
-        LineAnswer::Until(object(&rt, 2), Flag::MsgLst, false),
+        LineAnswer::Until(object_no(&rt, 2), Flag::MsgLst, false),
         "if1 until 02 msglst no\n",
     );
     says(
@@ -131,8 +125,8 @@ fn prints_questions(rt: HostRuntime) {
 #[test]
 fn prints_loads_and_rounds(rt: HostRuntime) {
     let bus = PortName::Bus;
-    let one = object(&rt, 1);
-    let two = object(&rt, 2);
+    let one = object_no(&rt, 1);
+    let two = object_no(&rt, 2);
     let load = LineAnswer::Load;
     says(
         &rt,
@@ -239,7 +233,7 @@ fn prints_the_bus_itself(rt: HostRuntime) {
 
 #[test]
 fn prints_what_is_left(rt: HostRuntime) -> Result<(), Fail> {
-    let one = object(&rt, 1);
+    let one = object_no(&rt, 1);
     let line = print_final(one, &message()).ok_or("no line")?;
     assert_eq!(rt;
         line.as_str(),
@@ -255,7 +249,7 @@ fn prints_what_is_left(rt: HostRuntime) -> Result<(), Fail> {
         bytes: [0xfe, 0, 0, 0, 0, 0, 0, 0x01],
         ..Record::zero()
     };
-    let line = print_final(object(&rt, 7), &extended).ok_or("no line")?;
+    let line = print_final(object_no(&rt, 7), &extended).ok_or("no line")?;
     assert_eq!(rt;
         line.as_str(),
         "final 07 dabcdef0 40000000 8000 fe00000000000001\n"

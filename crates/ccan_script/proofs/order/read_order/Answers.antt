@@ -29,8 +29,10 @@ returns-in_err-check_all_times-clause-reads c =
     let p = err_from_is_err_and r.result r.ensures.1 in
     let e = c.in_err-check_all_times.field-0.0 in
     let read = c.in_ok-order.ensures.reads in
-    let order : c.deref.result.now ≡ named_ports (Some _) = c.deref.ensures.value ∙ named_are _ c.in_ok-order.order.items read.1 in
-    rw (there, p.1, p.2) (bad_check (count_of c.args.counts) _ c.deref.result.now order read.0 e c.in_err-check_all_times.ensures)
+    let order : c.deref.result.now ≡ named_ports (Some _) =
+    c.deref.ensures.value ∙ named_are _ c.in_ok-order.order.items read.1 in
+    rw (there, p.1, p.2)
+    (bad_check (count_of c.args.counts) _ c.deref.result.now order read.0 e c.in_err-check_all_times.ensures)
 
 pub returns-clause-reads : goal.returns-clause-reads
 returns-clause-reads c =

@@ -1,4 +1,5 @@
-use Rattle.std.proofs.Common.{◌≡◌, ◌∙◌, [], ◌∷◌, ◌++◌, ap, sym, subst, Some, is_some, arith, append_assoc, length-append, string_cmp}
+use Rattle.std.proofs.Common.{◌≡◌, ◌∙◌, [], ◌∷◌, ◌++◌, ap, sym, subst, Some, is_some}
+use Rattle.std.proofs.Common.{arith, append_assoc, length-append, string_cmp}
 use Rattle.std.specs.List.Sorted.{IsStrictlySortedBy}
 use Rattle.std.specs.Map.{keys_of}
 use Rattle.serde_json.specs.View.{members_view, view}
@@ -11,8 +12,10 @@ pub returns-in_err-setting : goal.returns-in_err-setting
 returns-in_err-setting c =
     let so_far = c.loop-name.invariant in
     let e : Entry = (c.in-Some.name.now, c.in-Some.value.now) in
-    let all : c.args.members.now.entries ≡ so_far.0 ++ e ∷ c.next.new.self = so_far.1 ∙ ap (λ es. so_far.0 ++ es) c.in-Some.ensures.steps in
-    let here = ap (λ name. setting name (view c.in-Some.value.now)) (sym c.as_str.ensures.value) ∙ sym c.in_err-setting.ensures in
+    let all : c.args.members.now.entries ≡ so_far.0 ++ e ∷ c.next.new.self =
+    so_far.1 ∙ ap (λ es. so_far.0 ++ es) c.in-Some.ensures.steps in
+    let here = ap (λ name. setting name (view c.in-Some.value.now)) (sym c.as_str.ensures.value)
+    ∙ sym c.in_err-setting.ensures in
     rw c.from_residual.ensures (sym (ap (λ es. settings (members_view es)) all ∙ not_set so_far.0 e c.next.new.self here))
 
 pub push-requires : goal.push-requires
@@ -21,7 +24,8 @@ push-requires c =
     let e : Entry = (c.in-Some.name.now, c.in-Some.value.now) in
     let left = c.next.new.self in
     let all : c.args.members.now.entries ≡ so_far.0 ++ e ∷ left = so_far.1 ∙ ap (λ es. so_far.0 ++ es) c.in-Some.ensures.steps in
-    let here = ap (λ name. setting name (view c.in-Some.value.now)) (sym c.as_str.ensures.value) ∙ sym c.in_ok-setting.ensures in
+    let here = ap (λ name. setting name (view c.in-Some.value.now)) (sym c.as_str.ensures.value)
+    ∙ sym c.in_ok-setting.ensures in
     let set = set_more so_far.0 e c.loop-name.set.items c.in_ok-setting.field-0 so_far.2 here in
     let sorted = subst (λ es. IsStrictlySortedBy string_cmp (keys_of es)) (all ∙ sym (append_assoc so_far.0 (e ∷ []) left))
     c.iter-name-items.ensures.ordered in
@@ -34,7 +38,8 @@ loop-name-preserved c =
     let e : Entry = (c.in-Some.name.now, c.in-Some.value.now) in
     let left = c.next.new.self in
     let all : c.args.members.now.entries ≡ so_far.0 ++ e ∷ left = so_far.1 ∙ ap (λ es. so_far.0 ++ es) c.in-Some.ensures.steps in
-    let here = ap (λ name. setting name (view c.in-Some.value.now)) (sym c.as_str.ensures.value) ∙ sym c.in_ok-setting.ensures in (
+    let here = ap (λ name. setting name (view c.in-Some.value.now)) (sym c.as_str.ensures.value)
+    ∙ sym c.in_ok-setting.ensures in (
       so_far.0 ++ e ∷ [],
       all ∙ sym (append_assoc so_far.0 (e ∷ []) left),
       set_more so_far.0 e c.loop-name.set.items c.in_ok-setting.field-0 so_far.2 here ∙ ap Some (sym c.push.ensures.items),

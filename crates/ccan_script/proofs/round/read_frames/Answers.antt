@@ -9,7 +9,8 @@ use Rattle.ccan_script.proofs.round.read_frames.Goals as goal
 
 pub loop-value-init : goal.loop-value-init
 unfolding frames_fault
-loop-value-init c = rw c.new-sends.ensures (record { passed = refl; items = refl; many = refl; senders = λ k d h. absurd (omega arith) })
+loop-value-init c =
+    rw c.new-sends.ensures (record { passed = refl; items = refl; many = refl; senders = λ k d h. absurd (omega arith) })
 
 pub returns-in-Err-clause-reads : goal.returns-in-Err-clause-reads
 unfolding frames_fault
