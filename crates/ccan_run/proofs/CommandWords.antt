@@ -6,7 +6,7 @@ use Rattle.clap.proofs.OnLiterals.{clap_on_literals}
 use Rattle.ccan_run.specs.declared.run_mode.RunMode.{RunMode}
 use Rattle.ccan_run.specs.declared.run_mode.RunMode.TheVariants.{Run, Threads}
 use Rattle.ccan_run.specs.RunMode.{Answers, AreModes, Names, Refuses, ccan}
-use Rattle.ccan_run.specs.CommandLine.{AreRefused, NoWordRuns, RunRuns, ThreadsMeansThreads, OtherWordsAreRefused}
+use Rattle.ccan_run.specs.CommandLine.{NoWordRuns, RunRuns, ThreadsMeansThreads}
 
 -- the names take what their texts take
 takes_text : (ns : List (Bor (List ℕ))) (word : Text)
@@ -14,7 +14,7 @@ takes_text : (ns : List (Bor (List ℕ))) (word : Text)
 takes_text [] word = refl
 takes_text (n ∷ ns) word = ap (λ (b : Bool). same_text false n.now word || b) (takes_text ns word)
 
-modes_take : (names : Names) (word : Text) → AreModes names
+pub modes_take : (names : Names) (word : Text) → AreModes names
     → list_any (λ n. same_text false n.now word) names.now
     ≡ list_any (λ n. same_text false n word) (codes "run" ∷ codes "threads" ∷ [])
 modes_take names word is = takes_text names.now word ∙ ap (list_any (λ n. same_text false n word)) is
@@ -51,14 +51,3 @@ threads_taken program h = h.refused (rw (modes_take h.names (codes "threads") h.
 
 pub threads_word : ThreadsMeansThreads
 threads_word = record { taken = threads_taken; means = threads_means }
-
-walk_refused : AreRefused (codes "walk" ∷ [])
-unfolding ccan clap_on_literals
-walk_refused program mode h = let bad = rw (modes_take h.names (codes "walk") h.modes) at h.taken in cc
-
-two_refused : AreRefused (codes "run" ∷ codes "threads" ∷ [])
-unfolding ccan clap_on_literals
-two_refused program mode h = let bad = h.taken in cc
-
-pub other_words : OtherWordsAreRefused
-other_words = (walk_refused, two_refused)

@@ -16,6 +16,7 @@ pub mod RoundsOnce
 pub mod OneText
 pub mod CommandLine
 pub mod CommandWords
+pub mod OtherWords
 pub mod AtOnce
 pub mod ScansApart
 pub mod RoundsApart

@@ -1,5 +1,6 @@
 -- What the words of the command line mean, after the program's name. Source: this project's own.
-use Rattle.std.specs.Prelude.{◌≡◌, ℕ, List, [], ◌∷◌, codes}
+use Rattle.std.specs.Prelude.{◌≡◌, ◌≢◌, ℕ, List, [], ◌∷◌, codes, if◌then◌else◌}
+use Rattle.std.specs.Str.{bytes_eq}
 use Rattle.ccan_run.specs.declared.run_mode.RunMode.{RunMode}
 use Rattle.ccan_run.specs.declared.run_mode.RunMode.TheVariants.{Run, Threads}
 use Rattle.ccan_run.specs.RunMode.{Answers, Refuses}
@@ -23,6 +24,19 @@ RunRuns = MeansMode (codes "run" ∷ []) Run
 abbrev pub ThreadsMeansThreads : Type 0
 ThreadsMeansThreads = MeansMode (codes "threads" ∷ []) Threads
 
--- another word, as `walk`, is refused, and so are two words
+-- the words without the first `--`, which ends the options and is no word of its own
+abbrev pub without_options_end : List (List ℕ) → List (List ℕ)
+without_options_end [] = []
+without_options_end (word ∷ words) =
+    if bytes_eq word (codes "--") then words else word ∷ without_options_end words
+
+-- the words are some, and neither `run` alone nor `threads` alone
+pub record AreOther (words : List (List ℕ)) : Type 0 where
+  pub some : words ≢ []
+  pub not_run : words ≢ codes "run" ∷ []
+  pub not_threads : words ≢ codes "threads" ∷ []
+
+-- every other command line is refused, however its words begin and however many they are
 abbrev pub OtherWordsAreRefused : Type 0
-OtherWordsAreRefused = AreRefused (codes "walk" ∷ []) × AreRefused (codes "run" ∷ codes "threads" ∷ [])
+OtherWordsAreRefused =
+    (words : List (List ℕ)) → AreOther (without_options_end words) → AreRefused words

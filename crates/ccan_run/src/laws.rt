@@ -41,7 +41,8 @@ pub fn threads_means_threads()
     ensures { ThreadsMeansThreads }
 {}
 
-/// Another word is refused, and so are two words.
+/// Another word is refused, be it a flag or empty, and so are two words or more. The first `--`, which ends the options,
+/// is not counted among the words: no word, `run` and `threads` are all that is left, each with a `--` or without.
 pub fn other_words_are_refused()
     ensures { OtherWordsAreRefused }
 {}

@@ -1,4 +1,4 @@
-use Rattle.ccan_run.proofs.CommandWords.{other_words}
+use Rattle.ccan_run.proofs.OtherWords.{other_words}
 use Rattle.ccan_run.proofs.laws.other_words_are_refused.Goals as goal
 
 pub returns : goal.returns
