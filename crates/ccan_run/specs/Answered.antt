@@ -1,7 +1,7 @@
 -- What the answers of a run without an order tell, as steps of one history: whose step it is, at which object, what
 -- it did, what it found and what it left. Source: C_CAN User's Manual 1.2, section 4.2.1 for what a transfer moves,
--- and section 3.4 for the Interrupt Register and the flags of all objects; that each answer has steps of its own, in
--- its port's order, is this project's own.
+-- and section 3.4 for the Interrupt Register and the flags of all objects; that each answer is of its line and has steps
+-- of its own, in its port's order, is this project's own.
 use Rattle.std.specs.Prelude.{ℕ, ◌≡◌, ◌-◌, ◌⊎◌, Bool, true, List, [], ◌∷◌, ◌++◌, None, Some, Contains, if◌then◌else◌}
 use Rattle.ccan_object.specs.declared.profile.Profile.{Profile}
 use Rattle.ccan_object.specs.declared.record.Record.{Record}
@@ -29,6 +29,7 @@ use Rattle.ccan_bus.specs.declared.answer.LoadAnswer.TheVariants as load
 use Rattle.ccan_bus.specs.declared.answer.RoundAnswer.{RoundAnswer}
 use Rattle.ccan_bus.specs.declared.answer.RoundAnswer.TheVariants as round
 use Rattle.ccan_script.specs.declared.bus_line.BusLine.{BusLine}
+use Rattle.ccan_script.specs.declared.bus_line.BusLine.TheVariants as bus
 use Rattle.ccan_script.specs.declared.host_line.HostLine.{HostLine}
 use Rattle.ccan_script.specs.declared.host_line.HostLine.TheVariants as host
 use Rattle.ccan_script.specs.declared.line_answer.LineAnswer.{LineAnswer}
@@ -167,14 +168,28 @@ BusShownBy (answer.Interrupt value) events = (value ≡ 0x8000) ⊎ NamesPending
 BusShownBy (answer.Flags flag word profile) events = WordWasShown Bus profile flag word events
 BusShownBy reply events = Unit {0}
 
+-- the answer is of the line's kind, and of what the line names or sets: the flag, the node, the enables, loop back mode
+abbrev pub IsBusReplyTo : Profile → BusLine → LineAnswer → Type 0
+IsBusReplyTo profile bus.Load (answer.Load loading) = Unit {0}
+IsBusReplyTo profile (bus.Round sends) (answer.Round ended) = Unit {0}
+IsBusReplyTo profile bus.Status (answer.Status word) = Unit {0}
+IsBusReplyTo profile (bus.Control sie eie) (answer.Control status error) = (status ≡ sie) × (error ≡ eie)
+IsBusReplyTo profile bus.Interrupt (answer.Interrupt value) = Unit {0}
+IsBusReplyTo profile (bus.Flags flag) (answer.Flags of word objects) = (of ≡ flag) × (objects ≡ profile)
+IsBusReplyTo profile (bus.Counters node) (answer.Counters of tec rec state) = of ≡ node
+IsBusReplyTo profile bus.Init answer.Init = Unit {0}
+IsBusReplyTo profile (bus.Recessive groups) (answer.Recessive state) = Unit {0}
+IsBusReplyTo profile (bus.LoopBack on) (answer.LoopBack is) = is ≡ on
+IsBusReplyTo profile line reply = ⊥
+
 -- each line of the bus has an answer and a part of the history, after those of the lines before it, and the bus has no
 -- step after the part of its last line
-abbrev pub BusInOrder : List BusLine → List LineAnswer → List Event → Type 0
-BusInOrder [] [] history = events_of Bus history ≡ []
-BusInOrder (line ∷ lines) (reply ∷ replies) history =
+abbrev pub BusInOrder : Profile → List BusLine → List LineAnswer → List Event → Type 0
+BusInOrder profile [] [] history = events_of Bus history ≡ []
+BusInOrder profile (line ∷ lines) (reply ∷ replies) history =
     (later : List Event) × (first : List Event) × (history ≡ later ++ first)
-    × BusShownBy reply first × BusInOrder lines replies later
-BusInOrder lines replies history = ⊥
+    × IsBusReplyTo profile line reply × BusShownBy reply first × BusInOrder profile lines replies later
+BusInOrder profile lines replies history = ⊥
 
 -- ---- a run
 
@@ -185,5 +200,5 @@ pub record IsAnswered (script : ScriptFields) (outcome : Outcome) : Type 0 where
   pub legal : IsLegal script.profile history
   pub if1 : HostInOrder script.profile If1 script.if1 zero_registers outcome.if1.items history
   pub if2 : HostInOrder script.profile If2 script.if2 zero_registers outcome.if2.items history
-  pub bus : BusInOrder script.bus outcome.bus.items history
+  pub bus : BusInOrder script.profile script.bus outcome.bus.items history
   pub left : outcome.last.records ≡ final_records script.profile history
