@@ -86,7 +86,7 @@ module _ (terms : Terms) (bus : terms.port ≡ Bus) (tries : ℕ) where
   -- ---- loads and rounds
 
   loads : (seen added : List Event) (past after : BusPast) (loading : LoadAnswer) → Loads terms tries seen added past after loading
-      → BusShownBy (answer.Load loading) added
+      → BusShownBy terms.profile (answer.Load loading) added
   loads seen added past after (load.Loaded object started) h = scanned object 1 Start seen added h.before started h.number h.scan.scan
   loads seen added past after (load.Held object) h = tt
   loads seen added past after load.Nothing h = tt
@@ -154,18 +154,18 @@ module _ (terms : Terms) (bus : terms.port ≡ Bus) (tries : ℕ) where
   -- ---- a line
 
   interrupts : (pending : Bool) (value : ℕ) (added : List Event) → Interrupts terms pending added value
-      → BusShownBy (answer.Interrupt value) added
+      → BusShownBy terms.profile (answer.Interrupt value) added
   interrupts true value added h = inl h.0
   interrupts false value added h =
-      inr (subst (λ (port : PortName). NamesPending port value added) bus (interrupt_shown terms value added h))
+      inr (subst (λ (port : PortName). NamesPending port terms.profile value added) bus (interrupt_shown terms value added h))
 
   flags : (flag : Flag) (word : ℕ) (added : List Event) → ReadsFlags terms flag added word
-      → BusShownBy (answer.Flags flag word terms.profile) added
+      → BusShownBy terms.profile (answer.Flags flag word terms.profile) added
   flags flag word added h =
       subst (λ (port : PortName). WordWasShown port terms.profile flag word added) bus (word_shown terms flag word added h)
 
   bus_line : (line : BusLine) (past : BusPast) (seen added : List Event) (reply : LineAnswer) (after : BusPast)
-      → BusLineMeans terms tries line past seen added reply after → BusShownBy reply added
+      → BusLineMeans terms tries line past seen added reply after → BusShownBy terms.profile reply added
   bus_line line.Load past seen added reply after (loading, is, h) = rw is (loads seen added past after loading h)
   bus_line (line.Round sends) past seen added reply after (ended, is, h) = rw is (rounds sends seen added past after ended h)
   bus_line line.Status past seen added reply after h = rw h.1 tt

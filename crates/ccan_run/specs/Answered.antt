@@ -2,7 +2,7 @@
 -- it did, what it found and what it left. Source: C_CAN User's Manual 1.2, section 4.2.1 for what a transfer moves,
 -- and section 3.4 for the Interrupt Register and the flags of all objects; that each answer is of its line and has steps
 -- of its own, in its port's order, is this project's own.
-use Rattle.std.specs.Prelude.{ℕ, ◌≡◌, ◌-◌, ◌⊎◌, Bool, true, List, [], ◌∷◌, ◌++◌, None, Some, Contains, if◌then◌else◌}
+use Rattle.std.specs.Prelude.{ℕ, ◌≡◌, ◌<◌, ◌-◌, ◌⊎◌, Bool, true, false, List, [], ◌∷◌, ◌++◌, None, Some, Contains, if◌then◌else◌}
 use Rattle.ccan_object.specs.declared.profile.Profile.{Profile}
 use Rattle.ccan_object.specs.declared.record.Record.{Record}
 use Rattle.ccan_object.specs.declared.command.CommandMask.{CommandMask}
@@ -51,9 +51,13 @@ abbrev pub FlagWasShown : PortName → ℕ → Flag → Bool → List Event → 
 FlagWasShown port object flag is events =
     (shown : Record) × HasStep port object Look shown shown events × (flag_of flag shown ≡ is)
 
--- the interrupt value is 0, or the number of an object of which a look showed IntPnd
-abbrev pub NamesPending : PortName → ℕ → List Event → Type 0
-NamesPending port value events = (value ≡ 0) ⊎ FlagWasShown port value IntPnd true events
+-- the interrupt value is the number of the lowest object that showed IntPnd: a look at it showed the flag, and of each
+-- object below it a look did not; or the value is 0, and of each object a look did not
+abbrev pub NamesPending : PortName → Profile → ℕ → List Event → Type 0
+NamesPending port profile value events =
+    ((value ≡ 0) × ((object : ℕ) → Holds profile object → FlagWasShown port object IntPnd false events))
+    ⊎ (Holds profile value × FlagWasShown port value IntPnd true events
+    × ((object : ℕ) → Holds profile object → object < value → FlagWasShown port object IntPnd false events))
 
 -- bit k - 1 of the word is the flag of object k, as a look at it showed it
 abbrev pub WordWasShown : PortName → Profile → Flag → ℕ → List Event → Type 0
@@ -81,13 +85,13 @@ pub record WasRead (port : PortName) (registers : Registers) (object : ℕ) (sho
 
 -- these steps show the answer to a line of a host whose registers were set so. An answer that is not named here tells
 -- of no transfer that was made, and of no flag that was shown
-abbrev pub HostShownBy : PortName → Registers → LineAnswer → List Event → Type 0
-HostShownBy port registers (answer.Write object left) events = WasWritten port registers object left events
-HostShownBy port registers (answer.Read object shown) events = WasRead port registers object shown events
-HostShownBy port registers (answer.Until object flag true) events = FlagWasShown port object flag true events
-HostShownBy port registers (answer.Interrupt value) events = NamesPending port value events
-HostShownBy port registers (answer.Flags flag word profile) events = WordWasShown port profile flag word events
-HostShownBy port registers reply events = Unit {0}
+abbrev pub HostShownBy : Profile → PortName → Registers → LineAnswer → List Event → Type 0
+HostShownBy profile port registers (answer.Write object left) events = WasWritten port registers object left events
+HostShownBy profile port registers (answer.Read object shown) events = WasRead port registers object shown events
+HostShownBy profile port registers (answer.Until object flag true) events = FlagWasShown port object flag true events
+HostShownBy profile port registers (answer.Interrupt value) events = NamesPending port profile value events
+HostShownBy profile port registers (answer.Flags flag word objects) events = WordWasShown port objects flag word events
+HostShownBy profile port registers reply events = Unit {0}
 
 -- how many changes the answer tells
 abbrev pub changes_told : Registers → LineAnswer → ℕ
@@ -97,9 +101,9 @@ changes_told registers reply = 0
 
 -- a part of the history in which a line of a host was run: its steps show the answer, and the host made no other
 -- changes in it than the answer tells
-pub record IsHostPart (port : PortName) (registers : Registers) (reply : LineAnswer)
+pub record IsHostPart (profile : Profile) (port : PortName) (registers : Registers) (reply : LineAnswer)
     (events : List Event) : Type 0 where
-  pub shown : HostShownBy port registers reply events
+  pub shown : HostShownBy profile port registers reply events
   pub changes : changes_by port events ≡ changes_told registers reply
 
 -- an answer to a transfer of this object
@@ -136,7 +140,7 @@ HostInOrder profile port [] registers [] history = events_of port history ≡ []
 HostInOrder profile port (line ∷ lines) registers (reply ∷ replies) history =
     let set = registers_set line registers in
     (later : List Event) × (first : List Event) × (history ≡ later ++ first)
-    × IsReplyTo profile line reply × IsHostPart port set reply first
+    × IsReplyTo profile line reply × IsHostPart profile port set reply first
     × HostInOrder profile port lines (registers_after reply set) replies later
 HostInOrder profile port lines registers replies history = ⊥
 
@@ -161,12 +165,12 @@ RoundShownBy (round.Looped object left (Some found)) events =
 RoundShownBy ended events = Unit {0}
 
 -- these steps show the answer to a line of the bus. Its interrupt value can also be that of the status interrupt
-abbrev pub BusShownBy : LineAnswer → List Event → Type 0
-BusShownBy (answer.Load (load.Loaded object left)) events = WasChanged object change.Start left events
-BusShownBy (answer.Round ended) events = RoundShownBy ended events
-BusShownBy (answer.Interrupt value) events = (value ≡ 0x8000) ⊎ NamesPending Bus value events
-BusShownBy (answer.Flags flag word profile) events = WordWasShown Bus profile flag word events
-BusShownBy reply events = Unit {0}
+abbrev pub BusShownBy : Profile → LineAnswer → List Event → Type 0
+BusShownBy profile (answer.Load (load.Loaded object left)) events = WasChanged object change.Start left events
+BusShownBy profile (answer.Round ended) events = RoundShownBy ended events
+BusShownBy profile (answer.Interrupt value) events = (value ≡ 0x8000) ⊎ NamesPending Bus profile value events
+BusShownBy profile (answer.Flags flag word objects) events = WordWasShown Bus objects flag word events
+BusShownBy profile reply events = Unit {0}
 
 -- the answer is of the line's kind, and of what the line names or sets: the flag, the node, the enables, loop back mode
 abbrev pub IsBusReplyTo : Profile → BusLine → LineAnswer → Type 0
@@ -188,7 +192,7 @@ abbrev pub BusInOrder : Profile → List BusLine → List LineAnswer → List Ev
 BusInOrder profile [] [] history = events_of Bus history ≡ []
 BusInOrder profile (line ∷ lines) (reply ∷ replies) history =
     (later : List Event) × (first : List Event) × (history ≡ later ++ first)
-    × IsBusReplyTo profile line reply × BusShownBy reply first × BusInOrder profile lines replies later
+    × IsBusReplyTo profile line reply × BusShownBy profile reply first × BusInOrder profile lines replies later
 BusInOrder profile lines replies history = ⊥
 
 -- ---- a run
