@@ -1,10 +1,11 @@
 -- Steps in the parts of a history: which of them the calls of a port made, and what they show.
 use Rattle.std.proofs.Common.{◌≡◌, ◌≤◌, ◌<◌, ◌+◌, ◌-◌, ℕ, Bool, true, false, List, [], ◌∷◌, ◌++◌, inl, inr, Ok}
-use Rattle.std.proofs.Common.{arith, cond, length, sym, subst}
+use Rattle.std.proofs.Common.{ap, arith, cond, length, sym, subst}
 use Rattle.std.specs.Prelude.{Contains}
 use Rattle.std.specs.List.{list_any}
 use Rattle.std.proofs.lemmas.Bool.{cases_lt, or_parts}
-use Rattle.std.proofs.lemmas.List.Elements.{Contains-append_cases, Contains-append_left, Contains-append_right, Contains-push}
+use Rattle.std.proofs.lemmas.List.Elements.{Contains-append_cases, Contains-append_left, Contains-append_right}
+use Rattle.std.proofs.lemmas.List.Elements.{Contains-push, All-weaker}
 use Rattle.ccan_object.specs.declared.record.Record.{Record}
 use Rattle.ccan_ram.specs.declared.port.PortName.{PortName}
 use Rattle.ccan_ram.specs.declared.change.Change.{Change}
@@ -19,8 +20,9 @@ use Rattle.ccan_ram.specs.History.{events_of}
 use Rattle.ccan_ram.specs.Terms.{Terms}
 use Rattle.ccan_ram.specs.Attempt.{Attempt, EndsIn, IsLook, look_at, change_at}
 use Rattle.ccan_handler.specs.Watch.{Looks, FirstShows, Watches, Interrupts, ReadsFlags, in_turn}
-use Rattle.ccan_handler.proofs.Rows.{shown_law}
-use Rattle.ccan_run.specs.Answered.{HasStep, FlagWasShown, NamesPending, WordWasShown}
+use Rattle.ccan_handler.specs.Laws.{IsLookWithout}
+use Rattle.ccan_handler.proofs.Rows.{no_law, shown_law}
+use Rattle.ccan_run.specs.Answered.{HasStep, FlagWasShown, FindsUnset, WasNeverShown, NamesPending, WordWasShown}
 
 -- ---- steps in a part of the history
 
@@ -117,6 +119,20 @@ module _ (terms : Terms) where
   pub watch_shown : (object : ℕ) (flag : Flag) (turns : ℕ) (added : List Event) → Watches terms object flag turns added true
       → FlagWasShown terms.port object flag true added
   watch_shown object flag turns added (count, less, h) = first_shown (λ before. object) flag count added h
+
+  pub watch_in_vain : (object : ℕ) (flag : Flag) (turns : ℕ) (added : List Event) → Watches terms object flag turns added false
+      → WasNeverShown terms.port object flag turns added
+  watch_in_vain object flag turns added h =
+      let all = no_law terms object turns flag added h in
+      record {
+        each = All-weaker (IsLookWithout terms object flag) (FindsUnset object flag)
+            (λ event is. record {
+              object_is = ap (λ (e : Event). e.object) is.look;
+              looks = ap (λ (e : Event). e.operation) is.look;
+              unset = is.unset;
+            }) (events_of terms.port added) all.1;
+        counted = all.0;
+      }
 
   pub interrupt_shown : (value : ℕ) (added : List Event) → Interrupts terms false added value
       → NamesPending terms.port terms.profile value added

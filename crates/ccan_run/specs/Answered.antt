@@ -2,7 +2,8 @@
 -- it did, what it found and what it left. Source: C_CAN User's Manual 1.2, section 4.2.1 for what a transfer moves,
 -- and section 3.4 for the Interrupt Register and the flags of all objects; that each answer is of its line and has steps
 -- of its own, in its port's order, is this project's own.
-use Rattle.std.specs.Prelude.{ℕ, ◌≡◌, ◌<◌, ◌-◌, ◌⊎◌, Bool, true, false, List, [], ◌∷◌, ◌++◌, None, Some, Contains, if◌then◌else◌}
+use Rattle.std.specs.Prelude.{ℕ, ◌≡◌, ◌<◌, ◌-◌, ◌⊎◌, Bool, true, false, if◌then◌else◌}
+use Rattle.std.specs.Prelude.{List, [], ◌∷◌, ◌++◌, length, All, Contains, None, Some}
 use Rattle.ccan_object.specs.declared.profile.Profile.{Profile}
 use Rattle.ccan_object.specs.declared.record.Record.{Record}
 use Rattle.ccan_object.specs.declared.command.CommandMask.{CommandMask}
@@ -51,6 +52,18 @@ abbrev pub FlagWasShown : PortName → ℕ → Flag → Bool → List Event → 
 FlagWasShown port object flag is events =
     (shown : Record) × HasStep port object Look shown shown events × (flag_of flag shown ≡ is)
 
+-- the event is a look at the object, which found the flag unset
+pub record FindsUnset (object : ℕ) (flag : Flag) (event : Event) : Type 0 where
+  pub object_is : event.object ≡ object
+  pub looks : event.operation ≡ Look
+  pub unset : flag_of flag event.before ≡ false
+
+-- the port did nothing but look at the object, as often as it had turns, and no look showed the flag. A line of a script
+-- has one turn at least, so there is such a look
+pub record WasNeverShown (port : PortName) (object : ℕ) (flag : Flag) (turns : ℕ) (events : List Event) : Type 0 where
+  pub each : All (FindsUnset object flag) (events_of port events)
+  pub counted : length (events_of port events) ≡ turns
+
 -- the interrupt value is the number of the lowest object that showed IntPnd: a look at it showed the flag, and of each
 -- object below it a look did not; or the value is 0, and of each object a look did not
 abbrev pub NamesPending : PortName → Profile → ℕ → List Event → Type 0
@@ -83,15 +96,22 @@ pub record WasRead (port : PortName) (registers : Registers) (object : ℕ) (sho
   pub step : HasStep port object (reading registers.command) before after events
   pub shows : shown ≡ by_groups registers.command before registers.buffer
 
--- these steps show the answer to a line of a host whose registers were set so. An answer that is not named here tells
--- of no transfer that was made, and of no flag that was shown
-abbrev pub HostShownBy : Profile → PortName → Registers → LineAnswer → List Event → Type 0
-HostShownBy profile port registers (answer.Write object left) events = WasWritten port registers object left events
-HostShownBy profile port registers (answer.Read object shown) events = WasRead port registers object shown events
-HostShownBy profile port registers (answer.Until object flag true) events = FlagWasShown port object flag true events
-HostShownBy profile port registers (answer.Interrupt value) events = NamesPending port profile value events
-HostShownBy profile port registers (answer.Flags flag word objects) events = WordWasShown port objects flag word events
-HostShownBy profile port registers reply events = Unit {0}
+-- how many turns a line has to wait
+abbrev pub turns_of : HostLine → ℕ
+turns_of (host.Until object flag turns) = turns
+turns_of line = 0
+
+-- these steps show the answer to this line of a host whose registers were set so. An answer that is not named here
+-- tells of no transfer that was made, and of no flag that was looked for
+abbrev pub HostShownBy : Profile → PortName → HostLine → Registers → LineAnswer → List Event → Type 0
+HostShownBy profile port line registers (answer.Write object left) events = WasWritten port registers object left events
+HostShownBy profile port line registers (answer.Read object shown) events = WasRead port registers object shown events
+HostShownBy profile port line registers (answer.Until object flag true) events = FlagWasShown port object flag true events
+HostShownBy profile port line registers (answer.Until object flag false) events =
+    WasNeverShown port object flag (turns_of line) events
+HostShownBy profile port line registers (answer.Interrupt value) events = NamesPending port profile value events
+HostShownBy profile port line registers (answer.Flags flag word objects) events = WordWasShown port objects flag word events
+HostShownBy profile port line registers reply events = Unit {0}
 
 -- how many changes the answer tells
 abbrev pub changes_told : Registers → LineAnswer → ℕ
@@ -99,11 +119,11 @@ changes_told registers (answer.Write object left) = 1
 changes_told registers (answer.Read object shown) = if is_pure_read registers.command then 0 else 1
 changes_told registers reply = 0
 
--- a part of the history in which a line of a host was run: its steps show the answer, and the host made no other
+-- a part of the history in which this line of a host was run: its steps show the answer, and the host made no other
 -- changes in it than the answer tells
-pub record IsHostPart (profile : Profile) (port : PortName) (registers : Registers) (reply : LineAnswer)
-    (events : List Event) : Type 0 where
-  pub shown : HostShownBy profile port registers reply events
+pub record IsHostPart (profile : Profile) (port : PortName) (line : HostLine) (registers : Registers)
+    (reply : LineAnswer) (events : List Event) : Type 0 where
+  pub shown : HostShownBy profile port line registers reply events
   pub changes : changes_by port events ≡ changes_told registers reply
 
 -- an answer to a transfer of this object
@@ -140,7 +160,7 @@ HostInOrder profile port [] registers [] history = events_of port history ≡ []
 HostInOrder profile port (line ∷ lines) registers (reply ∷ replies) history =
     let set = registers_set line registers in
     (later : List Event) × (first : List Event) × (history ≡ later ++ first)
-    × IsReplyTo profile line reply × IsHostPart profile port set reply first
+    × IsReplyTo profile line reply × IsHostPart profile port line set reply first
     × HostInOrder profile port lines (registers_after reply set) replies later
 HostInOrder profile port lines registers replies history = ⊥
 
