@@ -43,12 +43,12 @@ module _ (contends : ℕ → ℕ → Bool) (memory : Memory) (script : ScriptFie
       part.answered.0 part.answered.1 part.begins.0 none in
       subst (λ (es : List Event). HostInOrder memory.profile If2 script.if2 zero_registers answers es) (sym part.begins.1) all
 
-  of_bus : HasPart contends memory script history Bus answers → BusInOrder script.bus answers history
+  of_bus : HasPart contends memory script history Bus answers → BusInOrder memory.profile script.bus answers history
   of_bus part =
       let none = none_after contends memory script history Bus answers part in
       let all = bus_lines (terms_of contends memory Bus) refl script.tries script.bus (opened script.nodes) [] part.seen answers
       part.answered.0 part.answered.1 part.begins.0 none in
-      subst (λ (es : List Event). BusInOrder script.bus answers es) (sym part.begins.1) all
+      subst (λ (es : List Event). BusInOrder memory.profile script.bus answers es) (sym part.begins.1) all
 
 pub answers_have_events : AnswersHaveEvents
 answers_have_events contends script outcome run =
@@ -59,6 +59,7 @@ answers_have_events contends script outcome run =
           run.memory_is.profile_is (of_if1 contends run.memory script run.history outcome.if1.items run.if1);
       if2 = subst (λ (p : Profile). HostInOrder p If2 script.if2 zero_registers outcome.if2.items run.history)
           run.memory_is.profile_is (of_if2 contends run.memory script run.history outcome.if2.items run.if2);
-      bus = of_bus contends run.memory script run.history outcome.bus.items run.bus;
+      bus = subst (λ (p : Profile). BusInOrder p script.bus outcome.bus.items run.history)
+          run.memory_is.profile_is (of_bus contends run.memory script run.history outcome.bus.items run.bus);
       left = run.left;
     }

@@ -1,5 +1,5 @@
 -- What the answers of the bus tell, as steps of the history.
-use Rattle.std.proofs.Common.{◌≡◌, ℕ, Bool, true, false, List, [], ◌∷◌, ◌++◌, inl, inr, Some, None, Ok, sym, ap, subst, ◌∙◌, append_assoc}
+use Rattle.std.proofs.Common.{◌≡◌, ℕ, Bool, true, false, List, [], ◌∷◌, ◌++◌, inl, inr, Some, None, Ok, refl, sym, ap, subst, ◌∙◌, append_assoc}
 use Rattle.std.proofs.lemmas.List.{append-nil}
 use Rattle.ccan_object.specs.declared.record.Record.{Record}
 use Rattle.ccan_ram.specs.declared.port.PortName.{PortName}
@@ -30,7 +30,7 @@ use Rattle.ccan_script.specs.declared.line_answer.LineAnswer.{LineAnswer}
 use Rattle.ccan_script.specs.declared.line_answer.LineAnswer.TheVariants as answer
 use Rattle.ccan_run.specs.Lines.{LinesMean}
 use Rattle.ccan_run.specs.BusPort.{BusLineMeans}
-use Rattle.ccan_run.specs.Answered.{HasStep, NamesPending, WordWasShown, WasChanged, WasStored, RoundShownBy, BusShownBy, BusInOrder}
+use Rattle.ccan_run.specs.Answered.{HasStep, NamesPending, WordWasShown, WasChanged, WasStored, RoundShownBy, BusShownBy, IsBusReplyTo, BusInOrder}
 use Rattle.ccan_run.proofs.StepsShown.{in_newest, in_earlier, done_at, interrupt_shown, word_shown}
 
 -- ---- what stands in a part of the history stands in it
@@ -86,7 +86,7 @@ module _ (terms : Terms) (bus : terms.port ≡ Bus) (tries : ℕ) where
   -- ---- loads and rounds
 
   loads : (seen added : List Event) (past after : BusPast) (loading : LoadAnswer) → Loads terms tries seen added past after loading
-      → BusShownBy (answer.Load loading) added
+      → BusShownBy terms.profile (answer.Load loading) added
   loads seen added past after (load.Loaded object started) h = scanned object 1 Start seen added h.before started h.number h.scan.scan
   loads seen added past after (load.Held object) h = tt
   loads seen added past after load.Nothing h = tt
@@ -154,18 +154,18 @@ module _ (terms : Terms) (bus : terms.port ≡ Bus) (tries : ℕ) where
   -- ---- a line
 
   interrupts : (pending : Bool) (value : ℕ) (added : List Event) → Interrupts terms pending added value
-      → BusShownBy (answer.Interrupt value) added
+      → BusShownBy terms.profile (answer.Interrupt value) added
   interrupts true value added h = inl h.0
   interrupts false value added h =
-      inr (subst (λ (port : PortName). NamesPending port value added) bus (interrupt_shown terms value added h))
+      inr (subst (λ (port : PortName). NamesPending port terms.profile value added) bus (interrupt_shown terms value added h))
 
   flags : (flag : Flag) (word : ℕ) (added : List Event) → ReadsFlags terms flag added word
-      → BusShownBy (answer.Flags flag word terms.profile) added
+      → BusShownBy terms.profile (answer.Flags flag word terms.profile) added
   flags flag word added h =
       subst (λ (port : PortName). WordWasShown port terms.profile flag word added) bus (word_shown terms flag word added h)
 
   bus_line : (line : BusLine) (past : BusPast) (seen added : List Event) (reply : LineAnswer) (after : BusPast)
-      → BusLineMeans terms tries line past seen added reply after → BusShownBy reply added
+      → BusLineMeans terms tries line past seen added reply after → BusShownBy terms.profile reply added
   bus_line line.Load past seen added reply after (loading, is, h) = rw is (loads seen added past after loading h)
   bus_line (line.Round sends) past seen added reply after (ended, is, h) = rw is (rounds sends seen added past after ended h)
   bus_line line.Status past seen added reply after h = rw h.1 tt
@@ -177,19 +177,35 @@ module _ (terms : Terms) (bus : terms.port ≡ Bus) (tries : ℕ) where
   bus_line (line.Recessive groups) past seen added reply after h = rw h.answer_is tt
   bus_line (line.LoopBack on) past seen added reply after h = rw h.answer_is tt
 
+  -- ---- what a line is answered
+
+  replies_to : (line : BusLine) (past : BusPast) (seen added : List Event) (reply : LineAnswer) (after : BusPast)
+      → BusLineMeans terms tries line past seen added reply after → IsBusReplyTo terms.profile line reply
+  replies_to line.Load past seen added reply after means = rw means.1 tt
+  replies_to (line.Round sends) past seen added reply after means = rw means.1 tt
+  replies_to line.Status past seen added reply after means = rw means.1 tt
+  replies_to (line.Control sie eie) past seen added reply after means = rw means.answer_is (refl, refl)
+  replies_to line.Interrupt past seen added reply after means = rw means.answer_is tt
+  replies_to (line.Flags flag) past seen added reply after means = rw means.answer_is (refl, refl)
+  replies_to (line.Counters node) past seen added reply after means = rw means.answer_is refl
+  replies_to line.Init past seen added reply after means = rw means.answer_is tt
+  replies_to (line.Recessive groups) past seen added reply after means = rw means.answer_is tt
+  replies_to (line.LoopBack on) past seen added reply after means = rw means.answer_is refl
+
   -- the lines of the bus, whatever comes after them
   pub bus_lines : (lines : List BusLine) (past : BusPast) (seen added : List Event) (answers : List LineAnswer) (left : BusPast)
       → LinesMean (BusLineMeans terms tries) lines past seen added answers left → (more : List Event)
-      → events_of Bus more ≡ [] → BusInOrder lines answers (more ++ added)
+      → events_of Bus more ≡ [] → BusInOrder terms.profile lines answers (more ++ added)
   bus_lines [] past seen added answers left (none, empty, same) more foreign =
       let last : events_of Bus (more ++ added) ≡ [] = rw none (ap (events_of Bus) (append-nil more) ∙ foreign) in
-      subst (λ (l : List LineAnswer). BusInOrder [] l (more ++ added)) (sym empty) last
+      subst (λ (l : List LineAnswer). BusInOrder terms.profile [] l (more ++ added)) (sym empty) last
   bus_lines (line ∷ lines) past seen added answers left (later, first, reply, replies, between, whole, all, means, rest) more foreign =
-      let there : BusInOrder (line ∷ lines) (reply ∷ replies) (more ++ added) = (
+      let there : BusInOrder terms.profile (line ∷ lines) (reply ∷ replies) (more ++ added) = (
         more ++ later,
         first,
         ap (λ (es : List Event). more ++ es) whole ∙ sym (append_assoc more later first),
+        replies_to line past seen first reply between means,
         bus_line line past seen first reply between means,
         bus_lines lines between (first ++ seen) later replies left rest more foreign,
       ) in
-      subst (λ (l : List LineAnswer). BusInOrder (line ∷ lines) l (more ++ added)) (sym all) there
+      subst (λ (l : List LineAnswer). BusInOrder terms.profile (line ∷ lines) l (more ++ added)) (sym all) there

@@ -7,7 +7,6 @@ use Rattle.ccan_object.specs.Command.{is_write, is_pure_read, clears_intpnd, has
 use Rattle.ccan_object.specs.Group.{by_groups}
 use Rattle.ccan_object.specs.Interface.{Registers}
 use Rattle.ccan_object.specs.Number.{requested}
-use Rattle.ccan_ram.specs.declared.port.PortName.{PortName}
 use Rattle.ccan_ram.specs.declared.change.Change.{Change}
 use Rattle.ccan_ram.specs.declared.change.Change.TheVariants as change
 use Rattle.ccan_ram.specs.declared.change.Changed.{Changed}
@@ -29,7 +28,7 @@ use Rattle.ccan_run.specs.Lines.{LinesMean}
 use Rattle.ccan_run.specs.Transfer.{Answers, Ends, change_of, with_settings}
 use Rattle.ccan_run.specs.Host.{HostLineMeans}
 use Rattle.ccan_run.specs.Answered.{HasStep, HostShownBy, IsHostPart, IsOfTransfer, IsReplyTo, HostInOrder, changes_told, reading, registers_set, registers_after}
-use Rattle.ccan_run.proofs.StepsShown.{looked_at, done_at, watch_shown, interrupt_shown, word_shown}
+use Rattle.ccan_run.proofs.StepsShown.{looked_at, done_at, watch_shown, watch_in_vain, interrupt_shown, word_shown}
 use Rattle.ccan_run.proofs.HostChanges.{changes_by-look, changes_by-attempt, changes_by-watch, changes_by-interrupt, changes_by-flags}
 
 -- ---- a transfer
@@ -38,21 +37,26 @@ pure_reads : (write clears takes : Bool) → (not write && not clears && not tak
 pure_reads true clears takes is = absurd cc
 pure_reads false clears takes is = refl
 
-module _ (port : PortName) (registers : Registers) (reply : LineAnswer) (left : Registers) (events : List Event) where
+module _ (terms : Terms) (line : HostLine) (registers : Registers) (reply : LineAnswer) (left : Registers)
+    (events : List Event) where
+  abbrev IsPart : LineAnswer → Type 0
+  IsPart told = IsHostPart terms.profile terms.port line registers told events
+
   -- the answer is shown, and tells what is left in the registers
   abbrev IsShown : Type 0
-  IsShown = IsHostPart port registers reply events × (left ≡ registers_after reply registers)
+  IsShown = IsPart reply × (left ≡ registers_after reply registers)
 
   tells : (told : LineAnswer) (now : Registers) → reply ≡ told → left ≡ now → registers_after told registers ≡ now
-      → HostShownBy port registers told events → changes_by port events ≡ changes_told registers told → IsShown
+      → HostShownBy terms.profile terms.port line registers told events
+      → changes_by terms.port events ≡ changes_told registers told → IsShown
   tells told now is left_is same shown changes = (
-    subst (λ (r : LineAnswer). IsHostPart port registers r events) (sym is) (record { shown = shown; changes = changes }),
+    subst IsPart (sym is) (record { shown = shown; changes = changes }),
     left_is ∙ (sym same ∙ ap (λ (r : LineAnswer). registers_after r registers) (sym is)),
   )
 
   writes : (object : ℕ) (before after : Record) → is_write registers.command ≡ true
-      → HasStep port object (Make (change.Write registers.command registers.buffer)) before after events
-      → Ends object registers after reply left → changes_by port events ≡ 1 → IsShown
+      → HasStep terms.port object (Make (change.Write registers.command registers.buffer)) before after events
+      → Ends object registers after reply left → changes_by terms.port events ≡ 1 → IsShown
   writes object before after is step ends changes =
       let left_is : left ≡ record registers { buffer = after } = ends.registers_are
       ∙ ap (λ (w : Bool). record registers { buffer = cond w after (by_groups registers.command after registers.buffer) }) is in
@@ -63,8 +67,9 @@ module _ (port : PortName) (registers : Registers) (reply : LineAnswer) (left : 
       tells (answer.Write object after) (record registers { buffer = after }) told left_is refl (before, step) changes
 
   reads : (object : ℕ) (before after : Record) → is_write registers.command ≡ false
-      → HasStep port object (reading registers.command) before after events
-      → Ends object registers before reply left → changes_by port events ≡ cond (is_pure_read registers.command) 0 1 → IsShown
+      → HasStep terms.port object (reading registers.command) before after events
+      → Ends object registers before reply left
+      → changes_by terms.port events ≡ cond (is_pure_read registers.command) 0 1 → IsShown
   reads object before after is step ends changes =
       let shown = by_groups registers.command before registers.buffer in
       let left_is : left ≡ record registers { buffer = shown } = ends.registers_are
@@ -82,36 +87,37 @@ module _ (port : PortName) (registers : Registers) (reply : LineAnswer) (left : 
 
   by_kind : (object : ℕ) (write : Bool) (before after : Record) → is_write registers.command ≡ write
       → is_pure_read registers.command ≡ false
-      → HasStep port object (Make (change_of registers)) before after events
-      → Ends object registers (cond (is_write registers.command) after before) reply left → changes_by port events ≡ 1 → IsShown
+      → HasStep terms.port object (Make (change_of registers)) before after events
+      → Ends object registers (cond (is_write registers.command) after before) reply left
+      → changes_by terms.port events ≡ 1 → IsShown
   by_kind object true before after is pure step ends changes =
       writes object before after is
-      (subst (λ (w : Bool). HasStep port object (Make (kind_of w)) before after events) is step)
+      (subst (λ (w : Bool). HasStep terms.port object (Make (kind_of w)) before after events) is step)
       (subst (λ (w : Bool). Ends object registers (cond w after before) reply left) is ends) changes
   by_kind object false before after is pure step ends changes =
-      let clears : HasStep port object (Make (change.Clear registers.command)) before after events =
-      subst (λ (w : Bool). HasStep port object (Make (kind_of w)) before after events) is step in
+      let clears : HasStep terms.port object (Make (change.Clear registers.command)) before after events =
+      subst (λ (w : Bool). HasStep terms.port object (Make (kind_of w)) before after events) is step in
       reads object before after is
-      (subst (λ (p : Bool). HasStep port object (cond p Look (Make (change.Clear registers.command))) before after events)
+      (subst (λ (p : Bool). HasStep terms.port object (cond p Look (Make (change.Clear registers.command))) before after events)
       (sym pure) clears)
       (subst (λ (w : Bool). Ends object registers (cond w after before) reply left) is ends)
       (changes ∙ ap (λ (p : Bool). cond p 0 1) (sym pure))
 
-module _ (terms : Terms) (tries : ℕ) where
+module _ (terms : Terms) (tries : ℕ) (line : HostLine) where
   by_outcome : (object : ℕ) (registers : Registers) (seen added : List Event) (reply : LineAnswer) (left : Registers)
       (outcome : Result Changed Refused) → is_pure_read registers.command ≡ false
       → Attempt terms object (change_of registers) tries seen added outcome
-      → Answers object registers outcome reply left → IsShown terms.port registers reply left added
+      → Answers object registers outcome reply left → IsShown terms line registers reply left added
   by_outcome object registers seen added reply left (Ok (Done before after number)) pure attempt answers =
-      by_kind terms.port registers reply left added object (is_write registers.command) before after refl pure
+      by_kind terms line registers reply left added object (is_write registers.command) before after refl pure
       (done_at terms object (change_of registers) tries seen added before after number attempt) answers
       (changes_by-attempt terms object (change_of registers) tries seen added (Ok (Done before after number)) attempt)
   by_outcome object registers seen added reply left (Ok (NotNow found)) pure attempt answers = absurd answers
   by_outcome object registers seen added reply left (Err (refused.Busy told now)) pure attempt answers =
-      tells terms.port registers reply left added (answer.Busy object) registers answers.0 answers.1 refl tt
+      tells terms line registers reply left added (answer.Busy object) registers answers.0 answers.1 refl tt
       (changes_by-attempt terms object (change_of registers) tries seen added (Err (refused.Busy told now)) attempt)
   by_outcome object registers seen added reply left (Err refused.Spent) pure attempt answers =
-      tells terms.port registers reply left added (answer.Spent object) registers answers.0 answers.1 refl tt
+      tells terms line registers reply left added (answer.Spent object) registers answers.0 answers.1 refl tt
       (changes_by-attempt terms object (change_of registers) tries seen added (Err refused.Spent) attempt)
 
   by_command : (pure : Bool) (object : ℕ) (registers : Registers) (seen added : List Event) (reply : LineAnswer) (left : Registers)
@@ -120,10 +126,10 @@ module _ (terms : Terms) (tries : ℕ) where
       ((shown : Record) × IsLook terms object shown added × Ends object registers shown reply left)
       ((outcome : Result Changed Refused) × Attempt terms object (change_of registers) tries seen added outcome
       × Answers object registers outcome reply left)
-      → IsShown terms.port registers reply left added
+      → IsShown terms line registers reply left added
   by_command true object registers seen added reply left is (shown, look, ends) =
       let c = registers.command in
-      reads terms.port registers reply left added object shown shown
+      reads terms line registers reply left added object shown shown
       (pure_reads (is_write c) (clears_intpnd c) (has_txrqst_newdat c) is)
       (subst (λ (p : Bool). HasStep terms.port object (cond p Look (Make (change.Clear c))) shown shown added) (sym is)
       (looked_at terms object shown added look)) ends
@@ -131,31 +137,33 @@ module _ (terms : Terms) (tries : ℕ) where
   by_command false object registers seen added reply left is (outcome, attempt, answers) =
       by_outcome object registers seen added reply left outcome is attempt answers
 
-  -- ---- a line
+-- ---- a line
 
+module _ (terms : Terms) (tries : ℕ) where
   watched : (object : ℕ) (flag : Flag) (turns : ℕ) (registers : Registers) (added : List Event) (shown : Bool)
-      → Watches terms object flag turns added shown → HostShownBy terms.port registers (answer.Until object flag shown) added
+      → Watches terms object flag turns added shown
+      → HostShownBy terms.profile terms.port (host.Until object flag turns) registers (answer.Until object flag shown) added
   watched object flag turns registers added true h = watch_shown terms object flag turns added h
-  watched object flag turns registers added false h = tt
+  watched object flag turns registers added false h = watch_in_vain terms object flag turns added h
 
   abbrev Shows : HostLine → Registers → List Event → LineAnswer → Registers → Type 0
-  Shows line registers added reply left =
-      IsHostPart terms.port (registers_set line registers) reply added × (left ≡ registers_after reply (registers_set line registers))
+  Shows line registers added reply left = IsShown terms line (registers_set line registers) reply left added
 
   host_line : (line : HostLine) (registers : Registers) (seen added : List Event) (reply : LineAnswer) (left : Registers)
       → HostLineMeans terms tries line registers seen added reply left → Shows line registers added reply left
   host_line (host.Transfer request set) registers seen added reply left means =
       let now = with_settings set.items registers in
-      by_command (is_pure_read now.command) (requested terms.profile request) now seen added reply left refl means
+      let object = requested terms.profile request in
+      by_command terms tries (host.Transfer request set) (is_pure_read now.command) object now seen added reply left refl means
   host_line (host.Until object flag turns) registers seen added reply left (shown, is, h, same) =
-      tells terms.port registers reply left added (answer.Until object flag shown) registers is same refl
-      (watched object flag turns registers added shown h)
+      tells terms (host.Until object flag turns) registers reply left added (answer.Until object flag shown) registers is same
+      refl (watched object flag turns registers added shown h)
       (changes_by-watch terms object flag turns added shown h)
   host_line host.Interrupt registers seen added reply left (value, is, h, same) =
-      tells terms.port registers reply left added (answer.Interrupt value) registers is same refl
+      tells terms host.Interrupt registers reply left added (answer.Interrupt value) registers is same refl
       (interrupt_shown terms value added h) (changes_by-interrupt terms value added h)
   host_line (host.Flags flag) registers seen added reply left (word, is, h, same) =
-      tells terms.port registers reply left added (answer.Flags flag word terms.profile) registers is same refl
+      tells terms (host.Flags flag) registers reply left added (answer.Flags flag word terms.profile) registers is same refl
       (word_shown terms flag word added h) (changes_by-flags terms flag added word h)
 
   -- ---- what a line is answered

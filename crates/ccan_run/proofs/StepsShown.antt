@@ -1,7 +1,11 @@
 -- Steps in the parts of a history: which of them the calls of a port made, and what they show.
-use Rattle.std.proofs.Common.{◌≡◌, ℕ, Bool, true, false, List, [], ◌∷◌, ◌++◌, inl, inr, Ok, cond, length, sym, subst}
+use Rattle.std.proofs.Common.{◌≡◌, ◌≤◌, ◌<◌, ◌+◌, ◌-◌, ℕ, Bool, true, false, List, [], ◌∷◌, ◌++◌, inl, inr, Ok}
+use Rattle.std.proofs.Common.{ap, arith, cond, length, sym, subst}
 use Rattle.std.specs.Prelude.{Contains}
-use Rattle.std.proofs.lemmas.List.Elements.{Contains-append_cases, Contains-append_left, Contains-append_right, Contains-push}
+use Rattle.std.specs.List.{list_any}
+use Rattle.std.proofs.lemmas.Bool.{cases_lt, or_parts}
+use Rattle.std.proofs.lemmas.List.Elements.{Contains-append_cases, Contains-append_left, Contains-append_right}
+use Rattle.std.proofs.lemmas.List.Elements.{Contains-push, All-weaker}
 use Rattle.ccan_object.specs.declared.record.Record.{Record}
 use Rattle.ccan_ram.specs.declared.port.PortName.{PortName}
 use Rattle.ccan_ram.specs.declared.change.Change.{Change}
@@ -10,13 +14,15 @@ use Rattle.ccan_ram.specs.declared.event.Event.{Event}
 use Rattle.ccan_ram.specs.declared.event.Operation.TheVariants.{Look, Make}
 use Rattle.ccan_ram.specs.declared.flag.Flag.{Flag}
 use Rattle.ccan_ram.specs.declared.flag.Flag.TheVariants.{IntPnd}
+use Rattle.ccan_ram.specs.Flags.{flag_of}
 use Rattle.ccan_ram.specs.Port.{same_port}
 use Rattle.ccan_ram.specs.History.{events_of}
 use Rattle.ccan_ram.specs.Terms.{Terms}
 use Rattle.ccan_ram.specs.Attempt.{Attempt, EndsIn, IsLook, look_at, change_at}
-use Rattle.ccan_handler.specs.Watch.{FirstShows, Watches, Interrupts, ReadsFlags, in_turn}
-use Rattle.ccan_handler.proofs.Rows.{shown_law}
-use Rattle.ccan_run.specs.Answered.{HasStep, FlagWasShown, NamesPending, WordWasShown}
+use Rattle.ccan_handler.specs.Watch.{Looks, FirstShows, Watches, Interrupts, ReadsFlags, in_turn}
+use Rattle.ccan_handler.specs.Laws.{IsLookWithout}
+use Rattle.ccan_handler.proofs.Rows.{no_law, shown_law}
+use Rattle.ccan_run.specs.Answered.{HasStep, FlagWasShown, FindsUnset, WasNeverShown, NamesPending, WordWasShown}
 
 -- ---- steps in a part of the history
 
@@ -66,23 +72,81 @@ done_at terms object change tries seen added before after number h =
 -- ---- flags
 
 module _ (terms : Terms) where
+  -- the newest look of some, and those before it
+  newest_shown : (object : ℕ) (flag : Flag) (shown : Record) (is : Bool) (added newest earlier : List Event)
+      → added ≡ newest ++ earlier → IsLook terms object shown newest → flag_of flag shown ≡ is
+      → FlagWasShown terms.port object flag is added
+  newest_shown object flag shown is added newest earlier whole look so =
+      let step = looked_at terms object shown newest look in
+      (shown, in_newest (look_at terms.port object shown) added newest earlier whole step, so)
+
+  earlier_shown : (object : ℕ) (flag : Flag) (is : Bool) (added newest earlier : List Event) → added ≡ newest ++ earlier
+      → FlagWasShown terms.port object flag is earlier → FlagWasShown terms.port object flag is added
+  earlier_shown object flag is added newest earlier whole (shown, step, so) =
+      (shown, in_earlier (look_at terms.port object shown) added newest earlier whole step, so)
+
+  -- looks that don't show the flag
+  none_shown : (place : ℕ → ℕ) (flag : Flag) (shown : List Record) (added : List Event) → Looks terms place shown added
+      → list_any (flag_of flag) shown ≡ false → (n : ℕ) → n < length shown
+      → FlagWasShown terms.port (place n) flag false added
+  none_shown place flag [] added looks none n less = absurd (omega arith)
+  none_shown place flag (last ∷ before) added (newest, earlier, whole, look, looks) none n less =
+      let parts = or_parts (flag_of flag last) (list_any (flag_of flag) before) none in
+      elim (cases_lt n (length before)) [
+        | inl under ↦ earlier_shown (place n) flag false added newest earlier whole
+            (none_shown place flag before earlier looks parts.1 n under)
+        | inr top ↦
+            let here : length before ≡ n = omega arith in
+            subst (λ (k : ℕ). FlagWasShown terms.port (place k) flag false added) here
+            (newest_shown (place (length before)) flag last false added newest earlier whole look parts.0)
+      ]
+
+  none_in_turn : (flag : Flag) (shown : List Record) (added : List Event) → Looks terms in_turn shown added
+      → list_any (flag_of flag) shown ≡ false → (object : ℕ) → 1 ≤ object → object ≤ length shown
+      → FlagWasShown terms.port object flag false added
+  none_in_turn flag shown added looks none object least most =
+      let here : object - 1 + 1 ≡ object = omega arith in
+      subst (λ (k : ℕ). FlagWasShown terms.port k flag false added) here
+      (none_shown in_turn flag shown added looks none (object - 1) (omega arith))
+
   first_shown : (place : ℕ → ℕ) (flag : Flag) (count : ℕ) (added : List Event) → FirstShows terms place flag count added
       → FlagWasShown terms.port (place count) flag true added
   first_shown place flag count added h =
       let look = h.looks in
-      let object = place (length h.before) in
-      let step : HasStep terms.port object Look h.last h.last added =
-      in_newest (look_at terms.port object h.last) added look.0 look.1 look.2 (looked_at terms object h.last look.0 look.3) in
-      subst (λ (n : ℕ). FlagWasShown terms.port (place n) flag true added) h.counted (h.last, step, h.shows)
+      subst (λ (n : ℕ). FlagWasShown terms.port (place n) flag true added) h.counted
+      (newest_shown (place (length h.before)) flag h.last true added look.0 look.1 look.2 look.3 h.shows)
 
   pub watch_shown : (object : ℕ) (flag : Flag) (turns : ℕ) (added : List Event) → Watches terms object flag turns added true
       → FlagWasShown terms.port object flag true added
   watch_shown object flag turns added (count, less, h) = first_shown (λ before. object) flag count added h
 
-  pub interrupt_shown : (value : ℕ) (added : List Event) → Interrupts terms false added value → NamesPending terms.port value added
-  interrupt_shown value added (inl (is, none)) = inl is
+  pub watch_in_vain : (object : ℕ) (flag : Flag) (turns : ℕ) (added : List Event) → Watches terms object flag turns added false
+      → WasNeverShown terms.port object flag turns added
+  watch_in_vain object flag turns added h =
+      let all = no_law terms object turns flag added h in
+      record {
+        each = All-weaker (IsLookWithout terms object flag) (FindsUnset object flag)
+            (λ event is. record {
+              object_is = ap (λ (e : Event). e.object) is.look;
+              looks = ap (λ (e : Event). e.operation) is.look;
+              unset = is.unset;
+            }) (events_of terms.port added) all.1;
+        counted = all.0;
+      }
+
+  pub interrupt_shown : (value : ℕ) (added : List Event) → Interrupts terms false added value
+      → NamesPending terms.port terms.profile value added
+  interrupt_shown value added (inl (is, h)) = inl (
+    is,
+    λ object held. none_in_turn IntPnd h.shown added h.looks h.none object held.least (omega (arith, h.counted, held.greatest)),
+  )
   interrupt_shown value added (inr (count, less, is, h)) =
-      inr (subst (λ (n : ℕ). FlagWasShown terms.port n IntPnd true added) (sym is) (first_shown in_turn IntPnd count added h))
+      let look = h.looks in inr (
+        record { least = omega (arith, is); greatest = omega (arith, is, less) },
+        subst (λ (n : ℕ). FlagWasShown terms.port n IntPnd true added) (sym is) (first_shown in_turn IntPnd count added h),
+        λ object held below. earlier_shown object IntPnd false added look.0 look.1 look.2
+            (none_in_turn IntPnd h.before look.1 look.4 h.none object held.least (omega (arith, h.counted, is, below))),
+      )
 
   pub word_shown : (flag : Flag) (word : ℕ) (added : List Event) → ReadsFlags terms flag added word
       → WordWasShown terms.port terms.profile flag word added

@@ -1,8 +1,9 @@
 -- What the answers of a run without an order tell, as steps of one history: whose step it is, at which object, what
 -- it did, what it found and what it left. Source: C_CAN User's Manual 1.2, section 4.2.1 for what a transfer moves,
--- and section 3.4 for the Interrupt Register and the flags of all objects; that each answer has steps of its own, in
--- its port's order, is this project's own.
-use Rattle.std.specs.Prelude.{ℕ, ◌≡◌, ◌-◌, ◌⊎◌, Bool, true, List, [], ◌∷◌, ◌++◌, None, Some, Contains, if◌then◌else◌}
+-- and section 3.4 for the Interrupt Register and the flags of all objects; that each answer is of its line and has steps
+-- of its own, in its port's order, is this project's own.
+use Rattle.std.specs.Prelude.{ℕ, ◌≡◌, ◌<◌, ◌-◌, ◌⊎◌, Bool, true, false, if◌then◌else◌}
+use Rattle.std.specs.Prelude.{List, [], ◌∷◌, ◌++◌, length, All, Contains, None, Some}
 use Rattle.ccan_object.specs.declared.profile.Profile.{Profile}
 use Rattle.ccan_object.specs.declared.record.Record.{Record}
 use Rattle.ccan_object.specs.declared.command.CommandMask.{CommandMask}
@@ -29,6 +30,7 @@ use Rattle.ccan_bus.specs.declared.answer.LoadAnswer.TheVariants as load
 use Rattle.ccan_bus.specs.declared.answer.RoundAnswer.{RoundAnswer}
 use Rattle.ccan_bus.specs.declared.answer.RoundAnswer.TheVariants as round
 use Rattle.ccan_script.specs.declared.bus_line.BusLine.{BusLine}
+use Rattle.ccan_script.specs.declared.bus_line.BusLine.TheVariants as bus
 use Rattle.ccan_script.specs.declared.host_line.HostLine.{HostLine}
 use Rattle.ccan_script.specs.declared.host_line.HostLine.TheVariants as host
 use Rattle.ccan_script.specs.declared.line_answer.LineAnswer.{LineAnswer}
@@ -50,9 +52,25 @@ abbrev pub FlagWasShown : PortName → ℕ → Flag → Bool → List Event → 
 FlagWasShown port object flag is events =
     (shown : Record) × HasStep port object Look shown shown events × (flag_of flag shown ≡ is)
 
--- the interrupt value is 0, or the number of an object of which a look showed IntPnd
-abbrev pub NamesPending : PortName → ℕ → List Event → Type 0
-NamesPending port value events = (value ≡ 0) ⊎ FlagWasShown port value IntPnd true events
+-- the event is a look at the object, which found the flag unset
+pub record FindsUnset (object : ℕ) (flag : Flag) (event : Event) : Type 0 where
+  pub object_is : event.object ≡ object
+  pub looks : event.operation ≡ Look
+  pub unset : flag_of flag event.before ≡ false
+
+-- the port did nothing but look at the object, as often as it had turns, and no look showed the flag. A line of a script
+-- has one turn at least, so there is such a look
+pub record WasNeverShown (port : PortName) (object : ℕ) (flag : Flag) (turns : ℕ) (events : List Event) : Type 0 where
+  pub each : All (FindsUnset object flag) (events_of port events)
+  pub counted : length (events_of port events) ≡ turns
+
+-- the interrupt value is the number of the lowest object that showed IntPnd: a look at it showed the flag, and of each
+-- object below it a look did not; or the value is 0, and of each object a look did not
+abbrev pub NamesPending : PortName → Profile → ℕ → List Event → Type 0
+NamesPending port profile value events =
+    ((value ≡ 0) × ((object : ℕ) → Holds profile object → FlagWasShown port object IntPnd false events))
+    ⊎ (Holds profile value × FlagWasShown port value IntPnd true events
+    × ((object : ℕ) → Holds profile object → object < value → FlagWasShown port object IntPnd false events))
 
 -- bit k - 1 of the word is the flag of object k, as a look at it showed it
 abbrev pub WordWasShown : PortName → Profile → Flag → ℕ → List Event → Type 0
@@ -78,15 +96,22 @@ pub record WasRead (port : PortName) (registers : Registers) (object : ℕ) (sho
   pub step : HasStep port object (reading registers.command) before after events
   pub shows : shown ≡ by_groups registers.command before registers.buffer
 
--- these steps show the answer to a line of a host whose registers were set so. An answer that is not named here tells
--- of no transfer that was made, and of no flag that was shown
-abbrev pub HostShownBy : PortName → Registers → LineAnswer → List Event → Type 0
-HostShownBy port registers (answer.Write object left) events = WasWritten port registers object left events
-HostShownBy port registers (answer.Read object shown) events = WasRead port registers object shown events
-HostShownBy port registers (answer.Until object flag true) events = FlagWasShown port object flag true events
-HostShownBy port registers (answer.Interrupt value) events = NamesPending port value events
-HostShownBy port registers (answer.Flags flag word profile) events = WordWasShown port profile flag word events
-HostShownBy port registers reply events = Unit {0}
+-- how many turns a line has to wait
+abbrev pub turns_of : HostLine → ℕ
+turns_of (host.Until object flag turns) = turns
+turns_of line = 0
+
+-- these steps show the answer to this line of a host whose registers were set so. An answer that is not named here
+-- tells of no transfer that was made, and of no flag that was looked for
+abbrev pub HostShownBy : Profile → PortName → HostLine → Registers → LineAnswer → List Event → Type 0
+HostShownBy profile port line registers (answer.Write object left) events = WasWritten port registers object left events
+HostShownBy profile port line registers (answer.Read object shown) events = WasRead port registers object shown events
+HostShownBy profile port line registers (answer.Until object flag true) events = FlagWasShown port object flag true events
+HostShownBy profile port line registers (answer.Until object flag false) events =
+    WasNeverShown port object flag (turns_of line) events
+HostShownBy profile port line registers (answer.Interrupt value) events = NamesPending port profile value events
+HostShownBy profile port line registers (answer.Flags flag word objects) events = WordWasShown port objects flag word events
+HostShownBy profile port line registers reply events = Unit {0}
 
 -- how many changes the answer tells
 abbrev pub changes_told : Registers → LineAnswer → ℕ
@@ -94,11 +119,11 @@ changes_told registers (answer.Write object left) = 1
 changes_told registers (answer.Read object shown) = if is_pure_read registers.command then 0 else 1
 changes_told registers reply = 0
 
--- a part of the history in which a line of a host was run: its steps show the answer, and the host made no other
+-- a part of the history in which this line of a host was run: its steps show the answer, and the host made no other
 -- changes in it than the answer tells
-pub record IsHostPart (port : PortName) (registers : Registers) (reply : LineAnswer)
-    (events : List Event) : Type 0 where
-  pub shown : HostShownBy port registers reply events
+pub record IsHostPart (profile : Profile) (port : PortName) (line : HostLine) (registers : Registers)
+    (reply : LineAnswer) (events : List Event) : Type 0 where
+  pub shown : HostShownBy profile port line registers reply events
   pub changes : changes_by port events ≡ changes_told registers reply
 
 -- an answer to a transfer of this object
@@ -135,7 +160,7 @@ HostInOrder profile port [] registers [] history = events_of port history ≡ []
 HostInOrder profile port (line ∷ lines) registers (reply ∷ replies) history =
     let set = registers_set line registers in
     (later : List Event) × (first : List Event) × (history ≡ later ++ first)
-    × IsReplyTo profile line reply × IsHostPart port set reply first
+    × IsReplyTo profile line reply × IsHostPart profile port line set reply first
     × HostInOrder profile port lines (registers_after reply set) replies later
 HostInOrder profile port lines registers replies history = ⊥
 
@@ -160,21 +185,35 @@ RoundShownBy (round.Looped object left (Some found)) events =
 RoundShownBy ended events = Unit {0}
 
 -- these steps show the answer to a line of the bus. Its interrupt value can also be that of the status interrupt
-abbrev pub BusShownBy : LineAnswer → List Event → Type 0
-BusShownBy (answer.Load (load.Loaded object left)) events = WasChanged object change.Start left events
-BusShownBy (answer.Round ended) events = RoundShownBy ended events
-BusShownBy (answer.Interrupt value) events = (value ≡ 0x8000) ⊎ NamesPending Bus value events
-BusShownBy (answer.Flags flag word profile) events = WordWasShown Bus profile flag word events
-BusShownBy reply events = Unit {0}
+abbrev pub BusShownBy : Profile → LineAnswer → List Event → Type 0
+BusShownBy profile (answer.Load (load.Loaded object left)) events = WasChanged object change.Start left events
+BusShownBy profile (answer.Round ended) events = RoundShownBy ended events
+BusShownBy profile (answer.Interrupt value) events = (value ≡ 0x8000) ⊎ NamesPending Bus profile value events
+BusShownBy profile (answer.Flags flag word objects) events = WordWasShown Bus objects flag word events
+BusShownBy profile reply events = Unit {0}
+
+-- the answer is of the line's kind, and of what the line names or sets: the flag, the node, the enables, loop back mode
+abbrev pub IsBusReplyTo : Profile → BusLine → LineAnswer → Type 0
+IsBusReplyTo profile bus.Load (answer.Load loading) = Unit {0}
+IsBusReplyTo profile (bus.Round sends) (answer.Round ended) = Unit {0}
+IsBusReplyTo profile bus.Status (answer.Status word) = Unit {0}
+IsBusReplyTo profile (bus.Control sie eie) (answer.Control status error) = (status ≡ sie) × (error ≡ eie)
+IsBusReplyTo profile bus.Interrupt (answer.Interrupt value) = Unit {0}
+IsBusReplyTo profile (bus.Flags flag) (answer.Flags of word objects) = (of ≡ flag) × (objects ≡ profile)
+IsBusReplyTo profile (bus.Counters node) (answer.Counters of tec rec state) = of ≡ node
+IsBusReplyTo profile bus.Init answer.Init = Unit {0}
+IsBusReplyTo profile (bus.Recessive groups) (answer.Recessive state) = Unit {0}
+IsBusReplyTo profile (bus.LoopBack on) (answer.LoopBack is) = is ≡ on
+IsBusReplyTo profile line reply = ⊥
 
 -- each line of the bus has an answer and a part of the history, after those of the lines before it, and the bus has no
 -- step after the part of its last line
-abbrev pub BusInOrder : List BusLine → List LineAnswer → List Event → Type 0
-BusInOrder [] [] history = events_of Bus history ≡ []
-BusInOrder (line ∷ lines) (reply ∷ replies) history =
+abbrev pub BusInOrder : Profile → List BusLine → List LineAnswer → List Event → Type 0
+BusInOrder profile [] [] history = events_of Bus history ≡ []
+BusInOrder profile (line ∷ lines) (reply ∷ replies) history =
     (later : List Event) × (first : List Event) × (history ≡ later ++ first)
-    × BusShownBy reply first × BusInOrder lines replies later
-BusInOrder lines replies history = ⊥
+    × IsBusReplyTo profile line reply × BusShownBy profile reply first × BusInOrder profile lines replies later
+BusInOrder profile lines replies history = ⊥
 
 -- ---- a run
 
@@ -185,5 +224,5 @@ pub record IsAnswered (script : ScriptFields) (outcome : Outcome) : Type 0 where
   pub legal : IsLegal script.profile history
   pub if1 : HostInOrder script.profile If1 script.if1 zero_registers outcome.if1.items history
   pub if2 : HostInOrder script.profile If2 script.if2 zero_registers outcome.if2.items history
-  pub bus : BusInOrder script.bus outcome.bus.items history
+  pub bus : BusInOrder script.profile script.bus outcome.bus.items history
   pub left : outcome.last.records ≡ final_records script.profile history

@@ -12,11 +12,14 @@ pub fn no_line_is_busy()
     ensures { HasNoBusyLine }
 {}
 
-/// Behind what a run without an order comes to stands one legal history. Each answer of each port has a part of it for
-/// its own, in the port's order, whose steps show what the answer tells: the write that was made, the record that a
-/// read found, the flag that a look showed, the object that was started, finished or stored. A host made no change
-/// that its answers don't tell, no port has a step after its last line, and the objects at the end are those that the
-/// history leaves.
+/// Behind what a run without an order comes to stands one legal history. Each line of each port has an answer of the
+/// line's kind, and each answer a part of the history for its own, in the port's order, whose steps show what the answer
+/// tells: the write that was made, the record that a read found, the flag that a look showed, the object that was
+/// started, finished or stored; for the number of an object as interrupt value, a look at it that showed IntPnd, and
+/// of each lower object one that did not; for 0, such a look at every object. Where a wait for a flag ended without it,
+/// the host looked at the object once for each turn of the line, did nothing else, and no look showed the flag. A host
+/// made no change that its answers don't tell, no port has a step after its last line, and the objects at the end are
+/// those that the history leaves.
 pub fn answers_have_events()
     ensures { AnswersHaveEvents }
 {}
