@@ -1,14 +1,27 @@
 -- Lines, one after another.
-use Rattle.std.proofs.Common.{ℕ, ◌≡◌, List, [], ◌∷◌, ◌++◌, refl, sym, ap, subst, ◌∙◌, append_assoc}
+use Rattle.std.proofs.Common.{ℕ, ◌≡◌, ◌<◌, ◌≤◌, ◌+◌, ◌⊎◌, inl, inr, List, [], ◌∷◌, ◌++◌, refl, sym, ap, subst, ◌∙◌}
+use Rattle.std.proofs.Common.{append_assoc, arith}
 use Rattle.std.specs.Prelude.{Option}
 use Rattle.std.proofs.lemmas.List.{append-nil}
+use Rattle.std.proofs.lemmas.Bool.{cases_lt}
+use Rattle.ccan_ram.specs.declared.port.PortName.{PortName}
 use Rattle.ccan_ram.specs.declared.event.Event.{Event}
 use Rattle.ccan_ram.specs.Terms.{Terms}
 use Rattle.ccan_ram.specs.Access.{Passes, Goes}
 use Rattle.ccan_ram.proofs.Calls.{Goes-then, Goes-weaker}
 use Rattle.ccan_run.specs.Side.{GoesOn}
-use Rattle.ccan_run.specs.Gate.{ran}
+use Rattle.ccan_run.specs.Gate.{HasLet, ran}
 use Rattle.ccan_run.specs.Lines.{LinesMean, Run}
+
+module _ (lets : PortName → ℕ → Type 0) (port : PortName) (count : ℕ)
+    (so_far : HasLet lets port count) (last : lets port count) where
+  let_at : (line : ℕ) → line < count + 1 → (line < count) ⊎ (count ≤ line) → lets port line
+  let_at line below (inl before) = so_far line before
+  let_at line below (inr after) = subst (λ (n : ℕ). lets port n) (omega arith) last
+
+  -- a gate that let the next line run too
+  pub HasLet-more : HasLet lets port (count + 1)
+  HasLet-more line below = let_at line below (cases_lt line count)
 
 pub GoesOn-then : {State Value : Type 0} {led_to : State → Value → Type 0} {x y z : Value} {first second both : State → State → Type 0}
     → GoesOn led_to x y first → GoesOn led_to y z second

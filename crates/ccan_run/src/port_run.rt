@@ -1,7 +1,8 @@
 //! A port that runs its lines in a thread of its own.
-ghost use Rattle.std.specs.Prelude.{◌≡◌, vec_capacity};
+ghost use Rattle.std.specs.Prelude.{◌≡◌, length, vec_capacity};
 ghost use Rattle.ccan_ram.specs.SharedRam.{opened};
 ghost use Rattle.ccan_script.specs.Reader.{fields_of};
+ghost use Rattle.ccan_run.specs.Gate.{HasLet};
 ghost use Rattle.ccan_run.specs.Threads.{HasRoom, HasRun};
 
 use crate::gate::Gate;
@@ -34,8 +35,9 @@ pub(crate) fn run_opened<R: SharedRam, G: Gate>(
     requires opened { R.pass port ≡ opened (R.memory ram.now) name }
     requires profile { (R.memory ram.now).profile ≡ script.now.profile }
     requires room { HasRoom (fields_of script.now) name log.items (vec_capacity log) }
-    ensures { HasRun R.contends (G.stops gate.now) (R.memory ram.now) (fields_of script.now) name
-        result.stopped result.log.items (R.pass result.port) }
+    ensures ran { HasRun R.contends (G.stops gate.now) (R.memory ram.now) (fields_of script.now)
+        name result.stopped result.log.items (R.pass result.port) }
+    ensures entered { HasLet (G.lets gate.now) name (length result.log.items) }
 {
     let mut log = log;
     let mut access = On::new(ram, port);

@@ -1,7 +1,7 @@
 ghost use Rattle.std.specs.Prelude.{◌≡◌, ◌+◌, ◌<◌, ◌≤◌, [], ◌∷◌, ◌++◌, All, IfSome, length, vec_len, vec_capacity};
 ghost use Rattle.ccan_object.specs.declared.profile.Profile.{Profile};
 ghost use Rattle.ccan_ram.specs.Access.{Goes};
-ghost use Rattle.ccan_run.specs.Gate.{StoppedAt, ran};
+ghost use Rattle.ccan_run.specs.Gate.{HasLet, StoppedAt, ran};
 ghost use Rattle.ccan_run.specs.Lines.{LinesMean};
 ghost use Rattle.ccan_run.specs.Side.{GoesOn};
 
@@ -58,7 +58,7 @@ pub(crate) fn log_answer<T: Copy>(log: &mut Vec<T>, answer: T)
 }
 
 /// Runs the lines of a port in turn, as far as the gate lets it, and logs their answers. `None` where all ran, and else the
-/// index of the line before which the gate stopped the port.
+/// index of the line before which the gate stopped the port. No line runs that the gate did not let through.
 pub fn run_lines<S: Side, A: Access, G: Gate>(
     side: &mut S,
     access: &mut A,
@@ -75,6 +75,7 @@ pub fn run_lines<S: Side, A: Access, G: Gate>(
         GoesOn S.led_to side.old side.new (λ state left.
         LinesMean (S.means terms tries) (ran result lines.now) state seen added log.new.items left)) }
     ensures stopped { IfSome result (StoppedAt (G.stops gate.now) port (length lines.now)) }
+    ensures entered { HasLet (G.lets gate.now) port (length log.new.items) }
 {
     for line in lines {
         let index = log.len();

@@ -1,7 +1,9 @@
-ghost use Rattle.std.specs.Prelude.{◌≡◌, ◌<◌, ◌↔◌, Err, IfOk, IfErr, vec_capacity};
+ghost use Rattle.std.specs.Prelude.{◌≡◌, ◌<◌, ◌↔◌, Err, IfOk, IfErr, length, vec_capacity};
 ghost use Rattle.ccan_ram.specs.SharedRam.{opened};
 ghost use Rattle.ccan_script.specs.Reader.{fields_of};
-ghost use Rattle.ccan_run.specs.Threads.{AllRan, AreOpened, HasRoom, HasRun, HaveRun, IsFirstHeld, RunsAtOnce, StopsThreads};
+ghost use Rattle.ccan_run.specs.Gate.{HasLet};
+ghost use Rattle.ccan_run.specs.Threads.{AllRan, AreOpened, HasRoom, HasRun, HaveRun, IsFirstHeld};
+ghost use Rattle.ccan_run.specs.Threads.{RunsAtOnce, StopsThreads, WereLet};
 
 use crate::gate::Gate;
 use crate::outcome::Outcome;
@@ -27,7 +29,8 @@ struct RunOf<'a, R: SharedRam, G: Gate> {
 impl<'a, R: SharedRam, G: Gate> Promise<PortRun<R::Port>> for RunOf<'a, R, G> {
     ghost kept_by = { λ promise run. HasRun R.contends (G.stops promise.gate.now)
         (R.memory promise.ram.now) (fields_of promise.script.now) promise.name
-        run.stopped run.log.items (R.pass run.port) };
+        run.stopped run.log.items (R.pass run.port)
+        × HasLet (G.lets promise.gate.now) promise.name (length run.log.items) };
 }
 
 /// Room for the answers of each port.
@@ -104,6 +107,8 @@ fn join_all<'s, E: 's, R: SharedRam + Sync, G: Gate + Sync, T: Threads>(
         (vec_capacity logs.bus) }
     ensures ok { IfOk result
         (HaveRun R.pass R.contends (G.stops gate.now) (R.memory ram.now) (fields_of script.now)) }
+    ensures entered { IfOk result (λ runs. WereLet (G.lets gate.now)
+        runs.if1.log.items runs.if2.log.items runs.bus.log.items) }
     ensures err { IfErr result (λ why. why ≡ RunError.Spawn) }
 {
     let run_of = |name: PortName| RunOf {
@@ -141,6 +146,8 @@ fn run_at_once<R: SharedRam + Sync, G: Gate + Sync, T: Threads + Wait + Sync>(
         (vec_capacity logs.bus) }
     ensures ok { IfOk result
         (HaveRun R.pass R.contends (G.stops gate.now) (R.memory ram.now) (fields_of script.now)) }
+    ensures entered { IfOk result (λ runs. WereLet (G.lets gate.now)
+        runs.if1.log.items runs.if2.log.items runs.bus.log.items) }
     ensures err { IfErr result (λ why. why ≡ RunError.Spawn) }
 {
     thread::scope(
@@ -173,7 +180,8 @@ fn unless_held<P: Drop>(runs: PerPort<PortRun<P>>) -> Result<PerPort<PortRun<P>>
     Err(RunError::Held { port, line })
 }
 
-/// Runs the lines of each port in a thread of its own, all over one memory, whatever the script's order says.
+/// Runs the lines of each port in a thread of its own, all over one memory, whatever the script's order says. No line runs
+/// that the gate did not let through.
 ///
 /// A quota that is more than the memory numbers is found before anything is asked for, and all memory is taken before a
 /// thread starts. In every case each thread that was started has ended when this returns; a thread that could not be started
@@ -185,6 +193,8 @@ pub fn run_threads<R: SharedRam + Sync + Drop, G: Gate + Sync, T: Threads + Wait
     gate: &G,
 ) -> Result<Outcome, RunError>
     ensures ok { IfOk result (RunsAtOnce R.contends (fields_of script.now)) }
+    ensures entered { IfOk result (λ outcome. WereLet (G.lets gate.now)
+        outcome.if1.items outcome.if2.items outcome.bus.items) }
     ensures quota { (result ≡ Err RunError.Quota) ↔ (R.MAX_QUOTA < script.now.quota) }
     ensures err { IfErr result (StopsThreads (G.stops gate.now) (fields_of script.now)) }
 {

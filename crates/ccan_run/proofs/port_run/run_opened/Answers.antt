@@ -2,8 +2,8 @@ use Rattle.std.proofs.Common.{ap, ◌∙◌}
 use Rattle.ccan_run.proofs.AtOnce.{ran_from_opened}
 use Rattle.ccan_run.proofs.port_run.run_opened.Goals as goal
 
-pub returns : goal.returns
-returns g c =
+pub returns-clause-ran : goal.returns-clause-ran
+returns-clause-ran g c =
     let opened = ap g.R.SharedRam.pass c.new-access.ensures.port ∙ c.requires.opened in
     rw c.into_port.ensures.port
     (ran_from_opened _ _ _ _ _ _ _ _ _ opened c.run_port-stopped.ensures.runs c.run_port-stopped.ensures.stopped)
