@@ -1,5 +1,5 @@
 //! Gates that make ports wait for one another, or stop them.
-ghost use Rattle.std.specs.Prelude.{◌≡◌, ◌≤◌};
+ghost use Rattle.std.specs.Prelude.{◌≡◌, ◌≤◌, ◌<◌, None};
 
 use ccan_ram::PortName;
 use ccan_run::Gate;
@@ -52,7 +52,7 @@ impl Gate for Together {
     }
 }
 
-/// Stops a port, or every port where none is named, from a line on.
+/// Stops a port, or every port where none is named, from a line on. Where none is named, no line from there on is let through.
 #[derive(Clone, Copy, Debug)]
 pub struct HeldFrom {
     /// The port that is stopped.
@@ -63,6 +63,8 @@ pub struct HeldFrom {
 
 impl Gate for HeldFrom {
     ghost stops = { λ gate _ line. gate.line ≤ line };
+
+    ghost lets = { λ gate _ line. gate.port ≡ None → line < gate.line };
 
     fn enter(&self, port: PortName, line: usize) -> bool {
         let stopped = match self.port {
