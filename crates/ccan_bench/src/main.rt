@@ -4,6 +4,7 @@
 //! a word nothing.
 #![tactic(auto)]
 
+mod lines;
 mod made;
 mod memories;
 mod rivals;

@@ -2,14 +2,13 @@
 ghost use Rattle.std.specs.Prelude.{◌≡◌};
 ghost use Rattle.ccan_object.specs.Profile.{Holds};
 
+use crate::lines::lines;
 use crate::rivals::three_writers;
 use crate::timing::{median, tenths};
 use anyhow::{Result, bail};
 use ccan_handler::{flags, until};
 use ccan_object::{CommandMask, Iface, ObjectNo, Profile, Record, Reg};
 use ccan_ram::{Access, Change, Flag, On, SharedRam, Tries};
-use ccan_run::Side;
-use ccan_script::{HostLine, LineAnswer, RegisterSet};
 use std::alloc::Global;
 use std::rt::Clock;
 use std::thread::Threads;
@@ -22,7 +21,7 @@ const STEPS: u32 = 100_000;
 const RUNS: u32 = 21;
 
 /// How many memories are opened for changes, each of which takes as many as its quota.
-const MEMORIES: u32 = 63;
+pub const MEMORIES: u32 = 63;
 
 /// The record that is written: a message with eight bytes.
 fn message() -> Record {
@@ -135,50 +134,6 @@ fn time_changes<A: Access>(
         bail!("a change was not made");
     }
     Ok(time)
-}
-
-/// Runs the line of a transfer of object 1 as often as the port's quota allows, with this Command Mask register.
-fn time_lines<A: Access>(
-    clock: &impl Clock,
-    access: &mut A,
-    command: u16,
-    quota: u64,
-) -> Result<u64> {
-    let mut registers = Iface::new();
-    registers.set(Reg::CMask, command);
-    let Some(tries) = Tries::new(1000) else {
-        bail!("so many tries are allowed")
-    };
-    let line = HostLine::Transfer {
-        request: 1,
-        set: RegisterSet::new(),
-    };
-    let mut made = 0u64;
-    let start = Instant::now(clock)?;
-    for _ in 0..quota {
-        let answer = registers.run_line(access, &line, tries);
-        if matches!(answer, LineAnswer::Write(..) | LineAnswer::Read(..)) {
-            made = made.saturating_add(1);
-        }
-    }
-    let time = tenths(start.elapsed(clock)?, quota);
-    if made != quota {
-        bail!("a line was not made");
-    }
-    Ok(time)
-}
-
-/// The median over several memories of the time of a transfer line.
-fn lines<R: SharedRam + Drop>(clock: &impl Clock, alloc: Global, command: u16) -> Result<u64> {
-    let mut times = Vec::new(alloc);
-    for _ in 0..MEMORIES {
-        let Ok((ram, if1, _if2, _bus)) = R::open_ram(alloc, Profile::One, R::MAX_QUOTA) else {
-            bail!("no memory")
-        };
-        let mut host = On::new(&ram, if1);
-        times.push(time_lines(clock, &mut host, command, R::MAX_QUOTA)?)?;
-    }
-    Ok(median(times)?)
 }
 
 /// The median over several memories of the time of a change.
