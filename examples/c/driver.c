@@ -6,6 +6,7 @@
  *   cc driver.c $(pkg-config --cflags --libs ccan) -pthread */
 #include <ccan.h>
 #include <pthread.h>
+#include <sched.h>
 #include <stdatomic.h>
 #include <stdio.h>
 #include <stdlib.h>
@@ -52,9 +53,11 @@ static void *receive(void *sum)
     set(host, CCAN_CMASK, 0x007f); /* read all, and clear IntPnd and NewDat */
     for (int frame = 0; frame < FRAMES; frame++) {
         uint16_t object;
-        do
+        must(ccan_interrupt(host, &object), "ccan_interrupt");
+        while (object != RECEIVES) {
+            sched_yield(); /* nothing yet: the other threads go on */
             must(ccan_interrupt(host, &object), "ccan_interrupt");
-        while (object != RECEIVES);
+        }
         transfer(host, object);
         if (get(host, CCAN_CTRL) & 0x4000)
             fprintf(stderr, "a message was lost\n");
@@ -74,9 +77,11 @@ static void *transmit(void *unused)
         set(host, CCAN_DATAA1, (uint16_t)frame);
         transfer(host, SENDS);
         uint64_t waiting;
-        do
+        must(ccan_flags(host, CCAN_TXRQST, &waiting), "ccan_flags");
+        while (waiting & 1u << (SENDS - 1)) {
+            sched_yield();
             must(ccan_flags(host, CCAN_TXRQST, &waiting), "ccan_flags");
-        while (waiting & 1u << (SENDS - 1));
+        }
         atomic_fetch_add(&frames_sent, 1);
     }
     return NULL;
@@ -99,6 +104,8 @@ static void *rounds(void *sent)
             offered++;
         if (outcome.kind == CCAN_SENT)
             ++*(uint64_t *)sent;
+        if (outcome.kind == CCAN_IDLE)
+            sched_yield();
     }
     return NULL;
 }
