@@ -1,6 +1,6 @@
 /* Times calls of the library from C: a wait that one look ends, a read that clears nothing, a write of a whole object, the
- * flags of 32 objects, and the same writes while the other host writes to an object of its own in a thread of its own. Prints
- * nanoseconds a call, the median of the chips that it opens. */
+ * flags of 32 objects, and the same writes while the other host writes to an object of its own in a thread of its own, and
+ * while the bus stores frames in a third. Prints nanoseconds a call, the median of the chips that it opens. */
 #define _POSIX_C_SOURCE 200809L
 #include <ccan.h>
 #include <pthread.h>
@@ -49,22 +49,39 @@ static double writes(void)
     return transfers(&chip.if1, 1);
 }
 
+/* IF2 makes all objects valid. */
+static void make_valid(void)
+{
+    must(ccan_set(&chip.if2, CCAN_CMASK, 0x00f3));
+    must(ccan_set(&chip.if2, CCAN_ARB2, 0x8000));
+    for (uint16_t object = 1; object <= 32; object++)
+        must(ccan_request(&chip.if2, object));
+}
+
 static double waits(void)
 {
-    uint32_t shown;
+    uint32_t shown = 0, times = 0;
+    make_valid();
     double start = now();
-    for (int i = 0; i < QUOTA; i++)
+    for (int i = 0; i < QUOTA; i++) {
         must(ccan_until(&chip.if1, 1, CCAN_MSGVAL, 1, &shown));
-    return (now() - start) / QUOTA;
+        times += shown;
+    }
+    double took = now() - start;
+    must(times == QUOTA ? CCAN_DONE : CCAN_FLAG_RANGE);
+    return took / QUOTA;
 }
 
 static double flags(void)
 {
-    uint64_t shown;
+    uint64_t shown = 0;
+    make_valid();
     double start = now();
     for (int i = 0; i < QUOTA; i++)
-        must(ccan_flags(&chip.if1, CCAN_NEWDAT, &shown));
-    return (now() - start) / QUOTA;
+        must(ccan_flags(&chip.if1, CCAN_MSGVAL, &shown));
+    double took = now() - start;
+    must(shown == 0xffffffff ? CCAN_DONE : CCAN_FLAG_RANGE);
+    return took / QUOTA;
 }
 
 static void *second_host(void *nothing)
@@ -74,16 +91,49 @@ static void *second_host(void *nothing)
     return nothing;
 }
 
-static double writes_beside_the_other(void)
+/* The bus stores frame after frame in object 3, as often as a host writes. */
+static void *rounds(void *nothing)
 {
-    pthread_t second;
-    if (pthread_create(&second, NULL, second_host, NULL) != 0) {
+    ccan_offer offer = { 0, 1, 0, 0, 8, { 0 } };
+    ccan_outcome outcome;
+    for (int i = 0; i < QUOTA; i++)
+        must(ccan_round(&chip.bus, &offer, 1, CCAN_QUIET, &outcome));
+    return nothing;
+}
+
+static pthread_t begin(void *(*port)(void *))
+{
+    pthread_t thread;
+    if (pthread_create(&thread, NULL, port, NULL) != 0) {
         fprintf(stderr, "no thread\n");
         exit(1);
     }
+    return thread;
+}
+
+static double writes_beside_the_other(void)
+{
+    pthread_t second = begin(second_host);
     double took = writes();
     pthread_join(second, NULL);
     return took;
+}
+
+static double writes_beside_both(void)
+{
+    must(ccan_set(&chip.if1, CCAN_CMASK, 0x00f3));
+    must(ccan_set(&chip.if1, CCAN_ARB2, 0x8000)); /* valid, receives identifier 0 */
+    must(ccan_set(&chip.if1, CCAN_CTRL, 0x0080));
+    must(ccan_request(&chip.if1, 3));
+    must(ccan_set(&chip.if1, CCAN_ARB2, 0));
+    pthread_t second = begin(second_host), third = begin(rounds);
+    double start = now();
+    for (int i = 1; i < QUOTA; i++)
+        must(ccan_request(&chip.if1, 1));
+    double took = now() - start;
+    pthread_join(second, NULL);
+    pthread_join(third, NULL);
+    return took / (QUOTA - 1);
 }
 
 static int compare(const void *a, const void *b)
@@ -96,7 +146,7 @@ static void measure(const char *name, double (*run)(void))
 {
     static double took[CHIPS];
     for (int i = 0; i < CHIPS; i++) {
-        must(ccan_open(&chip, 1, 0, QUOTA, 1000));
+        must(ccan_open(&chip, 1, 1, QUOTA, 1000));
         took[i] = run();
         must(ccan_end(&chip, &last));
     }
@@ -111,5 +161,6 @@ int main(void)
     measure("a full write", writes);
     measure("32 looks of a flag", flags);
     measure("a full write beside the other host", writes_beside_the_other);
+    measure("a full write beside the other host and the bus", writes_beside_both);
     return 0;
 }
