@@ -13,7 +13,8 @@
  *    records that this history leaves. ccan_renew ends one history, and begins the next with the records of the first.
  *  - It answers the numbers below, in just the cases that are said at each call. Where a call is refused, that is for each
  *    number but 0, CCAN_BUSY, CCAN_SPENT and CCAN_SHARED, handle and output stay as they were.
- * Only tested: that no call but ccan_open and ccan_renew takes memory, and that CCAN_SHARED never comes where C keeps its promises. Not
+ * Only tested: that no call but ccan_open and ccan_renew takes memory, and that CCAN_SHARED never comes where C keeps its
+ * promises. Not
  * proved, and not claimed: how long a call takes, and that a thread is ever run.
  *
  * What C promises. The proofs assume it, and no call can check it:
