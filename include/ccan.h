@@ -14,8 +14,7 @@
  *  - It answers the numbers below, in just the cases that are said at each call. Where a call is refused, that is for each
  *    number but 0, CCAN_BUSY, CCAN_SPENT and CCAN_SHARED, handle and output stay as they were.
  * Only tested: that no call but ccan_open and ccan_renew takes memory, and that CCAN_SHARED never comes where C keeps its
- * promises. Not
- * proved, and not claimed: how long a call takes, and that a thread is ever run.
+ * promises. Not proved, and not claimed: how long a call takes, and that a thread is ever run.
  *
  * What C promises. The proofs assume it, and no call can check it:
  *  1. A ccan_chip begins as CCAN_CHIP_CLOSED. C neither reads nor writes the insides of a chip or a handle, and neither
