@@ -3,7 +3,7 @@ SCRIPT ?= examples/first_write.json
 PREFIX ?= /usr/local
 export SCRIPT PREFIX
 
-.PHONY: help run try test install bench sweep hostile soak c-test schema clean
+.PHONY: help run try prove test install bench sweep hostile soak c-test schema clean
 
 help:
 	@tools/targets
@@ -13,6 +13,9 @@ run:
 
 try:
 	@tools/try "$$SCRIPT"
+
+prove:
+	@tools/build
 
 test:
 	tools/gate
@@ -28,8 +31,8 @@ sweep:
 	tools/refuse_memory crates/ccan/out/ccan examples/spent_quota.json examples/spent_quota.json.stdout
 	tools/refuse_memory crates/ccan/out/ccan examples/spent_quota.json examples/spent_quota.json.stdout threads
 	tools/refuse_memory crates/ccan/out/ccan examples/spent_quota.json /dev/null walk
-	@tools/build ccan_open
-	tools/refuse_opening crates/ccan_open/out/ccan_open
+	@tools/build test_speed
+	tools/refuse_opening crates/test_speed/out/test_speed
 
 hostile:
 	@tools/build

@@ -24,8 +24,6 @@ pub mod frame_error;
 pub mod laws;
 pub mod send;
 pub mod store;
-#[cfg(test)]
-mod tests;
 
 pub use accept::accepts;
 pub use frame::Frame;

@@ -58,6 +58,13 @@ impl Bus {
         }
     }
 
+    /// How many nodes there are beside the controller.
+    pub fn others(&self) -> u8
+        ensures { result ≡ self.now.others }
+    {
+        self.others
+    }
+
     /// The error counters of a node.
     pub fn counters(&self, node: u8) -> Counters
         requires { node ≤ self.now.others }

@@ -29,8 +29,6 @@ mod loop_back;
 mod nodes;
 mod round;
 pub mod round_line;
-#[cfg(test)]
-mod tests;
 mod transfer;
 
 pub use answer::{LoadAnswer, RoundAnswer};

@@ -42,8 +42,6 @@ pub mod laws;
 pub mod node_state;
 pub mod status;
 pub mod status_event;
-#[cfg(test)]
-mod tests;
 
 pub use bus_event::BusEvent;
 pub use counters::Counters;

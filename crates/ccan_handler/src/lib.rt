@@ -17,8 +17,6 @@
 pub mod laws;
 mod objects;
 pub mod scan;
-#[cfg(test)]
-mod tests;
 pub mod watch;
 
 pub use scan::{ScanRefused, Stored, choose, choose_from, receive, receive_from};

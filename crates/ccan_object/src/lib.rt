@@ -36,8 +36,6 @@ pub mod packing;
 pub mod profile;
 pub mod record;
 pub mod register;
-#[cfg(test)]
-mod tests;
 pub mod transfer;
 
 pub use command::CommandMask;

@@ -34,8 +34,6 @@ pub mod on;
 pub mod open_error;
 pub mod port;
 pub mod shared_ram;
-#[cfg(test)]
-mod tests;
 pub mod tries;
 
 pub use access::Access;

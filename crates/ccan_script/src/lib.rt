@@ -46,8 +46,6 @@ mod round;
 pub mod script;
 pub mod script_error;
 mod script_line;
-#[cfg(test)]
-mod tests;
 
 pub use bus_line::BusLine;
 pub use host_line::HostLine;

@@ -1,7 +1,0 @@
-use super::*;
-
-mod arbitrations;
-mod bench;
-mod contention;
-mod loops;
-mod rounds;

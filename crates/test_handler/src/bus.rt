@@ -1,0 +1,7 @@
+//! Worked examples of arbitration, rounds on the bus and loop back mode.
+
+mod arbitrations;
+mod bench;
+mod contention;
+mod loops;
+mod rounds;

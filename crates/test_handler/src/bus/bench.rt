@@ -1,0 +1,178 @@
+//! A plain memory and a bus, for worked examples.
+
+ghost use Rattle.std.specs.Prelude.{◌≡◌, ◌≤◌, ◌<◌, ◌^◌};
+ghost use Rattle.ccan_accept.specs.Frame.{identifier_bits};
+ghost use Rattle.ccan_ram.specs.Port.{IsQuota};
+
+use arrayvec::ArrayVec;
+use ccan_accept::Frame;
+use ccan_bus::{Bus, Fault, LoadAnswer, RoundAnswer, RoundLine};
+use ccan_confine::NodeState;
+use ccan_handler::interrupt;
+use ccan_object::{Iface, ObjectNo, Profile, Record, Reg};
+use ccan_ram::{Access, Array, Change, Changed, PortName, Tries};
+
+/// The registers of a message that waits to be sent: standard, 0x123, eight bytes 11 to 88; but for Message Control.
+pub const MESSAGE: [(Reg, u16); 6] = [
+    (Reg::CMask, 0x00f3),
+    (Reg::Arb2, 0xa48c),
+    (Reg::DataA1, 0x2211),
+    (Reg::DataA2, 0x4433),
+    (Reg::DataB1, 0x6655),
+    (Reg::DataB2, 0x8877),
+];
+
+/// The bytes of that message.
+pub const BYTES: [u8; 8] = [0x11, 0x22, 0x33, 0x44, 0x55, 0x66, 0x77, 0x88];
+
+/// The registers of an object that receives standard frames 0x123, but for Message Control.
+pub const RECEIVER: [(Reg, u16); 2] = [(Reg::CMask, 0x00f3), (Reg::Arb2, 0x848c)];
+
+/// A frame of these parts.
+pub fn frame(id: u32, xtd: bool, rtr: bool, dlc: u8, bytes: [u8; 8]) -> Frame
+    requires id { id < 2 ^ identifier_bits xtd }
+    requires dlc { dlc ≤ 15 }
+{
+    match Frame::new(id, xtd, rtr, dlc, bytes) {
+        Ok(frame) => frame,
+        Err(_) => unreachable!(),
+    }
+}
+
+/// A standard data frame without bytes.
+pub fn empty_frame(id: u32) -> Frame
+    requires { id < 2 ^ 11 }
+{
+    frame(id, false, false, 0, [0; 8])
+}
+
+/// The object that a request names.
+pub fn object(request: u16) -> ObjectNo {
+    ObjectNo::from_request(Profile::One, request)
+}
+
+/// Sets registers.
+pub fn set(registers: &mut Iface, settings: &[(Reg, u16)]) {
+    for (register, value) in settings {
+        registers.set(*register, *value);
+    }
+}
+
+/// The four fields of a printed record.
+pub fn fields(object: &Record) -> (u32, u32, u16, [u8; 8]) {
+    (
+        object.arbitration(),
+        object.masks(),
+        object.control(),
+        object.bytes,
+    )
+}
+
+/// A memory and a bus.
+#[derive(Drop)]
+pub struct Bench {
+    ram: Array,
+    bus: Bus,
+    ghost same: { (⟦<Array as Access>⟧.passes ram).terms.profile ≡ bus.profile },
+}
+
+impl Bench {
+    /// With so many other nodes; each port may make so many changes.
+    pub fn new(nodes: u8, quota: u64) -> Bench
+        requires nodes { nodes ≤ 8 }
+        requires quota { IsQuota quota }
+    {
+        Bench {
+            ram: Array::new(Profile::One, quota),
+            bus: Bus::new(Profile::One, nodes),
+        }
+    }
+
+    /// A transfer by IF1 of the object that a request names, with these registers. Whether it was made.
+    pub fn transfer(&mut self, request: u16, some: &[(Reg, u16)], more: &[(Reg, u16)]) -> bool {
+        let mut registers = Iface::new();
+        set(&mut registers, some);
+        set(&mut registers, more);
+        let command = registers.command();
+        let change = if command.is_write() {
+            Change::Write(command, registers.buffer())
+        } else {
+            Change::Clear(command)
+        };
+        self.ram.at(PortName::If1);
+        let object = ObjectNo::from_request(self.ram.profile(), request);
+        let made = self.ram.change(object, &change, a_hundred_tries());
+        matches!(made, Ok(Changed::Done { .. }))
+    }
+
+    /// The record of the object that a request names.
+    pub fn record(&self, request: u16) -> Record {
+        self.ram
+            .record_of(ObjectNo::from_request(self.ram.profile(), request))
+    }
+
+    /// A load by the bus.
+    pub fn load(&mut self) -> LoadAnswer {
+        self.ram.at(PortName::Bus);
+        self.bus.load(&mut self.ram, a_hundred_tries())
+    }
+
+    /// A round in which these nodes send, and this spoils the winner's frame. A line that can't be made is an idle round.
+    pub fn round(&mut self, sends: &[(u8, Frame)], fault: Fault) -> RoundAnswer {
+        let mut send = ArrayVec::new();
+        for sender in sends {
+            let _full = send.try_push(*sender);
+        }
+        self.ram.at(PortName::Bus);
+        match RoundLine::new(8, send, fault) {
+            Some(line) => self.bus.round(&mut self.ram, &line, a_hundred_tries()),
+            None => RoundAnswer::Idle,
+        }
+    }
+
+    /// TEC, REC and the state of a node.
+    pub fn counters(&self, node: u8) -> (u16, u8, NodeState) {
+        let counters = self.bus.counters(node.min(self.bus.others()));
+        (counters.tec(), counters.rec(), counters.state())
+    }
+
+    /// What the Status register reads.
+    pub fn status(&mut self) -> u16 {
+        self.bus.status_read()
+    }
+
+    /// Writes SIE and EIE.
+    pub fn enable(&mut self, sie: bool, eie: bool) {
+        self.bus.enable(sie, eie);
+    }
+
+    /// The interrupt register.
+    pub fn interrupt(&mut self) -> u16 {
+        let pending = self.bus.status_pending();
+        interrupt(&mut self.ram, pending)
+    }
+
+    /// Sets loop back mode.
+    pub fn loop_back(&mut self, on: bool) {
+        self.bus.loop_back(on);
+    }
+
+    /// Clears Init.
+    pub fn clear_init(&mut self) {
+        self.bus.clear_init();
+    }
+
+    /// The controller's state after so many groups of recessive bits.
+    pub fn recessive(&mut self, groups: u16) -> NodeState {
+        self.bus.recessive(groups);
+        self.bus.counters(0).state()
+    }
+}
+
+/// A hundred tries for each change.
+fn a_hundred_tries() -> Tries {
+    match Tries::new(100) {
+        Some(tries) => tries,
+        None => unreachable!(),
+    }
+}

@@ -1,0 +1,126 @@
+//! Memory steps of rounds that lose their tries.
+
+ghost use Rattle.std.specs.Prelude.{◌≡◌};
+
+use super::bench::{MESSAGE, RECEIVER, empty_frame, frame, object, set};
+use arrayvec::ArrayVec;
+use ccan_accept::Frame;
+use ccan_bus::{Bus, Fault, LoadAnswer, RoundAnswer, RoundLine};
+use ccan_confine::NodeState;
+use ccan_object::{Iface, Profile, Reg};
+use ccan_ram::{Access, Tries};
+use test_contended::{Contended, Transfer};
+
+/// A bus with one other node, for this memory.
+fn bus_of<A: Access>(ram: &A) -> Bus
+    ensures { (A.passes ram.now).terms.profile ≡ result.profile }
+{
+    Bus::new(ram.profile(), 1)
+}
+
+/// A load, with one try for each change.
+fn load<A: Access>(bus: &mut Bus, ram: &mut A) -> LoadAnswer
+    requires { (A.passes ram.old).terms.profile ≡ bus.old.profile }
+    ensures { (A.passes ram.new).terms.profile ≡ bus.new.profile }
+{
+    bus.load(ram, one_try())
+}
+
+/// A round in which these nodes send, with one try for each change.
+fn round<A: Access>(bus: &mut Bus, ram: &mut A, sends: &[(u8, Frame)]) -> RoundAnswer
+    requires { (A.passes ram.old).terms.profile ≡ bus.old.profile }
+    ensures { (A.passes ram.new).terms.profile ≡ bus.new.profile }
+{
+    let mut send = ArrayVec::new();
+    for sender in sends {
+        let _full = send.try_push(*sender);
+    }
+    match RoundLine::new(1, send, Fault::Quiet) {
+        Some(line) => bus.round(ram, &line, one_try()),
+        None => RoundAnswer::Idle,
+    }
+}
+
+/// The controller's TEC, REC and state, and what the Status register reads.
+fn told(bus: &mut Bus) -> (u16, u8, NodeState, u16)
+    ensures { bus.new.profile ≡ bus.old.profile }
+{
+    let counters = bus.counters(0);
+    let word = bus.status_read();
+    (counters.tec(), counters.rec(), counters.state(), word)
+}
+
+fn one_try() -> Tries {
+    match Tries::new(1) {
+        Some(tries) => tries,
+        None => unreachable!(),
+    }
+}
+
+/// A transfer of IF1 from new registers that were set so.
+fn transfer(request: u16, some: &[(Reg, u16)], more: &[(Reg, u16)]) -> Transfer {
+    let mut registers = Iface::new();
+    set(&mut registers, some);
+    set(&mut registers, more);
+    Transfer {
+        object: object(request),
+        command: registers.command(),
+        buffer: registers.buffer(),
+    }
+}
+
+// A write of the first four data bytes.
+const DATA: [(Reg, u16); 1] = [(Reg::CMask, 0x0082)];
+
+#[test]
+fn a_busy_load_leaves_all(rt: HostRuntime) {
+    let theirs = [
+        transfer(1, &MESSAGE, &[(Reg::Ctrl, 0x0188)]),
+        transfer(1, &DATA, &[]),
+        transfer(1, &DATA, &[]),
+    ];
+    let mut ram = Contended::new(Profile::One, 64, &theirs);
+    assert!(rt; ram.go_on());
+    let mut bus = bus_of(&ram);
+    assert!(rt; load(&mut bus, &mut ram) == LoadAnswer::Busy(object(1)));
+    let sends = [(1, empty_frame(0x100))];
+    assert!(rt; round(&mut bus, &mut ram, &sends) == RoundAnswer::Busy(object(1)));
+    assert_eq!(rt; told(&mut bus), (0, 0, NodeState::Active, 0x0000));
+    assert!(rt; matches!(load(&mut bus, &mut ram), LoadAnswer::Loaded(_, _)));
+    assert!(rt; matches!(round(&mut bus, &mut ram, &[]), RoundAnswer::Sent(_, _)));
+}
+
+#[test]
+fn a_busy_finish_leaves_the_success(rt: HostRuntime) {
+    let theirs = [
+        transfer(1, &MESSAGE, &[(Reg::Ctrl, 0x0188)]),
+        transfer(2, &DATA, &[]),
+        transfer(1, &DATA, &[]),
+    ];
+    let mut ram = Contended::new(Profile::One, 64, &theirs);
+    assert!(rt; ram.go_on());
+    let mut bus = bus_of(&ram);
+    assert!(rt; round(&mut bus, &mut ram, &[]) == RoundAnswer::Busy(object(1)));
+    assert_eq!(rt; told(&mut bus), (0, 0, NodeState::Active, 0x0008));
+    assert!(rt; matches!(round(&mut bus, &mut ram, &[]), RoundAnswer::Sent(_, _)));
+}
+
+#[test]
+fn a_busy_scan_leaves_the_success(rt: HostRuntime) {
+    let theirs = [
+        transfer(2, &RECEIVER, &[(Reg::Ctrl, 0x0088)]),
+        transfer(2, &DATA, &[]),
+    ];
+    let mut ram = Contended::new(Profile::One, 64, &theirs);
+    assert!(rt; ram.go_on());
+    let mut bus = bus_of(&ram);
+    let sends = [(1, frame(0x123, false, false, 1, [1, 0, 0, 0, 0, 0, 0, 0]))];
+    assert!(rt; round(&mut bus, &mut ram, &sends) == RoundAnswer::Busy(object(2)));
+    assert_eq!(rt; told(&mut bus), (0, 0, NodeState::Active, 0x0010));
+    assert!(rt;
+        matches!(
+            round(&mut bus, &mut ram, &sends),
+            RoundAnswer::Received(Some(_))
+        )
+    );
+}

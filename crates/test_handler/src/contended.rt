@@ -1,0 +1,210 @@
+use ccan_accept::Frame;
+use ccan_handler::{ScanRefused, choose, choose_from, interrupt, receive, receive_from};
+use ccan_object::{Iface, ObjectNo, Profile, Reg};
+use ccan_ram::{Access, Change, Changed, Refused, Tries};
+use std::test::Fail;
+use test_contended::*;
+
+/// The data of a first message.
+const FIRST: [u8; 8] = [0x11, 0x22, 0x33, 0x44, 0x55, 0x66, 0x77, 0x88];
+
+/// The registers that a driver sets to send 0x123 with eight bytes.
+const READY: [(Reg, u16); 7] = [
+    (Reg::CMask, 0x00f3),
+    (Reg::Arb2, 0xa48c),
+    (Reg::Ctrl, 0x0188),
+    (Reg::DataA1, 0x2211),
+    (Reg::DataA2, 0x4433),
+    (Reg::DataB1, 0x6655),
+    (Reg::DataB2, 0x8877),
+];
+
+/// The registers that a driver sets to receive standard frames 0x123.
+const RECEIVER: [(Reg, u16); 3] = [
+    (Reg::CMask, 0x00f3),
+    (Reg::Arb2, 0x848c),
+    (Reg::Ctrl, 0x0088),
+];
+
+/// A write of the first four data bytes.
+const DATA: [(Reg, u16); 1] = [(Reg::CMask, 0x0082)];
+
+/// A write that takes an object out.
+const INVALID: [(Reg, u16); 1] = [(Reg::CMask, 0x00a0)];
+
+/// A transfer from new registers that were set so.
+fn transfer(request: u16, settings: &[(Reg, u16)]) -> Transfer {
+    let mut registers = Iface::new();
+    for (register, value) in settings {
+        registers.set(*register, *value);
+    }
+    Transfer {
+        object: ObjectNo::from_request(Profile::One, request),
+        command: registers.command(),
+        buffer: registers.buffer(),
+    }
+}
+
+/// So many tries.
+fn tries(most: u16) -> Result<Tries, Fail> {
+    Ok(Tries::new(most).ok_or("tries")?)
+}
+
+/// A standard data frame 0x123 with one byte 01.
+fn one_byte() -> Result<Frame, Fail> {
+    Ok(
+        Frame::new(0x123, false, false, 1, [1, 0, 0, 0, 0, 0, 0, 0])
+            .ok()
+            .ok_or("frame")?,
+    )
+}
+
+#[test]
+fn loses_a_try_and_makes_the_change(rt: HostRuntime) -> Result<(), Fail> {
+    let theirs = [transfer(3, &RECEIVER), transfer(3, &DATA)];
+    let mut ram = Contended::new(Profile::One, 64, &theirs);
+    assert!(rt; ram.go_on());
+    let third = ObjectNo::from_request(ram.profile(), 3);
+    match ram.change(third, &Change::Store(one_byte()?), tries(2)?) {
+        Ok(
+            Changed::Done {
+                before,
+                after,
+                number,
+            },
+        ) => {
+            assert_eq!(rt; before.control(), 0x0088);
+            assert_eq!(rt; after.control(), 0x8081);
+            assert_eq!(rt; after.bytes, [1, 0, 0, 0, 0, 0, 0, 0]);
+            assert_eq!(rt; number, 131073);
+        }
+        other => assert!(rt; false, "{other:?}"),
+    }
+    assert!(rt; !ram.go_on());
+    assert_eq!(rt; ram.used(), 1);
+    Ok(())
+}
+
+#[test]
+fn is_busy_after_all_tries_and_goes_on_where_it_stopped(rt: HostRuntime) -> Result<(), Fail> {
+    let theirs = [
+        transfer(3, &RECEIVER),
+        transfer(3, &DATA),
+        transfer(3, &DATA),
+    ];
+    let mut ram = Contended::new(Profile::One, 64, &theirs);
+    assert!(rt; ram.go_on());
+    let received = one_byte()?;
+    let at = ObjectNo::from_request(ram.profile(), 3);
+    let why = Refused::Busy { tries: 2, now: 3 };
+    assert_eq!(rt;
+        receive(&mut ram, &received, tries(2)?),
+        Err(ScanRefused { at, why })
+    );
+    assert_eq!(rt; ram.used(), 0);
+    let third = ObjectNo::from_request(ram.profile(), 3);
+    let stored = receive_from(&mut ram, &received, third, tries(2)?)
+        .ok()
+        .ok_or("refused")?
+        .ok_or("none")?;
+    assert_eq!(rt; stored.object, at);
+    assert_eq!(rt; stored.after.control(), 0x8081);
+    assert_eq!(rt; ram.used(), 1);
+    Ok(())
+}
+
+#[test]
+fn goes_on_past_an_object_made_invalid(rt: HostRuntime) -> Result<(), Fail> {
+    for (most, chosen, busy) in [(2, 9, false), (1, 5, true)] {
+        let theirs = [
+            transfer(5, &READY),
+            transfer(9, &READY),
+            transfer(5, &INVALID),
+        ];
+        let mut ram = Contended::new(Profile::One, 64, &theirs);
+        assert!(rt; ram.go_on() && ram.go_on());
+        let object = ObjectNo::from_request(Profile::One, chosen);
+        match choose(&mut ram, tries(most)?) {
+            Ok(Some((found, started))) => {
+                assert!(rt; !busy);
+                assert_eq!(rt; found, object);
+                assert_eq!(rt; started.arbitration(), 0xa48c0000);
+                assert_eq!(rt; started.control(), 0x0188);
+                assert_eq!(rt; started.bytes, FIRST);
+            }
+            Ok(None) => assert!(rt; false),
+            Err(refused) => {
+                assert!(rt; busy);
+                let why = Refused::Busy { tries: 1, now: 3 };
+                assert_eq!(rt; refused, ScanRefused { at: object, why });
+            }
+        }
+        let fifth = ObjectNo::from_request(ram.profile(), 5);
+        assert!(rt; !ram.look(fifth).valid);
+        let sixth = ObjectNo::from_request(ram.profile(), 6);
+        let (resumed, _started) = choose_from(&mut ram, sixth, tries(1)?)
+            .ok()
+            .ok_or("refused")?
+            .ok_or("none")?;
+        assert_eq!(rt; resumed.get(), 9);
+    }
+    Ok(())
+}
+
+#[test]
+fn loses_nothing_to_another_object(rt: HostRuntime) -> Result<(), Fail> {
+    let theirs = [
+        transfer(3, &RECEIVER),
+        transfer(6, &READY),
+        transfer(3, &DATA),
+    ];
+    let mut ram = Contended::new(Profile::One, 64, &theirs);
+    assert!(rt; ram.go_on());
+    let received = one_byte()?;
+    let stored = receive(&mut ram, &received, tries(1)?)
+        .ok()
+        .ok_or("refused")?
+        .ok_or("none")?;
+    assert_eq!(rt; stored.object.get(), 3);
+    let sixth = ObjectNo::from_request(ram.profile(), 6);
+    assert_eq!(rt; ram.look(sixth).control(), 0x0188);
+    Ok(())
+}
+
+#[test]
+fn stops_where_a_quota_is_spent(rt: HostRuntime) -> Result<(), Fail> {
+    let theirs = [
+        transfer(3, &RECEIVER),
+        transfer(3, &DATA),
+        transfer(3, &DATA),
+        transfer(3, &DATA),
+    ];
+    let mut ram = Contended::new(Profile::One, 2, &theirs);
+    assert!(rt; ram.go_on());
+    let received = one_byte()?;
+    for expected in [Some(1), Some(2), None] {
+        let third = ObjectNo::from_request(ram.profile(), 3);
+        match ram.change(third, &Change::Store(received), tries(2)?) {
+            Ok(_) => assert_eq!(rt; Some(ram.used()), expected),
+            Err(why) => {
+                assert_eq!(rt; why, Refused::Spent);
+                assert_eq!(rt; expected, None);
+            }
+        }
+    }
+    assert!(rt; !ram.go_on());
+    Ok(())
+}
+
+#[test]
+fn clears_by_a_read_of_the_other_host(rt: HostRuntime) {
+    let pending = [(Reg::CMask, 0x0090), (Reg::Ctrl, 0x2080)];
+    let clearing = [(Reg::CMask, 0x0008)];
+    let theirs = [transfer(7, &pending), transfer(7, &clearing)];
+    let mut ram = Contended::new(Profile::One, 64, &theirs);
+    assert!(rt; ram.go_on());
+    assert_eq!(rt; interrupt(&mut ram, false), 7);
+    assert!(rt; ram.go_on());
+    assert_eq!(rt; interrupt(&mut ram, false), 0);
+    assert!(rt; !ram.go_on());
+}

@@ -1,0 +1,190 @@
+ghost use Rattle.ccan_object.specs.Profile.{Holds};
+
+use ccan_handler::*;
+
+mod scans;
+
+use ccan_object::{Iface, ObjectNo, Profile, Record, Reg};
+use ccan_ram::{Access, Array, Change, Changed, Flag, PortName, Refused, Tries};
+use std::test::Fail;
+
+/// The data of a first message.
+const FIRST: [u8; 8] = [0x11, 0x22, 0x33, 0x44, 0x55, 0x66, 0x77, 0x88];
+
+/// The registers that a driver sets to write 0x123 with eight bytes, but for Message Control.
+const MESSAGE: [(Reg, u16); 6] = [
+    (Reg::CMask, 0x00f3),
+    (Reg::Arb2, 0xa48c),
+    (Reg::DataA1, 0x2211),
+    (Reg::DataA2, 0x4433),
+    (Reg::DataB1, 0x6655),
+    (Reg::DataB2, 0x8877),
+];
+
+/// The registers that a driver sets to receive standard frames 0x123, but for Message Control.
+const RECEIVER: [(Reg, u16); 2] = [(Reg::CMask, 0x00f3), (Reg::Arb2, 0x848c)];
+
+/// A write of Message Control alone.
+const CONTROL: [(Reg, u16); 1] = [(Reg::CMask, 0x0090)];
+
+/// Sets registers.
+fn set(registers: &mut Iface, settings: &[(Reg, u16)]) {
+    for (register, value) in settings {
+        registers.set(*register, *value);
+    }
+}
+
+/// So many tries.
+fn tries(most: u16) -> Result<Tries, Fail> {
+    Ok(Tries::new(most).ok_or("tries")?)
+}
+
+/// The object that a request names.
+fn object(ram: &Array, request: u16) -> ObjectNo
+    ensures { Holds (⟦<Array as Access>⟧.passes ram.now).terms.profile result }
+{
+    ObjectNo::from_request(ram.profile(), request)
+}
+
+/// A change by one port of the object that a request names.
+fn change(ram: &mut Array, port: PortName, request: u16, made: &Change) -> Result<Record, Fail> {
+    ram.at(port);
+    let number = ObjectNo::from_request(ram.profile(), request);
+    match ram.change(number, made, tries(4)?) {
+        Ok(Changed::Done { after, .. }) => Ok(after),
+        other => Err(Fail::from("refused")),
+    }
+}
+
+/// Sets registers and writes the object that the request names.
+fn write(
+    ram: &mut Array,
+    port: PortName,
+    request: u16,
+    settings: [&[(Reg, u16)]; 2],
+) -> Result<Record, Fail> {
+    let mut registers = Iface::new();
+    for part in settings {
+        set(&mut registers, part);
+    }
+    let made = Change::Write(registers.command(), registers.buffer());
+    change(ram, port, request, &made)
+}
+
+/// The four fields of a printed record.
+fn fields(shown: &Record) -> (u32, u32, u16, [u8; 8]) {
+    (
+        shown.arbitration(),
+        shown.masks(),
+        shown.control(),
+        shown.bytes,
+    )
+}
+
+#[test]
+fn reads_the_flags_of_all_objects(rt: HostRuntime) -> Result<(), Fail> {
+    let mut ram = Array::new(Profile::One, 64);
+    for request in [0x0001, 0x0000] {
+        let _written = write(
+            &mut ram,
+            PortName::If1,
+            request,
+            [&CONTROL, &[(Reg::Ctrl, 0x0100)]],
+        )?;
+    }
+    ram.at(PortName::If2);
+    assert_eq!(rt; flags(&mut ram, Flag::TxRqst), 0x8000_0001);
+    assert_eq!(rt; flags(&mut ram, Flag::MsgVal), 0);
+    ram.at(PortName::Bus);
+    assert_eq!(rt; choose(&mut ram, tries(4)?), Ok(None));
+    let second = object(&ram, 0x0002);
+    assert!(rt; !until(&mut ram, second, Flag::TxRqst, 1));
+    let last = object(&ram, 0x0000);
+    assert!(rt; until(&mut ram, last, Flag::TxRqst, 1));
+    let again = object(&ram, 0x0000);
+    assert!(rt; !until(&mut ram, again, Flag::TxRqst, 0));
+    Ok(())
+}
+
+#[test]
+fn tells_the_interrupt_and_the_flag_of_the_last_object(rt: HostRuntime) -> Result<(), Fail> {
+    for (profile, number, word) in [
+        (Profile::One, 0x0020, 0x8000_0000),
+        (Profile::Two, 0x0040, 0x8000_0000_0000_0000),
+    ] {
+        let mut ram = Array::new(profile, 64);
+        assert_eq!(rt; interrupt(&mut ram, false), 0);
+        let written = write(
+            &mut ram,
+            PortName::If1,
+            0x0000,
+            [&CONTROL, &[(Reg::Ctrl, 0x2000)]],
+        )?;
+        assert_eq!(rt; fields(&written), (0, 0, 0x2000, [0; 8]));
+        assert_eq!(rt; interrupt(&mut ram, false), number);
+        assert_eq!(rt; flags(&mut ram, Flag::IntPnd), word);
+    }
+    Ok(())
+}
+
+#[test]
+fn tells_the_first_interrupt_and_the_status_interrupt_before_it(
+    rt: HostRuntime,
+) -> Result<(), Fail> {
+    let mut ram = Array::new(Profile::One, 64);
+    for request in [0x0007, 0x0003] {
+        let _written = write(
+            &mut ram,
+            PortName::If1,
+            request,
+            [&CONTROL, &[(Reg::Ctrl, 0x2080)]],
+        )?;
+    }
+    ram.at(PortName::Bus);
+    assert_eq!(rt; interrupt(&mut ram, false), 0x0003);
+    assert_eq!(rt; interrupt(&mut ram, true), 0x8000);
+    let mut registers = Iface::new();
+    registers.set(Reg::CMask, 0x0008);
+    let cleared = change(
+        &mut ram,
+        PortName::If1,
+        0x0003,
+        &Change::Clear(registers.command()),
+    )?;
+    assert_eq!(rt; fields(&cleared), (0, 0, 0x0080, [0; 8]));
+    ram.at(PortName::Bus);
+    assert_eq!(rt; interrupt(&mut ram, false), 0x0007);
+    Ok(())
+}
+
+#[test]
+fn tells_why_a_scan_was_refused(rt: HostRuntime) -> Result<(), Fail> {
+    let at = ObjectNo::from_request(Profile::One, 3);
+    let busy = Refused::Busy { tries: 2, now: 3 };
+    for (why, text) in [
+        (busy, "object 3: each of 2 tries was lost"),
+        (
+            Refused::Spent,
+            "object 3: the port has made all its changes",
+        ),
+    ] {
+        let printed = format!(in rt.alloc(); "{}", ScanRefused { at, why })?;
+        assert_eq!(rt; printed.as_str(), text);
+    }
+    Ok(())
+}
+
+#[test]
+fn holds_by_its_laws() {
+    laws::fitting_is_not_passed_over();
+    laws::nothing_found_looks_everywhere();
+    laws::scans_change_what_fits();
+    laws::chosen_is_ready();
+    laws::scans_leave_out_what_is_before();
+    laws::scans_are_bounded();
+    laws::waiting_answers_yes_at_its_last_look();
+    laws::waiting_answers_no_after_all_turns();
+    laws::interrupts_are_bounded();
+    laws::flags_take_one_look_each();
+    laws::each_flag_is_shown();
+}

@@ -1,0 +1,253 @@
+//! Worked examples, with numbers from the rules and not from the program.
+
+use ccan_confine::{BusEvent, Counters, NodeState, Status, StatusEvent, laws};
+
+/// The counters after so many equal events.
+fn repeated(counters: Counters, event: BusEvent, times: u16) -> Counters {
+    let mut counters = counters;
+    for _ in 0..times {
+        counters = counters.after(event);
+    }
+    counters
+}
+
+#[test]
+fn counters_follow_the_table(rt: HostRuntime) {
+    use BusEvent::{ReceiveFault, Received, SendFault, SendNoAck, Sent};
+    use NodeState::{Active, Off, Passive};
+
+    let rows = [
+        (ReceiveFault, 130, Received, 0, 0, 130, Passive),
+        (ReceiveFault, 130, Received, 1, 0, 119, Active),
+        (ReceiveFault, 127, Received, 1, 0, 126, Active),
+        (ReceiveFault, 128, Received, 1, 0, 119, Active),
+        (ReceiveFault, 300, Received, 0, 0, 255, Passive),
+        (ReceiveFault, 32, Received, 1, 0, 31, Active),
+        (SendNoAck, 16, Sent, 0, 128, 0, Passive),
+        (SendNoAck, 17, Sent, 0, 128, 0, Passive),
+        (SendFault, 31, SendNoAck, 9, 248, 0, Passive),
+        (SendFault, 1, Sent, 1, 7, 0, Active),
+        (SendFault, 1, Sent, 9, 0, 0, Active),
+        (SendFault, 1, Received, 1, 8, 0, Active),
+        (SendFault, 32, Received, 1, 256, 0, Off),
+        (SendFault, 32, ReceiveFault, 1, 256, 0, Off),
+    ];
+    for (first, firsts, second, seconds, tec, rec, state) in rows {
+        let counters = repeated(
+            repeated(Counters::new(false), first, firsts),
+            second,
+            seconds,
+        );
+        assert_eq!(rt; counters.tec(), tec);
+        assert_eq!(rt; counters.rec(), rec);
+        assert_eq!(rt; counters.state(), state);
+    }
+}
+
+#[test]
+fn node_goes_off_at_the_32nd_fault(rt: HostRuntime) {
+    // TEC after each of 33 errors in own frames, and the state that it means.
+    let rows = [
+        (8, NodeState::Active),
+        (16, NodeState::Active),
+        (24, NodeState::Active),
+        (32, NodeState::Active),
+        (40, NodeState::Active),
+        (48, NodeState::Active),
+        (56, NodeState::Active),
+        (64, NodeState::Active),
+        (72, NodeState::Active),
+        (80, NodeState::Active),
+        (88, NodeState::Active),
+        (96, NodeState::Active),
+        (104, NodeState::Active),
+        (112, NodeState::Active),
+        (120, NodeState::Active),
+        (128, NodeState::Passive),
+        (136, NodeState::Passive),
+        (144, NodeState::Passive),
+        (152, NodeState::Passive),
+        (160, NodeState::Passive),
+        (168, NodeState::Passive),
+        (176, NodeState::Passive),
+        (184, NodeState::Passive),
+        (192, NodeState::Passive),
+        (200, NodeState::Passive),
+        (208, NodeState::Passive),
+        (216, NodeState::Passive),
+        (224, NodeState::Passive),
+        (232, NodeState::Passive),
+        (240, NodeState::Passive),
+        (248, NodeState::Passive),
+        (256, NodeState::Off),
+        (256, NodeState::Off),
+    ];
+    for host in [true, false] {
+        let mut counters = Counters::new(host);
+        for (tec, state) in rows {
+            counters = counters.after(BusEvent::SendFault);
+            assert_eq!(rt; counters.tec(), tec);
+            assert_eq!(rt; counters.rec(), 0);
+            assert_eq!(rt; counters.state(), state);
+            assert_eq!(rt; counters.recovering(), state == NodeState::Off && !host);
+        }
+    }
+}
+
+#[test]
+fn controller_returns_after_init_and_groups(rt: HostRuntime) {
+    let off = repeated(Counters::new(true), BusEvent::SendFault, 33);
+    assert_eq!(rt; off.tec(), 256);
+    assert_eq!(rt; off.state(), NodeState::Off);
+    assert!(rt; !off.recovering());
+    let waiting = off.recessive_groups(500);
+    assert_eq!(rt; waiting.state(), NodeState::Off);
+    let cleared = waiting.clear_init();
+    assert!(rt; cleared.recovering());
+    let counting = cleared
+        .recessive_groups(100)
+        .clear_init()
+        .recessive_groups(27);
+    assert_eq!(rt; counting.state(), NodeState::Off);
+    assert_eq!(rt; counting.tec(), 256);
+    assert!(rt; counting.recovering());
+    let back = counting.recessive_groups(1);
+    assert_eq!(rt; back.state(), NodeState::Active);
+    assert_eq!(rt; back.tec(), 0);
+    assert_eq!(rt; back.rec(), 0);
+    assert_eq!(rt; back, Counters::new(true));
+    // A second time Init has to be cleared again.
+    let off = repeated(back, BusEvent::SendFault, 32);
+    assert_eq!(rt; off.recessive_groups(128).state(), NodeState::Off);
+}
+
+#[test]
+fn another_node_returns_after_groups(rt: HostRuntime) {
+    let off = repeated(Counters::new(false), BusEvent::SendFault, 32);
+    assert_eq!(rt; off.tec(), 256);
+    assert!(rt; off.recovering());
+    let counting = off.recessive_groups(127);
+    assert_eq!(rt; counting.state(), NodeState::Off);
+    let back = counting.recessive_groups(1);
+    assert_eq!(rt; back.state(), NodeState::Active);
+    assert_eq!(rt; back.tec(), 0);
+    assert_eq!(rt; back.rec(), 0);
+}
+
+#[test]
+fn status_words_follow_the_events(rt: HostRuntime) {
+    let rows = [
+        (BusEvent::SendNoAck, StatusEvent::Fault(3), 17, 0x0063),
+        (BusEvent::SendFault, StatusEvent::Fault(6), 32, 0x00e6),
+        (BusEvent::SendFault, StatusEvent::Fault(4), 1, 0x0004),
+        (BusEvent::ReceiveFault, StatusEvent::Fault(1), 1, 0x0001),
+        (BusEvent::ReceiveFault, StatusEvent::Fault(1), 96, 0x0041),
+        (BusEvent::Sent, StatusEvent::Sent, 1, 0x0008),
+        (BusEvent::Received, StatusEvent::Received, 1, 0x0010),
+    ];
+    for (bus_event, status_event, times, word) in rows {
+        let mut counters = Counters::new(true);
+        let mut status = Status::new();
+        for _ in 0..times {
+            counters = counters.after(bus_event);
+            status.after(status_event, &counters);
+        }
+        assert_eq!(rt; status.read(&counters), word);
+    }
+}
+
+#[test]
+fn read_shows_the_counters_of_the_moment(rt: HostRuntime) {
+    let passive = repeated(Counters::new(true), BusEvent::SendFault, 16);
+    let mut status = Status::default();
+    status.after(StatusEvent::Fault(5), &passive);
+    let off = repeated(passive, BusEvent::SendFault, 16);
+    assert_eq!(rt; status.read(&passive), 0x0065);
+    assert_eq!(rt; status.read(&off), 0x00e5);
+    assert_eq!(rt; status.read(&Counters::new(true)), 0x0005);
+}
+
+#[test]
+fn recovery_sets_the_code_and_no_interrupt(rt: HostRuntime) {
+    let mut counters = repeated(Counters::new(true), BusEvent::SendFault, 32);
+    let mut status = Status::new();
+    status.after(StatusEvent::Fault(6), &counters);
+    counters = counters.clear_init();
+    status.enable(true, true);
+    status.after(StatusEvent::Level, &counters);
+    counters = counters.recessive_groups(127);
+    status.after(StatusEvent::Recovery, &counters);
+    assert!(rt; !status.pending());
+    counters = counters.recessive_groups(1);
+    status.after(StatusEvent::Recovery, &counters);
+    assert!(rt; status.pending());
+    assert_eq!(rt; status.read(&counters), 0x0005);
+    assert!(rt; !status.pending());
+}
+
+#[test]
+fn transfers_interrupt_where_enabled(rt: HostRuntime) {
+    let counters = Counters::new(true).after(BusEvent::Received);
+    for enabled in [false, true] {
+        let mut status = Status::new();
+        status.enable(enabled, false);
+        status.after(StatusEvent::Received, &counters);
+        assert_eq!(rt; status.pending(), enabled);
+    }
+}
+
+#[test]
+fn warning_interrupts_once(rt: HostRuntime) {
+    let mut counters = Counters::new(true);
+    let mut status = Status::new();
+    status.enable(false, true);
+    for _ in 0..11 {
+        counters = counters.after(BusEvent::SendNoAck);
+        status.after(StatusEvent::Fault(3), &counters);
+        assert!(rt; !status.pending());
+    }
+    assert_eq!(rt; counters.tec(), 88);
+    counters = counters.after(BusEvent::SendNoAck);
+    status.after(StatusEvent::Fault(3), &counters);
+    assert_eq!(rt; counters.tec(), 96);
+    assert!(rt; status.pending());
+    assert_eq!(rt; status.read(&counters), 0x0043);
+    assert!(rt; !status.pending());
+    counters = counters.after(BusEvent::SendNoAck);
+    status.after(StatusEvent::Fault(3), &counters);
+    assert_eq!(rt; counters.tec(), 104);
+    assert!(rt; !status.pending());
+}
+
+#[test]
+fn states_print_in_order(rt: HostRuntime) -> Result<(), std::alloc::AllocError> {
+    let rows = [
+        (NodeState::default(), "active"),
+        (NodeState::Passive, "passive"),
+        (NodeState::Off, "off"),
+    ];
+    for (state, text) in rows {
+        let printed = state.to_string(rt.alloc())?;
+        assert_eq!(rt; printed.as_str(), text);
+    }
+    assert!(rt; NodeState::Active < NodeState::Passive && NodeState::Passive < NodeState::Off);
+    Ok(())
+}
+
+/// The laws do nothing: they are called so that each is seen to stand.
+#[test]
+fn laws_stand(_rt: HostRuntime) {
+    laws::counters_are_bounded();
+    laws::off_nodes_keep_their_counters();
+    laws::only_send_faults_lead_off();
+    laws::on_without_send_faults();
+    laws::not_back_before_the_groups();
+    laws::not_back_before_init();
+    laws::not_back_before_the_groups_after_init();
+    laws::back_with_the_groups();
+    laws::back_with_the_groups_after_init();
+    laws::groups_count_only_while_recovering();
+    laws::only_the_first_clearing_counts();
+    laws::reads_clear();
+    laws::enabling_makes_nothing_pending();
+}

@@ -1,0 +1,330 @@
+//! Worked examples of frames: acceptance, storing, and what is sent.
+
+use ccan_accept::*;
+use ccan_object::{CommandMask, Record, cleared, unpack};
+use std::alloc::AllocError;
+use std::process::Abort;
+
+/// The bytes that a driver writes into an object.
+const WRITTEN: [u8; 8] = [0x11, 0x22, 0x33, 0x44, 0x55, 0x66, 0x77, 0x88];
+
+/// The record that registers show: Arbitration 2 and 1, Mask 2 and 1, Message Control, and the data.
+fn record(rt: &impl Abort, arbitration: u32, masks: u32, control: u16, bytes: [u8; 8]) -> Record {
+    let identifiers = (u64::from(masks) << 32) + u64::from(arbitration);
+    unpack([identifiers, u64::from(control), u64::from_le_bytes(bytes)]).expect(
+        rt,
+        "the record has no reserved bits",
+    )
+}
+
+/// The registers that show a record.
+fn shown(object: &Record) -> (u32, u32, u16, [u8; 8]) {
+    (
+        object.arbitration(),
+        object.masks(),
+        object.control(),
+        object.bytes,
+    )
+}
+
+/// A standard data frame.
+fn data(rt: &impl Abort, id: u32, dlc: u8, bytes: [u8; 8]) -> Frame {
+    Frame::new(id, false, false, dlc, bytes)
+        .ok()
+        .expect(rt, "the identifier and the length fit")
+}
+
+/// A standard remote frame for 0x123 with four bytes.
+fn request(rt: &impl Abort) -> Frame {
+    Frame::new(0x123, false, true, 4, WRITTEN)
+        .ok()
+        .expect(rt, "the identifier and the length fit")
+}
+
+#[test]
+fn frames_have_ranges(rt: HostRuntime) {
+    assert_eq!(rt;
+        Frame::new(2048, false, false, 16, WRITTEN),
+        Err(FrameError::IdRange)
+    );
+    assert_eq!(rt;
+        Frame::new(2047, false, false, 16, WRITTEN),
+        Err(FrameError::DlcRange)
+    );
+    assert_eq!(rt;
+        Frame::new(536870912, true, false, 0, WRITTEN),
+        Err(FrameError::IdRange)
+    );
+    let extended = Frame::new(536870911, true, false, 15, WRITTEN)
+        .ok()
+        .expect(&rt, "a frame");
+    assert_eq!(rt; extended.id(), 536870911);
+    assert!(rt; extended.xtd() && !extended.rtr());
+    assert_eq!(rt; extended.dlc().get(), 15);
+    assert_eq!(rt; extended.bytes(), WRITTEN);
+    let short = data(&rt, 2047, 3, WRITTEN);
+    assert_eq!(rt; short.bytes(), [0x11, 0x22, 0x33, 0, 0, 0, 0, 0]);
+    assert!(rt; !short.xtd());
+    let remote = request(&rt);
+    assert!(rt; remote.rtr());
+    assert_eq!(rt; remote.dlc().get(), 4);
+    assert_eq!(rt; remote.bytes(), [0; 8]);
+}
+
+#[test]
+fn frame_errors_have_texts(rt: HostRuntime) -> Result<(), AllocError> {
+    for (error, want) in [
+        (FrameError::IdRange, "identifier out of range"),
+        (FrameError::DlcRange, "data length code above 15"),
+    ] {
+        let text = format!(in rt.alloc(); "{error}")?;
+        assert_eq!(rt; text.as_str(), want);
+    }
+    Ok(())
+}
+
+#[test]
+fn stores_through_a_mask(rt: HostRuntime) {
+    let object = record(&rt, 0x848c0000, 0xdff80000, 0x1080, [0; 8]);
+    for (id, want) in [(0x123, true), (0x122, true), (0x121, false)] {
+        assert_eq!(rt;
+            accepts(&object, &data(&rt, id, 0, [0; 8])),
+            want,
+            "at {id}"
+        );
+    }
+    let after = stored(&object, &data(&rt, 0x122, 0, [0; 8]));
+    assert_eq!(rt; shown(&after), (0x84880000, 0xdff80000, 0x9080, [0; 8]));
+}
+
+#[test]
+fn accepts_by_width_kind_and_mask(rt: HostRuntime) {
+    let frames = [
+        (0x123, false, false),
+        (0x122, false, false),
+        (0x123, false, true),
+        (0x048c0001, true, false),
+        (0x048c0000, true, false),
+        (0x04880001, true, false),
+    ];
+    for (arbitration, masks, control, wanted) in [
+        // a standard object and an extended one, without a mask
+        (
+            0x848c0000,
+            0,
+            0x0080,
+            [true, false, false, false, false, false],
+        ),
+        (
+            0xc48c0001,
+            0,
+            0x0080,
+            [false, false, false, true, false, false],
+        ),
+        // an extended object with the whole mask, without MXtd and with it
+        (
+            0xc48c0001,
+            0x5fffffff,
+            0x1080,
+            [true, false, false, true, false, false],
+        ),
+        (
+            0xc48c0001,
+            0xdfffffff,
+            0x1080,
+            [false, false, false, true, false, false],
+        ),
+        // an extended object whose mask has place 0 alone, without MXtd and with it
+        (
+            0xc48c0001,
+            0x40000001,
+            0x1080,
+            [true, true, false, true, false, true],
+        ),
+        (
+            0xc48c0001,
+            0xc0000001,
+            0x1080,
+            [false, false, false, true, false, true],
+        ),
+        // a standard object with the whole mask, without MXtd
+        (
+            0x848c0000,
+            0x5fffffff,
+            0x1080,
+            [true, false, false, true, true, false],
+        ),
+        // a mask of zeros compares nothing
+        (0x848c0000, 0, 0x1080, [true, true, true, true, true, true]),
+        // an object that transmits, without a mask and with one without MDir
+        (
+            0xa48c0000,
+            0,
+            0x0080,
+            [false, false, true, false, false, false],
+        ),
+        (
+            0xa48c0000,
+            0x9fffffff,
+            0x1080,
+            [true, false, true, false, false, false],
+        ),
+        // new data in the last object of a buffer, no new data in another, and two locked objects
+        (
+            0x848c0000,
+            0,
+            0x8080,
+            [true, false, false, false, false, false],
+        ),
+        (
+            0x848c0000,
+            0,
+            0x0000,
+            [true, false, false, false, false, false],
+        ),
+        (
+            0x848c0000,
+            0,
+            0x8000,
+            [false, false, false, false, false, false],
+        ),
+        (
+            0xa48c0000,
+            0,
+            0x8000,
+            [false, false, false, false, false, false],
+        ),
+        // an object that takes no part
+        (
+            0x048c0000,
+            0,
+            0x0080,
+            [false, false, false, false, false, false],
+        ),
+    ] {
+        let object = record(&rt, arbitration, masks, control, [0; 8]);
+        for ((id, xtd, rtr), want) in frames.iter().zip(wanted.iter()) {
+            let frame = Frame::new(*id, *xtd, *rtr, 0, [0; 8])
+                .ok()
+                .expect(&rt, "a frame");
+            assert_eq!(rt; accepts(&object, &frame), *want, "{object:?} {frame:?}");
+        }
+    }
+}
+
+#[test]
+fn stores_data_frames(rt: HostRuntime) {
+    let object = record(&rt, 0x848c0000, 0, 0x8488, [0; 8]);
+    let short = data(&rt, 0x123, 3, [1, 2, 3, 0, 0, 0, 0, 0]);
+    assert!(rt; accepts(&object, &short));
+    assert_eq!(rt;
+        shown(&stored(&object, &short)),
+        (0x848c0000, 0, 0xe483, [1, 2, 3, 0, 0, 0, 0, 0])
+    );
+    let extended = record(&rt, 0xdfffffff, 0, 0x0080, WRITTEN);
+    let long = Frame::new(0x1fffffff, true, false, 15, [1, 2, 3, 4, 5, 6, 7, 8])
+        .ok()
+        .expect(&rt, "a frame");
+    assert!(rt; accepts(&extended, &long));
+    let after = stored(&extended, &long);
+    assert_eq!(rt;
+        shown(&after),
+        (0xdfffffff, 0, 0x808f, [1, 2, 3, 4, 5, 6, 7, 8])
+    );
+    assert_eq!(rt; frame_of(&Record { dir: true, ..after }), long);
+}
+
+/// The first of some objects that accepts a frame stores it: its place, and what its registers show then.
+fn receive(objects: &mut [Record; 3], frame: &Frame) -> Option<(usize, u16, [u8; 8])> {
+    for (place, object) in objects.iter_mut().enumerate() {
+        if accepts(object, frame) {
+            *object = stored(object, frame);
+            return Some((place, object.control(), object.bytes));
+        }
+    }
+    None
+}
+
+#[test]
+fn fills_a_fifo_buffer(rt: HostRuntime) {
+    let mut objects = [
+        record(&rt, 0x848c0000, 0, 0x0008, [0; 8]),
+        record(&rt, 0x848c0000, 0, 0x0008, [0; 8]),
+        record(&rt, 0x848c0000, 0, 0x0088, [0; 8]),
+    ];
+    for (byte, place, control) in [
+        (1, 0, 0x8001),
+        (2, 1, 0x8001),
+        (3, 2, 0x8081),
+        (4, 2, 0xc081),
+    ] {
+        let bytes = [byte, 0, 0, 0, 0, 0, 0, 0];
+        let answer = receive(&mut objects, &data(&rt, 0x123, 1, bytes));
+        assert_eq!(rt; answer, Some((place, control, bytes)));
+    }
+    let [full, second, last] = objects;
+    assert_eq!(rt;
+        shown(&full),
+        (0x848c0000, 0, 0x8001, [1, 0, 0, 0, 0, 0, 0, 0])
+    );
+    // the host reads the first object, and clears NewDat
+    let mut objects = [cleared(CommandMask::of(0x007f), &full), second, last];
+    let bytes = [5, 0, 0, 0, 0, 0, 0, 0];
+    let answer = receive(&mut objects, &data(&rt, 0x123, 1, bytes));
+    assert_eq!(rt; answer, Some((0, 0x8001, bytes)));
+}
+
+#[test]
+fn answers_remote_frames(rt: HostRuntime) {
+    for (arbitration, masks, control, after) in [
+        (0xa48c0000, 0, 0x0288, (0xa48c0000, 0, 0x0388, WRITTEN)),
+        (0xa48c0000, 0, 0x0088, (0xa48c0000, 0, 0x0088, WRITTEN)),
+        (
+            0xa48c0000,
+            0xdfffffff,
+            0x1088,
+            (0xa48c0000, 0xdfffffff, 0x9084, WRITTEN),
+        ),
+        (
+            0x848c0000,
+            0x9fffffff,
+            0x1088,
+            (0xa48c0000, 0x9fffffff, 0x9084, WRITTEN),
+        ),
+    ] {
+        let object = record(&rt, arbitration, masks, control, WRITTEN);
+        assert!(rt; accepts(&object, &request(&rt)), "{object:?}");
+        assert_eq!(rt; shown(&stored(&object, &request(&rt))), after, "{object:?}");
+    }
+}
+
+#[test]
+fn sends_once(rt: HostRuntime) {
+    let object = record(&rt, 0xa48c0000, 0, 0x8188, WRITTEN);
+    assert!(rt; ready(&object));
+    let sent = started(&object);
+    assert_eq!(rt; shown(&sent), (0xa48c0000, 0, 0x0188, WRITTEN));
+    assert_eq!(rt; frame_of(&sent), data(&rt, 0x123, 8, WRITTEN));
+    let done = finished(&sent);
+    assert_eq!(rt; shown(&done), (0xa48c0000, 0, 0x0088, WRITTEN));
+    assert!(rt; !ready(&done));
+    // a host writes new data between the start and the end
+    let again = record(&rt, 0xa48c0000, 0, 0x8188, [0x99; 8]);
+    assert_eq!(rt;
+        shown(&finished(&again)),
+        (0xa48c0000, 0, 0x8188, [0x99; 8])
+    );
+    let receiving = record(&rt, 0x848c0000, 0, 0x0984, WRITTEN);
+    assert_eq!(rt; frame_of(&receiving), request(&rt));
+    assert_eq!(rt; finished(&receiving).control(), 0x2884);
+}
+
+#[test]
+fn laws_hold(_rt: HostRuntime) {
+    laws::accepted_place_by_place();
+    laws::unmasked_accepts_its_own();
+    laws::locked_accepts_nothing();
+    laws::stored_goes_out_again();
+    laws::stored_reads_back();
+    laws::storing_keeps_settings();
+}

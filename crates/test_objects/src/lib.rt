@@ -1,0 +1,12 @@
+//! Tests of the lowest layers: objects, frames, the plain memory and fault confinement, by worked examples whose expected
+//! values come from the rules and not from the program. There is nothing here but tests.
+#![tactic(auto)]
+
+#[cfg(test)]
+mod confinement;
+#[cfg(test)]
+mod frames;
+#[cfg(test)]
+mod memory;
+#[cfg(test)]
+mod objects;

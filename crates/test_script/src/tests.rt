@@ -1,0 +1,12 @@
+mod limits;
+mod refusals;
+mod scripts;
+mod texts;
+
+use ccan_script::laws;
+
+/// Each law, called once.
+#[test]
+fn laws_hold() {
+    laws::one_meaning();
+}

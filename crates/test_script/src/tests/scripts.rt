@@ -1,0 +1,217 @@
+use ccan_bus::Fault;
+use ccan_object::{ObjectNo, Profile, Reg};
+use ccan_ram::{Flag, PortName};
+use ccan_script::*;
+use std::alloc::Global;
+use std::process::Abort;
+use std::test::Fail;
+
+/// A write of 0x123 with eight bytes.
+pub(crate) const WRITE: &str = r#"{"if1":[{"op":"transfer","request":"0001","set":{
+    "cmask":"00f3","arb2":"a48c","ctrl":"0088",
+    "dataa1":"2211","dataa2":"4433","datab1":"6655","datab2":"8877"}}]}"#;
+
+fn read(rt: &impl Abort, alloc: Global, script: &str) -> Script {
+    match read_script(alloc, script.as_bytes()) {
+        Ok(script) => script,
+        Err(fault) => panic!(rt; "{fault}"),
+    }
+}
+
+/// The object of this number.
+pub(crate) fn object_no(rt: &impl Abort, number: u8) -> ObjectNo {
+    match ObjectNo::new(number) {
+        Some(object) => object,
+        None => panic!(rt; "no object"),
+    }
+}
+
+#[test]
+fn reads_what_is_not_said(rt: HostRuntime) {
+    let script = read(&rt, rt.alloc(), "{}");
+    assert_eq!(rt; script.profile, Profile::One);
+    assert_eq!(rt; script.quota, 64);
+    assert_eq!(rt; script.tries.get(), 100);
+    assert_eq!(rt; script.nodes, 0);
+    assert!(rt; script.if1.is_empty() && script.if2.is_empty());
+    assert!(rt; script.bus.is_empty() && script.order.is_empty());
+}
+
+#[test]
+fn reads_numbers(rt: HostRuntime) {
+    let text = r#"{"nodes":8,"tries":1000,"quota":4096,"profile":2}"#;
+    let script = read(&rt, rt.alloc(), text);
+    assert_eq!(rt; script.profile, Profile::Two);
+    assert_eq!(rt; script.quota, 4096);
+    assert_eq!(rt; script.tries.get(), 1000);
+    assert_eq!(rt; script.nodes, 8);
+}
+
+#[test]
+fn reads_host_lines(rt: HostRuntime) -> Result<(), Fail> {
+    let script = read(&rt, rt.alloc(), WRITE);
+    let HostLine::Transfer { request, set } = script.if1.first().ok_or("no line")? else {
+        return Err("no transfer".into());
+    };
+    assert_eq!(rt; *request, 1);
+    let want = [
+        (Reg::Arb2, 0xa48c),
+        (Reg::CMask, 0x00f3),
+        (Reg::Ctrl, 0x0088),
+        (Reg::DataA1, 0x2211),
+        (Reg::DataA2, 0x4433),
+        (Reg::DataB1, 0x6655),
+        (Reg::DataB2, 0x8877),
+    ];
+    assert!(rt; set.as_slice() == want.as_slice());
+    let text = r#"{"profile":2,"if2":[
+        {"op":"until","object":33,"flag":"msglst","turns":1000000},
+        {"op":"interrupt"},
+        {"op":"flags","flag":"msgval"}]}"#;
+    let script = read(&rt, rt.alloc(), text);
+    let HostLine::Until {
+        object,
+        flag,
+        turns,
+    } = script.if2.first().ok_or("no line")?
+    else {
+        return Err("no wait".into());
+    };
+    assert_eq!(rt; *object, object_no(&rt, 33));
+    assert_eq!(rt; *flag, Flag::MsgLst);
+    assert_eq!(rt; *turns, 1_000_000);
+    assert!(rt; matches!(script.if2.get(1), Some(HostLine::Interrupt)));
+    assert!(rt; matches!(script.if2.get(2), Some(HostLine::Flags(Flag::MsgVal))));
+    Ok(())
+}
+
+#[test]
+fn reads_bus_lines(rt: HostRuntime) {
+    let text = r#"{"nodes":2,"bus":[
+        {"op":"load"},
+        {"op":"status"},
+        {"op":"control","sie":1,"eie":0},
+        {"op":"interrupt"},
+        {"op":"flags","flag":"txrqst"},
+        {"op":"counters","node":2},
+        {"op":"init"},
+        {"op":"recessive","groups":10000},
+        {"op":"loopback","on":1}]}"#;
+    let bus = read(&rt, rt.alloc(), text).bus;
+    assert_eq!(rt; bus.len(), 9);
+    assert!(rt; matches!(bus.first(), Some(BusLine::Load)));
+    assert!(rt; matches!(bus.get(1), Some(BusLine::Status)));
+    let control = bus.get(2);
+    assert!(rt;
+        matches!(
+            control,
+            Some(BusLine::Control {
+                sie: true,
+                eie: false
+            })
+        )
+    );
+    assert!(rt; matches!(bus.get(3), Some(BusLine::Interrupt)));
+    assert!(rt; matches!(bus.get(4), Some(BusLine::Flags(Flag::TxRqst))));
+    assert!(rt; matches!(bus.get(5), Some(BusLine::Counters(2))));
+    assert!(rt; matches!(bus.get(6), Some(BusLine::Init)));
+    assert!(rt; matches!(bus.get(7), Some(BusLine::Recessive(10_000))));
+    assert!(rt; matches!(bus.get(8), Some(BusLine::LoopBack(true))));
+}
+
+#[test]
+fn reads_rounds(rt: HostRuntime) -> Result<(), Fail> {
+    let text = r#"{"nodes":2,"bus":[
+        {"op":"round"},
+        {"op":"round","fault":"crc","send":[
+            {"node":2,"id":536870911,"xtd":1,"dlc":15,"data":"0102030405060708"},
+            {"node":1,"id":291,"rtr":1,"dlc":4},
+            {"node":2,"id":0,"dlc":3,"data":"0A0b0C"}]}]}"#;
+    assert!(rt; read_script(rt.alloc(), text.as_bytes()).is_err());
+    let text = r#"{"nodes":2,"bus":[
+        {"op":"round"},
+        {"op":"round","fault":"crc","send":[
+            {"node":2,"id":536870911,"xtd":1,"dlc":15,"data":"0102030405060708"},
+            {"node":1,"id":291,"rtr":1,"dlc":4}]},
+        {"op":"round","fault":"bit0","send":[
+            {"node":2,"id":0,"dlc":3,"data":"0A0b0C"}]}]}"#;
+    let bus = read(&rt, rt.alloc(), text).bus;
+    let Some(BusLine::Round(empty)) = bus.first() else {
+        return Err("no round".into());
+    };
+    assert!(rt; empty.sends().is_empty());
+    assert_eq!(rt; empty.fault(), Fault::Quiet);
+    let Some(BusLine::Round(two)) = bus.get(1) else {
+        return Err("no round".into());
+    };
+    assert_eq!(rt; two.fault(), Fault::Crc);
+    assert_eq!(rt; two.sends().len(), 2);
+    let (node, frame) = *two.sends().get(0).ok_or("no frame")?;
+    assert_eq!(rt;
+        (node, frame.id(), frame.xtd(), frame.rtr()),
+        (2, 0x1fff_ffff, true, false)
+    );
+    assert_eq!(rt; frame.dlc().get(), 15);
+    assert_eq!(rt; frame.bytes(), [1, 2, 3, 4, 5, 6, 7, 8]);
+    let (node, frame) = *two.sends().get(1).ok_or("no frame")?;
+    assert_eq!(rt;
+        (node, frame.id(), frame.xtd(), frame.rtr()),
+        (1, 0x123, false, true)
+    );
+    assert_eq!(rt; frame.dlc().get(), 4);
+    assert_eq!(rt; frame.bytes(), [0; 8]);
+    let Some(BusLine::Round(short)) = bus.get(2) else {
+        return Err("no round".into());
+    };
+    assert_eq!(rt; short.fault(), Fault::Bit0);
+    let (_, frame) = *short.sends().first().ok_or("no frame")?;
+    assert_eq!(rt; frame.bytes(), [10, 11, 12, 0, 0, 0, 0, 0]);
+    Ok(())
+}
+
+#[test]
+fn reads_each_fault(rt: HostRuntime) -> Result<(), Fail> {
+    for (name, want) in [
+        ("none", Fault::Quiet),
+        ("stuff", Fault::Stuff),
+        ("form", Fault::Form),
+        ("bit1", Fault::Bit1),
+        ("bit0", Fault::Bit0),
+        ("crc", Fault::Crc),
+    ] {
+        let text = format!(in rt.alloc();
+            "{{\"bus\":[{{\"op\":\"round\",\"fault\":\"{name}\"}}]}}"
+        )?;
+        let bus = read(&rt, rt.alloc(), text.as_str()).bus;
+        let Some(BusLine::Round(round)) = bus.first() else {
+            return Err("no round".into());
+        };
+        assert_eq!(rt; round.fault(), want);
+    }
+    Ok(())
+}
+
+/// The order of the ports, as it is named and where it isn't said.
+#[test]
+fn reads_orders(rt: HostRuntime) {
+    let lines =
+        r#""if1":[{"op":"interrupt"}],"if2":[{"op":"interrupt"}],"bus":[{"op":"init"},{"op":"init"}]"#;
+    for (order, want) in [
+        (
+            "",
+            [PortName::If1, PortName::If2, PortName::Bus, PortName::Bus],
+        ),
+        (
+            r#","order":["bus","if2","bus","if1"]"#,
+            [PortName::Bus, PortName::If2, PortName::Bus, PortName::If1],
+        ),
+    ] {
+        match format!(in rt.alloc(); "{{{lines}{order}}}") {
+            Ok(text) => {
+                let script = read(&rt, rt.alloc(), text.as_str());
+                assert!(rt; script.order.as_slice() == want.as_slice());
+            }
+            Err(_) => panic!(rt; "no memory"),
+        }
+    }
+}
