@@ -1,4 +1,5 @@
--- The parts of a record, and how its packed words come back from them.
+-- The parts of a record, and how its packed words come back from them. Each field is less than the room that its places
+-- leave, so quotients and remainders of the marks are the parts of Message Control, and MsgVal.
 use Rattle.std.proofs.Common.{ℕ, ◌≡◌, ◌<◌, ◌≤◌, ◌+◌, ◌*◌, ◌/◌, ◌%◌, List, [], ◌∷◌, get_or, sym, arith}
 use Rattle.std.specs.Int.{from_le_bytes, w64}
 use Rattle.ccan_object.specs.declared.record.Record.{Record}

@@ -7,8 +7,8 @@
 //! body 1   the data, byte 0 lowest
 //! ```
 //!
-//! Both are rearranged from a packed record: Message Control gives up its reserved bits, and MsgVal moves from bit 31 of
-//! the first word to the marks.
+//! Both are rearranged from a packed record: Message Control gives up its reserved bits, and MsgVal moves from bit 31
+//! of the first word to the marks.
 ghost use Rattle.std.specs.Prelude.{◌≡◌, ◌<◌};
 ghost use Rattle.ccan_object.specs.declared.record.Record.{Record};
 ghost use Rattle.ccan_object.specs.Record.{IsRecord};
@@ -36,8 +36,8 @@ pub fn body_of(object: &Record) -> [u64; 2]
     [identifiers - valid, content]
 }
 
-/// The record that has these marks and this body. Where none does, as in no place that an object's word named, it is some
-/// record.
+/// The record that has these marks and this body. Where none does, as in no place that an object's word named, it is
+/// some record.
 pub fn joined(marks: u64, body: [u64; 2]) -> Record
     requires { marks < marks_limit }
     ensures { (object : Record) → IsRecord object → marks_of object ≡ marks
