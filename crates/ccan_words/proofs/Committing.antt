@@ -8,7 +8,7 @@ use Rattle.ccan_ram.specs.declared.change.Changed.TheVariants.{Done}
 use Rattle.ccan_ram.specs.declared.draft.Draft.{Draft}
 use Rattle.ccan_ram.specs.declared.draft.CommitError.TheVariants.{Lost}
 use Rattle.ccan_ram.specs.declared.event.Event.{Event}
-use Rattle.ccan_ram.specs.Port.{port_index, same_port}
+use Rattle.ccan_ram.specs.Port.{same_port, change_number}
 use Rattle.ccan_ram.specs.Change.{fits, changed}
 use Rattle.ccan_ram.specs.History.{changes_by, next_number, IsLegal}
 use Rattle.ccan_ram.specs.Attempt.{look_at}
@@ -74,7 +74,7 @@ module _ {most : ℕ} {contends : ℕ → ℕ → Bool} {s : Inside} {was : Pass
     held = steps.0.held;
     room = (let m = i.made in let q = i.most in let r = d.room in omega arith);
     top = (let t = d.top in let q = i.most in omega arith);
-    numbered = ap (λ (n : ℕ). port_index s.name * 65536 + (n + 1)) i.made;
+    numbered = ap (λ (n : ℕ). change_number s.name (n + 1)) i.made;
     at = here.1;
     at_seen = (here.0 ++ look ∷ [], begins);
     old_is = sym here.2.numbered;
@@ -148,7 +148,7 @@ module _ {most : ℕ} {contends : ℕ → ℕ → Bool} {s : Inside} {i : IsPort
     pub done_commits : AddsCommit contends was new draft change (Ok (answer version.number))
     done_commits =
         let next : next_number s.name (pass s).seen ≡ version.number =
-        ap (λ (n : ℕ). port_index s.name * 65536 + (n + 1)) (count_is s i) in
+        ap (λ (n : ℕ). change_number s.name (n + 1)) (count_is s i) in
         subst (λ (u : Pass × ℕ). AddsCommit contends u.0 new draft change (Ok (answer u.1))) (λ j. (t.due.is_was j, next j))
         (done_goes contends (pass s) new log whole same draft change (only_seen s.name y to.me view)
         (within s i log' makes.sound) room_left t.due.fit)

@@ -11,7 +11,7 @@ use prog.Atomic.{either}
 use Rattle.atomic_table.specs.Table.{keeps, Allows}
 use Rattle.ccan_object.specs.declared.profile.Profile.{Profile}
 use Rattle.ccan_ram.specs.declared.port.PortName.{PortName}
-use Rattle.ccan_ram.specs.Port.{port_index, same_port}
+use Rattle.ccan_ram.specs.Port.{same_port, change_number}
 use Rattle.ccan_ram.specs.History.{record_at, changes_by, next_number, last_number, BeginsWith}
 use Rattle.ccan_words.specs.declared.view.Held.{Held}
 use Rattle.ccan_words.specs.declared.view.View.{View}
@@ -81,7 +81,7 @@ module _ {profile : Profile} {most : ℕ} {contends : ℕ → ℕ → Bool} (F :
     few = let c = room in let top = r.top in omega arith
 
     number_is : z.number ≡ next_number p r.log
-    number_is = d.numbered ∙ ap (λ (c : ℕ). port_index p * 65536 + (c + 1)) (sym count)
+    number_is = d.numbered ∙ ap (λ (c : ℕ). change_number p (c + 1)) (sym count)
 
     in_cells : word < F.cells
     in_cells = let c = lies.cells z.object d.held in omega arith

@@ -11,7 +11,7 @@ use Rattle.ccan_object.specs.Record.{IsRecord, zero_record}
 use Rattle.ccan_ram.specs.declared.port.PortName.{PortName}
 use Rattle.ccan_ram.specs.declared.port.PortName.TheVariants.{If1, If2, Bus}
 use Rattle.ccan_ram.specs.declared.event.Event.{Event}
-use Rattle.ccan_ram.specs.Port.{port_index, same_port}
+use Rattle.ccan_ram.specs.Port.{port_index, same_port, change_number}
 use Rattle.ccan_ram.specs.History.{is_change, record_at, events_of, changes_by, next_number, last_number, BeginsWith}
 use Rattle.ccan_words.specs.View.{History}
 use Rattle.ccan_words.specs.Layout.{IsChangeFor}
@@ -104,7 +104,7 @@ changes_own e h t = chosen (is_change e && same_port e.port e.port) _ _ (both_tr
 pub record Numbered (h : History) (n : ℕ) : Type 0 where
   pub port : PortName
   pub count : ℕ
-  pub is : n ≡ port_index port * 65536 + count
+  pub is : n ≡ change_number port count
   pub from_one : 1 ≤ count
   pub made : count ≤ changes_by port h
 

@@ -12,7 +12,7 @@ use Rattle.atomic_table.proofs.Lists.{set_again}
 use Rattle.ccan_object.specs.declared.profile.Profile.{Profile}
 use Rattle.ccan_object.specs.Profile.{Holds}
 use Rattle.ccan_ram.specs.declared.port.PortName.{PortName}
-use Rattle.ccan_ram.specs.Port.{port_index}
+use Rattle.ccan_ram.specs.Port.{port_index, change_number}
 use Rattle.ccan_ram.specs.History.{record_at, changes_by, next_number, last_number}
 use Rattle.ccan_ram.specs.Attempt.{look_at}
 use Rattle.ccan_words.specs.declared.view.Held.{Held}
@@ -124,7 +124,7 @@ module _ {profile : Profile} {most : ℕ} {contends : ℕ → ℕ → Bool} (F :
     few = let c = count in let m = short in omega arith
 
     here : word ≡ F.place mine j
-    here = is ∙ ap (λ (c : ℕ). F.place (port_index p * 65536 + (c + 1)) j) (sym count)
+    here = is ∙ ap (λ (c : ℕ). F.place (change_number p (c + 1)) j) (sym count)
 
     number : IsNumber most mine
     number = is_next r.log p few

@@ -9,7 +9,7 @@ use Rattle.ccan_object.specs.declared.profile.Profile.{Profile}
 use Rattle.ccan_object.specs.Profile.{Holds}
 use Rattle.ccan_ram.specs.declared.port.PortName.{PortName}
 use Rattle.ccan_ram.specs.declared.event.Event.{Event}
-use Rattle.ccan_ram.specs.Port.{port_index, same_port}
+use Rattle.ccan_ram.specs.Port.{same_port, change_number}
 use Rattle.ccan_ram.specs.History.{events_of, changes_by, next_number, last_number, BeginsWith}
 use Rattle.ccan_words.specs.declared.view.Held.{Held}
 use Rattle.ccan_words.specs.declared.view.View.{View}
@@ -99,7 +99,7 @@ module _ {profile : Profile} {most : ℕ} {contends : ℕ → ℕ → Bool} (F :
         own = same ∙ f.own;
         short = f.short;
         note = λ few j l. let few' : changes_by p log < most = omega arith in let sh = f.short in
-            subst (λ (n : ℕ). get_or ws' (F.place (port_index p * 65536 + (n + 1)) j) 0 ≡ get_or y.note j 0) count
+            subst (λ (n : ℕ). get_or ws' (F.place (change_number p (n + 1)) j) 0 ≡ get_or y.note j 0) count
             (kept few' j (omega arith) ∙ f.note few' j l);
       }
 
@@ -114,7 +114,7 @@ module _ {profile : Profile} {most : ℕ} {contends : ℕ → ℕ → Bool} (F :
     own = refl;
     short = f.short;
     note = λ few j l. let few' : changes_by p log < most = omega arith in let sh = f.short in
-        subst (λ (n : ℕ). get_or ws' (F.place (port_index p * 65536 + (n + 1)) j) 0 ≡ get_or x.note j 0) (sym same)
+        subst (λ (n : ℕ). get_or ws' (F.place (change_number p (n + 1)) j) 0 ≡ get_or x.note j 0) (sym same)
         (kept few' j (omega arith) ∙ f.note few' j l);
   })
 

@@ -12,7 +12,7 @@ use Rattle.ccan_object.specs.Packing.{packed}
 use Rattle.ccan_ram.specs.declared.port.PortName.{PortName}
 use Rattle.ccan_ram.specs.declared.port.PortName.TheVariants.{If1, If2, Bus}
 use Rattle.ccan_ram.specs.declared.change.Change.{Change}
-use Rattle.ccan_ram.specs.Port.{port_index}
+use Rattle.ccan_ram.specs.Port.{port_index, change_number}
 use Rattle.ccan_ram.specs.Change.{changed}
 use Rattle.ccan_ram.specs.History.{is_change, record_at}
 use Rattle.ccan_ram.specs.Attempt.{change_at}
@@ -37,6 +37,10 @@ quotient p c l = omega arith
 remainder : (p c : ℕ) → c < 65536 → (p * 65536 + c) % 65536 ≡ c
 remainder p c l = omega arith
 
+-- the number of a change, where the port has made few
+few_number : (p : PortName) (c : ℕ) → c < 65536 → change_number p c ≡ port_index p * 65536 + c
+few_number p c l = let e : (c / 65536) * 262144 + (port_index p * 65536 + c % 65536) ≡ port_index p * 65536 + c = omega arith in e
+
 equal : (i k : ℕ) → (i == k) ≡ true → i ≡ k
 equal i k e = eqb-true i k e
 
@@ -52,7 +56,7 @@ word_place-of p c j l = let q = quotient p c l in let r = remainder p c l in ome
 word_at : (n j : ℕ) (x : IsNumber 4096 n) → word_place n j ≡ 512 + port_index x.port * 12288 + (x.count - 1) * 3 + j
 word_at n j x =
     let most = x.up_to in
-    ap (λ (m : ℕ). word_place m j) x.is ∙ word_place-of (port_index x.port) x.count j (omega arith)
+    ap (λ (m : ℕ). word_place m j) (x.is ∙ few_number x.port x.count (omega arith)) ∙ word_place-of (port_index x.port) x.count j (omega arith)
 
 word_one : (n j m i : ℕ) → IsNumber 4096 n → IsNumber 4096 m → j < 3 → i < 3 → word_place n j ≡ word_place m i → (n ≡ m) × (j ≡ i)
 word_one n j m i x y l k same =
@@ -60,7 +64,8 @@ word_one n j m i x y l k same =
     let a1 : p < 3 = below_three x.port in let b1 = x.from_one in let d1 = x.up_to in
     let a2 : q < 3 = below_three y.port in let b2 = y.from_one in let d2 = y.up_to in
     let e = word_at n j x in let f = word_at m i y in
-    let xi : n ≡ p * 65536 + c = x.is in let yi : m ≡ q * 65536 + d = y.is in
+    let xi : n ≡ p * 65536 + c = x.is ∙ few_number x.port x.count (omega arith) in
+    let yi : m ≡ q * 65536 + d = y.is ∙ few_number y.port y.count (omega arith) in
     let ports : p ≡ q = omega arith in let counts : c ≡ d = omega arith in
     (omega arith, omega arith)
 
@@ -110,7 +115,7 @@ root_place-of p c j l = let q = quotient p c l in let r = remainder p c l in ome
 
 root_at : (n j : ℕ) (x : IsNumber 64 n) → root_place n j ≡ 8 + port_index x.port * 12288 + (x.count - 1) * 192 + j
 root_at n j x =
-    let most = x.up_to in ap (λ (m : ℕ). root_place m j) x.is ∙ root_place-of (port_index x.port) x.count j (omega arith)
+    let most = x.up_to in ap (λ (m : ℕ). root_place m j) (x.is ∙ few_number x.port x.count (omega arith)) ∙ root_place-of (port_index x.port) x.count j (omega arith)
 
 root_one : (n j m i : ℕ) → IsNumber 64 n → IsNumber 64 m → j < 192 → i < 192 → root_place n j ≡ root_place m i → (n ≡ m) × (j ≡ i)
 root_one n j m i x y l k same =
@@ -118,7 +123,8 @@ root_one n j m i x y l k same =
     let a1 : p < 3 = below_three x.port in let b1 = x.from_one in let d1 = x.up_to in
     let a2 : q < 3 = below_three y.port in let b2 = y.from_one in let d2 = y.up_to in
     let e = root_at n j x in let f = root_at m i y in
-    let xi : n ≡ p * 65536 + c = x.is in let yi : m ≡ q * 65536 + d = y.is in
+    let xi : n ≡ p * 65536 + c = x.is ∙ few_number x.port x.count (omega arith) in
+    let yi : m ≡ q * 65536 + d = y.is ∙ few_number y.port y.count (omega arith) in
     let ports : p ≡ q = omega arith in let counts : c ≡ d = omega arith in
     (omega arith, omega arith)
 
