@@ -8,7 +8,7 @@ ghost use Rattle.ccan_contended.specs.Contended.{AddsExchange, AddsOthers, AddsT
 ghost use Rattle.ccan_contended.specs.Contended.{changes_of, contended_terms, number_of};
 
 use crate::transfer::Transfer;
-use ccan_object::{ObjectNo, Profile, Record};
+use ccan_object::{MOST_OBJECTS, ObjectNo, Profile, Record};
 use ccan_ram::{Access, Array, Change, Changed, PortName, Refused, Tries};
 
 /// The bus port of a plain memory, during whose calls the host at IF1 goes through a list of transfers.
@@ -42,6 +42,10 @@ impl<'a> Access for Contended<'a> {
 
     fn look(&mut self, object: ObjectNo) -> Record {
         self.ram.look(object)
+    }
+
+    fn look_all(&mut self) -> [Record; MOST_OBJECTS] {
+        self.ram.look_all()
     }
 
     fn change(

@@ -92,7 +92,7 @@ flags_law terms flag word added reads = (
 
 -- ---- the bits of a flag word
 
-word_below : (flag : Flag) (shown : List Record) → flag_word flag shown < 2 ^ length shown
+pub word_below : (flag : Flag) (shown : List Record) → flag_word flag shown < 2 ^ length shown
 word_below flag [] = omega arith
 word_below flag (last ∷ before) = next (flag_of flag last) (word_below flag before) where
   next : (set : Bool) → flag_word flag before < 2 ^ length before
@@ -104,7 +104,7 @@ word_below flag (last ∷ before) = next (flag_of flag last) (word_below flag be
 
 module _ (word place : ℕ) (below : word < 2 ^ place) where
   -- the bit at the top, and those below it
-  top_bit : (set : Bool) → bit (word + cond set (2 ^ place) 0) place ≡ set
+  pub top_bit : (set : Bool) → bit (word + cond set (2 ^ place) 0) place ≡ set
   top_bit true =
       let none = bit_at_above word place place below (omega arith) in
       let one : bit_at (word + 2 ^ place) place ≡ 1 =
@@ -116,7 +116,7 @@ module _ (word place : ℕ) (below : word < 2 ^ place) where
       let same : word + 0 ≡ word = omega arith in
       rw (same, none) refl
 
-  low_bit : (set : Bool) (k : ℕ) → k < place → bit (word + cond set (2 ^ place) 0) k ≡ bit word k
+  pub low_bit : (set : Bool) (k : ℕ) → k < place → bit (word + cond set (2 ^ place) 0) k ≡ bit word k
   low_bit true k less =
       let other : k ≢ place = omega arith in
       let one : bit_at (word + 2 ^ place) k ≡ bit_at word k =

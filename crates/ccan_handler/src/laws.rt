@@ -4,6 +4,7 @@
 ghost use Rattle.ccan_handler.specs.Laws.{ChosenIsReady, EachFlagIsShown, FittingIsNotPassedOver, FlagsTakeOneLookEach};
 ghost use Rattle.ccan_handler.specs.Laws.{InterruptsAreBounded, NothingFoundLooksEverywhere, ScansAreBounded};
 ghost use Rattle.ccan_handler.specs.Laws.{ScansChangeWhatFits, ScansLeaveOutWhatIsBefore};
+ghost use Rattle.ccan_handler.specs.Moment.{ChoiceIsOfOneMoment, FlagsAreOfOneMoment};
 ghost use Rattle.ccan_handler.specs.Laws.{WaitingAnswersNoAfterAllTurns, WaitingAnswersYesAtItsLastLook};
 
 /// A scan passes over no object whose record fits throughout.
@@ -59,4 +60,14 @@ pub fn flags_take_one_look_each()
 /// Bit k - 1 of a flag word is the flag that the look at object k shows.
 pub fn each_flag_is_shown()
     ensures { EachFlagIsShown }
+{}
+
+/// All bits of a flag word are the objects' flags in one moment.
+pub fn flags_are_of_one_moment()
+    ensures { FlagsAreOfOneMoment }
+{}
+
+/// What is chosen was ready in one moment, in which no object before it was, but for those that are no more.
+pub fn choice_is_of_one_moment()
+    ensures { ChoiceIsOfOneMoment }
 {}

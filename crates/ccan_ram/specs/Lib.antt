@@ -9,6 +9,7 @@ pub mod Answer
 pub mod SharedRam
 pub mod Draft
 pub mod Ending
+pub mod Picture
 pub mod Array
 pub mod Flags
 pub mod Laws

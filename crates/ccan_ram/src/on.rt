@@ -4,7 +4,7 @@ use crate::access::Access;
 use crate::change::{Change, Changed, Refused};
 use crate::shared_ram::SharedRam;
 use crate::tries::Tries;
-use ccan_object::{ObjectNo, Profile, Record};
+use ccan_object::{MOST_OBJECTS, ObjectNo, Profile, Record};
 
 /// A port of a shared memory, as an access. What it has seen is what the port has seen.
 #[derive(Drop)]
@@ -25,6 +25,10 @@ impl<'a, R: SharedRam> Access for On<'a, R> {
 
     fn look(&mut self, object: ObjectNo) -> Record {
         self.ram.look(&mut self.port, object)
+    }
+
+    fn look_all(&mut self) -> [Record; MOST_OBJECTS] {
+        self.ram.look_all(&mut self.port)
     }
 
     fn change(

@@ -7,6 +7,7 @@ ghost use Rattle.ccan_ram.specs.Access.{AddsLook, AddsAttempt};
 ghost use Rattle.ccan_ram.specs.Answer.{Tells, FewTries};
 ghost use Rattle.ccan_ram.specs.Draft.{IsDrawn, AddsDraft, AddsCommit, CommitTells};
 ghost use Rattle.ccan_ram.specs.Ending.{Ends};
+ghost use Rattle.ccan_ram.specs.Picture.{AddsPicture};
 ghost use Rattle.ccan_ram.specs.SharedRam.{opened, passes_of, IsMemoryOf, CanSee, Meets};
 
 use crate::change::{Change, Changed, Refused};
@@ -14,7 +15,7 @@ use crate::draft::{CommitError, Draft};
 use crate::ending::Final;
 use crate::open_error::OpenError;
 use crate::tries::Tries;
-use ccan_object::{ObjectNo, Profile, Record};
+use ccan_object::{MOST_OBJECTS, ObjectNo, Profile, Record};
 use std::alloc::Global;
 
 /// A message RAM that its three ports use at once, each perhaps in a thread of its own, with no lock.
@@ -72,6 +73,14 @@ pub trait SharedRam {
         ensures memory { (pass port.new).memory ≡ (pass port.old).memory }
         ensures looks { AddsLook (passes_of contends (pass port.old))
             (passes_of contends (pass port.new)) object result };
+
+    /// The records of all objects at one place of the history: looks at each object with no other event between. The
+    /// records past the profile's last object are zero.
+    fn look_all(&self, port: &mut Self::Port) -> [Record; MOST_OBJECTS]
+        requires memory { (pass port.old).memory ≡ memory self.now }
+        ensures memory { (pass port.new).memory ≡ (pass port.old).memory }
+        ensures pictures { AddsPicture (passes_of contends (pass port.old))
+            (passes_of contends (pass port.new)) result };
 
     /// A look, as the beginning of a change.
     fn prepare(&self, port: &mut Self::Port, object: ObjectNo) -> Draft

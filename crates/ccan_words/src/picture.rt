@@ -1,0 +1,118 @@
+//! A picture: looks at all objects at one place of the history.
+//!
+//! The numbers of all objects' words are read, one after another; then looks at all objects are added to the history, in
+//! one step; and then the numbers are read again. Where each is what it was, it stood throughout, since no number comes
+//! twice: so it stood where the looks do, and the versions of these numbers hold the records that the looks show. Where
+//! one is another, some other port made a change meanwhile. The others make at most twice the quota of changes.
+ghost use Rattle.std.specs.Prelude.{◌≡◌, ◌≤◌, ◌<◌, true, false, length};
+ghost use Rattle.ccan_object.specs.Profile.{objects_in};
+ghost use Rattle.ccan_words.specs.declared.view.Held.{Held};
+ghost use Rattle.ccan_words.specs.Picture.{AreNumbers, CountedIn, MovedIn, PicturesIn, ShowsAll, TurnsIn};
+ghost use Rattle.ccan_words.specs.Port.{numbers_of};
+ghost use Rattle.ccan_words.specs.Rule.{IsSound};
+ghost use Rattle.ccan_words.specs.Version.{IsSeatOf};
+
+use crate::layout::Layout;
+use crate::steps::{head, pose};
+use crate::version::fetch;
+use crate::words::{Seat, Words};
+use ccan_object::{MOST_OBJECTS, Record};
+use ccan_ram::PortName;
+
+/// The records of all objects at one place of the history.
+#[inline(always)]
+pub fn picture<L: Layout>(
+    words: &Words<L>,
+    seat: &mut Seat,
+    port: PortName,
+) -> [Record; MOST_OBJECTS]
+    requires table { numbers_of seat.old.table_id ≡ words.now.name }
+    requires held { (x : Held) × IsSeatOf port x seat.old.me × IsSound words.now.profile x.quota x.seen
+        × (x.quota ≡ words.now.quota) }
+    ensures same { seat.new.table_id ≡ seat.old.table_id }
+    ensures told { PicturesIn L.contends words.now port result seat.old.me seat.new.me }
+{
+    let most = words.key().quota * 2 + 1;
+    for turn in 0..most {
+        match pose_once(words, seat, port) {
+            Some(numbers) => return records(words, seat, &numbers),
+            None => {}
+        }
+    }
+    [Record::zero(); MOST_OBJECTS]
+}
+
+/// Looks at all objects, and the numbers of their words where these looks stand, unless another port made a change
+/// meanwhile.
+#[inline(always)]
+fn pose_once<L: Layout>(
+    words: &Words<L>,
+    seat: &mut Seat,
+    port: PortName,
+) -> Option<[u64; MOST_OBJECTS]>
+    requires table { numbers_of seat.old.table_id ≡ words.now.name }
+    requires held { (x : Held) × IsSeatOf port x seat.old.me × IsSound words.now.profile x.quota x.seen
+        × (x.quota ≤ L.MOST) }
+    ensures same { seat.new.table_id ≡ seat.old.table_id }
+    ensures told { TurnsIn (L.form words.now.profile) port result seat.old.me seat.new.me }
+{
+    let numbers = collect(words, seat);
+    pose(words, seat, port);
+    if still(words, seat, &numbers) {
+        Some(numbers)
+    } else {
+        None
+    }
+}
+
+/// The numbers that the objects' words hold, one load after another.
+#[inline(always)]
+fn collect<L: Layout>(words: &Words<L>, seat: &mut Seat) -> [u64; MOST_OBJECTS]
+    requires table { numbers_of seat.old.table_id ≡ words.now.name }
+    ensures same { seat.new.table_id ≡ seat.old.table_id }
+    ensures told { CountedIn (L.form words.now.profile) (objects_in words.now.profile) result
+        seat.old.me seat.new.me }
+{
+    let mut numbers = [0u64; MOST_OBJECTS];
+    for i in 0..usize::from(words.key().profile.objects()) {
+        numbers[i] = head(words, seat, i + 1);
+    }
+    numbers
+}
+
+/// Whether they hold these numbers still.
+#[inline(always)]
+fn still<L: Layout>(words: &Words<L>, seat: &mut Seat, numbers: &[u64; MOST_OBJECTS]) -> bool
+    requires table { numbers_of seat.old.table_id ≡ words.now.name }
+    ensures same { seat.new.table_id ≡ seat.old.table_id }
+    ensures yes { result ≡ true → CountedIn (L.form words.now.profile)
+        (objects_in words.now.profile) numbers.now seat.old.me seat.new.me }
+    ensures no { result ≡ false → MovedIn (L.form words.now.profile) numbers.now seat.old.me
+        seat.new.me }
+{
+    for i in 0..usize::from(words.key().profile.objects()) {
+        if head(words, seat, i + 1) != numbers[i] {
+            return false;
+        }
+    }
+    true
+}
+
+/// The records in the versions of these numbers.
+#[inline(always)]
+fn records<L: Layout>(
+    words: &Words<L>,
+    seat: &mut Seat,
+    numbers: &[u64; MOST_OBJECTS],
+) -> [Record; MOST_OBJECTS]
+    requires table { numbers_of seat.old.table_id ≡ words.now.name }
+    requires ranged { AreNumbers (L.form words.now.profile) numbers.now }
+    ensures same { (seat.new.table_id ≡ seat.old.table_id) × (seat.new.me ≡ seat.old.me) }
+    ensures shown { ShowsAll (L.form words.now.profile) numbers.now seat.old.me result }
+{
+    let mut records = [Record::zero(); MOST_OBJECTS];
+    for i in 0..usize::from(words.key().profile.objects()) {
+        records[i] = fetch(words, seat, numbers[i], i + 1);
+    }
+    records
+}
