@@ -1,6 +1,7 @@
 pub mod Calls
 pub mod Histories
 pub mod Arrays
+pub mod Registers
 pub mod Pictures
 pub mod UndisturbedPictures
 pub mod FlagTable

@@ -1,23 +1,20 @@
 -- Looks at all objects change nothing.
-use Rattle.std.proofs.Common.{true, ◌≡◌, ◌≢◌, ℕ, zero, suc, ◌+◌, ◌-◌, ◌*◌, ◌<◌, ◌≤◌, Bool, List, [], ◌∷◌, ◌++◌, get_or, length, map, set, replicate, sym, ap}
-use Rattle.std.proofs.Common.{refl, ◌∙◌, subst, arith, add-zero, lit≤}
-use Rattle.std.proofs.lemmas.List.{append-nil, get_or-replicate, get_or-set_same, get_or-set_other}
-use Rattle.std.specs.List.{range_with_len}
-use mathlib.Core.Logic.{dite}
-use native.Mathlib.Decide.{ℕ_discrete}
+use Rattle.std.proofs.Common.{true, ◌≡◌, ℕ, zero, suc, ◌+◌, ◌-◌, ◌<◌, ◌≤◌, Bool, List, [], ◌++◌, get_or, sym, ap}
+use Rattle.std.proofs.Common.{refl, ◌∙◌, arith, lit≤}
+use Rattle.std.proofs.lemmas.List.{append-nil}
 use Rattle.ccan_object.specs.declared.profile.Profile.{Profile}
 use Rattle.ccan_object.specs.declared.profile.Profile.TheVariants.{One, Two}
 use Rattle.ccan_object.specs.declared.record.Record.{Record}
 use Rattle.ccan_object.specs.Record.{zero_record}
-use Rattle.ccan_object.specs.Profile.{objects_in, Holds}
+use Rattle.ccan_object.specs.Profile.{objects_in}
 use Rattle.ccan_ram.specs.declared.port.PortName.{PortName}
 use Rattle.ccan_ram.specs.declared.event.Event.{Event}
+use Rattle.ccan_ram.specs.declared.handler_registers.HandlerRegisters.{HandlerRegisters}
 use Rattle.ccan_ram.specs.History.{IsLegal, record_at, changes_by, last_number}
-use Rattle.ccan_ram.specs.Attempt.{look_at}
 use Rattle.ccan_ram.specs.Terms.{Terms, one_thread_terms}
-use Rattle.ccan_ram.specs.Ending.{final_records}
-use Rattle.ccan_ram.specs.Array.{Explains, passes_of, record_of}
-use Rattle.ccan_ram.specs.Picture.{pictured, Turn, LostTurn, LostTurns, IsPicture, AddsPicture}
+use Rattle.ccan_ram.specs.HandlerRegisters.{registers_at}
+use Rattle.ccan_ram.specs.Array.{Explains, passes_of}
+use Rattle.ccan_ram.specs.Picture.{pictured, Turn, LostTurns, IsPicture, AddsPicture}
 use Rattle.ccan_ram.proofs.Histories.{nobody}
 
 pub pictured_record : (p : PortName) (n k : ℕ) (h g : List Event) → record_at k (pictured p n h ++ g) ≡ record_at k g
@@ -36,76 +33,33 @@ pictured_last contends p (suc n) k h g = pictured_last contends p n k h g
 pub pictured_legal : (profile : Profile) (p : PortName) (n : ℕ) (h : List Event) → n ≤ objects_in profile → IsLegal profile h
     → IsLegal profile (pictured p n h ++ h)
 pictured_legal profile p zero h l legal = legal
-pictured_legal profile p (suc n) h l legal =
-    (record {
-      held = record { least = omega arith; greatest = l };
-      before = sym (pictured_record p n (suc n) h h);
-      after = refl;
-      stands = refl;
-    }, pictured_legal profile p n h (omega arith) legal)
+pictured_legal profile p (suc n) h l legal = (
+  record {
+    held = record { least = omega arith; greatest = l };
+    before = sym (pictured_record p n (suc n) h h);
+    after = refl;
+    stands = refl;
+  },
+  pictured_legal profile p n h (omega arith) legal,
+)
 
--- ---- records place by place
-
-listed_from : (f : ℕ → Record) (n m start : ℕ) (r d : Record) (records : List Record) → length records ≡ n + m
-    → ((k : ℕ) → k < n → get_or records k d ≡ f (start + k)) → ((k : ℕ) → n ≤ k → k < n + m → get_or records k d ≡ r)
-    → records ≡ map f (range_with_len start n) ++ replicate m r
-listed_from f zero zero start r d [] count each rest = refl
-listed_from f zero zero start r d (x ∷ xs) count each rest = absurd (omega arith)
-listed_from f zero (suc m) start r d [] count each rest = absurd (omega arith)
-listed_from f zero (suc m) start r d (x ∷ xs) count each rest =
-    let first : x ≡ r = rest 0 (omega arith) (omega arith) in
-    let more =
-    listed_from f zero m start r d xs (omega arith) (λ k l. absurd (omega arith))
-    (λ k l u. rest (suc k) (omega arith) (omega arith)) in
-    λ i. first i ∷ more i
-listed_from f (suc n) m start r d [] count each rest = absurd (omega arith)
-listed_from f (suc n) m start r d (x ∷ xs) count each rest =
-    let first : x ≡ f start = each 0 (omega arith) ∙ ap f (add-zero start) in
-    let next : (k : ℕ) → start + suc k ≡ start + 1 + k = λ k. omega arith in
-    let more =
-    listed_from f n m (start + 1) r d xs (omega arith) (λ k l. each (suc k) (omega arith) ∙ ap f (next k))
-    (λ k l u. rest (suc k) (omega arith) (omega arith)) in
-    λ i. first i ∷ more i
+-- ---- the registers of a plain memory
 
 most_objects : (profile : Profile) → objects_in profile ≤ 64
 most_objects One = lit≤ tt
 most_objects Two = lit≤ tt
 
--- the first n records of a memory, and then zero records
-pub record AreCopied (n : ℕ) (records shown : List Record) : Type 0 where
-  pub each : (k : ℕ) → k < n → get_or shown k zero_record ≡ get_or records k zero_record
-  pub rest : (k : ℕ) → n ≤ k → k < 64 → get_or shown k zero_record ≡ zero_record
+-- the place of an object among the records
+pub left_at : {profile : Profile} {records : List Record} {used : List ℕ} {seen : List Event} (i : ℕ) (r : Record)
+    → i < objects_in profile → r ≡ get_or records i zero_record → Explains profile records used seen
+    → r ≡ record_at (i + 1) seen
+left_at {profile} {records} {used} {seen} i r less is h =
+    let at : i + 1 - 1 ≡ i = omega arith in
+    is ∙ (ap (λ (n : ℕ). get_or records n zero_record) (sym at)
+    ∙ sym (h.left (i + 1) (record { least = omega arith; greatest = omega arith })))
 
-pub copied_none : (records : List Record) → AreCopied 0 records (replicate 64 zero_record)
-copied_none records = record { each = λ k l. absurd (omega arith); rest = λ k l u. get_or-replicate 64 k zero_record zero_record u }
-
-pub copied_more : (i : ℕ) (records : List Record) (r : Record) (shown : List Record) → length shown ≡ 64 → i < 64
-    → r ≡ get_or records i zero_record → AreCopied i records shown → AreCopied (i + 1) records (set shown i r)
-copied_more i records r shown count few is all = record {
-  each = λ k l.
-      dite (ℕ_discrete k i)
-      (λ e.
-      ap (λ (n : ℕ). get_or (set shown i r) n zero_record) e
-      ∙ (get_or-set_same shown i r zero_record (omega arith) ∙ (is ∙ ap (λ (n : ℕ). get_or records n zero_record) (sym e))))
-      (λ n. get_or-set_other shown i k r zero_record n ∙ all.each k (omega arith));
-  rest = λ k l u. get_or-set_other shown i k r zero_record (λ e. absurd (omega arith)) ∙ all.rest k (omega arith) u;
-}
-
-module _ (profile : Profile) (records : List Record) (used : List ℕ) (port : PortName) (quota : ℕ) (shown : List Record)
-    (count : length shown ≡ 64) (all : AreCopied (objects_in profile) records shown) where
-  copied_left : (seen : List Event) → Explains profile records used seen → shown ≡ final_records profile seen
-  copied_left seen h =
-      let most = most_objects profile in
-      let sum : objects_in profile + (64 - objects_in profile) ≡ 64 = omega arith in
-      listed_from (λ k. record_at k seen) (objects_in profile) (64 - objects_in profile) 1 zero_record zero_record shown
-      (count ∙ sym sum)
-      (λ k l.
-      let at : 1 + k - 1 ≡ k = omega arith in
-      all.each k l
-      ∙ (ap (λ (n : ℕ). get_or records n zero_record) (sym at)
-      ∙ sym (h.left (1 + k) (record { least = omega arith; greatest = omega arith }))))
-      (λ k l u. all.rest k l (omega arith))
-
+module _ (profile : Profile) (records : List Record) (used : List ℕ) (port : PortName) (quota : ℕ) (shown : HandlerRegisters)
+    (all : (seen : List Event) → Explains profile records used seen → shown ≡ registers_at profile seen) where
   Explains-picture : (seen : List Event) → Explains profile records used seen
       → Explains profile records used (pictured port (objects_in profile) seen ++ seen)
   Explains-picture seen h = record {
@@ -137,7 +91,7 @@ module _ (profile : Profile) (records : List Record) (used : List ℕ) (port : P
               foreign_after = nobody terms;
               whole = sym (append-nil shots);
             };
-            shows = copied_left seen h;
+            shows = all seen h;
           },
         );
       }
@@ -163,7 +117,7 @@ module _ (terms : Terms) (alone : terms.alone ≡ true) where
       absurd (omega arith)
 
   -- its picture stands right behind what it had seen
-  pub alone_added : (shown : List Record) (seen added : List Event) → IsPicture terms shown seen added
+  pub alone_added : (shown : HandlerRegisters) (seen added : List Event) → IsPicture terms shown seen added
       → added ≡ pictured terms.port (objects_in terms.profile) seen
   alone_added shown seen added p =
       let none = none_lost p.times seen p.lost p.lose in
@@ -173,15 +127,15 @@ module _ (terms : Terms) (alone : terms.alone ≡ true) where
       ∙ (alone_turn (p.lost ++ seen) p.last p.turn
       ∙ ap (λ (es : List Event). pictured terms.port (objects_in terms.profile) (es ++ seen)) none)))
 
-  pub alone_shown : (shown : List Record) (seen added : List Event) → IsPicture terms shown seen added
-      → shown ≡ final_records terms.profile seen
+  pub alone_shown : (shown : HandlerRegisters) (seen added : List Event) → IsPicture terms shown seen added
+      → shown ≡ registers_at terms.profile seen
   alone_shown shown seen added p =
       let none = none_lost p.times seen p.lost p.lose in
       let before = p.turn.foreign_before.none_alone alone in
-      p.shows ∙ (λ i. final_records terms.profile (before i ++ (none i ++ seen)))
+      p.shows ∙ (λ i. registers_at terms.profile (before i ++ (none i ++ seen)))
 
 -- a picture with nobody between
-pub plain_picture : (terms : Terms) (shown : List Record) (seen : List Event) → shown ≡ final_records terms.profile seen
+pub plain_picture : (terms : Terms) (shown : HandlerRegisters) (seen : List Event) → shown ≡ registers_at terms.profile seen
     → IsPicture terms shown seen (pictured terms.port (objects_in terms.profile) seen)
 plain_picture terms shown seen is =
     let shots = pictured terms.port (objects_in terms.profile) seen in

@@ -1,14 +1,13 @@
 -- A picture that nobody disturbed is one of a one-thread memory, whoever else uses the memory.
-use Rattle.std.proofs.Common.{ℕ, zero, suc, ◌+◌, ◌≡◌, ◌<◌, ◌≤◌, List, [], ◌∷◌, ◌++◌, refl, sym, ap, subst, ◌∙◌, arith}
+use Rattle.std.proofs.Common.{ℕ, zero, suc, ◌≡◌, List, [], ◌++◌, sym, ap, subst, ◌∙◌, arith}
 use Rattle.std.proofs.lemmas.List.{append-nil}
 use Rattle.ccan_object.specs.Profile.{objects_in}
-use Rattle.ccan_object.specs.declared.record.Record.{Record}
 use Rattle.ccan_ram.specs.declared.event.Event.{Event}
 use Rattle.ccan_ram.specs.History.{NobodyElse, changes_by}
 use Rattle.ccan_ram.specs.Terms.{Terms}
-use Rattle.ccan_ram.specs.Ending.{final_records}
+use Rattle.ccan_ram.specs.HandlerRegisters.{registers_at}
 use Rattle.ccan_ram.specs.Laws.{as_one_thread, PicturesMakeNoChange, UndisturbedPicturesAreOneThread}
-use Rattle.ccan_ram.specs.Picture.{pictured, Turn, LostTurn, LostTurns, IsPicture}
+use Rattle.ccan_ram.specs.Picture.{pictured, Turn, LostTurns, IsPicture}
 use Rattle.ccan_ram.proofs.Histories.{changes_by-append, changes_by-foreign, undisturbed_parts, none_undisturbed}
 use Rattle.ccan_ram.proofs.Pictures.{pictured_changes, plain_picture}
 
@@ -48,8 +47,8 @@ pictures_undisturbed terms shown seen added alone p =
     ∙ (ap (λ (es : List Event). p.last ++ es) none
     ∙ (append-nil p.last
     ∙ (turn.1 ∙ ap (λ (es : List Event). pictured terms.port (objects_in terms.profile) (es ++ seen)) none))) in
-    let here : shown ≡ final_records terms.profile seen =
-    p.shows ∙ (λ i. final_records terms.profile (turn.0 i ++ (none i ++ seen))) in
+    let here : shown ≡ registers_at terms.profile seen =
+    p.shows ∙ (λ i. registers_at terms.profile (turn.0 i ++ (none i ++ seen))) in
     subst (λ (es : List Event). IsPicture (as_one_thread terms) shown seen es) (sym all)
     (plain_picture (as_one_thread terms) shown seen here)
 

@@ -1,14 +1,15 @@
--- Pictures: a port's looks at all objects at one place of the history. Source: this project's own; on the part, a register of
--- one flag of all objects is read in one moment (C_CAN User's Manual 1.2, section 3.4).
-use Rattle.std.specs.Prelude.{◌≡◌, ℕ, zero, suc, ◌+◌, ◌*◌, ◌<◌, ◌≤◌, List, [], ◌∷◌, ◌++◌}
-use Rattle.ccan_object.specs.declared.record.Record.{Record}
+-- Pictures: a port's looks at all objects at one place of the history, and the Message Handler Registers there. Source: this
+-- project's own; on the part, a register of one flag of all objects is read in one moment (C_CAN User's Manual 1.2, section
+-- 3.4).
+use Rattle.std.specs.Prelude.{◌≡◌, ℕ, zero, suc, ◌*◌, ◌<◌, ◌≤◌, List, [], ◌∷◌, ◌++◌}
 use Rattle.ccan_object.specs.Profile.{objects_in}
 use Rattle.ccan_ram.specs.declared.port.PortName.{PortName}
 use Rattle.ccan_ram.specs.declared.event.Event.{Event}
+use Rattle.ccan_ram.specs.declared.handler_registers.HandlerRegisters.{HandlerRegisters}
 use Rattle.ccan_ram.specs.History.{record_at, changes_by}
 use Rattle.ccan_ram.specs.Attempt.{look_at, AreOthers}
 use Rattle.ccan_ram.specs.Terms.{Terms}
-use Rattle.ccan_ram.specs.Ending.{final_records}
+use Rattle.ccan_ram.specs.HandlerRegisters.{registers_at}
 use Rattle.ccan_ram.specs.Access.{Passes, Goes}
 
 -- looks of a port at the first n objects, which show the records that a history left, the newest first
@@ -37,9 +38,9 @@ LostTurns terms (suc n) seen added =
     (last : List Event) × (earlier : List Event) × (added ≡ last ++ earlier)
     × LostTurn terms (earlier ++ seen) last × LostTurns terms n seen earlier
 
--- turns that are lost, no more than twice the quota, and one whose looks show these records: those that the history left
--- where the looks stand
-pub record IsPicture (terms : Terms) (shown : List Record) (seen added : List Event) : Type 0 where
+-- turns that are lost, no more than twice the quota, and one more turn; the registers are those of the memory that the history
+-- left where its looks stand
+pub record IsPicture (terms : Terms) (shown : HandlerRegisters) (seen added : List Event) : Type 0 where
   pub times : ℕ
   pub lost : List Event
   pub last : List Event
@@ -47,8 +48,8 @@ pub record IsPicture (terms : Terms) (shown : List Record) (seen added : List Ev
   pub whole : added ≡ last ++ lost
   pub lose : LostTurns terms times seen lost
   pub turn : Turn terms (lost ++ seen) last
-  pub shows : shown ≡ final_records terms.profile (turn.before ++ (lost ++ seen))
+  pub shows : shown ≡ registers_at terms.profile (turn.before ++ (lost ++ seen))
 
--- a call adds a picture that shows these records
-abbrev pub AddsPicture : Passes → Passes → List Record → Type 0
+-- a call adds a picture that shows these registers
+abbrev pub AddsPicture : Passes → Passes → HandlerRegisters → Type 0
 AddsPicture old new shown = Goes old new (λ terms seen added. IsPicture terms shown seen added)

@@ -1,11 +1,13 @@
-ghost use Rattle.ccan_object.specs.Profile.{Holds};
+ghost use Rattle.ccan_object.specs.Profile.{Holds, objects_in};
 ghost use Rattle.ccan_ram.specs.Access.{AddsAttempt, AddsLook};
 ghost use Rattle.ccan_ram.specs.Answer.{FewTries, Tells};
+ghost use Rattle.ccan_ram.specs.HandlerRegisters.{AreBelow};
 ghost use Rattle.ccan_ram.specs.Picture.{AddsPicture};
 
 use crate::change::{Change, Changed, Refused};
+use crate::handler_registers::HandlerRegisters;
 use crate::tries::Tries;
-use ccan_object::{MOST_OBJECTS, ObjectNo, Profile, Record};
+use ccan_object::{ObjectNo, Profile, Record};
 
 /// A message RAM, as one of its ports sees it. All upper layers use this trait alone.
 ///
@@ -29,10 +31,10 @@ pub trait Access {
         requires held { Holds (passes self.old).terms.profile object }
         ensures { AddsLook (passes self.old) (passes self.new) object result };
 
-    /// The records of all objects at one place of the history: looks at each object with no other event between. The
-    /// records past the profile's last object are zero.
-    fn look_all(&mut self) -> [Record; MOST_OBJECTS]
-        ensures { AddsPicture (passes self.old) (passes self.new) result };
+    /// The Message Handler Registers at one place of the history, by looks at all objects with no other event between.
+    fn look_all(&mut self) -> HandlerRegisters
+        ensures pictures { AddsPicture (passes self.old) (passes self.new) result }
+        ensures within { AreBelow (objects_in (passes self.old).terms.profile) result };
 
     /// Makes a change, in at most so many tries.
     ///

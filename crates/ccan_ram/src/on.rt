@@ -2,9 +2,10 @@ ghost use Rattle.std.specs.Prelude.{◌≡◌};
 
 use crate::access::Access;
 use crate::change::{Change, Changed, Refused};
+use crate::handler_registers::HandlerRegisters;
 use crate::shared_ram::SharedRam;
 use crate::tries::Tries;
-use ccan_object::{MOST_OBJECTS, ObjectNo, Profile, Record};
+use ccan_object::{ObjectNo, Profile, Record};
 
 /// A port of a shared memory, as an access. What it has seen is what the port has seen.
 #[derive(Drop)]
@@ -27,7 +28,7 @@ impl<'a, R: SharedRam> Access for On<'a, R> {
         self.ram.look(&mut self.port, object)
     }
 
-    fn look_all(&mut self) -> [Record; MOST_OBJECTS] {
+    fn look_all(&mut self) -> HandlerRegisters {
         self.ram.look_all(&mut self.port)
     }
 

@@ -20,19 +20,12 @@ use Rattle.ccan_words.specs.Plays.{Knows, GoesOn}
 use Rattle.ccan_words.specs.Version.{IsSeatOf, IsRecordOf}
 use Rattle.ccan_ram.specs.Picture.{pictured}
 use Rattle.ccan_words.specs.Picture.{CountsOn, Poses, Stood, Counted, Moved, Turned, Posed, Missed}
+use Rattle.ccan_ram.proofs.Histories.{changes_later}
 use Rattle.ccan_words.proofs.Histories.{when, chosen, passed, stands_after, next_is_new, latest, begins_again, begins_through}
 use Rattle.ccan_words.proofs.Histories.{record_is, stands_records, changes_own}
 use Rattle.ccan_words.proofs.Seats.{only_holds, only_sees}
 
 -- ---- numbers never come twice
-
-changes_grow : (p : PortName) (e : Event) (h : History) → changes_by p h ≤ changes_by p (e ∷ h)
-changes_grow p e h = ⊎_elim
-    (λ (t : (is_change e && same_port e.port p) ≡ true).
-    let is : changes_by p (e ∷ h) ≡ changes_by p h + 1 = chosen (is_change e && same_port e.port p) _ _ t in omega arith)
-    (λ (f : (is_change e && same_port e.port p) ≡ false).
-    let is : changes_by p (e ∷ h) ≡ changes_by p h = passed (is_change e && same_port e.port p) _ _ f in omega arith)
-    (when (is_change e && same_port e.port p))
 
 -- a change that contends between two histories gives the word another number, once and for all
 module _ (contends : ℕ → ℕ → Bool) (k : ℕ) where
@@ -42,7 +35,7 @@ module _ (contends : ℕ → ℕ → Bool) (k : ℕ) where
   still_more [] middle g few e = e
   still_more (e ∷ more) middle g few same =
       let rest : History = more ++ (middle ++ g) in
-      let few' : (q : PortName) → changes_by q rest < 65535 = λ q. let f = few q in let grow = changes_grow q e rest in omega arith in
+      let few' : (q : PortName) → changes_by q rest < 65535 = λ q. let f = few q in let grow = changes_later q (e ∷ rest) rest (e ∷ [], refl) in omega arith in
       ⊎_elim
       (λ (t : (is_change e && contends e.object k) ≡ true).
       let is : last_number contends k (e ∷ rest) ≡ next_number e.port rest = chosen (is_change e && contends e.object k) _ _ t in
@@ -64,14 +57,6 @@ module _ (contends : ℕ → ℕ → Bool) (k : ℕ) where
       ∙ still_more b.0 c.0 g (subst (λ (z : History). (q : PortName) → changes_by q z < 65535) is few)
       (ap (last_number contends k) (sym is) ∙ same)
 
-grown : (p : PortName) (more h : History) → changes_by p h ≤ changes_by p (more ++ h)
-grown p [] h = omega arith
-grown p (e ∷ more) h = let a = grown p more h in let b = changes_grow p e (more ++ h) in omega arith
-
--- changes of a port don't get fewer
-pub changes_later : (p : PortName) (h g : History) → BeginsWith h g → changes_by p g ≤ changes_by p h
-changes_later p h g b = subst (λ (z : History). changes_by p g ≤ changes_by p z) (sym b.1) (grown p b.0 g)
-
 -- a word that holds another number: some port made a change
 pub record Another (h g : History) : Type 0 where
   pub port : PortName
@@ -81,12 +66,12 @@ another_more : (contends : ℕ → ℕ → Bool) (k : ℕ) (more g : History)
     → last_number contends k (more ++ g) ≢ last_number contends k g → Another (more ++ g) g
 another_more contends k [] g n = absurd (n refl)
 another_more contends k (e ∷ more) g n = ⊎_elim
-    (λ (t : is_change e ≡ true). let own = changes_own e (more ++ g) t in let a = grown e.port more g in
+    (λ (t : is_change e ≡ true). let own = changes_own e (more ++ g) t in let a = changes_later e.port (more ++ g) g (more, refl) in
     record { port = e.port; more = omega arith })
     (λ (f : is_change e ≡ false).
     let is : (is_change e && contends e.object k) ≡ false = ap (λ (b : Bool). b && contends e.object k) f in
     let a = another_more contends k more g (λ s. n (passed (is_change e && contends e.object k) _ _ is ∙ s)) in
-    let u = a.more in let grow = changes_grow a.port e (more ++ g) in record { port = a.port; more = omega arith })
+    let u = a.more in let grow = changes_later a.port (e ∷ (more ++ g)) (more ++ g) (e ∷ [], refl) in record { port = a.port; more = omega arith })
     (when (is_change e))
 
 pub another : (contends : ℕ → ℕ → Bool) (k : ℕ) (h g : History) → BeginsWith h g

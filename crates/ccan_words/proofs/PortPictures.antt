@@ -1,7 +1,7 @@
 -- A picture at a port, as the port's memory promises it.
 use Rattle.std.proofs.Common.{◌≡◌, ℕ, Bool, List, ◌++◌, sym, refl, ap, ◌∙◌, subst}
 use Rattle.ccan_object.specs.declared.profile.Profile.{Profile}
-use Rattle.ccan_object.specs.declared.record.Record.{Record}
+use Rattle.ccan_ram.specs.declared.handler_registers.HandlerRegisters.{HandlerRegisters}
 use Rattle.ccan_ram.specs.declared.event.Event.{Event}
 use Rattle.ccan_ram.specs.SharedRam.{Memory, Pass, IsWithin, passes_of, terms_of}
 use Rattle.ccan_words.specs.declared.port.Port.TheInside.{Inside}
@@ -32,7 +32,7 @@ module _ (s : Inside) (i : IsPortOf s) {was : Pass} (is_was : pass s ≡ was) {m
   pub can_picture : (x : Held) × IsSeatOf s.name x s.seat.me × IsSound memory.profile x.quota x.seen × (x.quota ≡ memory.quota)
   can_picture = (i.held, i.view, sound_here, quota_here)
 
-  module _ {contends : ℕ → ℕ → Bool} (to : WordSeat) (table : to.table_id ≡ s.seat.table_id) (shown : List Record)
+  module _ {contends : ℕ → ℕ → Bool} (to : WordSeat) (table : to.table_id ≡ s.seat.table_id) (shown : HandlerRegisters)
       (told : PicturesIn contends memory s.name shown s.seat.me to.me) where
     at_port : (added : List Event) × Added s.key.profile s.name i.held added to.me
         × IsPicture (terms_of contends (pass s).memory s.name) shown i.held.seen added

@@ -1,14 +1,14 @@
 -- Turns that are lost, and one that succeeds.
 use Rattle.std.proofs.Common.{append_assoc, ◌≡◌, ℕ, zero, suc, ◌+◌, ◌*◌, ◌<◌, ◌≤◌, Bool, List, [], ◌∷◌, ◌++◌, sym}
 use Rattle.std.proofs.Common.{refl, ap, ◌∙◌, subst, arith}
-use Rattle.ccan_object.specs.declared.record.Record.{Record}
+use Rattle.ccan_ram.specs.declared.handler_registers.HandlerRegisters.{HandlerRegisters}
 use Rattle.ccan_object.specs.Profile.{objects_in}
 use Rattle.ccan_ram.specs.declared.port.PortName.{PortName}
 use Rattle.ccan_ram.specs.declared.port.PortName.TheVariants.{If1, If2, Bus}
 use Rattle.ccan_ram.specs.declared.event.Event.{Event}
 use Rattle.ccan_ram.specs.History.{changes_by, last_number, BeginsWith}
 use Rattle.ccan_ram.specs.Terms.{Terms}
-use Rattle.ccan_ram.specs.Ending.{final_records}
+use Rattle.ccan_ram.specs.HandlerRegisters.{registers_at}
 use Rattle.ccan_ram.specs.SharedRam.{Memory, Pass, terms_of}
 use Rattle.ccan_ram.proofs.Steps.{unseen}
 use Rattle.ccan_words.specs.declared.view.Held.{Held}
@@ -20,8 +20,8 @@ use Rattle.ccan_words.specs.Version.{IsSeatOf}
 use Rattle.ccan_ram.specs.Picture.{pictured, Turn, LostTurn, LostTurns, IsPicture}
 use Rattle.ccan_words.specs.Picture.{Turned, Posed, Missed, Added, ShowsAll}
 use Rattle.ccan_words.proofs.Histories.{changes_by_own, begins_again, begins_through}
+use Rattle.ccan_ram.proofs.Histories.{changes_later}
 use Rattle.ccan_ram.proofs.Pictures.{pictured_changes}
-use Rattle.ccan_words.proofs.Picturing.{changes_later}
 
 -- ---- each turn that is lost costs another port a change
 
@@ -137,7 +137,7 @@ module _ (contends : ℕ → ℕ → Bool) (memory : Memory) (p : PortName) wher
           lost,
         )
 
-    pub pictured_by : (i : ℕ) (numbers : List ℕ) (shown : List Record) (t : Posed F p y numbers n)
+    pub pictured_by : (i : ℕ) (numbers : List ℕ) (shown : HandlerRegisters) (t : Posed F p y numbers n)
         → LostTurns terms i x.seen earlier → i ≤ 2 * memory.quota → ShowsAll F numbers n shown
         → IsPicture terms shown x.seen (last F y n t.turn ++ earlier)
     pictured_by i numbers shown t lost few shows = record {
@@ -152,7 +152,7 @@ module _ (contends : ℕ → ℕ → Bool) (memory : Memory) (p : PortName) wher
           let u = t.turn in
           shows p (see u.end y) u.at u.view
           (begins_through u.end _ u.at u.to (pictured p (objects_in memory.profile) u.at, refl)) u.sound_at t.each
-          ∙ ap (final_records memory.profile) u.from.1;
+          ∙ ap (registers_at memory.profile) u.from.1;
     }
 
 pub added_none : (contends : ℕ → ℕ → Bool) (memory : Memory) (p : PortName) (x : Held) (m : Knows) → IsSeatOf p x m

@@ -1,12 +1,12 @@
 -- The steps of a picture: numbers of many words, and looks at all objects between them. Source: this project's own.
 use Rattle.std.specs.Prelude.{◌≡◌, ◌≢◌, ℕ, ◌+◌, ◌<◌, ◌≤◌, Bool, List, ◌++◌, Option, Some, None, slice_index}
 use Rattle.ccan_object.specs.declared.profile.Profile.{Profile}
-use Rattle.ccan_object.specs.declared.record.Record.{Record}
 use Rattle.ccan_object.specs.Profile.{objects_in, Holds}
+use Rattle.ccan_ram.specs.declared.handler_registers.HandlerRegisters.{HandlerRegisters}
 use Rattle.ccan_ram.specs.declared.port.PortName.{PortName}
 use Rattle.ccan_ram.specs.declared.event.Event.{Event}
 use Rattle.ccan_ram.specs.History.{events_of, changes_by, last_number, BeginsWith}
-use Rattle.ccan_ram.specs.Ending.{final_records}
+use Rattle.ccan_ram.specs.HandlerRegisters.{registers_at}
 use Rattle.ccan_ram.specs.Picture.{pictured, LostTurns, IsPicture}
 use Rattle.ccan_ram.specs.SharedRam.{Memory, terms_of}
 use Rattle.ccan_words.specs.declared.view.Held.{Held}
@@ -75,12 +75,13 @@ module _ {profile : Profile} {most : ℕ} {contends : ℕ → ℕ → Bool} (F :
   abbrev pub AreNumbers : List ℕ → Type 0
   AreNumbers numbers = (k : ℕ) → k < objects_in profile → slice_index numbers k ≢ 0 → IsNumber most (slice_index numbers k)
 
-  -- where these were the last numbers at some history that a port of the seat has seen, the records are those that it left
-  abbrev pub ShowsAll : List ℕ → Knows → List Record → Type 0
+  -- where these were the last numbers at some history that a port of the seat has seen, the registers are those of the memory
+  -- that it left
+  abbrev pub ShowsAll : List ℕ → Knows → HandlerRegisters → Type 0
   ShowsAll numbers m shown =
       (p : PortName) (x : Held) (log : History) → IsSeatOf p x m → BeginsWith x.seen log → IsSound profile x.quota log
       → ((k : ℕ) → k < objects_in profile → slice_index numbers k ≡ last_number contends (k + 1) log)
-      → shown ≡ final_records profile log
+      → shown ≡ registers_at profile log
 
   -- ---- turns
 
@@ -128,7 +129,7 @@ TriedIn contends memory p i old new =
     → (added : List Event) × Added memory.profile p x added new × LostTurns (terms_of contends memory p) i x.seen added
 
 -- the port of a seat made a picture
-abbrev pub PicturesIn : (ℕ → ℕ → Bool) → Memory → PortName → List Record → Knows → Knows → Type 0
+abbrev pub PicturesIn : (ℕ → ℕ → Bool) → Memory → PortName → HandlerRegisters → Knows → Knows → Type 0
 PicturesIn contends memory p shown old new =
     (x : Held) → IsSeatOf p x old → IsSound memory.profile x.quota x.seen → x.quota ≡ memory.quota
     → (added : List Event) × Added memory.profile p x added new × IsPicture (terms_of contends memory p) shown x.seen added

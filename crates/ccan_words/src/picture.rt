@@ -4,8 +4,11 @@
 //! one step; and then the numbers are read again. Where each is what it was, it stood throughout, since no number comes
 //! twice: so it stood where the looks do, and the versions of these numbers hold the records that the looks show. Where
 //! one is another, some other port made a change meanwhile. The others make at most twice the quota of changes.
+//!
+//! The versions are read last, and of an object that nobody wrote there is none.
 ghost use Rattle.std.specs.Prelude.{◌≡◌, ◌≤◌, ◌<◌, true, false, length};
 ghost use Rattle.ccan_object.specs.Profile.{objects_in};
+ghost use Rattle.ccan_ram.specs.HandlerRegisters.{AreBelow};
 ghost use Rattle.ccan_words.specs.declared.view.Held.{Held};
 ghost use Rattle.ccan_words.specs.Picture.{AreNumbers, CountedIn, MovedIn, PicturesIn, ShowsAll, TurnsIn};
 ghost use Rattle.ccan_words.specs.Port.{numbers_of};
@@ -16,30 +19,27 @@ use crate::layout::Layout;
 use crate::steps::{head, pose};
 use crate::version::fetch;
 use crate::words::{Seat, Words};
-use ccan_object::{MOST_OBJECTS, Record};
-use ccan_ram::PortName;
+use ccan_object::MOST_OBJECTS;
+use ccan_ram::{HandlerRegisters, PortName};
 
-/// The records of all objects at one place of the history.
+/// The registers at one place of the history.
 #[inline(always)]
-pub fn picture<L: Layout>(
-    words: &Words<L>,
-    seat: &mut Seat,
-    port: PortName,
-) -> [Record; MOST_OBJECTS]
+pub fn picture<L: Layout>(words: &Words<L>, seat: &mut Seat, port: PortName) -> HandlerRegisters
     requires table { numbers_of seat.old.table_id ≡ words.now.name }
     requires held { (x : Held) × IsSeatOf port x seat.old.me × IsSound words.now.profile x.quota x.seen
         × (x.quota ≡ words.now.quota) }
     ensures same { seat.new.table_id ≡ seat.old.table_id }
     ensures told { PicturesIn L.contends words.now port result seat.old.me seat.new.me }
+    ensures within { AreBelow (objects_in words.now.profile) result }
 {
     let most = words.key().quota * 2 + 1;
     for turn in 0..most {
         match pose_once(words, seat, port) {
-            Some(numbers) => return records(words, seat, &numbers),
+            Some(numbers) => return registers(words, seat, &numbers),
             None => {}
         }
     }
-    [Record::zero(); MOST_OBJECTS]
+    HandlerRegisters::zero()
 }
 
 /// Looks at all objects, and the numbers of their words where these looks stand, unless another port made a change
@@ -98,21 +98,26 @@ fn still<L: Layout>(words: &Words<L>, seat: &mut Seat, numbers: &[u64; MOST_OBJE
     true
 }
 
-/// The records in the versions of these numbers.
+/// The registers that the versions of these numbers show.
 #[inline(always)]
-fn records<L: Layout>(
+fn registers<L: Layout>(
     words: &Words<L>,
     seat: &mut Seat,
     numbers: &[u64; MOST_OBJECTS],
-) -> [Record; MOST_OBJECTS]
+) -> HandlerRegisters
     requires table { numbers_of seat.old.table_id ≡ words.now.name }
     requires ranged { AreNumbers (L.form words.now.profile) numbers.now }
     ensures same { (seat.new.table_id ≡ seat.old.table_id) × (seat.new.me ≡ seat.old.me) }
     ensures shown { ShowsAll (L.form words.now.profile) numbers.now seat.old.me result }
+    ensures within { AreBelow (objects_in words.now.profile) result }
 {
-    let mut records = [Record::zero(); MOST_OBJECTS];
-    for i in 0..usize::from(words.key().profile.objects()) {
-        records[i] = fetch(words, seat, numbers[i], i + 1);
+    let mut registers = HandlerRegisters::zero();
+    for place in 0..words.key().profile.objects() {
+        let number = numbers[usize::from(place)];
+        if number != 0 {
+            let shown = fetch(words, seat, number, usize::from(place) + 1);
+            registers = registers.with_flags(place, &shown);
+        }
     }
-    records
+    registers
 }

@@ -5,9 +5,10 @@ use crate::port::Port;
 use crate::steps::{end, join, part, watch};
 use crate::version::{Version, found, number_of, publish};
 use crate::words::{Key, Words};
-use ccan_object::{MOST_OBJECTS, ObjectNo, Profile, Record};
+use ccan_object::{ObjectNo, Profile, Record};
 use ccan_ram::{
-    Change, Changed, CommitError, Draft, Final, OpenError, PortName, Refused, SharedRam, Tries,
+    Change, Changed, CommitError, Draft, Final, HandlerRegisters, OpenError, PortName, Refused,
+    SharedRam, Tries,
 };
 use std::alloc::Global;
 
@@ -61,7 +62,7 @@ impl<L: Layout> SharedRam for Ram<L> {
     }
 
     #[inline(always)]
-    fn look_all(&self, port: &mut Port) -> [Record; MOST_OBJECTS] {
+    fn look_all(&self, port: &mut Port) -> HandlerRegisters {
         picture(&self.words, &mut port.seat, port.name)
     }
 

@@ -54,10 +54,10 @@ returns-in-Some-clause-told g c x view sound quota =
     let t = c.in-Some.ensures.told (see _ x) i.1.view i.1.sound (omega arith) in (
       _,
       subst (λ (m : Knows). Added memory.profile p x (last contends memory p F (see _ x) _ t.turn ++ i.0) m)
-          (sym c.records.ensures.same.1)
+          (sym c.registers.ensures.same.1)
           (added_more contends memory p F x i.0 _ _ i.1 t.turn),
-      pictured_by contends memory p F x i.0 _ _ i.1 c.loop-turn.turn _ c.records.result t i.2 (omega arith)
-          c.records.ensures.shown,
+      pictured_by contends memory p F x i.0 _ _ i.1 c.loop-turn.turn _ c.registers.result t i.2 (omega arith)
+          c.registers.ensures.shown,
     )
 
 pub returns-clause-told : goal.returns-clause-told
