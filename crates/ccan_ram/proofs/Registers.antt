@@ -123,6 +123,10 @@ none_below IntPnd = lit< tt
 none_below TxRqst = lit< tt
 none_below MsgVal = lit< tt
 
+-- there is room for one more
+pub below_more : (n : ℕ) (w : HandlerRegisters) → AreBelow n w → AreBelow (n + 1) w
+below_more n w below flag = let low = below flag in let grows = pow_below n (n + 1) (omega arith) in omega arith
+
 pub registers_below : (n : ℕ) (w : HandlerRegisters) (h : List Event) → w ≡ registers_of (first_records n h) → AreBelow n w
 registers_below n w h is flag =
     let word = ap (register_of flag) is ∙ register_word flag (first_records n h) in

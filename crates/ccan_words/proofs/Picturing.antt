@@ -1,7 +1,6 @@
 -- Numbers of many words, and what they tell of one place of the history.
-use Rattle.std.proofs.Common.{append_assoc, ◌≡◌, ◌≢◌, ℕ, zero, suc, ◌+◌, ◌*◌, ◌<◌, ◌≤◌, ◌⊎◌, ◌&&◌, Bool, true, false, cond, List, [], ◌∷◌, ◌++◌, get_or, set, length, sym}
-use Rattle.std.proofs.Common.{refl, ap, ◌∙◌, subst, ⊎_elim, arith, Some}
-use Rattle.std.proofs.lemmas.List.{get_or-set_same, get_or-set_other}
+use Rattle.std.proofs.Common.{append_assoc, ◌≡◌, ◌≢◌, ℕ, ◌+◌, ◌<◌, ◌≤◌, ◌&&◌, Bool, true, false, List, [], ◌∷◌, ◌++◌, get_or, sym}
+use Rattle.std.proofs.Common.{refl, ap, ◌∙◌, subst, ⊎_elim, arith}
 use mathlib.Core.Logic.{dite}
 use native.Mathlib.Decide.{ℕ_discrete}
 use Rattle.ccan_object.specs.declared.profile.Profile.{Profile}
@@ -9,12 +8,10 @@ use Rattle.ccan_object.specs.declared.record.Record.{Record}
 use Rattle.ccan_object.specs.Profile.{Holds, objects_in}
 use Rattle.ccan_object.specs.Record.{zero_record}
 use Rattle.ccan_ram.specs.declared.port.PortName.{PortName}
-use Rattle.ccan_ram.specs.declared.event.Event.{Event}
-use Rattle.ccan_ram.specs.Port.{same_port}
-use Rattle.ccan_ram.specs.History.{is_change, record_at, events_of, changes_by, next_number, last_number, BeginsWith}
+use Rattle.ccan_ram.specs.History.{is_change, record_at, changes_by, next_number, last_number, BeginsWith}
 use Rattle.ccan_words.specs.declared.view.Held.{Held}
-use Rattle.ccan_words.specs.View.{History, holding, see, see_all}
-use Rattle.ccan_words.specs.Layout.{Form, Lies, Shows, IsNumber}
+use Rattle.ccan_words.specs.View.{History, see}
+use Rattle.ccan_words.specs.Layout.{Form, Lies, Shows}
 use Rattle.ccan_words.specs.Rule.{IsSound, Stands, Latest}
 use Rattle.ccan_words.specs.Plays.{Knows, GoesOn}
 use Rattle.ccan_words.specs.Version.{IsSeatOf, IsRecordOf}
@@ -124,7 +121,14 @@ module _ {profile : Profile} {most : ℕ} {contends : ℕ → ℕ → Bool} (F :
 
     pub counted_moved : i < objects_in profile → found ≢ get_or numbers i 0 → Moved F p x numbers n
     counted_moved l other = record {
-      log = t.log; view = view; goes_on = goes; k = i; less = l; now = found; stood = here; other = other;
+      log = t.log;
+      view = view;
+      goes_on = goes;
+      k = i;
+      less = l;
+      now = found;
+      stood = here;
+      other = other;
     }
 
   -- ---- one turn

@@ -1,6 +1,5 @@
 -- A picture at a port, as the port's memory promises it.
 use Rattle.std.proofs.Common.{◌≡◌, ℕ, Bool, List, ◌++◌, sym, refl, ap, ◌∙◌, subst}
-use Rattle.ccan_object.specs.declared.profile.Profile.{Profile}
 use Rattle.ccan_ram.specs.declared.handler_registers.HandlerRegisters.{HandlerRegisters}
 use Rattle.ccan_ram.specs.declared.event.Event.{Event}
 use Rattle.ccan_ram.specs.SharedRam.{Memory, Pass, IsWithin, passes_of, terms_of}

@@ -1,12 +1,12 @@
 -- Loads that keep a number, and a load that adds looks at all objects, keep the rule.
-use Rattle.std.proofs.Common.{◌≡◌, ◌≢◌, ℕ, zero, suc, ◌+◌, ◌<◌, ◌≤◌, Bool, List, [], ◌∷◌, ◌++◌, get_or, sym}
-use Rattle.std.proofs.Common.{refl, ap, ◌∙◌, subst, ⊎_elim, arith, Some, true≢false}
+use Rattle.std.proofs.Common.{◌≡◌, ◌≢◌, ℕ, zero, suc, Bool, List, ◌++◌, get_or, sym}
+use Rattle.std.proofs.Common.{refl, ◌∙◌, subst, ⊎_elim, arith, Some, true≢false}
 use lib.Seq.{set-get_or}
 use Rattle.atomic_table.specs.Table.{keeps, Allows}
 use Rattle.ccan_object.specs.declared.profile.Profile.{Profile}
 use Rattle.ccan_object.specs.Profile.{Holds, objects_in}
 use Rattle.ccan_ram.specs.declared.port.PortName.{PortName}
-use Rattle.ccan_ram.specs.History.{record_at, IsLegal, events_of, changes_by, last_number}
+use Rattle.ccan_ram.specs.History.{record_at, events_of, last_number}
 use Rattle.ccan_ram.specs.Attempt.{look_at}
 use Rattle.ccan_words.specs.declared.view.Held.{Held}
 use Rattle.ccan_words.specs.declared.view.View.{View}

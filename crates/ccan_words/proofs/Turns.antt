@@ -1,12 +1,12 @@
 -- Turns that are lost, and one that succeeds.
-use Rattle.std.proofs.Common.{append_assoc, ◌≡◌, ℕ, zero, suc, ◌+◌, ◌*◌, ◌<◌, ◌≤◌, Bool, List, [], ◌∷◌, ◌++◌, sym}
+use Rattle.std.proofs.Common.{append_assoc, ◌≡◌, ℕ, zero, suc, ◌+◌, ◌*◌, ◌<◌, ◌≤◌, Bool, List, [], ◌++◌, sym}
 use Rattle.std.proofs.Common.{refl, ap, ◌∙◌, subst, arith}
 use Rattle.ccan_ram.specs.declared.handler_registers.HandlerRegisters.{HandlerRegisters}
 use Rattle.ccan_object.specs.Profile.{objects_in}
 use Rattle.ccan_ram.specs.declared.port.PortName.{PortName}
 use Rattle.ccan_ram.specs.declared.port.PortName.TheVariants.{If1, If2, Bus}
 use Rattle.ccan_ram.specs.declared.event.Event.{Event}
-use Rattle.ccan_ram.specs.History.{changes_by, last_number, BeginsWith}
+use Rattle.ccan_ram.specs.History.{changes_by}
 use Rattle.ccan_ram.specs.Terms.{Terms}
 use Rattle.ccan_ram.specs.HandlerRegisters.{registers_at}
 use Rattle.ccan_ram.specs.SharedRam.{Memory, Pass, terms_of}
@@ -19,7 +19,7 @@ use Rattle.ccan_words.specs.Plays.{Knows}
 use Rattle.ccan_words.specs.Version.{IsSeatOf}
 use Rattle.ccan_ram.specs.Picture.{pictured, Turn, LostTurn, LostTurns, IsPicture}
 use Rattle.ccan_words.specs.Picture.{Turned, Posed, Missed, Added, ShowsAll}
-use Rattle.ccan_words.proofs.Histories.{changes_by_own, begins_again, begins_through}
+use Rattle.ccan_words.proofs.Histories.{changes_by_own, begins_through}
 use Rattle.ccan_ram.proofs.Histories.{changes_later}
 use Rattle.ccan_ram.proofs.Pictures.{pictured_changes}
 

@@ -15,7 +15,9 @@ ghost use Rattle.ccan_words.specs.Picture.{CountsOn, Poses};
 ghost use Rattle.ccan_words.specs.Port.{numbers_of};
 
 use crate::layout::Layout;
-use crate::plays::{Counting, Deed, Exchanging, Joining, Looking, Noting, Parting, Posing, Reading, Watching};
+use crate::plays::{
+    Counting, Deed, Exchanging, Joining, Looking, Noting, Parting, Posing, Reading, Watching,
+};
 use crate::version::Version;
 use crate::words::{Seat, Words};
 use atomic_table::Closed;

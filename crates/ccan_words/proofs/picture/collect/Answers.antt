@@ -1,4 +1,4 @@
-use Rattle.std.proofs.Common.{refl, length-set, sym, ◌∙◌, ap, subst, arith}
+use Rattle.std.proofs.Common.{refl, length-set, ◌∙◌, arith}
 use Rattle.std.proofs.lemmas.List.{get_or-set_same, get_or-set_other}
 use Rattle.ccan_words.proofs.Picturing.{counted_none, counted_more}
 use Rattle.ccan_words.proofs.picture.collect.Goals as goal

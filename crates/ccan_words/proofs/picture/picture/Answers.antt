@@ -1,9 +1,8 @@
-use Rattle.std.proofs.Common.{◌≡◌, ◌+◌, ◌++◌, ◌*◌, ◌<◌, ◌≤◌, ℕ, suc, sym, refl, ap, subst, ◌∙◌, arith}
+use Rattle.std.proofs.Common.{◌++◌, ◌≤◌, sym, refl, subst, ◌∙◌, arith}
 use Rattle.ccan_words.specs.Plays.{Knows}
 use Rattle.ccan_words.specs.Picture.{Added}
 use Rattle.ccan_words.specs.View.{see}
 use Rattle.ccan_words.proofs.Turns.{added_none, added_more, lost_more, pictured_by, few_lost, last}
-use Rattle.ccan_ram.specs.SharedRam.{terms_of}
 use Rattle.ccan_words.proofs.picture.picture.Goals as goal
 
 pub overflow_mul-most : goal.overflow_mul-most
