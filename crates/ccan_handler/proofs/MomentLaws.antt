@@ -1,39 +1,30 @@
 -- What is answered of one picture is so at one place of the history.
-use Rattle.std.proofs.Common.{ℕ, zero, suc, ◌≡◌, ◌≤◌, ◌<◌, ◌+◌, ◌-◌, ◌^◌, ◌⊎◌, Bool, true, false, cond, List, [], ◌∷◌, ◌++◌, length, map, get_or, replicate}
-use Rattle.std.proofs.Common.{append_assoc, add-zero, refl, sym, ap, ◌∙◌, subst, arith, inl, inr, ⊎_elim, Some, None, Ok}
-use Rattle.std.specs.List.{range_with_len}
+use Rattle.std.proofs.Common.{ℕ, zero, suc, ◌≡◌, ◌≤◌, ◌<◌, ◌+◌, ◌-◌, ◌^◌, ◌⊎◌, ◌&&◌, true, false, List, [], ◌++◌}
+use Rattle.std.proofs.Common.{append_assoc, refl, sym, ap, ◌∙◌, subst, arith, inl, inr, ⊎_elim, Ok}
 use Rattle.std.proofs.lemmas.Bool.{cases_lt}
-use Rattle.ccan_object.specs.Bits.{bit}
+use Rattle.std.proofs.lemmas.Nat.Bits.{bit_at-zero}
 use Rattle.ccan_object.specs.declared.record.Record.{Record}
-use Rattle.ccan_object.specs.Record.{zero_record}
+use Rattle.ccan_object.specs.Bits.{bit}
 use Rattle.ccan_object.specs.Profile.{objects_in}
 use Rattle.ccan_ram.specs.declared.change.Change.TheVariants.{Start}
 use Rattle.ccan_ram.specs.declared.change.Changed.TheVariants.{NotNow}
 use Rattle.ccan_ram.specs.declared.event.Event.{Event}
-use Rattle.ccan_ram.specs.Attempt.{Attempt}
 use Rattle.ccan_ram.specs.declared.flag.Flag.{Flag}
+use Rattle.ccan_ram.specs.declared.flag.Flag.TheVariants.{IntPnd, TxRqst, MsgVal}
+use Rattle.ccan_ram.specs.declared.handler_registers.HandlerRegisters.{HandlerRegisters}
+use Rattle.ccan_ram.specs.Attempt.{Attempt}
 use Rattle.ccan_ram.specs.Change.{fits}
 use Rattle.ccan_ram.specs.Flags.{flag_of}
+use Rattle.ccan_ram.specs.HandlerRegisters.{register_of, registers_at}
 use Rattle.ccan_ram.specs.History.{record_at}
-use Rattle.ccan_ram.specs.Terms.{Terms}
-use Rattle.ccan_ram.specs.Ending.{final_records}
 use Rattle.ccan_ram.specs.Picture.{pictured, IsPicture}
-use Rattle.ccan_handler.specs.Watch.{flag_word}
-use Rattle.ccan_handler.specs.Moment.{firsts, Skips, AtOneMoment, FlagsAreOfOneMoment, IsWithdrawn, ChoiceIsOfOneMoment}
-use Rattle.ccan_handler.proofs.Rows.{word_below, top_bit, low_bit}
-use Rattle.ccan_handler.proofs.Moments.{firsts_length}
-
--- ---- the record of an object in a picture
-
-listed_at : (f : ℕ → Record) (start n k : ℕ) (rest : List Record) (d : Record) → k < n
-    → get_or (map f (range_with_len start n) ++ rest) k d ≡ f (start + k)
-listed_at f start zero k rest d less = absurd (omega arith)
-listed_at f start (suc n) zero rest d less = ap f (sym (add-zero start))
-listed_at f start (suc n) (suc k) rest d less =
-    let there : start + 1 + k ≡ start + suc k = omega arith in listed_at f (start + 1) n k rest d (omega arith) ∙ ap f there
+use Rattle.ccan_ram.specs.Terms.{Terms}
+use Rattle.ccan_ram.proofs.Registers.{register_bit, registers_below}
+use Rattle.ccan_handler.specs.Moment.{Skips, was_ready, FlagsAreOfOneMoment, InterruptIsOfOneMoment, IsWithdrawn, ChoiceIsOfOneMoment}
+use Rattle.ccan_handler.proofs.Moments.{set_below}
 
 -- where the looks of a picture stand
-module _ (terms : Terms) (shown : List Record) (seen added : List Event) (p : IsPicture terms shown seen added) where
+module _ (terms : Terms) (shown : HandlerRegisters) (seen added : List Event) (p : IsPicture terms shown seen added) where
   abbrev pub before : List Event
   before = p.turn.before ++ p.lost
 
@@ -49,43 +40,60 @@ module _ (terms : Terms) (shown : List Record) (seen added : List Event) (p : Is
       ∙ (ap (λ (es : List Event). p.turn.after ++ es) (append_assoc shots p.turn.before p.lost)
       ∙ sym (append_assoc p.turn.after shots before))))
 
-  pub shown_there : (k : ℕ) → k < objects_in terms.profile → get_or shown k zero_record ≡ record_at (k + 1) (before ++ seen)
-  shown_there k less =
-      let there : 1 + k ≡ k + 1 = omega arith in
-      ap (λ (rs : List Record). get_or rs k zero_record) p.shows
-      ∙ (listed_at (λ n. record_at n (p.turn.before ++ (p.lost ++ seen))) 1 (objects_in terms.profile) k _ zero_record less
-      ∙ (ap (λ (n : ℕ). record_at n (p.turn.before ++ (p.lost ++ seen))) there
-      ∙ ap (record_at (k + 1)) (sym (append_assoc p.turn.before p.lost seen))))
+  shown_there : shown ≡ registers_at terms.profile (before ++ seen)
+  shown_there = p.shows ∙ ap (registers_at terms.profile) (sym (append_assoc p.turn.before p.lost seen))
 
--- ---- the bits of a flag word
+  pub flag_there : (flag : Flag) (k : ℕ) → k < objects_in terms.profile
+      → bit (register_of flag shown) k ≡ flag_of flag (record_at (k + 1) (before ++ seen))
+  flag_there flag k less =
+      ap (λ (r : HandlerRegisters). bit (register_of flag r) k) shown_there
+      ∙ register_bit flag (objects_in terms.profile) k (before ++ seen) less
 
-word_bit : (flag : Flag) (n k : ℕ) (shown : List Record) → k < n
-    → bit (flag_word flag (firsts n shown)) k ≡ flag_of flag (get_or shown k zero_record)
-word_bit flag zero k shown less = absurd (omega arith)
-word_bit flag (suc n) k shown less =
-    let size = firsts_length n shown in
-    let low = word_below flag (firsts n shown) in
-    let set = flag_of flag (get_or shown n zero_record) in
-    ⊎_elim
-    (λ (l : k < n). low_bit (flag_word flag (firsts n shown)) (length (firsts n shown)) low set k (omega (arith, size, l))
-    ∙ word_bit flag n k shown l)
-    (λ (g : n ≤ k). let same : k ≡ n = omega (arith, g, less) in
-    let top : k ≡ length (firsts n shown) = omega (arith, size, same) in
-    ap (bit (flag_word flag (firsts (suc n) shown))) top
-    ∙ (top_bit (flag_word flag (firsts n shown)) (length (firsts n shown)) low set
-    ∙ ap (λ (i : ℕ). flag_of flag (get_or shown i zero_record)) (sym same)))
-    (cases_lt k n)
+  pub none_beyond : (flag : Flag) → register_of flag shown < 2 ^ objects_in terms.profile
+  none_beyond flag = registers_below (objects_in terms.profile) shown (before ++ seen) shown_there flag
+
+  pub ready_there : (k : ℕ) → k < objects_in terms.profile
+      → was_ready shown (k + 1) ≡ fits Start (record_at (k + 1) (before ++ seen))
+  ready_there k less =
+      let place : k + 1 - 1 ≡ k = omega arith in
+      ap (λ (i : ℕ). bit shown.msgval i && bit shown.txrqst i) place
+      ∙ (λ i. flag_there MsgVal k less i && flag_there TxRqst k less i)
+
+-- ---- flags and interrupts
 
 pub flags_of_one_moment : FlagsAreOfOneMoment
 flags_of_one_moment terms flag word seen added f = record {
   later = after terms f.shown seen added f.picture;
   earlier = before terms f.shown seen added f.picture;
   whole = parts terms f.shown seen added f.picture;
-  so = λ k less.
-      ap (λ (w : ℕ). bit w k) f.is
-      ∙ (word_bit flag (objects_in terms.profile) k f.shown less
-      ∙ ap (flag_of flag) (shown_there terms f.shown seen added f.picture k less));
+  so = λ k less. ap (λ (w : ℕ). bit w k) f.is ∙ flag_there terms f.shown seen added f.picture flag k less;
 }
+
+pub interrupt_of_one_moment : InterruptIsOfOneMoment
+interrupt_of_one_moment terms value seen added (shown, p, inl (none, word)) = record {
+  later = after terms shown seen added p;
+  earlier = before terms shown seen added p;
+  whole = parts terms shown seen added p;
+  so = inl (
+    none,
+    λ k less. let zero = bit_at-zero k in
+        sym (flag_there terms shown seen added p IntPnd k less) ∙ rw (word, zero) refl,
+  );
+}
+interrupt_of_one_moment terms value seen added (shown, p, inr (place, is, set, first)) =
+    let less = set_below shown.intpnd (objects_in terms.profile) place (none_beyond terms shown seen added p IntPnd) set in
+    record {
+      later = after terms shown seen added p;
+      earlier = before terms shown seen added p;
+      whole = parts terms shown seen added p;
+      so = inr (
+        record { least = omega (arith, is); greatest = omega (arith, is, less) },
+        ap (λ (k : ℕ). flag_of IntPnd (record_at k (before terms shown seen added p ++ seen))) is
+            ∙ (sym (flag_there terms shown seen added p IntPnd place less) ∙ set),
+        λ k under. sym (flag_there terms shown seen added p IntPnd k (omega (arith, is, less, under)))
+            ∙ first k (omega (arith, is, under)),
+      );
+    }
 
 -- ---- a choice
 
@@ -115,22 +123,22 @@ withdrawn_later terms tries object seen looked added w = record {
       (sym (append_assoc w.earlier looked seen)) w.attempt;
 }
 
-skipped : (terms : Terms) (tries n k : ℕ) (shown : List Record) (seen added : List Event) → Skips terms tries n shown seen added → k < n
-    → (fits Start (get_or shown k zero_record) ≡ false) ⊎ IsWithdrawn terms tries (k + 1) seen added
-skipped terms tries zero k shown seen added s less = absurd (omega arith)
-skipped terms tries (suc n) k shown seen added (last, earlier, whole, here, rest) less =
+skipped : (terms : Terms) (shown : HandlerRegisters) (tries n k : ℕ) (seen added : List Event)
+    → Skips terms shown tries n seen added → k < n
+    → (was_ready shown (k + 1) ≡ false) ⊎ IsWithdrawn terms tries (k + 1) seen added
+skipped terms shown tries zero k seen added s less = absurd (omega arith)
+skipped terms shown tries (suc n) k seen added (last, earlier, whole, here, rest) less =
     ⊎_elim
     (λ (l : k < n). ⊎_elim
-    (λ (unready : fits Start (get_or shown k zero_record) ≡ false). inl unready)
+    (λ (unready : was_ready shown (k + 1) ≡ false). inl unready)
     (λ (w : IsWithdrawn terms tries (k + 1) seen earlier).
     inr (subst (IsWithdrawn terms tries (k + 1) seen) (sym whole) (withdrawn_more terms tries (k + 1) seen last earlier w)))
-    (skipped terms tries n k shown seen earlier rest l))
-    (λ (g : n ≤ k). let same : n ≡ k = omega (arith, g, less) in
-    let next : suc n ≡ k + 1 = omega (arith, same) in
+    (skipped terms shown tries n k seen earlier rest l))
+    (λ (g : n ≤ k).
+    let next : suc n ≡ k + 1 = omega (arith, g, less) in
     ⊎_elim
-    (λ (u : (fits Start (get_or shown n zero_record) ≡ false) × (last ≡ [])).
-    inl (ap (λ (i : ℕ). fits Start (get_or shown i zero_record)) (sym same) ∙ u.0))
-    (λ (u : (fits Start (get_or shown n zero_record) ≡ true) × (now : Record)
+    (λ (u : (was_ready shown (suc n) ≡ false) × (last ≡ [])). inl (ap (was_ready shown) (sym next) ∙ u.0))
+    (λ (u : (was_ready shown (suc n) ≡ true) × (now : Record)
     × Attempt terms (suc n) Start tries (earlier ++ seen) last (Ok (NotNow now))). inr (record {
       later = [];
       tried = last;
@@ -146,8 +154,7 @@ pub choice_of_one_moment : ChoiceIsOfOneMoment
 choice_of_one_moment terms tries object after_it seen added c =
     let p = c.picture in
     let s = c.choice in
-    let in_picture = s.is in
-    let at = shown_there terms c.shown seen c.looked p s.below s.held in
+    let ready = ready_there terms c.shown seen c.looked p in
     record {
       later = c.tried ++ after terms c.shown seen c.looked p;
       earlier = before terms c.shown seen c.looked p;
@@ -155,17 +162,16 @@ choice_of_one_moment terms tries object after_it seen added c =
           ∙ sym (append_assoc c.tried (after terms c.shown seen c.looked p) (before terms c.shown seen c.looked p)));
       so = (
         ap (λ (o : ℕ). fits Start (record_at o (before terms c.shown seen c.looked p ++ seen))) s.is
-            ∙ (ap (fits Start) (sym at) ∙ s.start.0),
+            ∙ (sym (ready s.below s.held) ∙ (ap (was_ready c.shown) (sym s.is) ∙ s.start.0)),
         λ k less. let held = s.held in
             let below : k < s.below = omega (arith, s.is, less) in
             ⊎_elim
-            (λ (unready : fits Start (get_or c.shown k zero_record) ≡ false).
-            inl (ap (fits Start) (sym (shown_there terms c.shown seen c.looked p k (omega (arith, below, held)))) ∙ unready))
+            (λ (unready : was_ready c.shown (k + 1) ≡ false). inl (sym (ready k (omega (arith, below, held))) ∙ unready))
             (λ (w : IsWithdrawn terms tries (k + 1) (c.looked ++ seen) s.skipped).
             inr (subst (IsWithdrawn terms tries (k + 1) seen) (sym c.whole)
             (withdrawn_later terms tries (k + 1) seen c.looked c.tried
             (subst (IsWithdrawn terms tries (k + 1) (c.looked ++ seen)) (sym s.whole)
             (withdrawn_more terms tries (k + 1) (c.looked ++ seen) s.last s.skipped w)))))
-            (skipped terms tries s.below k c.shown (c.looked ++ seen) s.skipped s.skips below),
+            (skipped terms c.shown tries s.below k (c.looked ++ seen) s.skipped s.skips below),
       );
     }
