@@ -11,6 +11,7 @@ use Rattle.ccan_ram.specs.declared.change.Changed.TheVariants.{Done, NotNow}
 use Rattle.ccan_ram.specs.declared.change.Refused.{Refused}
 use Rattle.ccan_ram.specs.declared.change.Refused.TheVariants.{Busy, Spent}
 use Rattle.ccan_ram.specs.declared.event.Event.{Event}
+use Rattle.ccan_ram.specs.declared.handler_registers.HandlerRegisters.{HandlerRegisters}
 use Rattle.ccan_ram.specs.Change.{fits}
 use Rattle.ccan_ram.specs.Terms.{Terms, one_thread_terms}
 use Rattle.ccan_ram.specs.Attempt.{look_at, change_at, EndsIn, IsLook, LostTries, HasRoom, Attempt}
@@ -81,7 +82,7 @@ module _ (profile : Profile) (quota made used : ℕ) where
       }
 
   -- a picture
-  pub pictures : {x y : Passes} (shown : List Record) → x.terms ≡ one_thread_terms profile Bus quota → AddsPicture x y shown
+  pub pictures : {x y : Passes} (shown : HandlerRegisters) → x.terms ≡ one_thread_terms profile Bus quota → AddsPicture x y shown
       → AddsPicture (contended profile quota x made used) (contended profile quota y made used) shown
   pictures {x} {y} shown is picture =
       record {

@@ -8,8 +8,8 @@ ghost use Rattle.ccan_contended.specs.Contended.{AddsExchange, AddsOthers, AddsT
 ghost use Rattle.ccan_contended.specs.Contended.{changes_of, contended_terms, number_of};
 
 use crate::transfer::Transfer;
-use ccan_object::{MOST_OBJECTS, ObjectNo, Profile, Record};
-use ccan_ram::{Access, Array, Change, Changed, PortName, Refused, Tries};
+use ccan_object::{ObjectNo, Profile, Record};
+use ccan_ram::{Access, Array, Change, Changed, HandlerRegisters, PortName, Refused, Tries};
 
 /// The bus port of a plain memory, during whose calls the host at IF1 goes through a list of transfers.
 ///
@@ -44,7 +44,7 @@ impl<'a> Access for Contended<'a> {
         self.ram.look(object)
     }
 
-    fn look_all(&mut self) -> [Record; MOST_OBJECTS] {
+    fn look_all(&mut self) -> HandlerRegisters {
         self.ram.look_all()
     }
 

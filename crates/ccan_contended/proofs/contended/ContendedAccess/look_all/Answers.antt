@@ -1,7 +1,7 @@
 use Rattle.ccan_contended.proofs.PlainCalls.{pictures}
 use Rattle.ccan_contended.proofs.contended.ContendedAccess.look_all.Goals as goal
 
-pub returns : goal.returns
-returns c =
+pub returns-clause-pictures : goal.returns-clause-pictures
+returns-clause-pictures c =
     let s = c.args.self.now in
-    pictures s.profile s.quota s.made s.used c.look_all.result s.for_bus c.look_all.ensures
+    pictures s.profile s.quota s.made s.used c.look_all.result s.for_bus c.look_all.ensures.pictures
