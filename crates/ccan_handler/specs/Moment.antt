@@ -85,15 +85,19 @@ pub record StopsAtOne (terms : Terms) (shown : HandlerRegisters) (tries object :
   pub skips : Skips terms shown tries below seen skipped
   pub start : Starts terms shown object tries (skipped ++ seen) last outcome
 
+-- what a choice answers: the object that was started and the record that this left, none, or why a start was refused
+abbrev pub Chosen : Type 0
+Chosen = Result (Option (ℕ × Record)) ScanRefused
+
 -- the choice among the objects of a picture
-abbrev pub ChoosesAmong : Terms → HandlerRegisters → ℕ → List Event → List Event → Result (Option (ℕ × Record)) ScanRefused → Type 0
+abbrev pub ChoosesAmong : Terms → HandlerRegisters → ℕ → List Event → List Event → Chosen → Type 0
 ChoosesAmong terms shown tries seen added (Ok None) = Skips terms shown tries (objects_in terms.profile) seen added
-ChoosesAmong terms shown tries seen added (Ok (Some chosen)) = StopsAtOne terms shown tries chosen.0 seen added (Ok (Some chosen.1))
+ChoosesAmong terms shown tries seen added (Ok (Some (object, after))) =
+    StopsAtOne terms shown tries object seen added (Ok (Some after))
 ChoosesAmong terms shown tries seen added (Err refused) = StopsAtOne terms shown tries refused.at seen added (Err refused.why)
 
 -- a picture, and the choice among its objects
-pub record ChoosesAtOnce (terms : Terms) (tries : ℕ) (seen added : List Event) (answer : Result (Option (ℕ × Record)) ScanRefused) :
-    Type 0 where
+pub record ChoosesAtOnce (terms : Terms) (tries : ℕ) (seen added : List Event) (answer : Chosen) : Type 0 where
   pub shown : HandlerRegisters
   pub looked : List Event
   pub tried : List Event
@@ -104,10 +108,10 @@ pub record ChoosesAtOnce (terms : Terms) (tries : ℕ) (seen added : List Event)
 abbrev pub AddsStart : Passes → Passes → HandlerRegisters → ℕ → ℕ → Result (Option Record) Refused → Type 0
 AddsStart old new shown object tries answer = Goes old new (λ terms seen added. Starts terms shown object tries seen added answer)
 
-abbrev pub AddsChoiceAmong : Passes → Passes → HandlerRegisters → ℕ → Result (Option (ℕ × Record)) ScanRefused → Type 0
+abbrev pub AddsChoiceAmong : Passes → Passes → HandlerRegisters → ℕ → Chosen → Type 0
 AddsChoiceAmong old new shown tries answer = Goes old new (λ terms seen added. ChoosesAmong terms shown tries seen added answer)
 
-abbrev pub AddsChoiceAtOnce : Passes → Passes → ℕ → Result (Option (ℕ × Record)) ScanRefused → Type 0
+abbrev pub AddsChoiceAtOnce : Passes → Passes → ℕ → Chosen → Type 0
 AddsChoiceAtOnce old new tries answer = Goes old new (λ terms seen added. ChoosesAtOnce terms tries seen added answer)
 
 -- ---- laws

@@ -2,6 +2,7 @@ pub mod Calls
 pub mod Histories
 pub mod Arrays
 pub mod Registers
+pub mod FinalRecords
 pub mod Pictures
 pub mod UndisturbedPictures
 pub mod FlagTable

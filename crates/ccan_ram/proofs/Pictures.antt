@@ -15,6 +15,7 @@ use Rattle.ccan_ram.specs.Terms.{Terms, one_thread_terms}
 use Rattle.ccan_ram.specs.HandlerRegisters.{registers_at}
 use Rattle.ccan_ram.specs.Array.{Explains, passes_of}
 use Rattle.ccan_ram.specs.Picture.{pictured, Turn, LostTurns, IsPicture, AddsPicture}
+use Rattle.ccan_ram.proofs.FinalRecords.{most_objects}
 use Rattle.ccan_ram.proofs.Histories.{nobody}
 
 pub pictured_record : (p : PortName) (n k : ℕ) (h g : List Event) → record_at k (pictured p n h ++ g) ≡ record_at k g
@@ -44,10 +45,6 @@ pictured_legal profile p (suc n) h l legal = (
 )
 
 -- ---- the registers of a plain memory
-
-most_objects : (profile : Profile) → objects_in profile ≤ 64
-most_objects One = lit≤ tt
-most_objects Two = lit≤ tt
 
 -- the place of an object among the records
 pub left_at : {profile : Profile} {records : List Record} {used : List ℕ} {seen : List Event} (i : ℕ) (r : Record)

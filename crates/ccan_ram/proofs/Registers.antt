@@ -20,7 +20,9 @@ use Rattle.ccan_ram.specs.HandlerRegisters.{with_bit, flag_word, first_records, 
 
 module _ (word place : ℕ) (below : word < 2 ^ place) where
   apart : bit_and word (2 ^ place) ≡ 0
-  apart = let none = bit_at_above word place place below (omega arith) in omega (arith, and_pow word place, ap (λ n. n * 2 ^ place) none)
+  apart =
+      let none = bit_at_above word place place below (omega arith) in
+      omega (arith, and_pow word place, ap (λ n. n * 2 ^ place) none)
 
   raised : bit_or word (2 ^ place) ≡ word + 2 ^ place
   raised = or_disjoint word (2 ^ place) apart
@@ -88,8 +90,9 @@ module _ (n : ℕ) (r : Record) (w : HandlerRegisters) (h : List Event) (here : 
       let next : n + 1 ≡ suc n = omega arith in
       let words = ap (register_of flag) so_far ∙ register_word flag (first_records n h) in
       let set = ap (flag_of flag) (here ∙ ap (λ k. record_at k h) next) in
+      let size = sym (length-first_records n h) in
       (λ i. with_bit (words i) n (set i))
-      ∙ (ap (λ k. with_bit (flag_word flag (first_records n h)) k (flag_of flag (record_at (suc n) h))) (sym (length-first_records n h))
+      ∙ (ap (λ k. with_bit (flag_word flag (first_records n h)) k (flag_of flag (record_at (suc n) h))) size
       ∙ ap (λ k. flag_word flag (first_records k h)) (sym next))
 
   pub registers_next : with_flags n r w ≡ registers_of (first_records (n + 1) h)

@@ -39,7 +39,8 @@ module _ (terms : Terms) where
 
 pub pictures_undisturbed : UndisturbedPicturesAreOneThread
 pictures_undisturbed terms shown seen added alone p =
-    let parts = undisturbed_parts terms.port p.last p.lost (subst (λ (es : List Event). NobodyElse terms.port es) p.whole alone) in
+    let parts =
+    undisturbed_parts terms.port p.last p.lost (subst (λ (es : List Event). NobodyElse terms.port es) p.whole alone) in
     let none = quiet_lost terms p.times seen p.lost parts.1 p.lose in
     let turn = quiet_turn terms (p.lost ++ seen) p.last parts.0 p.turn in
     let all : added ≡ pictured terms.port (objects_in terms.profile) seen =

@@ -32,7 +32,8 @@ module _ (contends : ℕ → ℕ → Bool) (k : ℕ) where
   still_more [] middle g few e = e
   still_more (e ∷ more) middle g few same =
       let rest : History = more ++ (middle ++ g) in
-      let few' : (q : PortName) → changes_by q rest < 65535 = λ q. let f = few q in let grow = changes_later q (e ∷ rest) rest (e ∷ [], refl) in omega arith in
+      let few' : (q : PortName) → changes_by q rest < 65535 = λ q. let f = few q in
+      let grow = changes_later q (e ∷ rest) rest (e ∷ [], refl) in omega arith in
       ⊎_elim
       (λ (t : (is_change e && contends e.object k) ≡ true).
       let is : last_number contends k (e ∷ rest) ≡ next_number e.port rest = chosen (is_change e && contends e.object k) _ _ t in
@@ -63,12 +64,15 @@ another_more : (contends : ℕ → ℕ → Bool) (k : ℕ) (more g : History)
     → last_number contends k (more ++ g) ≢ last_number contends k g → Another (more ++ g) g
 another_more contends k [] g n = absurd (n refl)
 another_more contends k (e ∷ more) g n = ⊎_elim
-    (λ (t : is_change e ≡ true). let own = changes_own e (more ++ g) t in let a = changes_later e.port (more ++ g) g (more, refl) in
+    (λ (t : is_change e ≡ true). let own = changes_own e (more ++ g) t in
+    let a = changes_later e.port (more ++ g) g (more, refl) in
     record { port = e.port; more = omega arith })
     (λ (f : is_change e ≡ false).
     let is : (is_change e && contends e.object k) ≡ false = ap (λ (b : Bool). b && contends e.object k) f in
     let a = another_more contends k more g (λ s. n (passed (is_change e && contends e.object k) _ _ is ∙ s)) in
-    let u = a.more in let grow = changes_later a.port (e ∷ (more ++ g)) (more ++ g) (e ∷ [], refl) in record { port = a.port; more = omega arith })
+    let u = a.more in
+    let grow = changes_later a.port (e ∷ (more ++ g)) (more ++ g) (e ∷ [], refl) in
+    record { port = a.port; more = omega arith })
     (when (is_change e))
 
 pub another : (contends : ℕ → ℕ → Bool) (k : ℕ) (h g : History) → BeginsWith h g
@@ -96,7 +100,11 @@ module _ {profile : Profile} {most : ℕ} {contends : ℕ → ℕ → Bool} (F :
     on = t.goes_on p (see c.log x) (only_holds p (see c.log x) m c.view)
 
     goes : GoesOn profile p x t.log
-    goes = record { sound = on.sound; part = begins_through t.log c.log x.seen on.part c.goes_on.part; own = on.own ∙ c.goes_on.own }
+    goes = record {
+      sound = on.sound;
+      part = begins_through t.log c.log x.seen on.part c.goes_on.part;
+      own = on.own ∙ c.goes_on.own;
+    }
 
     view : IsSeatOf p (see t.log x) n
     view = only_sees p (see c.log x) t.log m n c.view t.view
@@ -116,7 +124,13 @@ module _ {profile : Profile} {most : ℕ} {contends : ℕ → ℕ → Bool} (F :
           (λ j. (sym e j, sym (ap (λ (z : ℕ). get_or numbers' z 0) e ∙ is) j)) here)
           (λ ne. let s = c.each k (omega arith) in
           subst (Stood F x.seen t.log (k + 1)) (sym (same k (omega arith)))
-          (record { at = s.at; from = s.from; to = begins_through t.log c.log s.at on.part s.to; last = s.last; ranged = s.ranged }));
+          (record {
+            at = s.at;
+            from = s.from;
+            to = begins_through t.log c.log s.at on.part s.to;
+            last = s.last;
+            ranged = s.ranged;
+          }));
     }
 
     pub counted_moved : i < objects_in profile → found ≢ get_or numbers i 0 → Moved F p x numbers n
@@ -196,7 +210,8 @@ module _ {profile : Profile} {most : ℕ} {contends : ℕ → ℕ → Bool} (F :
   -- ---- records
 
   -- the record in the version that had this number where a history ended
-  pub record_then : (lies : Lies F) (shows : Shows F) (p : PortName) (k found : ℕ) (r : Record) (y : Held) (me : Knows) (log : History)
+  pub record_then : (lies : Lies F) (shows : Shows F) (p : PortName) (k found : ℕ) (r : Record) (y : Held) (me : Knows)
+      (log : History)
       → IsSeatOf p y me → Holds profile k → BeginsWith y.seen log → IsSound profile y.quota log
       → found ≡ last_number contends k log → (found ≡ 0 → r ≡ zero_record)
       → (found ≢ 0 → IsRecordOf F k found me r) → r ≡ record_at k log

@@ -96,7 +96,8 @@ module _ (contends : ℕ → ℕ → Bool) (memory : Memory) (p : PortName) wher
       after = t.to.0;
       foreign_before = unseen contends (seeing y.seen) t.at (record { begins = t.from; own = t.own_from });
       foreign_after =
-          unseen contends (seeing (pictured p (objects_in memory.profile) t.at ++ t.at)) t.end (record { begins = t.to; own = t.own_to });
+          unseen contends (seeing (pictured p (objects_in memory.profile) t.at ++ t.at)) t.end
+          (record { begins = t.to; own = t.own_to });
       whole = refl;
     }
 
@@ -132,7 +133,8 @@ module _ (contends : ℕ → ℕ → Bool) (memory : Memory) (p : PortName) wher
           record {
             turn = turn_of F y n t.turn;
             other = t.other;
-            changed = subst (λ (h : History). changes_by t.other y.seen < changes_by t.other h) (sym (last_is F y n t.turn)) t.changed;
+            changed = subst (λ (h : History). changes_by t.other y.seen < changes_by t.other h) (sym (last_is F y n t.turn))
+                t.changed;
           },
           lost,
         )

@@ -26,8 +26,8 @@ use ccan_ram::{HandlerRegisters, PortName};
 #[inline(always)]
 pub fn picture<L: Layout>(words: &Words<L>, seat: &mut Seat, port: PortName) -> HandlerRegisters
     requires table { numbers_of seat.old.table_id ≡ words.now.name }
-    requires held { (x : Held) × IsSeatOf port x seat.old.me × IsSound words.now.profile x.quota x.seen
-        × (x.quota ≡ words.now.quota) }
+    requires held { (x : Held) × IsSeatOf port x seat.old.me
+        × IsSound words.now.profile x.quota x.seen × (x.quota ≡ words.now.quota) }
     ensures same { seat.new.table_id ≡ seat.old.table_id }
     ensures told { PicturesIn L.contends words.now port result seat.old.me seat.new.me }
     ensures within { AreBelow (objects_in words.now.profile) result }
@@ -51,8 +51,8 @@ fn pose_once<L: Layout>(
     port: PortName,
 ) -> Option<[u64; MOST_OBJECTS]>
     requires table { numbers_of seat.old.table_id ≡ words.now.name }
-    requires held { (x : Held) × IsSeatOf port x seat.old.me × IsSound words.now.profile x.quota x.seen
-        × (x.quota ≤ L.MOST) }
+    requires held { (x : Held) × IsSeatOf port x seat.old.me
+        × IsSound words.now.profile x.quota x.seen × (x.quota ≤ L.MOST) }
     ensures same { seat.new.table_id ≡ seat.old.table_id }
     ensures told { TurnsIn (L.form words.now.profile) port result seat.old.me seat.new.me }
 {

@@ -30,7 +30,8 @@ loop-place-preserved c =
       below = c.with_flags-registers.ensures.below;
       shown = λ seen h.
           c.with_flags-registers.ensures.value
-          ∙ registers_next i r c.loop-place.registers seen (left_at i r (omega arith) here h) (c.loop-place.invariant.shown seen h);
+          ∙ registers_next i r c.loop-place.registers seen (left_at i r (omega arith) here h)
+          (c.loop-place.invariant.shown seen h);
     }
 
 pub returns-clause-pictures : goal.returns-clause-pictures
