@@ -16,7 +16,7 @@ use Rattle.ccan_words.specs.Rule.{IsSound, Stands, Latest}
 use Rattle.ccan_words.specs.Plays.{Knows, GoesOn}
 use Rattle.ccan_words.specs.Version.{IsSeatOf, IsRecordOf}
 use Rattle.ccan_ram.specs.Picture.{pictured}
-use Rattle.ccan_words.specs.Picture.{CountsOn, Poses, Stood, Counted, Moved, Turned, Posed, Missed}
+use Rattle.ccan_words.specs.Picture.{CountsOn, Poses, Stood, Counted, Moved, Turned, Posed, Missed, TurnsIn}
 use Rattle.ccan_ram.proofs.Histories.{changes_later}
 use Rattle.ccan_words.proofs.Histories.{when, chosen, passed, stands_after, next_is_new, latest, begins_again, begins_through}
 use Rattle.ccan_words.proofs.Histories.{record_is, stands_records, changes_own}
@@ -206,6 +206,13 @@ module _ {profile : Profile} {most : ℕ} {contends : ℕ → ℕ → Bool} (F :
           let last = changes_later apart.port d.log b.at b.to in
           let more = apart.more in
           record { turn = turned d.log d.view d.goes_on; other = apart.port; changed = omega arith }
+
+  -- a turn succeeded or was lost
+  pub turned_as : (p : PortName) (numbers : List ℕ) (posed : Bool) (old new : Knows)
+      → (posed ≡ true → TurnsIn F p numbers true old new) → (posed ≡ false → TurnsIn F p numbers false old new)
+      → TurnsIn F p numbers posed old new
+  turned_as p numbers true old new done lost = done refl
+  turned_as p numbers false old new done lost = lost refl
 
   -- ---- records
 

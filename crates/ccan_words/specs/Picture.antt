@@ -1,5 +1,5 @@
 -- The steps of a picture: numbers of many words, and looks at all objects between them. Source: this project's own.
-use Rattle.std.specs.Prelude.{◌≡◌, ◌≢◌, ℕ, ◌+◌, ◌<◌, ◌≤◌, Bool, List, ◌++◌, Option, Some, None, slice_index}
+use Rattle.std.specs.Prelude.{◌≡◌, ◌≢◌, ℕ, ◌+◌, ◌<◌, ◌≤◌, Bool, true, false, List, ◌++◌, Some, slice_index}
 use Rattle.ccan_object.specs.declared.profile.Profile.{Profile}
 use Rattle.ccan_object.specs.Profile.{objects_in}
 use Rattle.ccan_ram.specs.declared.handler_registers.HandlerRegisters.{HandlerRegisters}
@@ -109,10 +109,12 @@ module _ {profile : Profile} {most : ℕ} {contends : ℕ → ℕ → Bool} (F :
     pub other : PortName
     pub changed : changes_by other x.seen < changes_by other turn.end
 
-  abbrev pub TurnsIn : PortName → Option (List ℕ) → Knows → Knows → Type 0
-  TurnsIn p (Some numbers) old new =
+  -- the same, of the port of a seat
+  abbrev pub TurnsIn : PortName → List ℕ → Bool → Knows → Knows → Type 0
+  TurnsIn p numbers true old new =
       (x : Held) → IsSeatOf p x old → IsSound profile x.quota x.seen → x.quota ≤ most → Posed p x numbers new
-  TurnsIn p None old new = (x : Held) → IsSeatOf p x old → IsSound profile x.quota x.seen → x.quota ≤ most → Missed p x new
+  TurnsIn p numbers false old new =
+      (x : Held) → IsSeatOf p x old → IsSound profile x.quota x.seen → x.quota ≤ most → Missed p x new
 
 -- ---- a picture
 

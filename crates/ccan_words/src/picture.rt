@@ -33,51 +33,47 @@ pub fn picture<L: Layout>(words: &Words<L>, seat: &mut Seat, port: PortName) -> 
     ensures within { AreBelow (objects_in words.now.profile) result }
 {
     let most = words.key().quota * 2 + 1;
+    let mut numbers = [0u64; MOST_OBJECTS];
     for turn in 0..most {
-        match pose_once(words, seat, port) {
-            Some(numbers) => return registers(words, seat, &numbers),
-            None => {}
+        if pose_once(words, seat, port, &mut numbers) {
+            return registers(words, seat, &numbers);
         }
     }
     HandlerRegisters::zero()
 }
 
-/// Looks at all objects, and the numbers of their words where these looks stand, unless another port made a change
-/// meanwhile.
+/// Looks at all objects, and the numbers of their words where these looks stand. False: another port made a change
+/// meanwhile, and the numbers say nothing.
 #[inline(always)]
 fn pose_once<L: Layout>(
     words: &Words<L>,
     seat: &mut Seat,
     port: PortName,
-) -> Option<[u64; MOST_OBJECTS]>
+    numbers: &mut [u64; MOST_OBJECTS],
+) -> bool
     requires table { numbers_of seat.old.table_id ≡ words.now.name }
     requires held { (x : Held) × IsSeatOf port x seat.old.me
         × IsSound words.now.profile x.quota x.seen × (x.quota ≤ L.MOST) }
     ensures same { seat.new.table_id ≡ seat.old.table_id }
-    ensures told { TurnsIn (L.form words.now.profile) port result seat.old.me seat.new.me }
-{
-    let numbers = collect(words, seat);
-    pose(words, seat, port);
-    if still(words, seat, &numbers) {
-        Some(numbers)
-    } else {
-        None
-    }
-}
-
-/// The numbers that the objects' words hold, one load after another.
-#[inline(always)]
-fn collect<L: Layout>(words: &Words<L>, seat: &mut Seat) -> [u64; MOST_OBJECTS]
-    requires table { numbers_of seat.old.table_id ≡ words.now.name }
-    ensures same { seat.new.table_id ≡ seat.old.table_id }
-    ensures told { CountedIn (L.form words.now.profile) (objects_in words.now.profile) result
+    ensures told { TurnsIn (L.form words.now.profile) port numbers.new result
         seat.old.me seat.new.me }
 {
-    let mut numbers = [0u64; MOST_OBJECTS];
+    collect(words, seat, numbers);
+    pose(words, seat, port);
+    still(words, seat, numbers)
+}
+
+/// Sets the numbers to those that the objects' words hold, one load after another.
+#[inline(always)]
+fn collect<L: Layout>(words: &Words<L>, seat: &mut Seat, numbers: &mut [u64; MOST_OBJECTS])
+    requires table { numbers_of seat.old.table_id ≡ words.now.name }
+    ensures same { seat.new.table_id ≡ seat.old.table_id }
+    ensures told { CountedIn (L.form words.now.profile) (objects_in words.now.profile) numbers.new
+        seat.old.me seat.new.me }
+{
     for i in 0..usize::from(words.key().profile.objects()) {
         numbers[i] = head(words, seat, i + 1);
     }
-    numbers
 }
 
 /// Whether they hold these numbers still.

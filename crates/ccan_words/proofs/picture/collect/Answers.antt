@@ -1,4 +1,4 @@
-use Rattle.std.proofs.Common.{refl, length-set, ◌∙◌, arith}
+use Rattle.std.proofs.Common.{◌≡◌, length, refl, length-set, ◌∙◌, arith}
 use Rattle.std.proofs.lemmas.List.{get_or-set_same, get_or-set_other}
 use Rattle.ccan_words.proofs.Picturing.{counted_none, counted_more}
 use Rattle.ccan_words.proofs.picture.collect.Goals as goal
@@ -6,7 +6,7 @@ use Rattle.ccan_words.proofs.picture.collect.Goals as goal
 pub loop-i-init : goal.loop-i-init
 loop-i-init g c = record {
   table = refl;
-  count = refl;
+  count = let size : length c.args.numbers.now ≡ 64 = search in size;
   told = λ p x view sound. counted_none (g.L.Layout.form c.args.words.now.profile) p x _ _ view sound;
 }
 

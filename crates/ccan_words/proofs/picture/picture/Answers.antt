@@ -33,15 +33,15 @@ loop-turn-preserved g c =
           let within = c.key.ensures.within in
           let same = c.key.ensures.quota in
           let top : x.quota ≤ g.L.Layout.MOST = omega arith in
-          let t = c.in-None.ensures.told (see _ x) i.1.view i.1.sound top in (
+          let t = (rw c.if-pose_once.false at c.pose_once.ensures.told) (see _ x) i.1.view i.1.sound top in (
             _,
             added_more contends memory p F x i.0 _ _ i.1 t.turn,
             lost_more contends memory p F x i.0 _ _ i.1 c.loop-turn.turn t i.2,
           );
     }
 
-pub returns-in-Some-clause-told : goal.returns-in-Some-clause-told
-returns-in-Some-clause-told g c x view sound quota =
+pub returns-then-pose_once-clause-told : goal.returns-then-pose_once-clause-told
+returns-then-pose_once-clause-told g c x view sound quota =
     let contends = g.L.Layout.contends in
     let memory = c.args.words.now in
     let p = c.args.port in
@@ -50,7 +50,7 @@ returns-in-Some-clause-told g c x view sound quota =
     let within = c.key.ensures.within in
     let same = c.key.ensures.quota in
     let less = c.loop-turn-test.true in
-    let t = c.in-Some.ensures.told (see _ x) i.1.view i.1.sound (omega arith) in (
+    let t = (rw c.if-pose_once.true at c.pose_once.ensures.told) (see _ x) i.1.view i.1.sound (omega arith) in (
       _,
       subst (λ (m : Knows). Added memory.profile p x (last contends memory p F (see _ x) _ t.turn ++ i.0) m)
           (sym c.registers.ensures.same.1)
