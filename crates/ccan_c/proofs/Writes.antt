@@ -13,7 +13,7 @@ use native.Mathlib.Decide.{ℕ_discrete}
 use Rattle.ccan_object.specs.declared.profile.Profile.{Profile}
 use Rattle.ccan_object.specs.Profile.{objects_in}
 use Rattle.ccan_ram.specs.Ending.{final_records}
-use Rattle.ccan_words.proofs.LastWords.{listed}
+use Rattle.ccan_ram.proofs.FinalRecords.{listed, most_objects}
 use Rattle.ccan_c.specs.Renewal.{IsCopy}
 use Rattle.std.proofs.lemmas.Bool.Decides.{nat_tests}
 use Rattle.ccan_ram.specs.declared.change.Change.{Change}
@@ -120,10 +120,6 @@ one_copied n records older newer all written written_is put = record {
       let is : (n + 1 == k + 1) ≡ false = grind (arith, nat_tests) in
       all.each k (omega arith) ∙ sym (put.records (k + 1) ∙ (rw is refl)));
 }
-
-most_objects : (profile : Profile) → objects_in profile ≤ 64
-most_objects One = lit≤ tt
-most_objects Two = lit≤ tt
 
 -- there are as many records as the larger profile has objects
 pub are_all : (profile : Profile) (records : List Record) → AreLeft profile records → length records ≡ 64

@@ -2,7 +2,7 @@ ghost use Rattle.std.specs.Prelude.{◌≡◌};
 ghost use Rattle.std.specs.Arc.{arc_value};
 
 use ccan_object::{ObjectNo, Profile, Record};
-use ccan_ram::{Access, Change, Changed, Refused, SharedRam, Tries};
+use ccan_ram::{Access, Change, Changed, HandlerRegisters, Refused, SharedRam, Tries};
 use ccan_words::{Port, WordRam};
 use std::alloc::Global;
 use std::sync::Arc;
@@ -29,6 +29,10 @@ impl Access for SharedPort {
     #[inline(always)]
     fn look(&mut self, object: ObjectNo) -> Record {
         self.ram.look(&mut self.port, object)
+    }
+
+    fn look_all(&mut self) -> HandlerRegisters {
+        self.ram.look_all(&mut self.port)
     }
 
     fn change(

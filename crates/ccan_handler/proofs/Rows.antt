@@ -1,23 +1,22 @@
 -- The port's own events where it looks, one look after another.
-use Rattle.std.proofs.Common.{ℕ, suc, ◌≡◌, ◌≢◌, ◌≤◌, ◌<◌, ◌+◌, ◌-◌, ◌^◌, Bool, true, false, cond, List, [], ◌∷◌, ◌++◌, length, refl, sym, ap, subst, ◌∙◌, inl, inr, ◌⊎◌, arith}
-use Rattle.std.specs.Int.{bit_at}
+use Rattle.std.proofs.Common.{ℕ, suc, ◌≡◌, ◌≤◌, ◌<◌, ◌+◌, ◌-◌, true, false, List, [], ◌∷◌, ◌++◌, length, refl, sym, ap, ◌∙◌, inl, inr, ◌⊎◌, arith}
 use Rattle.std.specs.List.{All, list_any}
 use Rattle.std.proofs.lemmas.Bool.{cases_lt, or_parts}
 use Rattle.std.proofs.lemmas.List.Elements.{All-nil, All-cons}
-use Rattle.std.proofs.lemmas.Nat.Bits.{bit_at_or, bit_at-pow_same, bit_at-pow_other, bit_at_above}
 use Rattle.ccan_object.specs.declared.record.Record.{Record}
 use Rattle.ccan_object.specs.Bits.{bit}
 use Rattle.ccan_ram.specs.declared.event.Event.{Event}
 use Rattle.ccan_ram.specs.declared.flag.Flag.{Flag}
 use Rattle.ccan_ram.specs.Flags.{flag_of}
+use Rattle.ccan_ram.specs.HandlerRegisters.{flag_word}
 use Rattle.ccan_ram.specs.History.{events_of, changes_by}
 use Rattle.ccan_ram.specs.Terms.{Terms}
 use Rattle.ccan_ram.specs.Attempt.{look_at}
+use Rattle.ccan_ram.proofs.Registers.{word_below, top_bit, low_bit}
 use Rattle.ccan_ram.proofs.Histories.{events_of-append, events_of-EndsIn, changes_by-append, changes_by-foreign}
-use Rattle.ccan_handler.specs.Watch.{Looks, in_turn, flag_word}
+use Rattle.ccan_handler.specs.Watch.{Looks, in_turn}
 use Rattle.ccan_handler.specs.Laws.{IsLookWithout, WaitingAnswersYesAtItsLastLook, WaitingAnswersNoAfterAllTurns, InterruptsAreBounded, FlagsTakeOneLookEach, EachFlagIsShown}
 use Rattle.ccan_handler.proofs.Own.{its_own}
-use Rattle.ccan_handler.proofs.Watches.{raised, doubled}
 
 -- one look for each record
 abbrev own_looks : Terms → (ℕ → ℕ) → List Record → List Event
@@ -91,39 +90,6 @@ flags_law terms flag word added reads = (
 )
 
 -- ---- the bits of a flag word
-
-word_below : (flag : Flag) (shown : List Record) → flag_word flag shown < 2 ^ length shown
-word_below flag [] = omega arith
-word_below flag (last ∷ before) = next (flag_of flag last) (word_below flag before) where
-  next : (set : Bool) → flag_word flag before < 2 ^ length before
-      → flag_word flag before + cond set (2 ^ length before) 0 < 2 ^ length (last ∷ before)
-  next true low = subst (λ k. flag_word flag before + 2 ^ length before < 2 ^ k) (omega arith)
-      (doubled (flag_word flag before) (length before) low (2 ^ length before) (omega arith))
-  next false low = subst (λ k. flag_word flag before + 0 < 2 ^ k) (omega arith)
-      (doubled (flag_word flag before) (length before) low 0 (omega arith))
-
-module _ (word place : ℕ) (below : word < 2 ^ place) where
-  -- the bit at the top, and those below it
-  top_bit : (set : Bool) → bit (word + cond set (2 ^ place) 0) place ≡ set
-  top_bit true =
-      let none = bit_at_above word place place below (omega arith) in
-      let one : bit_at (word + 2 ^ place) place ≡ 1 =
-      ap (λ n. bit_at n place) (sym (raised word place below))
-      ∙ (bit_at_or word (2 ^ place) place ∙ (rw (none, bit_at-pow_same place) refl)) in
-      rw one refl
-  top_bit false =
-      let none = bit_at_above word place place below (omega arith) in
-      let same : word + 0 ≡ word = omega arith in
-      rw (same, none) refl
-
-  low_bit : (set : Bool) (k : ℕ) → k < place → bit (word + cond set (2 ^ place) 0) k ≡ bit word k
-  low_bit true k less =
-      let other : k ≢ place = omega arith in
-      let one : bit_at (word + 2 ^ place) k ≡ bit_at word k =
-      ap (λ n. bit_at n k) (sym (raised word place below))
-      ∙ (bit_at_or word (2 ^ place) k ∙ (let z = bit_at-pow_other place k other in rw z (omega arith))) in
-      rw one refl
-  low_bit false k less = let same : word + 0 ≡ word = omega arith in rw same refl
 
 -- the look at an object in turn, and its bit
 record Found (terms : Terms) (flag : Flag) (shown : List Record) (k : ℕ) : Type 0 where

@@ -1,19 +1,17 @@
 -- Looks, one after another.
-use Rattle.std.proofs.Common.{ℕ, ◌≡◌, ◌≤◌, ◌<◌, ◌+◌, ◌^◌, true, false, cond, List, [], ◌∷◌, ◌++◌, length, refl, sym, ap, subst, ◌∙◌, arith, inl, inr, ◌*◌, ◌%◌, bit_and, bit_or, add-one}
-use Rattle.std.proofs.Math.Nat.{pow-suc}
-use Rattle.std.proofs.lemmas.Nat.{or_disjoint, pow_below}
-use Rattle.std.proofs.lemmas.Nat.Bits.{and_pow, bit_at_above}
+use Rattle.std.proofs.Common.{ℕ, ◌≡◌, ◌<◌, ◌+◌, ◌^◌, true, false, cond, List, [], ◌∷◌, ◌++◌, length, refl, sym, ap, subst, ◌∙◌, arith, inl, inr}
 use Rattle.ccan_object.specs.declared.record.Record.{Record}
 use Rattle.ccan_ram.specs.declared.event.Event.{Event}
 use Rattle.ccan_ram.specs.declared.flag.Flag.{Flag}
 use Rattle.ccan_ram.specs.declared.flag.Flag.TheVariants.{IntPnd}
 use Rattle.ccan_ram.specs.Flags.{flag_of}
+use Rattle.ccan_ram.specs.HandlerRegisters.{flag_word}
 use Rattle.ccan_ram.specs.Terms.{Terms}
 use Rattle.ccan_ram.specs.Attempt.{IsLook}
 use Rattle.ccan_ram.specs.Access.{Passes, Goes}
 use Rattle.ccan_ram.proofs.Calls.{Goes-then, Goes-none, Goes-weaker}
 use Rattle.ccan_object.specs.Profile.{objects_in}
-use Rattle.ccan_handler.specs.Watch.{Looks, in_turn, NoneShows, FirstShows, Interrupts, flag_word, ReadsSome, ReadsFlags}
+use Rattle.ccan_handler.specs.Watch.{Looks, in_turn, NoneShows, FirstShows, Interrupts, ReadsSome, ReadsFlags}
 
 -- before the first look
 pub none_yet : {x : Passes} (place : ℕ → ℕ) (flag : Flag) → Goes x x (λ terms seen added. NoneShows terms place flag 0 added)
@@ -87,21 +85,3 @@ pub all_read : {x y : Passes} (flag : Flag) (n word : ℕ) → n ≡ objects_in 
     → Goes x y (λ terms seen added. ReadsSome terms flag n added word)
     → Goes x y (λ terms seen added. ReadsFlags terms flag added word)
 all_read {x} flag n word all reads = Goes-weaker reads (λ seen added here after p. subst (λ k. ReadsSome x.terms flag k added word) all p)
-
--- a bit set above all others
-module _ (word place : ℕ) (below : word < 2 ^ place) where
-  apart : bit_and word (2 ^ place) ≡ 0
-  apart = let none = bit_at_above word place place below (omega arith) in omega (arith, and_pow word place, ap (λ n. n * 2 ^ place) none)
-
-  pub raised : bit_or word (2 ^ place) ≡ word + 2 ^ place
-  raised = or_disjoint word (2 ^ place) apart
-
-  -- what is shifted in 64 bits
-  pub shifted : place < 64 → bit_or word (1 * 2 ^ place % 18446744073709551616) ≡ word + 2 ^ place
-  shifted small =
-      let fits = pow_below place 64 small in
-      let whole : 1 * 2 ^ place % 18446744073709551616 ≡ 2 ^ place = omega arith in
-      ap (bit_or word) whole ∙ raised
-
-  pub doubled : (bit : ℕ) → bit ≤ 2 ^ place → word + bit < 2 ^ (place + 1)
-  doubled bit small = let twice : 2 ^ (place + 1) ≡ 2 ^ place * 2 = rw add-one (pow-suc 2 place) in omega arith

@@ -2,7 +2,7 @@
 -- of a flag of all objects. Source: C_CAN User's Manual 1.2, section 3.4 (Message Handler Registers: the Interrupt
 -- Register, and the registers of one flag of all objects); that each object has its own look, that an object which is
 -- not valid asks for an interrupt all the same, and the waiting are this project's own.
-use Rattle.std.specs.Prelude.{ℕ, ◌≡◌, ◌≤◌, ◌<◌, ◌+◌, ◌^◌, Bool, true, false, ◌⊎◌, List, [], ◌∷◌, ◌++◌, length, if◌then◌else◌}
+use Rattle.std.specs.Prelude.{ℕ, ◌≡◌, ◌≤◌, ◌<◌, ◌+◌, Bool, true, false, ◌⊎◌, List, [], ◌∷◌, ◌++◌, length}
 use Rattle.std.specs.List.{list_any}
 use Rattle.ccan_object.specs.declared.record.Record.{Record}
 use Rattle.ccan_object.specs.declared.profile.Profile.{Profile}
@@ -11,6 +11,7 @@ use Rattle.ccan_ram.specs.declared.event.Event.{Event}
 use Rattle.ccan_ram.specs.declared.flag.Flag.{Flag}
 use Rattle.ccan_ram.specs.declared.flag.Flag.TheVariants.{IntPnd}
 use Rattle.ccan_ram.specs.Flags.{flag_of}
+use Rattle.ccan_ram.specs.HandlerRegisters.{flag_word}
 use Rattle.ccan_ram.specs.Terms.{Terms}
 use Rattle.ccan_ram.specs.Attempt.{IsLook}
 use Rattle.ccan_ram.specs.Access.{Passes, Goes}
@@ -61,11 +62,6 @@ Interrupts terms false added value =
 abbrev pub InterruptTells : Profile → Bool → ℕ → Type 0
 InterruptTells profile true value = value ≡ 0x8000
 InterruptTells profile false value = value ≤ objects_in profile
-
--- the word of a flag that these records show, the last first: the flag of the first record is bit 0
-abbrev pub flag_word : Flag → List Record → ℕ
-flag_word flag [] = 0
-flag_word flag (last ∷ before) = flag_word flag before + (if flag_of flag last then 2 ^ length before else 0)
 
 -- looks at so many objects from object 1 on, and the word of the flag that they show
 pub record ReadsSome (terms : Terms) (flag : Flag) (count : ℕ) (added : List Event) (word : ℕ) : Type 0 where

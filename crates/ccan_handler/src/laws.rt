@@ -5,6 +5,7 @@ ghost use Rattle.ccan_handler.specs.Laws.{ChosenIsReady, EachFlagIsShown, Fittin
 ghost use Rattle.ccan_handler.specs.Laws.{InterruptsAreBounded, NothingFoundLooksEverywhere, ScansAreBounded};
 ghost use Rattle.ccan_handler.specs.Laws.{ScansChangeWhatFits, ScansLeaveOutWhatIsBefore};
 ghost use Rattle.ccan_handler.specs.Laws.{WaitingAnswersNoAfterAllTurns, WaitingAnswersYesAtItsLastLook};
+ghost use Rattle.ccan_handler.specs.Moment.{ChoiceIsOfOneMoment, FlagsAreOfOneMoment, InterruptIsOfOneMoment};
 
 /// A scan passes over no object whose record fits throughout.
 pub fn fitting_is_not_passed_over()
@@ -59,4 +60,19 @@ pub fn flags_take_one_look_each()
 /// Bit k - 1 of a flag word is the flag that the look at object k shows.
 pub fn each_flag_is_shown()
     ensures { EachFlagIsShown }
+{}
+
+/// All bits of a flag word are the objects' flags in one moment.
+pub fn flags_are_of_one_moment()
+    ensures { FlagsAreOfOneMoment }
+{}
+
+/// Where no status interrupt is pending, the interrupt value is that of the first object that asks for one in one moment.
+pub fn interrupt_is_of_one_moment()
+    ensures { InterruptIsOfOneMoment }
+{}
+
+/// What is chosen was ready in one moment, in which no object before it was, but for those that are no more.
+pub fn choice_is_of_one_moment()
+    ensures { ChoiceIsOfOneMoment }
 {}

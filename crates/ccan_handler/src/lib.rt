@@ -15,9 +15,11 @@
 #![tactic(auto)]
 
 pub mod laws;
+pub mod moment;
 mod objects;
 pub mod scan;
 pub mod watch;
 
+pub use moment::{choose_at_once, flags_at_once, interrupt_at_once};
 pub use scan::{ScanRefused, Stored, choose, choose_from, receive, receive_from};
 pub use watch::{flags, interrupt, until};

@@ -1,13 +1,14 @@
-ghost use Rattle.std.specs.Prelude.{◌≡◌, ◌<◌, ◌+◌, ◌^◌, if◌then◌else◌};
+ghost use Rattle.std.specs.Prelude.{◌<◌, ◌^◌};
 ghost use Rattle.ccan_object.specs.Profile.{Holds, objects_in};
 ghost use Rattle.ccan_handler.specs.Watch.{AddsFlags, AddsInterrupt, AddsWatch, InterruptTells};
 
 use crate::objects::nth;
 use ccan_object::ObjectNo;
+use ccan_ram::handler_registers::with_bit;
 use ccan_ram::{Access, Flag};
 
 /// The interrupt value of the status interrupt (User's Manual, section 3.4.1).
-const STATUS_INTERRUPT: u16 = 0x8000;
+pub(crate) const STATUS_INTERRUPT: u16 = 0x8000;
 
 /// Looks at an object until it shows the flag, at most so many times. Whether it did.
 pub fn until<A: Access>(access: &mut A, object: ObjectNo, flag: Flag, turns: u32) -> bool
@@ -53,14 +54,4 @@ pub fn flags<A: Access>(access: &mut A, flag: Flag) -> u64
         word = with_bit(word, place, flag.of(&shown));
     }
     word
-}
-
-/// The word with a bit set above all its other bits, or left 0.
-fn with_bit(word: u64, place: u8, is_set: bool) -> u64
-    requires below { word < 2 ^ place }
-    requires within { place < u64.BITS }
-    ensures value { result ≡ word + (if is_set then 2 ^ place else 0) }
-    ensures below { result < 2 ^ (place + 1) }
-{
-    if is_set { word | 1 << place } else { word }
 }

@@ -1,6 +1,10 @@
 pub mod Calls
 pub mod Histories
 pub mod Arrays
+pub mod Registers
+pub mod FinalRecords
+pub mod Pictures
+pub mod UndisturbedPictures
 pub mod FlagTable
 pub mod LostMessages
 pub mod Alone

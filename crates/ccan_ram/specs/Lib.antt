@@ -9,7 +9,9 @@ pub mod Answer
 pub mod SharedRam
 pub mod Draft
 pub mod Ending
-pub mod Array
 pub mod Flags
+pub mod HandlerRegisters
+pub mod Picture
+pub mod Array
 pub mod Laws
 pub mod ErrorText

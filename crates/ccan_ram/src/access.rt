@@ -1,8 +1,11 @@
-ghost use Rattle.ccan_object.specs.Profile.{Holds};
+ghost use Rattle.ccan_object.specs.Profile.{Holds, objects_in};
 ghost use Rattle.ccan_ram.specs.Access.{AddsAttempt, AddsLook};
 ghost use Rattle.ccan_ram.specs.Answer.{FewTries, Tells};
+ghost use Rattle.ccan_ram.specs.HandlerRegisters.{AreBelow};
+ghost use Rattle.ccan_ram.specs.Picture.{AddsPicture};
 
 use crate::change::{Change, Changed, Refused};
+use crate::handler_registers::HandlerRegisters;
 use crate::tries::Tries;
 use ccan_object::{ObjectNo, Profile, Record};
 
@@ -27,6 +30,11 @@ pub trait Access {
     fn look(&mut self, object: ObjectNo) -> Record
         requires held { Holds (passes self.old).terms.profile object }
         ensures { AddsLook (passes self.old) (passes self.new) object result };
+
+    /// The Message Handler Registers at one place of the history, by looks at all objects with no other event between.
+    fn look_all(&mut self) -> HandlerRegisters
+        ensures pictures { AddsPicture (passes self.old) (passes self.new) result }
+        ensures within { AreBelow (objects_in (passes self.old).terms.profile) result };
 
     /// Makes a change, in at most so many tries.
     ///

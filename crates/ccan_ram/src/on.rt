@@ -2,6 +2,7 @@ ghost use Rattle.std.specs.Prelude.{◌≡◌};
 
 use crate::access::Access;
 use crate::change::{Change, Changed, Refused};
+use crate::handler_registers::HandlerRegisters;
 use crate::shared_ram::SharedRam;
 use crate::tries::Tries;
 use ccan_object::{ObjectNo, Profile, Record};
@@ -25,6 +26,10 @@ impl<'a, R: SharedRam> Access for On<'a, R> {
 
     fn look(&mut self, object: ObjectNo) -> Record {
         self.ram.look(&mut self.port, object)
+    }
+
+    fn look_all(&mut self) -> HandlerRegisters {
+        self.ram.look_all(&mut self.port)
     }
 
     fn change(

@@ -1,5 +1,5 @@
 ghost use Rattle.std.specs.Prelude.{◌≡◌, ◌≢◌, ◌≤◌, ◌<◌, ◌↔◌, ◌⊎◌, IfOk, IfErr};
-ghost use Rattle.ccan_object.specs.Profile.{Holds};
+ghost use Rattle.ccan_object.specs.Profile.{Holds, objects_in};
 ghost use Rattle.ccan_ram.specs.declared.open_error.OpenError.TheVariants.{QuotaRange};
 ghost use Rattle.ccan_ram.specs.declared.port.PortName.TheVariants.{If1, If2, Bus};
 ghost use Rattle.ccan_ram.specs.History.{changes_by};
@@ -7,11 +7,14 @@ ghost use Rattle.ccan_ram.specs.Access.{AddsLook, AddsAttempt};
 ghost use Rattle.ccan_ram.specs.Answer.{Tells, FewTries};
 ghost use Rattle.ccan_ram.specs.Draft.{IsDrawn, AddsDraft, AddsCommit, CommitTells};
 ghost use Rattle.ccan_ram.specs.Ending.{Ends};
+ghost use Rattle.ccan_ram.specs.HandlerRegisters.{AreBelow};
+ghost use Rattle.ccan_ram.specs.Picture.{AddsPicture};
 ghost use Rattle.ccan_ram.specs.SharedRam.{opened, passes_of, IsMemoryOf, CanSee, Meets};
 
 use crate::change::{Change, Changed, Refused};
 use crate::draft::{CommitError, Draft};
 use crate::ending::Final;
+use crate::handler_registers::HandlerRegisters;
 use crate::open_error::OpenError;
 use crate::tries::Tries;
 use ccan_object::{ObjectNo, Profile, Record};
@@ -72,6 +75,14 @@ pub trait SharedRam {
         ensures memory { (pass port.new).memory ≡ (pass port.old).memory }
         ensures looks { AddsLook (passes_of contends (pass port.old))
             (passes_of contends (pass port.new)) object result };
+
+    /// The Message Handler Registers at one place of the history, by looks at all objects with no other event between.
+    fn look_all(&self, port: &mut Self::Port) -> HandlerRegisters
+        requires memory { (pass port.old).memory ≡ memory self.now }
+        ensures memory { (pass port.new).memory ≡ (pass port.old).memory }
+        ensures pictures { AddsPicture (passes_of contends (pass port.old))
+            (passes_of contends (pass port.new)) result }
+        ensures within { AreBelow (objects_in (memory self.now).profile) result };
 
     /// A look, as the beginning of a change.
     fn prepare(&self, port: &mut Self::Port, object: ObjectNo) -> Draft

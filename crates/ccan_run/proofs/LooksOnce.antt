@@ -7,12 +7,13 @@ use Rattle.ccan_ram.specs.declared.event.Event.{Event}
 use Rattle.ccan_ram.specs.declared.flag.Flag.{Flag}
 use Rattle.ccan_ram.specs.declared.flag.Flag.TheVariants.{IntPnd}
 use Rattle.ccan_ram.specs.Flags.{flag_of}
+use Rattle.ccan_ram.specs.HandlerRegisters.{flag_word}
 use Rattle.ccan_ram.specs.History.{IsLegal, record_at}
 use Rattle.ccan_ram.specs.Terms.{Terms}
 use Rattle.ccan_ram.specs.Attempt.{look_at}
 use Rattle.ccan_ram.proofs.Alone.{looks_alone}
 use Rattle.ccan_ram.proofs.Histories.{IsLegal-older}
-use Rattle.ccan_handler.specs.Watch.{Looks, in_turn, NoneShows, FirstShows, Watches, Interrupts, ReadsFlags, flag_word}
+use Rattle.ccan_handler.specs.Watch.{Looks, in_turn, NoneShows, FirstShows, Watches, Interrupts, ReadsFlags}
 
 split_less : (n m : ℕ) → n < suc m → (n < m) ⊎ (n ≡ m)
 split_less zero zero h = inr refl

@@ -3,6 +3,7 @@ pub mod Views
 pub mod Notes
 pub mod SeatMoves
 pub mod LoadsAndStores
+pub mod Posing
 pub mod Exchanging
 pub mod Parting
 pub mod Tables
@@ -10,8 +11,11 @@ pub mod Seats
 pub mod Reading
 pub mod Making
 pub mod Ports
+pub mod Picturing
+pub mod Turns
 pub mod Stepping
 pub mod Looking
+pub mod PortPictures
 pub mod Committing
 pub mod Meeting
 pub mod LastWords

@@ -1,5 +1,5 @@
 -- One seat moves: what its step has to show so that the rule is kept.
-use Rattle.std.proofs.Common.{◌≡◌, ◌≢◌, ℕ, ◌+◌, ◌*◌, ◌<◌, ◌≤◌, Bool, List, ◌∷◌, set, get_or, length, sym}
+use Rattle.std.proofs.Common.{◌≡◌, ◌≢◌, ℕ, ◌+◌, ◌<◌, ◌≤◌, Bool, List, ◌∷◌, set, get_or, length, sym}
 use Rattle.std.proofs.Common.{refl, ◌∙◌, subst, ⊎_elim, arith, Some, None}
 use mathlib.Core.Option.{some}
 use lib.ListN.{get_elem?}

@@ -56,7 +56,8 @@ word_place-of p c j l = let q = quotient p c l in let r = remainder p c l in ome
 word_at : (n j : ℕ) (x : IsNumber 4096 n) → word_place n j ≡ 512 + port_index x.port * 12288 + (x.count - 1) * 3 + j
 word_at n j x =
     let most = x.up_to in
-    ap (λ (m : ℕ). word_place m j) (x.is ∙ few_number x.port x.count (omega arith)) ∙ word_place-of (port_index x.port) x.count j (omega arith)
+    ap (λ (m : ℕ). word_place m j) (x.is ∙ few_number x.port x.count (omega arith))
+    ∙ word_place-of (port_index x.port) x.count j (omega arith)
 
 word_one : (n j m i : ℕ) → IsNumber 4096 n → IsNumber 4096 m → j < 3 → i < 3 → word_place n j ≡ word_place m i → (n ≡ m) × (j ≡ i)
 word_one n j m i x y l k same =
@@ -115,7 +116,9 @@ root_place-of p c j l = let q = quotient p c l in let r = remainder p c l in ome
 
 root_at : (n j : ℕ) (x : IsNumber 64 n) → root_place n j ≡ 8 + port_index x.port * 12288 + (x.count - 1) * 192 + j
 root_at n j x =
-    let most = x.up_to in ap (λ (m : ℕ). root_place m j) (x.is ∙ few_number x.port x.count (omega arith)) ∙ root_place-of (port_index x.port) x.count j (omega arith)
+    let most = x.up_to in
+    ap (λ (m : ℕ). root_place m j) (x.is ∙ few_number x.port x.count (omega arith))
+    ∙ root_place-of (port_index x.port) x.count j (omega arith)
 
 root_one : (n j m i : ℕ) → IsNumber 64 n → IsNumber 64 m → j < 192 → i < 192 → root_place n j ≡ root_place m i → (n ≡ m) × (j ≡ i)
 root_one n j m i x y l k same =

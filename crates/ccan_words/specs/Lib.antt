@@ -5,6 +5,7 @@ pub mod OneWordEach
 pub mod OneWord
 pub mod Laws
 pub mod Plays
+pub mod Picture
 pub mod Version
 pub mod Port
 pub mod Words

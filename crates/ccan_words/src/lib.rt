@@ -33,6 +33,7 @@ mod ending;
 mod layout;
 mod one_word;
 mod one_word_each;
+mod picture;
 mod plays;
 mod port;
 mod ram;

@@ -63,6 +63,28 @@ impl<L: Layout, D: Deed> Play<(), View> for Watching<L, D> {
     ghost then = { λ s m found n. Watches (L.form D.profile) m n };
 }
 
+/// A load of an object's word, whose number is kept, without an event.
+pub struct Counting<L, D> {
+    marker: PhantomData<(L, D)>,
+}
+
+impl<L: Layout, D: Deed> Play<(), View> for Counting<L, D> {
+    ghost use Rattle.ccan_words.specs.Picture.{CountsOn};
+
+    ghost then = { λ s m found n. CountsOn (L.form D.profile) D.object m found n };
+}
+
+/// A load as looks of the port at all objects.
+pub struct Posing<L, D> {
+    marker: PhantomData<(L, D)>,
+}
+
+impl<L: Layout, D: Deed> Play<(), View> for Posing<L, D> {
+    ghost use Rattle.ccan_words.specs.Picture.{Poses};
+
+    ghost then = { λ s m found n. Poses (L.form D.profile) D.port m n };
+}
+
 /// A load of a word of a published version.
 pub struct Reading<L, D> {
     marker: PhantomData<(L, D)>,

@@ -1,12 +1,14 @@
 use crate::ending::last_records;
 use crate::layout::Layout;
+use crate::picture::picture;
 use crate::port::Port;
 use crate::steps::{end, join, part, watch};
 use crate::version::{Version, found, number_of, publish};
 use crate::words::{Key, Words};
 use ccan_object::{ObjectNo, Profile, Record};
 use ccan_ram::{
-    Change, Changed, CommitError, Draft, Final, OpenError, PortName, Refused, SharedRam, Tries,
+    Change, Changed, CommitError, Draft, Final, HandlerRegisters, OpenError, PortName, Refused,
+    SharedRam, Tries,
 };
 use std::alloc::Global;
 
@@ -57,6 +59,11 @@ impl<L: Layout> SharedRam for Ram<L> {
     fn look(&self, port: &mut Port, object: ObjectNo) -> Record {
         let (_number, held) = found(&self.words, &mut port.seat, port.name, number_of(object));
         held
+    }
+
+    #[inline(always)]
+    fn look_all(&self, port: &mut Port) -> HandlerRegisters {
+        picture(&self.words, &mut port.seat, port.name)
     }
 
     #[inline(always)]

@@ -11,10 +11,13 @@ ghost use Rattle.ccan_words.specs.View.{holding, only, together, with_held};
 ghost use Rattle.ccan_words.specs.Layout.{IsNumber};
 ghost use Rattle.ccan_words.specs.Rule.{Keeps};
 ghost use Rattle.ccan_words.specs.Plays.{Exchanges, IsDraftedIn, IsNoting, Looks, Notes, Reads, Watches};
+ghost use Rattle.ccan_words.specs.Picture.{CountsOn, Poses};
 ghost use Rattle.ccan_words.specs.Port.{numbers_of};
 
 use crate::layout::Layout;
-use crate::plays::{Deed, Exchanging, Joining, Looking, Noting, Parting, Reading, Watching};
+use crate::plays::{
+    Counting, Deed, Exchanging, Joining, Looking, Noting, Parting, Posing, Reading, Watching,
+};
 use crate::version::Version;
 use crate::words::{Seat, Words};
 use atomic_table::Closed;
@@ -68,6 +71,49 @@ fn watch_as<L: Layout, D: Deed>(words: &Words<L>, seat: &mut Seat)
 {
     let word = L::cell(words.key.profile, 1);
     let _ = words.table.shared.load::<Watching<L, D>>(seat, word);
+}
+
+/// The number of the last change that contends with an object. It makes no event.
+pub fn head<L: Layout>(words: &Words<L>, seat: &mut Seat, object: usize) -> u64
+    requires table { numbers_of seat.old.table_id ≡ words.now.name }
+    requires object { Holds words.now.profile object }
+    ensures same { seat.new.table_id ≡ seat.old.table_id }
+    ensures told { CountsOn (L.form words.now.profile) object seat.old.me result seat.new.me }
+{
+    head_as::<L, Brand>(words, seat, object)
+}
+
+fn head_as<L: Layout, D: Deed>(words: &Words<L>, seat: &mut Seat, object: usize) -> u64
+    requires table { numbers_of seat.old.table_id ≡ words.now.name }
+    requires profile { D.profile ≡ words.now.profile }
+    requires deed { D.object ≡ object }
+    requires object { Holds words.now.profile object }
+    ensures same { seat.new.table_id ≡ seat.old.table_id }
+    ensures told { CountsOn (L.form D.profile) D.object seat.old.me result seat.new.me }
+{
+    let word = L::cell(words.key.profile, object);
+    words.table.shared.load::<Counting<L, D>>(seat, word)
+}
+
+/// Looks of a port at all objects, in one step.
+pub fn pose<L: Layout>(words: &Words<L>, seat: &mut Seat, port: PortName)
+    requires table { numbers_of seat.old.table_id ≡ words.now.name }
+    requires held { (x : Held) × (holding port seat.old.me.0 ≡ Some x) }
+    ensures same { seat.new.table_id ≡ seat.old.table_id }
+    ensures told { Poses (L.form words.now.profile) port seat.old.me seat.new.me }
+{
+    pose_as::<L, Brand>(words, seat, port);
+}
+
+fn pose_as<L: Layout, D: Deed>(words: &Words<L>, seat: &mut Seat, _port: PortName)
+    requires table { numbers_of seat.old.table_id ≡ words.now.name }
+    requires profile { D.profile ≡ words.now.profile }
+    requires held { (x : Held) × (holding D.port seat.old.me.0 ≡ Some x) }
+    ensures same { seat.new.table_id ≡ seat.old.table_id }
+    ensures told { Poses (L.form D.profile) D.port seat.old.me seat.new.me }
+{
+    let word = L::cell(words.key.profile, 1);
+    let _ = words.table.shared.load::<Posing<L, D>>(seat, word);
 }
 
 /// A word of a version.

@@ -112,7 +112,7 @@ pub fn found<L: Layout>(
 
 /// The record of an object in the version that a look found.
 #[inline(always)]
-fn fetch<L: Layout>(words: &Words<L>, seat: &mut Seat, number: u64, object: usize) -> Record
+pub fn fetch<L: Layout>(words: &Words<L>, seat: &mut Seat, number: u64, object: usize) -> Record
     requires table { numbers_of seat.old.table_id ≡ words.now.name }
     requires object { Holds words.now.profile object }
     requires number { number ≢ 0 → IsNumber L.MOST number }

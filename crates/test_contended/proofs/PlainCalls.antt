@@ -11,11 +11,15 @@ use Rattle.ccan_ram.specs.declared.change.Changed.TheVariants.{Done, NotNow}
 use Rattle.ccan_ram.specs.declared.change.Refused.{Refused}
 use Rattle.ccan_ram.specs.declared.change.Refused.TheVariants.{Busy, Spent}
 use Rattle.ccan_ram.specs.declared.event.Event.{Event}
+use Rattle.ccan_ram.specs.declared.handler_registers.HandlerRegisters.{HandlerRegisters}
 use Rattle.ccan_ram.specs.Change.{fits}
 use Rattle.ccan_ram.specs.Terms.{Terms, one_thread_terms}
 use Rattle.ccan_ram.specs.Attempt.{look_at, change_at, EndsIn, IsLook, LostTries, HasRoom, Attempt}
 use Rattle.ccan_ram.specs.Access.{Passes, Goes}
 use Rattle.ccan_ram.specs.Array.{SameSeen}
+use Rattle.ccan_object.specs.Profile.{objects_in}
+use Rattle.ccan_ram.specs.Picture.{pictured, IsPicture, AddsPicture}
+use Rattle.ccan_ram.proofs.Pictures.{pictured_changes, alone_added, alone_shown, plain_picture}
 use Rattle.ccan_ram.proofs.Histories.{nobody}
 use Rattle.test_contended.specs.Contended.{contended_terms, contended, Counted, TheyAct, AddsTheirs, Exchanges, changes_of, number_of}
 
@@ -74,6 +78,29 @@ module _ (profile : Profile) (quota made used : ℕ) where
               look_at Bus object shown ∷ [],
               after_look {y = y} x object shown seen h here,
               ([], nobody (contended_terms profile quota), refl),
+            );
+      }
+
+  -- a picture
+  pub pictures : {x y : Passes} (shown : HandlerRegisters) → x.terms ≡ one_thread_terms profile Bus quota → AddsPicture x y shown
+      → AddsPicture (contended profile quota x made used) (contended profile quota y made used) shown
+  pictures {x} {y} shown is picture =
+      record {
+        same = refl;
+        each = λ seen h.
+            let a = picture.each seen h.seen_below in
+            let p = subst (λ t. IsPicture t shown seen a.0) is a.2 in
+            let n = objects_in profile in
+            let all : a.0 ≡ pictured Bus n seen = alone_added (one_thread_terms profile Bus quota) refl shown seen a.0 p in
+            let here = subst (λ (es : List Event). y.has_seen (es ++ seen)) all a.1 in (
+              pictured Bus n seen,
+              record {
+                seen_below = here;
+                theirs = pictured_changes Bus If1 n seen seen ∙ h.theirs;
+                own = pictured_changes Bus Bus n seen seen ∙ h.own;
+              },
+              plain_picture (contended_terms profile quota) shown seen
+                  (alone_shown (one_thread_terms profile Bus quota) refl shown seen a.0 p),
             );
       }
 

@@ -9,7 +9,7 @@ ghost use Rattle.test_contended.specs.Contended.{changes_of, contended_terms, nu
 
 use crate::transfer::Transfer;
 use ccan_object::{ObjectNo, Profile, Record};
-use ccan_ram::{Access, Array, Change, Changed, PortName, Refused, Tries};
+use ccan_ram::{Access, Array, Change, Changed, HandlerRegisters, PortName, Refused, Tries};
 
 /// The bus port of a plain memory, during whose calls the host at IF1 goes through a list of transfers.
 ///
@@ -42,6 +42,10 @@ impl<'a> Access for Contended<'a> {
 
     fn look(&mut self, object: ObjectNo) -> Record {
         self.ram.look(object)
+    }
+
+    fn look_all(&mut self) -> HandlerRegisters {
+        self.ram.look_all()
     }
 
     fn change(

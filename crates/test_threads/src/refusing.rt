@@ -1,5 +1,8 @@
 use ccan_object::{ObjectNo, Profile, Record};
-use ccan_ram::{Change, Changed, CommitError, Draft, Final, OpenError, Refused, SharedRam, Tries};
+use ccan_ram::{
+    Change, Changed, CommitError, Draft, Final, HandlerRegisters, OpenError, Refused, SharedRam,
+    Tries,
+};
 use ccan_words::{Port, WordRam};
 use std::alloc::Global;
 
@@ -39,6 +42,10 @@ impl SharedRam for Refusing {
 
     fn look(&self, port: &mut Port, object: ObjectNo) -> Record {
         self.inner.look(port, object)
+    }
+
+    fn look_all(&self, port: &mut Port) -> HandlerRegisters {
+        self.inner.look_all(port)
     }
 
     fn prepare(&self, port: &mut Port, object: ObjectNo) -> Draft {

@@ -1,7 +1,7 @@
 ghost use Rattle.std.specs.Prelude.{◌≡◌};
 
 use ccan_object::{ObjectNo, Profile, Record};
-use ccan_ram::{Access, Change, Changed, CommitError, Refused, SharedRam, Tries};
+use ccan_ram::{Access, Change, Changed, CommitError, HandlerRegisters, Refused, SharedRam, Tries};
 
 /// An access to a shared memory whose tries are disturbed: between the two steps of each try of a change, another port
 /// makes a change of its own at the same object.
@@ -28,6 +28,10 @@ impl<'a, R: SharedRam> Access for Contended<'a, R> {
 
     fn look(&mut self, object: ObjectNo) -> Record {
         self.ram.look(&mut self.port, object)
+    }
+
+    fn look_all(&mut self) -> HandlerRegisters {
+        self.ram.look_all(&mut self.port)
     }
 
     fn change(

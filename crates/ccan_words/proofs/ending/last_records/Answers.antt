@@ -1,6 +1,6 @@
 use Rattle.std.proofs.Common.{replicate, length-set, sym, ◌∙◌, subst, refl, arith}
 use Rattle.ccan_object.specs.declared.record.Record.{Record}
-use Rattle.ccan_words.proofs.LastWords.{AreListed, listed, listed_none, listed_more}
+use Rattle.ccan_ram.proofs.FinalRecords.{AreListed, listed, listed_none, listed_more}
 use Rattle.ccan_words.proofs.ending.last_records.Goals as goal
 
 pub loop-i-init : goal.loop-i-init

@@ -2,7 +2,7 @@ use Rattle.std.proofs.Common.{◌≡◌, length}
 use Rattle.std.specs.Slots.{slots_items}
 use Rattle.ccan_words.specs.View.{History}
 use Rattle.ccan_words.specs.Rule.{Settles}
-use Rattle.ccan_words.proofs.LastWords.{AreListed}
+use Rattle.ccan_ram.proofs.FinalRecords.{AreListed}
 use Rattle.ccan_words.proofs.ending.last_records.Given as goal
 
 -- the records so far are the objects', and the others are zero

@@ -1,6 +1,6 @@
 use Rattle.std.proofs.Common.{arith}
-use Rattle.ccan_handler.proofs.Watches.{shifted, doubled}
-use Rattle.ccan_handler.proofs.watch.with_bit.Goals as goal
+use Rattle.ccan_ram.proofs.Registers.{shifted, doubled}
+use Rattle.ccan_ram.proofs.handler_registers.with_bit.Goals as goal
 
 pub returns-then-is_set-clause-value : goal.returns-then-is_set-clause-value
 returns-then-is_set-clause-value c = rw c.if-is_set.true (shifted c.args.word c.args.place c.requires.below c.requires.within)
