@@ -2,6 +2,7 @@ ghost use Rattle.ccan_object.specs.Profile.{Holds};
 
 use ccan_handler::*;
 
+mod moments;
 mod scans;
 
 use ccan_object::{Iface, ObjectNo, Profile, Record, Reg};

@@ -72,7 +72,7 @@ pub struct Seen {
 
 /// Makes the change, in as many calls as it takes, up to this many. Gives what it found and left, and how often it was
 /// busy.
-fn insist<R: SharedRam>(
+pub fn insist<R: SharedRam>(
     ram: &R,
     port: &mut R::Port,
     object: ObjectNo,

@@ -5,10 +5,12 @@ use crate::drafts::{commit_beside, prepare_beside};
 use crate::rivals::{Seen, Task, work};
 
 mod orders;
+mod pictures;
 mod profiles;
 mod threads;
 
 use ccan_accept::Frame;
+use ccan_endless::EndlessRam;
 use ccan_handler::{ScanRefused, choose, flags, interrupt, receive, receive_from};
 use ccan_object::{Iface, ObjectNo, Profile, Record, Reg};
 use ccan_ram::{

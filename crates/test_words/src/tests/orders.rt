@@ -68,6 +68,7 @@ fn commit_after<R: SharedRam + Drop>(
 fn a_start_of_an_invalid_object_is_lost(rt: HostRuntime) {
     start_of_an_invalid_object::<WordRam>(&rt, rt.alloc());
     start_of_an_invalid_object::<RootRam>(&rt, rt.alloc());
+    start_of_an_invalid_object::<EndlessRam>(&rt, rt.alloc());
 }
 
 #[test]
@@ -76,6 +77,12 @@ fn changes_contend_by_the_layout(rt: HostRuntime) {
     assert_eq!(rt; same, Err(CommitError::Lost { now: 65537 }));
     assert_eq!(rt; shown(&both), (0, 0, 0x0088, [0x99; 8]));
     let (other, mine) = commit_after::<WordRam>(&rt, rt.alloc(), 6);
+    assert_eq!(rt; number(&other), Some(1));
+    assert_eq!(rt; shown(&mine), (0, 0, 0x0088, [0; 8]));
+    let (same, both) = commit_after::<EndlessRam>(&rt, rt.alloc(), 4);
+    assert_eq!(rt; same, Err(CommitError::Lost { now: 65537 }));
+    assert_eq!(rt; shown(&both), (0, 0, 0x0088, [0x99; 8]));
+    let (other, mine) = commit_after::<EndlessRam>(&rt, rt.alloc(), 6);
     assert_eq!(rt; number(&other), Some(1));
     assert_eq!(rt; shown(&mine), (0, 0, 0x0088, [0; 8]));
     let (same, both) = commit_after::<RootRam>(&rt, rt.alloc(), 4);
@@ -111,6 +118,25 @@ fn quotas_have_a_range(rt: HostRuntime) {
     assert!(rt; matches!(WordRam::open_ram(rt.alloc(), Profile::Two, 65), Ok(_)));
 }
 
+#[test]
+fn a_memory_without_an_end_has_a_great_quota(rt: HostRuntime) {
+    // 2^47 - 1 and one more
+    assert!(rt;
+        matches!(
+            EndlessRam::open_ram(rt.alloc(), Profile::Two, 140_737_488_355_327),
+            Ok(_)
+        )
+    );
+    for quota in [0, 140_737_488_355_328] {
+        assert!(rt;
+            matches!(
+                EndlessRam::open_ram(rt.alloc(), Profile::Two, quota),
+                Err(OpenError::QuotaRange)
+            )
+        );
+    }
+}
+
 /// What another port sees of a write.
 fn write_is_seen<R: SharedRam + Drop>(rt: &impl Abort, alloc: std::alloc::Global) {
     let Ok((ram, mut if1, mut if2, _bus)) = R::open_ram(alloc, Profile::One, 64) else {
@@ -132,6 +158,7 @@ fn write_is_seen<R: SharedRam + Drop>(rt: &impl Abort, alloc: std::alloc::Global
 fn a_write_is_seen_by_others(rt: HostRuntime) {
     write_is_seen::<WordRam>(&rt, rt.alloc());
     write_is_seen::<RootRam>(&rt, rt.alloc());
+    write_is_seen::<EndlessRam>(&rt, rt.alloc());
 }
 
 /// A port makes its quota of changes, the last with this number, and then no more.
@@ -164,6 +191,10 @@ fn a_port_is_spent_after_its_quota(rt: HostRuntime) {
     spent_after::<RootRam>(&rt, rt.alloc(), 64, 131136);
     spent_after::<WordRam>(&rt, rt.alloc(), 1, 131073);
     spent_after::<RootRam>(&rt, rt.alloc(), 1, 131073);
+    spent_after::<EndlessRam>(&rt, rt.alloc(), 1, 131073);
+    // behind the 65,535th change the numbers go on above the ports' own
+    spent_after::<EndlessRam>(&rt, rt.alloc(), 65_535, 196_607);
+    spent_after::<EndlessRam>(&rt, rt.alloc(), 65_536, 393_216);
 }
 
 /// A scan whose store loses every try is refused with its tries and the number of the last change that contends. It
@@ -213,6 +244,7 @@ fn scan_is_resumed<R: SharedRam + Drop>(rt: &impl Abort, alloc: std::alloc::Glob
 fn a_refused_scan_is_resumed(rt: HostRuntime) {
     scan_is_resumed::<WordRam>(&rt, rt.alloc());
     scan_is_resumed::<RootRam>(&rt, rt.alloc());
+    scan_is_resumed::<EndlessRam>(&rt, rt.alloc());
 }
 
 /// Drafts of three ports at one object, one of them twice, and what comes of each.
@@ -254,6 +286,7 @@ fn three_ports_at_one_object<R: SharedRam + Drop>(rt: &impl Abort, alloc: std::a
 fn three_ports_share_one_object(rt: HostRuntime) {
     three_ports_at_one_object::<WordRam>(&rt, rt.alloc());
     three_ports_at_one_object::<RootRam>(&rt, rt.alloc());
+    three_ports_at_one_object::<EndlessRam>(&rt, rt.alloc());
 }
 
 /// The same record again is not the same version: a draft that was made before is lost.
@@ -278,4 +311,5 @@ fn same_record_again<R: SharedRam + Drop>(rt: &impl Abort, alloc: std::alloc::Gl
 fn the_same_record_again_is_another_version(rt: HostRuntime) {
     same_record_again::<WordRam>(&rt, rt.alloc());
     same_record_again::<RootRam>(&rt, rt.alloc());
+    same_record_again::<EndlessRam>(&rt, rt.alloc());
 }

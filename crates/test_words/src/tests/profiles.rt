@@ -67,8 +67,10 @@ fn pending_of_last_object<R: SharedRam + Drop>(
 fn request_zero_names_the_last_object(rt: HostRuntime) {
     write_last_object::<WordRam>(&rt, rt.alloc(), Profile::Two, 64, [0x0020, 0x003f]);
     write_last_object::<RootRam>(&rt, rt.alloc(), Profile::Two, 64, [0x0020, 0x003f]);
+    write_last_object::<EndlessRam>(&rt, rt.alloc(), Profile::Two, 64, [0x0020, 0x003f]);
     write_last_object::<WordRam>(&rt, rt.alloc(), Profile::One, 32, [0x001f, 0x003f]);
     write_last_object::<RootRam>(&rt, rt.alloc(), Profile::One, 32, [0x001f, 0x003f]);
+    write_last_object::<EndlessRam>(&rt, rt.alloc(), Profile::One, 32, [0x001f, 0x003f]);
 }
 
 #[test]

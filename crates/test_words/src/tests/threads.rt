@@ -74,6 +74,26 @@ fn three_threads_count_in_one_object(rt: HostRuntime) {
 }
 
 #[test]
+fn three_threads_count_in_one_object_without_an_end(rt: HostRuntime) {
+    let (seen, last) = worked::<EndlessRam, HostRuntime>(
+        &rt,
+        rt.alloc(),
+        [1, 1, 1],
+        65_535,
+        65_535,
+        tries(1000),
+    );
+    for port in seen {
+        assert!(rt;
+            port.made == 65_535 && port.own_in_turn && port.others_rise,
+            "{port:?}"
+        );
+    }
+    assert_eq!(rt; Task::Masks.count_in(&last.records[0]), 65_535);
+    assert_eq!(rt; Task::Bytes.count_in(&last.records[0]), 65_535);
+}
+
+#[test]
 fn three_threads_count_behind_one_word(rt: HostRuntime) {
     let (seen, last) = worked::<RootRam, HostRuntime>(
         &rt,

@@ -1,0 +1,78 @@
+//! Pictures of all objects at one place of the history.
+use super::*;
+use crate::pictures::{Pair, torn_beside};
+use std::thread::Threads;
+
+/// Two objects, as far apart as the smaller profile has them.
+fn ends() -> Pair
+    ensures first { result.first ≡ 1 }
+    ensures second { result.second ≡ 32 }
+{
+    Pair {
+        first: ObjectNo::from_request(Profile::One, 1),
+        second: ObjectNo::from_request(Profile::One, 32),
+    }
+}
+
+/// What the registers show once two objects were written.
+fn written_objects<R: SharedRam>(
+    rt: &impl Abort,
+    alloc: std::alloc::Global,
+) -> ccan_ram::HandlerRegisters {
+    let Ok((ram, mut if1, _if2, bus)) = R::open_ram(alloc, Profile::Two, 64) else {
+        panic!(rt; "no memory")
+    };
+    let three = ObjectNo::from_request(ram.profile(), 3);
+    let last = ObjectNo::from_request(ram.profile(), 0);
+    let _three = ram.change(&mut if1, three, &message(0x8188), tries(1));
+    let _last = ram.change(&mut if1, last, &control(0x6000), tries(1));
+    On::new(&ram, bus).look_all()
+}
+
+/// How many pictures and pairs of looks of a new memory were torn, beside a host that sets and clears.
+fn torn_of<R: SharedRam + Sync + Drop, T: Abort + Threads + Sync>(
+    rt: &T,
+    alloc: std::alloc::Global,
+    quota: u64,
+    turns: u32,
+) -> (u32, u32) {
+    let Ok((ram, if1, if2, bus)) = R::open_ram(alloc, Profile::One, quota) else {
+        panic!(rt; "no memory")
+    };
+    torn_beside(rt, &ram, if1, if2, bus, ends(), turns, tries(1000))
+}
+
+#[test]
+fn registers_show_the_flags_of_all_objects(rt: HostRuntime) {
+    let registers = ccan_ram::HandlerRegisters {
+        newdat: 0x4,
+        msglst: 0x8000000000000000,
+        intpnd: 0x8000000000000000,
+        txrqst: 0x4,
+        msgval: 0x4,
+    };
+    assert_eq!(rt; written_objects::<WordRam>(&rt, rt.alloc()), registers);
+    assert_eq!(rt; written_objects::<RootRam>(&rt, rt.alloc()), registers);
+    assert_eq!(rt; written_objects::<EndlessRam>(&rt, rt.alloc()), registers);
+}
+
+#[test]
+fn no_picture_is_torn(rt: HostRuntime) {
+    let mut torn_looks: u32 = 0;
+    for _ in 0..20u8 {
+        let (pictures, looks) = torn_of::<WordRam, HostRuntime>(&rt, rt.alloc(), 4096, 1024);
+        assert_eq!(rt; pictures, 0);
+        torn_looks = torn_looks.saturating_add(looks);
+    }
+    let (pictures, looks) = torn_of::<EndlessRam, HostRuntime>(
+        &rt,
+        rt.alloc(),
+        8_000_000,
+        1_000_000,
+    );
+    assert_eq!(rt; pictures, 0);
+    // looks at one object after the other are torn: so the host did disturb
+    assert!(rt; torn_looks.saturating_add(looks) > 0);
+    let (pictures, _looks) = torn_of::<RootRam, HostRuntime>(&rt, rt.alloc(), 64, 16);
+    assert_eq!(rt; pictures, 0);
+}
