@@ -87,6 +87,22 @@ fn unpacks_no_reserved_bits(rt: HostRuntime) {
     }
 }
 
+/// The number of the object that has this number, if there is one.
+fn object_number(number: u8) -> Option<u8> {
+    match ObjectNo::new(number) {
+        Some(object) => Some(object.get()),
+        None => None,
+    }
+}
+
+/// Whether a profile has the object of this number.
+fn has_object(profile: Profile, number: u8) -> bool {
+    match ObjectNo::new(number) {
+        Some(object) => profile.holds(object),
+        None => false,
+    }
+}
+
 #[test]
 fn names_the_requested_object(rt: HostRuntime) {
     for (request, first, second) in [
@@ -104,27 +120,19 @@ fn names_the_requested_object(rt: HostRuntime) {
             assert!(rt; profile.holds(object));
         }
     }
-    assert_eq!(rt; ObjectNo::new(64).map(|object| object.get()), Some(64));
-    assert_eq!(rt; ObjectNo::new(65), None);
-    assert_eq!(rt; ObjectNo::new(0), None);
+    for (number, wanted) in [(0, None), (1, Some(1)), (64, Some(64)), (65, None)] {
+        assert_eq!(rt; object_number(number), wanted, "{number}");
+    }
 }
 
 #[test]
 fn numbers_the_objects_of_a_profile(rt: HostRuntime) {
     assert_eq!(rt; Profile::default(), Profile::One);
-    for (profile, objects) in [(Profile::One, 32), (Profile::Two, 64)] {
+    for (profile, objects, has_33) in [(Profile::One, 32, false), (Profile::Two, 64, true)] {
         assert_eq!(rt; profile.objects(), objects);
         assert_eq!(rt; profile.last().get(), objects);
+        assert_eq!(rt; has_object(profile, 33), has_33);
     }
-    // made twice: the prover can't follow a value that is handed on by value and then used again
-    assert_eq!(rt;
-        ObjectNo::new(33).map(|object| Profile::One.holds(object)),
-        Some(false)
-    );
-    assert_eq!(rt;
-        ObjectNo::new(33).map(|object| Profile::Two.holds(object)),
-        Some(true)
-    );
     assert_eq!(rt; MOST_OBJECTS, 64);
 }
 
@@ -218,13 +226,17 @@ fn commands_say_what_they_move(rt: HostRuntime) {
         assert_eq!(rt; command.is_pure_read(), is_pure_read, "{register:#x}");
     }
     let data = CommandMask::of(0x0087);
-    assert!(rt;
-        data.selects(Group::DataA) && data.selects(Group::DataB) && data.has_txrqst_newdat()
-    );
-    assert!(rt;
-        !data.selects(Group::Mask) && !data.selects(Group::Arb) && !data.selects(Group::Control)
-    );
-    assert!(rt; !data.clears_intpnd());
+    for (group, is_selected) in [
+        (Group::DataA, true),
+        (Group::DataB, true),
+        (Group::Mask, false),
+        (Group::Arb, false),
+        (Group::Control, false),
+    ] {
+        assert_eq!(rt; data.selects(group), is_selected, "{group:?}");
+    }
+    let others = (data.has_txrqst_newdat(), data.clears_intpnd());
+    assert_eq!(rt; others, (true, false));
 }
 
 #[test]
@@ -294,6 +306,15 @@ fn registers_show_the_records_of_the_examples(rt: HostRuntime) {
     }
 }
 
+/// What the registers and an object that was zero show after a write by this command.
+fn written(registers: &Iface, command: u16) -> (Shown, Shown) {
+    let mut registers = *registers;
+    registers.set(Reg::CMask, command);
+    let mut object = Record::zero();
+    let answer = transfer(&mut registers, &mut object);
+    (answer, shown(&object))
+}
+
 #[test]
 fn writes_the_selected_group_alone(rt: HostRuntime) {
     let mut registers = Iface::new();
@@ -319,35 +340,58 @@ fn writes_the_selected_group_alone(rt: HostRuntime) {
         (0x0082, (0, 0, 0, [255, 255, 255, 255, 0, 0, 0, 0])),
         (0x0081, (0, 0, 0, [0, 0, 0, 0, 255, 255, 255, 255])),
     ] {
-        registers.set(Reg::CMask, command);
-        let mut object = Record::zero();
-        let mut showing = registers;
-        assert_eq!(rt; transfer(&mut showing, &mut object), wanted, "{command:#x}");
-        assert_eq!(rt; shown(&object), wanted, "{command:#x}");
+        let answers = written(&registers, command);
+        assert_eq!(rt; answers, (wanted, wanted), "{command:#x}");
     }
+}
+
+/// The identifier of these bits, if they are one.
+fn identifier(bits: u32) -> Option<u32> {
+    match Identifier::new(bits) {
+        Some(identifier) => Some(identifier.get()),
+        None => None,
+    }
+}
+
+/// How many data bytes a data length code means, if it is one.
+fn byte_count(code: u8) -> Option<usize> {
+    match DataLength::new(code) {
+        Some(length) => Some(length.byte_count()),
+        None => None,
+    }
+}
+
+/// An identifier with its low half exchanged, and with its high half exchanged.
+fn halves(bits: u32, low: u16, high: u16) -> (u32, u32) {
+    let identifier = Identifier::of(bits);
+    (
+        identifier.with_low_half(low).get(),
+        identifier.with_high_half(high).get(),
+    )
 }
 
 #[test]
 fn identifiers_and_lengths_have_ranges(rt: HostRuntime) {
-    let identifier = Identifier::of(0x1234_5678);
-    assert_eq!(rt; identifier.with_low_half(0xabcd).get(), 0x1234_abcd);
-    assert_eq!(rt; identifier.with_high_half(0xffff).get(), 0x1fff_5678);
-    assert_eq!(rt; Identifier::new(1 << 29), None);
-    assert_eq!(rt;
-        Identifier::new(0x1fff_ffff),
-        Some(Identifier::of(u32::MAX))
-    );
-    assert_eq!(rt; Identifier::default(), Identifier::zero());
-    assert_eq!(rt; DataLength::new(16), None);
-    for (code, count) in [(0, 0), (1, 1), (7, 7), (8, 8), (9, 8), (15, 8)] {
-        assert_eq!(rt;
-            DataLength::new(code).map(|length| length.byte_count()),
-            Some(count),
-            "{code}"
-        );
+    let exchanged = halves(0x1234_5678, 0xabcd, 0xffff);
+    assert_eq!(rt; exchanged, (0x1234_abcd, 0x1fff_5678));
+    for (bits, wanted) in [(0x1fff_ffff, Some(0x1fff_ffff)), (1 << 29, None)] {
+        assert_eq!(rt; identifier(bits), wanted);
+    }
+    assert_eq!(rt; Identifier::of(u32::MAX).get(), 0x1fff_ffff);
+    for (code, count) in [
+        (0, Some(0)),
+        (1, Some(1)),
+        (7, Some(7)),
+        (8, Some(8)),
+        (9, Some(8)),
+        (15, Some(8)),
+        (16, None),
+    ] {
+        assert_eq!(rt; byte_count(code), count, "{code}");
     }
     assert_eq!(rt; DataLength::of(0x1235).get(), 5);
-    assert_eq!(rt; DataLength::default(), DataLength::zero());
+    let defaults = (Identifier::default(), DataLength::default());
+    assert_eq!(rt; defaults, (Identifier::zero(), DataLength::zero()));
 }
 
 #[test]
