@@ -1,5 +1,5 @@
 //! The line of a transfer, as the program and the library run it.
-use crate::memories::MEMORIES;
+use crate::memories::{MEMORIES, quota_of};
 use crate::timing::{median, tenths};
 use anyhow::{Result, bail};
 use ccan_object::{Iface, Profile, Reg};
@@ -44,12 +44,13 @@ fn time_lines<A: Access>(
 /// The median over several memories of the time of a transfer line.
 pub fn lines<R: SharedRam + Drop>(clock: &impl Clock, alloc: Global, command: u16) -> Result<u64> {
     let mut times = Vec::new(alloc);
+    let quota = quota_of::<R>();
     for _ in 0..MEMORIES {
-        let Ok((ram, if1, _if2, _bus)) = R::open_ram(alloc, Profile::One, R::MAX_QUOTA) else {
+        let Ok((ram, if1, _if2, _bus)) = R::open_ram(alloc, Profile::One, quota) else {
             bail!("no memory")
         };
         let mut host = On::new(&ram, if1);
-        times.push(time_lines(clock, &mut host, command, R::MAX_QUOTA)?)?;
+        times.push(time_lines(clock, &mut host, command, quota)?)?;
     }
     Ok(median(times)?)
 }

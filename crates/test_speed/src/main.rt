@@ -16,6 +16,7 @@ use crate::made::transfers;
 use crate::memories::measure_memory;
 use crate::opening::open_memories;
 use anyhow::Result;
+use ccan_endless::EndlessRam;
 use ccan_words::{RootRam, WordRam};
 use std::env;
 
@@ -26,6 +27,7 @@ fn main(rt: HostRuntime) -> Result<()> {
                 scripts::measure(&rt, rt.alloc())?;
                 measure_memory::<WordRam>(&rt, rt.alloc(), "a word for each object")?;
                 measure_memory::<RootRam>(&rt, rt.alloc(), "one word for all objects")?;
+                measure_memory::<EndlessRam>(&rt, rt.alloc(), "no end")?;
             }
             "open" => open_memories(&rt, rt.alloc())?,
             "transfers" => print!(&rt; "{}", transfers(rt.alloc())?)?,

@@ -6,7 +6,7 @@ use crate::lines::lines;
 use crate::rivals::three_writers;
 use crate::timing::{median, tenths};
 use anyhow::{Result, bail};
-use ccan_handler::{flags, until};
+use ccan_handler::{flags, flags_at_once, until};
 use ccan_object::{CommandMask, Iface, ObjectNo, Profile, Record, Reg};
 use ccan_ram::{Access, Change, Flag, On, SharedRam, Tries};
 use std::alloc::Global;
@@ -22,6 +22,11 @@ const RUNS: u32 = 21;
 
 /// How many memories are opened for changes, each of which takes as many as its quota.
 pub const MEMORIES: u32 = 63;
+
+/// The quota that a memory is opened with: its greatest, or this where it has no end that could be reached.
+pub fn quota_of<R: SharedRam>() -> u64 {
+    R::MAX_QUOTA.min(4096)
+}
 
 /// The record that is written: a message with eight bytes.
 fn message() -> Record {
@@ -94,6 +99,21 @@ fn time_flags<A: Access>(clock: &impl Clock, access: &mut A) -> Result<u64> {
     Ok(time)
 }
 
+/// Gives the flag word of all objects at one moment, each of which has the flag.
+fn time_moments<A: Access>(clock: &impl Clock, access: &mut A) -> Result<u64> {
+    let mut sum = 0u64;
+    let steps = STEPS / 16;
+    let start = Instant::now(clock)?;
+    for _ in 0..steps {
+        sum = sum.wrapping_add(flags_at_once(access, Flag::MsgVal));
+    }
+    let time = tenths(start.elapsed(clock)?, u64::from(steps));
+    if sum != u64::from(steps).wrapping_mul(0xffff_ffff) {
+        bail!("the flags were others");
+    }
+    Ok(time)
+}
+
 /// Waits for a flag that the object has, so that the first look shows it.
 fn time_waits<A: Access>(clock: &impl Clock, access: &mut A) -> Result<u64> {
     let object = ObjectNo::from_request(access.profile(), 1);
@@ -140,18 +160,20 @@ fn time_changes<A: Access>(
 fn changes<R: SharedRam + Drop>(clock: &impl Clock, alloc: Global, change: &Change) -> Result<u64> {
     let mut times = Vec::new(alloc);
     for _ in 0..MEMORIES {
-        let Ok((ram, if1, _if2, _bus)) = R::open_ram(alloc, Profile::One, R::MAX_QUOTA) else {
+        let quota = quota_of::<R>();
+        let Ok((ram, if1, _if2, _bus)) = R::open_ram(alloc, Profile::One, quota) else {
             bail!("no memory")
         };
         let mut host = On::new(&ram, if1);
-        times.push(time_changes(clock, &mut host, change, R::MAX_QUOTA)?)?;
+        times.push(time_changes(clock, &mut host, change, quota)?)?;
     }
     Ok(median(times)?)
 }
 
-/// The medians of the times of a look, of a read into the registers, of a wait that one look ends, and of a flag word.
-fn reads<R: SharedRam + Drop>(clock: &impl Clock, alloc: Global) -> Result<[u64; 4]> {
-    let Ok((ram, if1, _if2, _bus)) = R::open_ram(alloc, Profile::One, R::MAX_QUOTA) else {
+/// The medians of the times of a look, of a read into the registers, of a wait that one look ends, of a flag word, and of one
+/// of one moment.
+fn reads<R: SharedRam + Drop>(clock: &impl Clock, alloc: Global) -> Result<[u64; 5]> {
+    let Ok((ram, if1, _if2, _bus)) = R::open_ram(alloc, Profile::One, quota_of::<R>()) else {
         bail!("no memory")
     };
     let mut host = On::new(&ram, if1);
@@ -168,17 +190,20 @@ fn reads<R: SharedRam + Drop>(clock: &impl Clock, alloc: Global) -> Result<[u64;
     let mut fills = Vec::new(alloc);
     let mut waits = Vec::new(alloc);
     let mut words = Vec::new(alloc);
+    let mut moments = Vec::new(alloc);
     for _ in 0..RUNS {
         looks.push(time_looks(clock, &mut host)?)?;
         fills.push(time_reads(clock, &mut host)?)?;
         waits.push(time_waits(clock, &mut host)?)?;
         words.push(time_flags(clock, &mut host)?)?;
+        moments.push(time_moments(clock, &mut host)?)?;
     }
     Ok([
         median(looks)?,
         median(fills)?,
         median(waits)?,
         median(words)?,
+        median(moments)?,
     ])
 }
 
@@ -207,11 +232,12 @@ pub fn measure_memory<R: SharedRam + Sync + Drop>(
     name: &str,
 ) -> Result<()> {
     println!(rt; "memory with {name}")?;
-    let [look, read, wait, word] = reads::<R>(rt, alloc)?;
+    let [look, read, wait, word, moment] = reads::<R>(rt, alloc)?;
     print_time(rt, "look", look)?;
     print_time(rt, "read into registers", read)?;
     print_time(rt, "wait of one look", wait)?;
     print_time(rt, "32 looks of a flag", word)?;
+    print_time(rt, "32 flags of a moment", moment)?;
     print_time(rt, "full write", changes::<R>(rt, alloc, &write_all())?)?;
     let clear = Change::Clear(CommandMask::of(0x007f));
     print_time(rt, "clearing read", changes::<R>(rt, alloc, &clear)?)?;

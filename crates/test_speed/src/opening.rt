@@ -1,6 +1,7 @@
 //! Opens each of the memories that threads share, and prints whether that could be done. `make sweep` runs it with each
 //! request for memory refused in turn.
 
+use ccan_endless::EndlessRam;
 use ccan_object::Profile;
 use ccan_ram::{OpenError, SharedRam};
 use ccan_words::{RootRam, WordRam};
@@ -22,8 +23,9 @@ fn tell(rt: &impl Print, name: &str, opened: Result<(), OpenError>) -> io::Resul
     }
 }
 
-/// Opens both memories, and prints what came of it.
+/// Opens all three memories, and prints what came of it.
 pub fn open_memories(rt: &impl Print, alloc: Global) -> io::Result<()> {
     tell(rt, "a word for each object", open::<WordRam>(alloc))?;
-    tell(rt, "one word for all objects", open::<RootRam>(alloc))
+    tell(rt, "one word for all objects", open::<RootRam>(alloc))?;
+    tell(rt, "a memory without an end", open::<EndlessRam>(alloc))
 }

@@ -1,7 +1,7 @@
 //! Three ports that write at once, each in a thread of its own.
 ghost use Rattle.std.specs.Prelude.{◌≡◌};
 
-use crate::memories::write_all;
+use crate::memories::{quota_of, write_all};
 use crate::timing::{median, tenths};
 use anyhow::{Result, bail};
 use ccan_object::{ObjectNo, Profile};
@@ -68,7 +68,7 @@ fn write_at_once<R: SharedRam + Sync + Drop, T: Threads + Clock + Sync>(
     alloc: Global,
     requests: [u16; 3],
 ) -> Option<[Work; 3]> {
-    let quota = R::MAX_QUOTA;
+    let quota = quota_of::<R>();
     let (ram, if1, if2, bus) = R::open_ram(alloc, Profile::One, quota).ok()?;
     let arrived = AtomicU64::new(0);
     let [first, second, third] = requests;
@@ -107,7 +107,7 @@ pub fn three_writers<R: SharedRam + Sync + Drop, T: Threads + Clock + Sync>(
         for work in works {
             times.push(work.time)?;
             lost = lost.saturating_add(work.lost);
-            made = made.saturating_add(R::MAX_QUOTA);
+            made = made.saturating_add(quota_of::<R>());
         }
     }
     let share = lost.saturating_mul(1000) / lost.saturating_add(made).max(1);
