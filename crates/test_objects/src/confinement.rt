@@ -94,44 +94,69 @@ fn node_goes_off_at_the_32nd_fault(rt: HostRuntime) {
     }
 }
 
+/// A step of a node that is off.
+#[derive(Clone, Copy, Debug)]
+enum Step {
+    Faults(u16),
+    Groups(u16),
+    ClearInit,
+}
+
+/// The counters after a step.
+fn stepped(counters: Counters, step: Step) -> Counters {
+    match step {
+        Step::Faults(times) => repeated(counters, BusEvent::SendFault, times),
+        Step::Groups(groups) => counters.recessive_groups(groups),
+        Step::ClearInit => counters.clear_init(),
+    }
+}
+
+/// TEC, REC, the state, and whether the node counts groups to return.
+fn shown(counters: &Counters) -> (u16, u8, NodeState, bool) {
+    (
+        counters.tec(),
+        counters.rec(),
+        counters.state(),
+        counters.recovering(),
+    )
+}
+
 #[test]
 fn controller_returns_after_init_and_groups(rt: HostRuntime) {
-    let off = repeated(Counters::new(true), BusEvent::SendFault, 33);
-    assert_eq!(rt; off.tec(), 256);
-    assert_eq!(rt; off.state(), NodeState::Off);
-    assert!(rt; !off.recovering());
-    let waiting = off.recessive_groups(500);
-    assert_eq!(rt; waiting.state(), NodeState::Off);
-    let cleared = waiting.clear_init();
-    assert!(rt; cleared.recovering());
-    let counting = cleared
-        .recessive_groups(100)
-        .clear_init()
-        .recessive_groups(27);
-    assert_eq!(rt; counting.state(), NodeState::Off);
-    assert_eq!(rt; counting.tec(), 256);
-    assert!(rt; counting.recovering());
-    let back = counting.recessive_groups(1);
-    assert_eq!(rt; back.state(), NodeState::Active);
-    assert_eq!(rt; back.tec(), 0);
-    assert_eq!(rt; back.rec(), 0);
-    assert_eq!(rt; back, Counters::new(true));
-    // A second time Init has to be cleared again.
-    let off = repeated(back, BusEvent::SendFault, 32);
-    assert_eq!(rt; off.recessive_groups(128).state(), NodeState::Off);
+    use Step::{ClearInit, Faults, Groups};
+
+    let off = (256, 0, NodeState::Off, false);
+    let recovering = (256, 0, NodeState::Off, true);
+    let back = (0, 0, NodeState::Active, false);
+    let mut counters = Counters::new(true);
+    for (step, want) in [
+        (Faults(33), off),
+        (Groups(500), off),
+        (ClearInit, recovering),
+        (Groups(100), recovering),
+        (ClearInit, recovering),
+        (Groups(27), recovering),
+        (Groups(1), back),
+        // A second time Init has to be cleared again.
+        (Faults(32), off),
+        (Groups(128), off),
+    ] {
+        counters = stepped(counters, step);
+        assert_eq!(rt; shown(&counters), want, "{step:?}");
+    }
 }
 
 #[test]
 fn another_node_returns_after_groups(rt: HostRuntime) {
-    let off = repeated(Counters::new(false), BusEvent::SendFault, 32);
-    assert_eq!(rt; off.tec(), 256);
-    assert!(rt; off.recovering());
-    let counting = off.recessive_groups(127);
-    assert_eq!(rt; counting.state(), NodeState::Off);
-    let back = counting.recessive_groups(1);
-    assert_eq!(rt; back.state(), NodeState::Active);
-    assert_eq!(rt; back.tec(), 0);
-    assert_eq!(rt; back.rec(), 0);
+    let mut counters = Counters::new(false);
+    for (step, want) in [
+        (Step::Faults(32), (256, 0, NodeState::Off, true)),
+        (Step::Groups(127), (256, 0, NodeState::Off, true)),
+        (Step::Groups(1), (0, 0, NodeState::Active, false)),
+    ] {
+        counters = stepped(counters, step);
+        assert_eq!(rt; shown(&counters), want, "{step:?}");
+    }
 }
 
 #[test]
@@ -156,15 +181,24 @@ fn status_words_follow_the_events(rt: HostRuntime) {
     }
 }
 
+/// What a read of the Status register shows.
+fn read(status: &mut Status, counters: &Counters) -> u16 {
+    status.read(counters)
+}
+
 #[test]
 fn read_shows_the_counters_of_the_moment(rt: HostRuntime) {
     let passive = repeated(Counters::new(true), BusEvent::SendFault, 16);
+    let off = repeated(passive, BusEvent::SendFault, 16);
     let mut status = Status::default();
     status.after(StatusEvent::Fault(5), &passive);
-    let off = repeated(passive, BusEvent::SendFault, 16);
-    assert_eq!(rt; status.read(&passive), 0x0065);
-    assert_eq!(rt; status.read(&off), 0x00e5);
-    assert_eq!(rt; status.read(&Counters::new(true)), 0x0005);
+    for (counters, word) in [
+        (passive, 0x0065),
+        (off, 0x00e5),
+        (Counters::new(true), 0x0005),
+    ] {
+        assert_eq!(rt; read(&mut status, &counters), word);
+    }
 }
 
 #[test]
