@@ -189,4 +189,6 @@ fn holds_the_laws() {
     crate::laws::undisturbed_attempts_are_one_thread();
     crate::laws::lost_tries_have_changes_of_their_own();
     crate::laws::many_tries_are_never_busy();
+    crate::laws::undisturbed_pictures_are_one_thread();
+    crate::laws::pictures_make_no_change();
 }
