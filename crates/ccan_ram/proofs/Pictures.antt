@@ -1,9 +1,8 @@
 -- Looks at all objects change nothing.
 use Rattle.std.proofs.Common.{true, ◌≡◌, ℕ, zero, suc, ◌+◌, ◌-◌, ◌<◌, ◌≤◌, Bool, List, [], ◌++◌, get_or, sym, ap}
-use Rattle.std.proofs.Common.{refl, ◌∙◌, arith, lit≤}
+use Rattle.std.proofs.Common.{refl, ◌∙◌, arith}
 use Rattle.std.proofs.lemmas.List.{append-nil}
 use Rattle.ccan_object.specs.declared.profile.Profile.{Profile}
-use Rattle.ccan_object.specs.declared.profile.Profile.TheVariants.{One, Two}
 use Rattle.ccan_object.specs.declared.record.Record.{Record}
 use Rattle.ccan_object.specs.Record.{zero_record}
 use Rattle.ccan_object.specs.Profile.{objects_in}
@@ -15,7 +14,6 @@ use Rattle.ccan_ram.specs.Terms.{Terms, one_thread_terms}
 use Rattle.ccan_ram.specs.HandlerRegisters.{registers_at}
 use Rattle.ccan_ram.specs.Array.{Explains, passes_of}
 use Rattle.ccan_ram.specs.Picture.{pictured, Turn, LostTurns, IsPicture, AddsPicture}
-use Rattle.ccan_ram.proofs.FinalRecords.{most_objects}
 use Rattle.ccan_ram.proofs.Histories.{nobody}
 
 pub pictured_record : (p : PortName) (n k : ℕ) (h g : List Event) → record_at k (pictured p n h ++ g) ≡ record_at k g

@@ -32,6 +32,8 @@ pub trait Access {
         ensures { AddsLook (passes self.old) (passes self.new) object result };
 
     /// The Message Handler Registers at one place of the history, by looks at all objects with no other event between.
+    ///
+    /// Looks that are lost to a change of another port are made anew, and stay in the history.
     fn look_all(&mut self) -> HandlerRegisters
         ensures pictures { AddsPicture (passes self.old) (passes self.new) result }
         ensures within { AreBelow (objects_in (passes self.old).terms.profile) result };

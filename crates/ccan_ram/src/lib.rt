@@ -19,7 +19,8 @@
 //! stores a history; contracts speak of it. [`Access`] is what all upper layers use: each call says which events it adds to
 //! what its port has seen, and its answer is that of the memory at the place of those events. [`Array`] is a plain memory
 //! for one thread. [`SharedRam`] is a memory that three threads share, and [`On`] one of its ports as an `Access`.
-//! [`laws`] hold in every history of every memory.
+//! [`HandlerRegisters`] are the flags of all objects at one place of the history. [`laws`] hold in every history of every
+//! memory.
 #![tactic(auto)]
 
 pub mod access;

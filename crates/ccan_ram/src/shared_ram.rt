@@ -77,6 +77,8 @@ pub trait SharedRam {
             (passes_of contends (pass port.new)) object result };
 
     /// The Message Handler Registers at one place of the history, by looks at all objects with no other event between.
+    ///
+    /// Looks that are lost to a change of another port are made anew, and stay in the history.
     fn look_all(&self, port: &mut Self::Port) -> HandlerRegisters
         requires memory { (pass port.old).memory ≡ memory self.now }
         ensures memory { (pass port.new).memory ≡ (pass port.old).memory }

@@ -23,6 +23,9 @@
 //! the words: here the three looks, the changes 1 and 131073, IF2's second look and change 65537. A port knows the
 //! part of it that it has seen. The failed exchange is no event; it showed IF2 what the others had done.
 //!
+//! Looks at all objects can stand at one place of the history too: all words are loaded, and loaded again. Where each
+//! holds its number still, it held it between, since no number comes twice, and there the looks stand.
+//!
 //! `WordRam` has a word for each object, so that a change is lost to one of the same object alone. `RootRam` has one
 //! word for all objects, and a version is the whole memory; there any change costs the others a try. Both are the one
 //! memory `Ram`, over two layouts. The rule that every step of every port keeps stands in `specs/Rule.antt`, and what

@@ -1,5 +1,7 @@
 use ccan_accept::Frame;
-use ccan_handler::{ScanRefused, choose, choose_from, interrupt, receive, receive_from};
+use ccan_handler::{
+    ScanRefused, choose, choose_at_once, choose_from, interrupt, receive, receive_from,
+};
 use ccan_object::{Iface, ObjectNo, Profile, Reg};
 use ccan_ram::{Access, Change, Changed, Refused, Tries};
 use std::test::Fail;
@@ -147,6 +149,35 @@ fn goes_on_past_an_object_made_invalid(rt: HostRuntime) -> Result<(), Fail> {
             .ok_or("refused")?
             .ok_or("none")?;
         assert_eq!(rt; resumed.get(), 9);
+    }
+    Ok(())
+}
+
+#[test]
+fn starts_the_next_object_where_the_first_is_ready_no_more(rt: HostRuntime) -> Result<(), Fail> {
+    for most in [2, 1] {
+        let theirs = [
+            transfer(5, &READY),
+            transfer(9, &READY),
+            transfer(5, &INVALID),
+        ];
+        let mut ram = Contended::new(Profile::One, 64, &theirs);
+        assert!(rt; ram.go_on() && ram.go_on());
+        if most == 1 {
+            let at = ObjectNo::from_request(Profile::One, 5);
+            let why = Refused::Busy { tries: 1, now: 3 };
+            assert_eq!(rt;
+                choose_at_once(&mut ram, tries(most)?),
+                Err(ScanRefused { at, why })
+            );
+        }
+        let (found, started) = choose_at_once(&mut ram, tries(most)?)
+            .ok()
+            .ok_or("refused")?
+            .ok_or("none")?;
+        assert_eq!(rt; found.get(), 9);
+        assert_eq!(rt; started.control(), 0x0188);
+        assert_eq!(rt; started.bytes, FIRST);
     }
     Ok(())
 }

@@ -188,4 +188,7 @@ fn holds_by_its_laws() {
     laws::interrupts_are_bounded();
     laws::flags_take_one_look_each();
     laws::each_flag_is_shown();
+    laws::flags_are_of_one_moment();
+    laws::interrupt_is_of_one_moment();
+    laws::choice_is_of_one_moment();
 }

@@ -11,7 +11,10 @@ mod threads;
 
 use ccan_accept::Frame;
 use ccan_endless::EndlessRam;
-use ccan_handler::{ScanRefused, choose, flags, interrupt, receive, receive_from};
+use ccan_handler::{
+    ScanRefused, choose, choose_at_once, flags, flags_at_once, interrupt, interrupt_at_once,
+    receive, receive_from,
+};
 use ccan_object::{Iface, ObjectNo, Profile, Record, Reg};
 use ccan_ram::{
     Access, Change, Changed, CommitError, Flag, On, OpenError, Refused, SharedRam, Tries,

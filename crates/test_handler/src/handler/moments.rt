@@ -1,93 +1,64 @@
 //! Flags, interrupt value and choice of one moment, over a plain memory.
 
-use super::{CONTROL, MESSAGE, write};
-use ccan_handler::{choose_at_once, flags_at_once, interrupt_at_once, laws};
-use ccan_object::{Profile, Reg};
-use ccan_ram::{Array, Flag, PortName, Refused, Tries};
+use super::{CONTROL, FIRST, MESSAGE, fields, tries, write};
+use ccan_handler::{ScanRefused, choose_at_once, flags_at_once, interrupt_at_once, laws};
+use ccan_object::{ObjectNo, Profile, Reg};
+use ccan_ram::{Access, Array, Flag, PortName, Refused};
 use std::test::Fail;
 
-/// A memory in which IF1 requested these objects, with this Message Control.
-fn requested(profile: Profile, requests: &[u16], control: u16) -> Result<Array, Fail> {
-    let mut ram = Array::new(profile, 64);
-    for request in requests {
+#[test]
+fn reads_the_registers_of_one_moment(rt: HostRuntime) -> Result<(), Fail> {
+    let mut ram = Array::new(Profile::One, 64);
+    assert_eq!(rt; interrupt_at_once(&mut ram, false), 0);
+    for (request, control) in [(0x0007, 0x2080), (0x0000, 0x6100)] {
         let _written = write(
             &mut ram,
             PortName::If1,
-            *request,
-            [&MESSAGE, &[(Reg::Ctrl, control)]],
+            request,
+            [&CONTROL, &[(Reg::Ctrl, control)]],
         )?;
     }
-    ram.at(PortName::Bus);
-    Ok(ram)
-}
-
-/// The objects that are chosen one after another, as long as one is.
-fn chosen(ram: &mut Array, most: Tries) -> [u8; 4] {
-    let mut numbers = [0; 4];
-    for place in 0..4usize {
-        if let Ok(Some((object, _record))) = choose_at_once(ram, most) {
-            numbers[place] = object.get();
-        }
-    }
-    numbers
-}
-
-#[test]
-fn registers_and_interrupt_of_one_moment(rt: HostRuntime) -> Result<(), Fail> {
-    let mut ram = requested(Profile::Two, &[0x0003, 0x0000], 0x2188)?;
-    for (flag, word) in [
-        (Flag::TxRqst, 0x8000_0000_0000_0004),
-        (Flag::IntPnd, 0x8000_0000_0000_0004),
-        (Flag::MsgVal, 0x8000_0000_0000_0004),
-        (Flag::NewDat, 0),
-        (Flag::MsgLst, 0),
-    ] {
-        assert_eq!(rt; flags_at_once(&mut ram, flag), word);
-    }
-    assert_eq!(rt; interrupt_at_once(&mut ram, false), 3);
+    ram.at(PortName::If2);
+    assert_eq!(rt; flags_at_once(&mut ram, Flag::IntPnd), 0x8000_0040);
+    assert_eq!(rt; flags_at_once(&mut ram, Flag::TxRqst), 0x8000_0000);
+    assert_eq!(rt; flags_at_once(&mut ram, Flag::MsgLst), 0x8000_0000);
+    assert_eq!(rt; flags_at_once(&mut ram, Flag::NewDat), 0);
+    assert_eq!(rt; flags_at_once(&mut ram, Flag::MsgVal), 0);
+    assert_eq!(rt; interrupt_at_once(&mut ram, false), 0x0007);
     assert_eq!(rt; interrupt_at_once(&mut ram, true), 0x8000);
-    let mut last = requested(Profile::Two, &[0x0000], 0x2188)?;
-    assert_eq!(rt; interrupt_at_once(&mut last, false), 64);
-    let mut none = requested(Profile::Two, &[], 0x2188)?;
-    assert_eq!(rt; interrupt_at_once(&mut none, false), 0);
     Ok(())
 }
 
 #[test]
-fn chooses_the_lowest_object_of_a_moment(rt: HostRuntime) -> Result<(), Fail> {
-    let four = Tries::new(4).ok_or("tries")?;
-    let mut ram = requested(Profile::One, &[0x0009, 0x0005, 0x0000], 0x0188)?;
-    // object 2 is requested, and not valid
-    let _second = write(
+fn starts_the_first_object_that_was_ready(rt: HostRuntime) -> Result<(), Fail> {
+    let mut ram = Array::new(Profile::Two, 1);
+    ram.at(PortName::Bus);
+    assert_eq!(rt; choose_at_once(&mut ram, tries(1)?), Ok(None));
+    let _request_alone = write(
         &mut ram,
         PortName::If1,
         0x0002,
         [&CONTROL, &[(Reg::Ctrl, 0x0100)]],
     )?;
-    ram.at(PortName::Bus);
-    // a start leaves TxRqst, so the same object is chosen again
-    assert_eq!(rt; chosen(&mut ram, four), [5; 4]);
-    let mut none = requested(Profile::One, &[], 0x0188)?;
-    assert_eq!(rt; choose_at_once(&mut none, four), Ok(None));
-    Ok(())
-}
-
-#[test]
-fn a_choice_is_refused_once_the_quota_is_spent(rt: HostRuntime) -> Result<(), Fail> {
-    let mut ram = Array::new(Profile::One, 1);
-    let _written = write(
+    let _ready = write(
         &mut ram,
-        PortName::If1,
-        0x0003,
-        [&MESSAGE, &[(Reg::Ctrl, 0x0188)]],
+        PortName::If2,
+        0x0000,
+        [&MESSAGE, &[(Reg::Ctrl, 0x8188)]],
     )?;
     ram.at(PortName::Bus);
-    let four = Tries::new(4).ok_or("tries")?;
-    assert!(rt; choose_at_once(&mut ram, four).is_ok());
-    let Err(refused) = choose_at_once(&mut ram, four) else {
-        return Err(Fail::from("not refused"));
-    };
-    assert_eq!(rt; (refused.at.get(), refused.why), (3, Refused::Spent));
+    let (object, after) = choose_at_once(&mut ram, tries(1)?)
+        .ok()
+        .ok_or("refused")?
+        .ok_or("none")?;
+    assert_eq!(rt; object.get(), 64);
+    assert_eq!(rt; fields(&after), (0xa48c0000, 0, 0x0188, FIRST));
+    let at = ObjectNo::from_request(ram.profile(), 0x0000);
+    let why = Refused::Spent;
+    assert_eq!(rt;
+        choose_at_once(&mut ram, tries(1)?),
+        Err(ScanRefused { at, why })
+    );
     Ok(())
 }
 

@@ -189,4 +189,6 @@ fn holds_the_laws() {
     ccan_ram::laws::undisturbed_attempts_are_one_thread();
     ccan_ram::laws::lost_tries_have_changes_of_their_own();
     ccan_ram::laws::many_tries_are_never_busy();
+    ccan_ram::laws::undisturbed_pictures_are_one_thread();
+    ccan_ram::laws::pictures_make_no_change();
 }

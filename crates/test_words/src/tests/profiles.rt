@@ -47,7 +47,7 @@ fn write_last_object<R: SharedRam>(
 }
 
 /// The interrupt value and the word of IntPnd flags, after a write of that flag at the object that a request of 0
-/// names.
+/// names, as looks one after another tell them, and all at once.
 fn pending_of_last_object<R: SharedRam + Drop>(
     rt: &impl Abort,
     alloc: std::alloc::Global,
@@ -60,7 +60,11 @@ fn pending_of_last_object<R: SharedRam + Drop>(
     let last = ObjectNo::from_request(host.profile(), 0x0000);
     let written = host.change(last, &control(0x2000), tries(1));
     assert_eq!(rt; number(&written), Some(1));
-    (interrupt(&mut host, false), flags(&mut host, Flag::IntPnd))
+    let value = interrupt(&mut host, false);
+    let word = flags(&mut host, Flag::IntPnd);
+    assert_eq!(rt; interrupt_at_once(&mut host, false), value);
+    assert_eq!(rt; flags_at_once(&mut host, Flag::IntPnd), word);
+    (value, word)
 }
 
 #[test]

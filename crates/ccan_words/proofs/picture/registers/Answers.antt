@@ -9,6 +9,8 @@ use Rattle.ccan_words.proofs.Ports.{WordSeat}
 use Rattle.ccan_words.proofs.picture.registers.Goals.{then-number-ne0, else-number-ne0}
 use Rattle.ccan_words.proofs.picture.registers.Goals as goal
 
+-- Where the object was written, the version of its number has its record, whose flags go above the others; where it was not, its
+-- record is zero, and the registers stay.
 pub loop-place-preserved : goal.loop-place-preserved
 loop-place-preserved g c =
     let i = c.loop-place.invariant in
