@@ -11,7 +11,7 @@ use Rattle.ccan_object.proofs.Flags.{flag-le}
 use Rattle.ccan_endless.specs.Parts.{marks_of, marks_limit, body_of}
 
 module _ (r : Record) (short : r.dlc ≤ 15) where
-  limits : (flag r.newdat ≤ 1) × (flag r.msglst ≤ 1) × (flag r.intpnd ≤ 1) × (flag r.umask ≤ 1) × (flag r.txie ≤ 1)
+  pub limits : (flag r.newdat ≤ 1) × (flag r.msglst ≤ 1) × (flag r.intpnd ≤ 1) × (flag r.umask ≤ 1) × (flag r.txie ≤ 1)
       × (flag r.rxie ≤ 1) × (flag r.rmten ≤ 1) × (flag r.txrqst ≤ 1) × (flag r.eob ≤ 1) × (flag r.valid ≤ 1)
   limits = (
     flag-le r.newdat,

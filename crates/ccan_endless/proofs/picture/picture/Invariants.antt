@@ -1,0 +1,11 @@
+use Rattle.std.proofs.Common.{◌≡◌}
+use Rattle.ccan_endless.specs.Picture.{TriedIn}
+use Rattle.ccan_endless.proofs.picture.picture.Given as goal
+
+-- the turns so far were lost
+abbrev pub invariant-loop-turn : goal.invariant-loop-turn
+invariant-loop-turn l =
+    record {
+      table : l.seat.table_id ≡ l.fn.seat.table_id;
+      told : TriedIn l.words l.port l.turn l.fn.seat.me l.seat.me;
+    }

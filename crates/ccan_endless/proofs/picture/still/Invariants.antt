@@ -1,0 +1,11 @@
+use Rattle.std.proofs.Common.{◌≡◌}
+use Rattle.ccan_endless.specs.Picture.{StayedIn}
+use Rattle.ccan_endless.proofs.picture.still.Given as goal
+
+-- the first objects' words still had their numbers
+abbrev pub invariant-loop-i : goal.invariant-loop-i
+invariant-loop-i l =
+    record {
+      table : l.seat.table_id ≡ l.fn.seat.table_id;
+      told : StayedIn l.words.profile l.i l.values l.fn.seat.me l.seat.me;
+    }

@@ -1,0 +1,130 @@
+//! A picture: looks at all objects at one place of the history.
+//!
+//! The values of all objects' words are loaded, one after another; then looks at all objects are added to the history,
+//! in one step; and then the words are loaded again. Where each has the number that it had, that number stood
+//! throughout, since no number comes twice: so it stood where the looks do, and the marks in the values found first are
+//! those of the records that the looks show. Where one has another number, some other port made a change meanwhile. The
+//! others make at most twice the quota of changes.
+//!
+//! No record is read: all flags of an object stand in its word.
+ghost use Rattle.std.specs.Prelude.{◌≡◌, ◌+◌, ◌<◌, true, false};
+ghost use Rattle.ccan_object.specs.Profile.{objects_in};
+ghost use Rattle.ccan_ram.specs.HandlerRegisters.{AreBelow};
+ghost use Rattle.ccan_endless.specs.declared.view.Held.{Held};
+ghost use Rattle.ccan_endless.specs.Layout.{same_object};
+ghost use Rattle.ccan_endless.specs.Parts.{marks_limit};
+ghost use Rattle.ccan_endless.specs.Picture.{AddsMarks, CollectedIn, MovedIn, PicturesIn, ShowsAll};
+ghost use Rattle.ccan_endless.specs.Picture.{StayedIn, TurnsIn};
+ghost use Rattle.ccan_endless.specs.Port.{numbers_of};
+ghost use Rattle.ccan_endless.specs.Rule.{IsSound};
+ghost use Rattle.ccan_endless.specs.Version.{IsSeatOf};
+
+use crate::layout::{marks_in, number_in};
+use crate::steps::{pose, watch};
+use crate::words::{Seat, Words};
+use ccan_object::{MOST_OBJECTS, Profile};
+use ccan_ram::handler_registers::with_bit;
+use ccan_ram::{HandlerRegisters, PortName};
+
+/// The registers at one place of the history.
+#[inline(always)]
+pub fn picture(words: &Words, seat: &mut Seat, port: PortName) -> HandlerRegisters
+    requires table { numbers_of seat.old.table_id ≡ words.now.name }
+    requires held { (x : Held) × IsSeatOf port x seat.old.me
+        × IsSound words.now.profile x.quota x.seen × (x.quota ≡ words.now.quota) }
+    ensures same { seat.new.table_id ≡ seat.old.table_id }
+    ensures told { PicturesIn words.now port result seat.old.me seat.new.me }
+    ensures within { AreBelow (objects_in words.now.profile) result }
+{
+    let key = words.key();
+    let most = key.quota * 2 + 1;
+    let mut values = [0u64; MOST_OBJECTS];
+    for turn in 0..most {
+        if pose_once(words, seat, port, &mut values) {
+            return registers(key.profile, &values);
+        }
+    }
+    // Each lost turn has a change of another port, and so many are never made: this is not reached.
+    HandlerRegisters::zero()
+}
+
+/// Looks at all objects, and the values of their words where these looks stand. False: another port made a change
+/// meanwhile, and the values say nothing.
+#[inline(always)]
+fn pose_once(
+    words: &Words,
+    seat: &mut Seat,
+    port: PortName,
+    values: &mut [u64; MOST_OBJECTS],
+) -> bool
+    requires table { numbers_of seat.old.table_id ≡ words.now.name }
+    requires held { (x : Held) × IsSeatOf port x seat.old.me
+        × IsSound words.now.profile x.quota x.seen }
+    ensures same { seat.new.table_id ≡ seat.old.table_id }
+    ensures told { TurnsIn words.now.profile port values.new result seat.old.me seat.new.me }
+{
+    collect(words, seat, values);
+    pose(words, seat, port);
+    still(words, seat, values)
+}
+
+/// Sets the values to those of the objects' words, one load after another.
+#[inline(always)]
+fn collect(words: &Words, seat: &mut Seat, values: &mut [u64; MOST_OBJECTS])
+    requires table { numbers_of seat.old.table_id ≡ words.now.name }
+    ensures same { seat.new.table_id ≡ seat.old.table_id }
+    ensures told { CollectedIn words.now.profile (objects_in words.now.profile) values.new
+        seat.old.me seat.new.me }
+{
+    for i in 0..usize::from(words.key().profile.objects()) {
+        values[i] = watch(words, seat, i + 1);
+    }
+}
+
+/// Whether they have the numbers of these values still.
+#[inline(always)]
+fn still(words: &Words, seat: &mut Seat, values: &[u64; MOST_OBJECTS]) -> bool
+    requires table { numbers_of seat.old.table_id ≡ words.now.name }
+    ensures same { seat.new.table_id ≡ seat.old.table_id }
+    ensures yes { result ≡ true → StayedIn words.now.profile (objects_in words.now.profile)
+        values.now seat.old.me seat.new.me }
+    ensures no { result ≡ false → MovedIn words.now.profile values.now seat.old.me seat.new.me }
+{
+    for i in 0..usize::from(words.key().profile.objects()) {
+        let now = watch(words, seat, i + 1);
+        if number_in(now) != number_in(values[i]) {
+            return false;
+        }
+    }
+    true
+}
+
+/// The registers that the marks in these values show.
+#[inline(always)]
+fn registers(profile: Profile, values: &[u64; MOST_OBJECTS]) -> HandlerRegisters
+    ensures shown { ShowsAll profile values.now result }
+    ensures within { AreBelow (objects_in profile) result }
+{
+    let mut registers = HandlerRegisters::zero();
+    for place in 0..profile.objects() {
+        registers = with_marks(registers, place, marks_in(values[usize::from(place)]));
+    }
+    registers
+}
+
+/// The registers with the flags of one more object, which has these marks.
+#[inline(always)]
+fn with_marks(registers: HandlerRegisters, place: u8, marks: u64) -> HandlerRegisters
+    requires below { AreBelow place registers }
+    requires within { place < u64.BITS }
+    ensures value { AddsMarks place marks registers result }
+    ensures below { AreBelow (place + 1) result }
+{
+    HandlerRegisters {
+        newdat: with_bit(registers.newdat, place, marks / 4096 % 2 == 1),
+        msglst: with_bit(registers.msglst, place, marks / 2048 % 2 == 1),
+        intpnd: with_bit(registers.intpnd, place, marks / 1024 % 2 == 1),
+        txrqst: with_bit(registers.txrqst, place, marks / 32 % 2 == 1),
+        msgval: with_bit(registers.msgval, place, marks / 8192 % 2 == 1),
+    }
+}
