@@ -1,11 +1,10 @@
 -- IF1 copies records.
-use Rattle.std.proofs.Common.{◌≡◌, ◌<◌, ◌≤◌, ◌+◌, ◌==◌, ℕ, Bool, true, false, List, [], ◌∷◌, ◌++◌, get_or, length, replicate, length-append, append_assoc, ◌-◌, lit≤, cond, sym, refl, ap, subst, ◌∙◌, arith, eq-eqb}
+use Rattle.std.proofs.Common.{◌≡◌, ◌<◌, ◌≤◌, ◌+◌, ◌==◌, ℕ, Bool, true, false, List, [], ◌∷◌, ◌++◌, get_or, length, replicate, length-append, append_assoc, ◌-◌, cond, sym, refl, ap, subst, ◌∙◌, arith, eq-eqb}
 use Rattle.std.specs.Prelude.{Result}
 use Rattle.ccan_object.specs.declared.record.Record.{Record}
 use Rattle.ccan_object.specs.Command.{command_in}
 use Rattle.ccan_object.specs.Record.{zero_record}
 use Rattle.ccan_object.specs.Transfer.{merged}
-use Rattle.ccan_object.specs.declared.profile.Profile.TheVariants.{One, Two}
 use Rattle.std.proofs.lemmas.List.{take-append-drop, length-replicate, get_or-append_right, get_or-replicate}
 use Rattle.std.proofs.lemmas.List.FromFn.{length-map-range_with_len}
 use mathlib.Core.Logic.{dite}
