@@ -2,6 +2,7 @@
 //! ports in threads of their own. `Contended` is an access whose every try of a change is disturbed by another port.
 #![tactic(auto)]
 
+pub mod calls;
 pub mod contended;
 pub mod drafts;
 pub mod pictures;

@@ -1,6 +1,7 @@
 ghost use Rattle.ccan_ram.specs.Tries.{IsTries};
 
 use super::*;
+use crate::calls;
 use crate::drafts::{commit_beside, prepare_beside};
 use crate::rivals::{Seen, Task, work};
 

@@ -17,15 +17,15 @@ fn start_of_an_invalid_object<R: SharedRam + Drop>(rt: &impl Abort, alloc: std::
     };
     let five = ObjectNo::from_request(ram.profile(), 5);
     let nine = ObjectNo::from_request(ram.profile(), 9);
-    let first = ram.change(&mut if1, five, &message(0x0188), tries(1));
+    let first = calls::change(&ram, &mut if1, five, &message(0x0188), tries(1));
     assert_eq!(rt; number(&first), Some(1));
-    let second = ram.change(&mut if1, nine, &message(0x0188), tries(1));
+    let second = calls::change(&ram, &mut if1, nine, &message(0x0188), tries(1));
     assert_eq!(rt; number(&second), Some(2));
-    let draft = ram.prepare(&mut bus, five);
+    let draft = calls::prepare(&ram, &mut bus, five);
     let invalid = change_of(&[(Reg::CMask, 0x00a0), (Reg::Arb2, 0x048c)]);
-    let third = ram.change(&mut if1, five, &invalid, tries(1));
+    let third = calls::change(&ram, &mut if1, five, &invalid, tries(1));
     assert_eq!(rt; number(&third), Some(3));
-    let lost = ram.commit(&mut bus, draft, &Change::Start);
+    let lost = calls::commit(&ram, &mut bus, draft, &Change::Start);
     assert_eq!(rt; lost, Err(CommitError::Lost { now: 3 }));
     let mut handler = On::new(&ram, bus);
     let not_now = handler.change(five, &Change::Start, tries(1));
@@ -37,7 +37,7 @@ fn start_of_an_invalid_object<R: SharedRam + Drop>(rt: &impl Abort, alloc: std::
     assert_eq!(rt; shown(&started), (P.0, P.1, 0x0188, P.3));
     let bus = handler.into_port();
     assert_eq!(rt; (ram.used(&if1), ram.used(&if2), ram.used(&bus)), (3, 0, 1));
-    let draft = ram.prepare(&mut if1, nine);
+    let draft = calls::prepare(&ram, &mut if1, nine);
     assert_eq!(rt; draft.number(), 131073);
 }
 
@@ -53,11 +53,11 @@ fn commit_after<R: SharedRam + Drop>(
     };
     let four = ObjectNo::from_request(ram.profile(), 4);
     let other = ObjectNo::from_request(ram.profile(), request);
-    let draft = ram.prepare(&mut if1, four);
-    let theirs = ram.change(&mut if2, other, &data(0x9999), tries(1));
+    let draft = calls::prepare(&ram, &mut if1, four);
+    let theirs = calls::change(&ram, &mut if2, other, &data(0x9999), tries(1));
     assert_eq!(rt; number(&theirs), Some(65537));
-    let committed = ram.commit(&mut if1, draft, &control(0x0088));
-    let changed = ram.change(&mut if1, four, &control(0x0088), tries(1));
+    let committed = calls::commit(&ram, &mut if1, draft, &control(0x0088));
+    let changed = calls::change(&ram, &mut if1, four, &control(0x0088), tries(1));
     let Some((after, _)) = done(&changed) else {
         panic!(rt; "the change was not made")
     };
@@ -143,15 +143,15 @@ fn write_is_seen<R: SharedRam + Drop>(rt: &impl Abort, alloc: std::alloc::Global
         panic!(rt; "no memory")
     };
     let one = ObjectNo::from_request(ram.profile(), 1);
-    assert_eq!(rt; ram.look(&mut if1, one), Record::zero());
-    let written = ram.change(&mut if2, one, &message(0x0088), tries(1));
+    assert_eq!(rt; calls::look(&ram, &mut if1, one), Record::zero());
+    let written = calls::change(&ram, &mut if2, one, &message(0x0088), tries(1));
     assert_eq!(rt; number(&written), Some(65537));
-    let draft = ram.prepare(&mut if1, one);
+    let draft = calls::prepare(&ram, &mut if1, one);
     assert_eq!(rt; shown(&draft.held()), P);
     assert_eq!(rt; (draft.object(), draft.number()), (one, 65537));
-    assert_eq!(rt; shown(&ram.look(&mut if2, one)), P);
+    assert_eq!(rt; shown(&calls::look(&ram, &mut if2, one)), P);
     ram.meet(&mut if1, &mut if2);
-    assert_eq!(rt; shown(&ram.look(&mut if1, one)), P);
+    assert_eq!(rt; shown(&calls::look(&ram, &mut if1, one)), P);
 }
 
 #[test]
@@ -209,7 +209,7 @@ fn scan_is_resumed<R: SharedRam + Drop>(rt: &impl Abort, alloc: std::alloc::Glob
         (Reg::Arb2, 0x848c),
         (Reg::Ctrl, 0x0088),
     ]);
-    let first = ram.change(&mut if1, three, &receiver, tries(1));
+    let first = calls::change(&ram, &mut if1, three, &receiver, tries(1));
     assert_eq!(rt; number(&first), Some(1));
     let Ok(frame) = Frame::new(0x123, false, false, 1, [1, 0, 0, 0, 0, 0, 0, 0]) else {
         panic!(rt; "no frame")
@@ -236,7 +236,7 @@ fn scan_is_resumed<R: SharedRam + Drop>(rt: &impl Abort, alloc: std::alloc::Glob
         shown(&stored.after),
         (0x848c0000, 0, 0x8081, [1, 0, 0, 0, 0, 0, 0, 0])
     );
-    let draft = ram.prepare(&mut if1, three);
+    let draft = calls::prepare(&ram, &mut if1, three);
     assert_eq!(rt; draft.number(), 131073);
 }
 
@@ -253,32 +253,32 @@ fn three_ports_at_one_object<R: SharedRam + Drop>(rt: &impl Abort, alloc: std::a
         panic!(rt; "no memory")
     };
     let four = ObjectNo::from_request(ram.profile(), 4);
-    let own = ram.prepare(&mut if1, four);
-    let other = ram.prepare(&mut if2, four);
-    let first = ram.prepare(&mut bus, four);
+    let own = calls::prepare(&ram, &mut if1, four);
+    let other = calls::prepare(&ram, &mut if2, four);
+    let first = calls::prepare(&ram, &mut bus, four);
     let second = prepare_beside(&ram, &mut bus, four, &first);
-    let written = ram.commit(&mut if1, own, &message(0x0088));
+    let written = calls::commit(&ram, &mut if1, own, &message(0x0088));
     assert_eq!(rt; number(&written), Some(1));
     let clear = change_of(&[(Reg::CMask, 0x000c)]);
-    let lost = ram.commit(&mut if2, other, &clear);
+    let lost = calls::commit(&ram, &mut if2, other, &clear);
     assert_eq!(rt; lost, Err(CommitError::Lost { now: 1 }));
-    let again = ram.prepare(&mut if2, four);
-    let cleared = ram.commit(&mut if2, again, &clear);
+    let again = calls::prepare(&ram, &mut if2, four);
+    let cleared = calls::commit(&ram, &mut if2, again, &clear);
     assert!(rt;
         matches!(&cleared, Ok(Changed::Done { before, after, number: 65537 }) if after == before)
     );
     let lost = commit_beside(&ram, &mut bus, first, &Change::Finish, &second);
     assert_eq!(rt; lost, Err(CommitError::Lost { now: 65537 }));
-    let not_now = ram.commit(&mut bus, second, &Change::Start);
+    let not_now = calls::commit(&ram, &mut bus, second, &Change::Start);
     assert_eq!(rt; not_now, Ok(Changed::NotNow(Record::zero())));
-    let third = ram.prepare(&mut bus, four);
-    let not_now = ram.commit(&mut bus, third, &Change::Start);
+    let third = calls::prepare(&ram, &mut bus, four);
+    let not_now = calls::commit(&ram, &mut bus, third, &Change::Start);
     assert!(rt; matches!(&not_now, Ok(Changed::NotNow(object)) if shown(object) == P));
-    let fourth = ram.prepare(&mut bus, four);
-    let finished = ram.commit(&mut bus, fourth, &Change::Finish);
+    let fourth = calls::prepare(&ram, &mut bus, four);
+    let finished = calls::commit(&ram, &mut bus, fourth, &Change::Finish);
     assert_eq!(rt; number(&finished), Some(131073));
     assert_eq!(rt; (ram.used(&if1), ram.used(&if2), ram.used(&bus)), (1, 1, 1));
-    let last = ram.look(&mut if1, four);
+    let last = calls::look(&ram, &mut if1, four);
     assert_eq!(rt; shown(&last), P);
 }
 
@@ -295,15 +295,15 @@ fn same_record_again<R: SharedRam + Drop>(rt: &impl Abort, alloc: std::alloc::Gl
         panic!(rt; "no memory")
     };
     let four = ObjectNo::from_request(ram.profile(), 4);
-    let first = ram.change(&mut if1, four, &message(0x0088), tries(1));
+    let first = calls::change(&ram, &mut if1, four, &message(0x0088), tries(1));
     assert_eq!(rt; number(&first), Some(1));
-    let draft = ram.prepare(&mut if2, four);
-    let second = ram.change(&mut if1, four, &data(0x9999), tries(1));
+    let draft = calls::prepare(&ram, &mut if2, four);
+    let second = calls::change(&ram, &mut if1, four, &data(0x9999), tries(1));
     assert_eq!(rt; number(&second), Some(2));
-    let third = ram.change(&mut if1, four, &message(0x0088), tries(1));
+    let third = calls::change(&ram, &mut if1, four, &message(0x0088), tries(1));
     assert_eq!(rt; number(&third), Some(3));
-    assert_eq!(rt; draft.held(), ram.look(&mut if1, four));
-    let lost = ram.commit(&mut if2, draft, &control(0x0001));
+    assert_eq!(rt; draft.held(), calls::look(&ram, &mut if1, four));
+    let lost = calls::commit(&ram, &mut if2, draft, &control(0x0001));
     assert_eq!(rt; lost, Err(CommitError::Lost { now: 3 }));
 }
 
@@ -321,7 +321,7 @@ fn chosen_are_ready_no_more<R: SharedRam>(rt: &impl Abort, alloc: std::alloc::Gl
     };
     for request in [2, 4] {
         let object = ObjectNo::from_request(ram.profile(), request);
-        let written = ram.change(&mut if1, object, &message(0x0188), tries(1));
+        let written = calls::change(&ram, &mut if1, object, &message(0x0188), tries(1));
         assert_eq!(rt; number(&written), Some(u64::from(request / 2)));
     }
     let mut disturbed = Contended::new(&ram, bus, if1, control(0), 64);

@@ -24,8 +24,8 @@ fn written_objects<R: SharedRam>(
     };
     let three = ObjectNo::from_request(ram.profile(), 3);
     let last = ObjectNo::from_request(ram.profile(), 0);
-    let _three = ram.change(&mut if1, three, &message(0x8188), tries(1));
-    let _last = ram.change(&mut if1, last, &control(0x6000), tries(1));
+    let _three = calls::change(&ram, &mut if1, three, &message(0x8188), tries(1));
+    let _last = calls::change(&ram, &mut if1, last, &control(0x6000), tries(1));
     On::new(&ram, bus).look_all()
 }
 

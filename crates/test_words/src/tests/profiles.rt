@@ -17,14 +17,14 @@ fn write_last_object<R: SharedRam>(
     let last = ObjectNo::from_request(ram.profile(), 0x0000);
     assert_eq!(rt; last.get(), objects);
     assert_eq!(rt; ObjectNo::from_request(ram.profile(), 0x0040), last);
-    let written = ram.change(&mut if1, last, &message(0x0088), tries(1));
+    let written = calls::change(&ram, &mut if1, last, &message(0x0088), tries(1));
     assert_eq!(rt; number(&written), Some(1));
     let [first, second] = others;
     let one = ObjectNo::from_request(ram.profile(), first);
     let other = ObjectNo::from_request(ram.profile(), second);
-    assert_eq!(rt; ram.look(&mut if1, one), Record::zero());
-    assert_eq!(rt; ram.look(&mut if1, other), Record::zero());
-    let after = ram.look(&mut if1, last);
+    assert_eq!(rt; calls::look(&ram, &mut if1, one), Record::zero());
+    assert_eq!(rt; calls::look(&ram, &mut if1, other), Record::zero());
+    let after = calls::look(&ram, &mut if1, last);
     assert_eq!(rt;
         shown(&after),
         (
