@@ -49,6 +49,14 @@ pub fn set_and_clear<R: SharedRam>(
     port
 }
 
+/// 1 where the second flag is set without the first.
+fn torn_by(first: bool, second: bool) -> u32 {
+    if first {
+        return 0;
+    }
+    u32::from(second)
+}
+
 /// How many of so many pictures show the second object's NewDat without the first's, which no moment had.
 pub fn torn_pictures<R: SharedRam>(ram: &R, mut port: R::Port, pair: Pair, turns: u32) -> u32
     requires memory { (R.pass port).memory ≡ R.memory ram.now }
@@ -56,9 +64,10 @@ pub fn torn_pictures<R: SharedRam>(ram: &R, mut port: R::Port, pair: Pair, turns
     let mut torn: u32 = 0;
     for turn in 0..turns {
         let shown = ram.look_all(&mut port);
-        if shown.shows(Flag::NewDat, pair.second) && !shown.shows(Flag::NewDat, pair.first) {
-            torn = torn.saturating_add(1);
-        }
+        torn = torn.saturating_add(torn_by(
+            shown.shows(Flag::NewDat, pair.first),
+            shown.shows(Flag::NewDat, pair.second),
+        ));
     }
     torn
 }
@@ -73,9 +82,7 @@ pub fn torn_looks<R: SharedRam>(ram: &R, mut port: R::Port, pair: Pair, turns: u
     for turn in 0..turns {
         let first = ram.look(&mut port, pair.first);
         let second = ram.look(&mut port, pair.second);
-        if second.newdat && !first.newdat {
-            torn = torn.saturating_add(1);
-        }
+        torn = torn.saturating_add(torn_by(first.newdat, second.newdat));
     }
     torn
 }
@@ -97,29 +104,30 @@ pub fn torn_beside<R: SharedRam + Sync, T: Threads + Sync>(
     requires first { Holds (R.memory ram.now).profile pair.first }
     requires second { Holds (R.memory ram.now).profile pair.second }
 {
+    let (host_pair, picture_pair, look_pair) = (pair, pair, pair);
     let (_host, torn) = join(
         rt,
         move ||
             requires memory { (R.pass if1).memory ≡ R.memory ram.now }
-            requires held { Holds (R.memory ram.now).profile pair.first
-                × Holds (R.memory ram.now).profile pair.second }
-        { set_and_clear(ram, if1, pair, turns, tries) },
+            requires held { Holds (R.memory ram.now).profile host_pair.first
+                × Holds (R.memory ram.now).profile host_pair.second }
+        { set_and_clear(ram, if1, host_pair, turns, tries) },
         move ||
             requires memory { ((R.pass if2).memory ≡ R.memory ram.now)
                 × ((R.pass bus).memory ≡ R.memory ram.now) }
-            requires held { Holds (R.memory ram.now).profile pair.first
-                × Holds (R.memory ram.now).profile pair.second }
+            requires held { Holds (R.memory ram.now).profile look_pair.first
+                × Holds (R.memory ram.now).profile look_pair.second }
         {
             join(
                 rt,
                 move ||
                     requires memory { (R.pass if2).memory ≡ R.memory ram.now }
-                { torn_pictures(ram, if2, pair, turns) },
+                { torn_pictures(ram, if2, picture_pair, turns) },
                 move ||
                     requires memory { (R.pass bus).memory ≡ R.memory ram.now }
-                    requires held { Holds (R.memory ram.now).profile pair.first
-                        × Holds (R.memory ram.now).profile pair.second }
-                { torn_looks(ram, bus, pair, turns) },
+                    requires held { Holds (R.memory ram.now).profile look_pair.first
+                        × Holds (R.memory ram.now).profile look_pair.second }
+                { torn_looks(ram, bus, look_pair, turns) },
             )
         },
     );

@@ -1,4 +1,6 @@
 //! Pictures of all objects at one place of the history.
+ghost use Rattle.std.specs.Prelude.{◌≡◌};
+
 use super::*;
 use crate::pictures::{Pair, torn_beside};
 use std::thread::Threads;
@@ -15,7 +17,7 @@ fn ends() -> Pair
 }
 
 /// What the registers show once two objects were written.
-fn written_objects<R: SharedRam>(
+fn written_objects<R: SharedRam + Drop>(
     rt: &impl Abort,
     alloc: std::alloc::Global,
 ) -> ccan_ram::HandlerRegisters {
