@@ -38,6 +38,7 @@ pub fn prepare<R: SharedRam>(ram: &R, port: &mut R::Port, object: ObjectNo) -> D
     requires memory { (R.pass port.old).memory ≡ R.memory ram.now }
     requires held { Holds (R.memory ram.now).profile object }
     ensures memory { (R.pass port.new).memory ≡ (R.pass port.old).memory }
+    ensures port { (R.pass port.new).port ≡ (R.pass port.old).port }
     ensures drawn { IsDrawn R.contends result (R.pass port.new) }
 {
     ram.prepare(port, object)
