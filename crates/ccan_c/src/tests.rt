@@ -1,19 +1,20 @@
 //! The calls of C, from here.
-mod calls;
-
+use crate::bus::{
+    ccan_bus_flags, ccan_bus_interrupt, ccan_control, ccan_counters, ccan_init, ccan_load,
+    ccan_loop_back, ccan_recessive, ccan_round, ccan_status,
+};
 use crate::chip::Chip;
+use crate::ending::ccan_end;
+use crate::host::{ccan_flags, ccan_get, ccan_interrupt, ccan_request, ccan_set, ccan_until};
 use crate::host_handle::HostHandle;
 use crate::offer::Offer;
+use crate::opening::{ccan_is_open, ccan_open};
+use crate::renewal::ccan_renew;
 use crate::shown_counters::ShownCounters;
 use crate::shown_final::ShownFinal;
 use crate::shown_load::ShownLoad;
 use crate::shown_outcome::ShownOutcome;
 use crate::shown_record::ShownRecord;
-use calls::{
-    ccan_bus_flags, ccan_bus_interrupt, ccan_control, ccan_counters, ccan_end, ccan_flags,
-    ccan_get, ccan_init, ccan_interrupt, ccan_is_open, ccan_load, ccan_loop_back, ccan_open,
-    ccan_recessive, ccan_renew, ccan_request, ccan_round, ccan_set, ccan_status, ccan_until,
-};
 use ccan_object::Record;
 use std::process::Abort;
 
