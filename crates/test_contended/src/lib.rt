@@ -13,8 +13,11 @@
 //!
 //! It meets `Access` by the same clauses as every other memory, so what is proved over `Access` holds of it, and each
 //! answer that only contention brings about can be shown by a call.
+//!
+//! Beside it stand the handler's calls without their promises, for tests that make many of them.
 #![tactic(auto)]
 
+pub mod calls;
 pub mod contended;
 pub mod transfer;
 

@@ -1,11 +1,11 @@
+use crate::found::found;
+use test_contended::calls::{choose, choose_at_once, choose_from, interrupt, receive, receive_from};
 use ccan_accept::Frame;
-use ccan_handler::{
-    ScanRefused, choose, choose_at_once, choose_from, interrupt, receive, receive_from,
-};
+use ccan_handler::ScanRefused;
 use ccan_object::{Iface, ObjectNo, Profile, Reg};
 use ccan_ram::{Access, Change, Changed, Refused, Tries};
 use std::test::Fail;
-use test_contended::*;
+use test_contended::{Contended, Transfer};
 
 /// The data of a first message.
 const FIRST: [u8; 8] = [0x11, 0x22, 0x33, 0x44, 0x55, 0x66, 0x77, 0x88];
@@ -104,11 +104,7 @@ fn is_busy_after_all_tries_and_goes_on_where_it_stopped(rt: HostRuntime) -> Resu
         Err(ScanRefused { at, why })
     );
     assert_eq!(rt; ram.used(), 0);
-    let third = ObjectNo::from_request(ram.profile(), 3);
-    let stored = receive_from(&mut ram, &received, third, tries(2)?)
-        .ok()
-        .ok_or("refused")?
-        .ok_or("none")?;
+    let stored = found(receive_from(&mut ram, &received, 3, tries(2)?))?;
     assert_eq!(rt; stored.object, at);
     assert_eq!(rt; stored.after.control(), 0x8081);
     assert_eq!(rt; ram.used(), 1);
@@ -143,11 +139,7 @@ fn goes_on_past_an_object_made_invalid(rt: HostRuntime) -> Result<(), Fail> {
         }
         let fifth = ObjectNo::from_request(ram.profile(), 5);
         assert!(rt; !ram.look(fifth).valid);
-        let sixth = ObjectNo::from_request(ram.profile(), 6);
-        let (resumed, _started) = choose_from(&mut ram, sixth, tries(1)?)
-            .ok()
-            .ok_or("refused")?
-            .ok_or("none")?;
+        let (resumed, _started) = found(choose_from(&mut ram, 6, tries(1)?))?;
         assert_eq!(rt; resumed.get(), 9);
     }
     Ok(())
@@ -171,10 +163,7 @@ fn starts_the_next_object_where_the_first_is_ready_no_more(rt: HostRuntime) -> R
                 Err(ScanRefused { at, why })
             );
         }
-        let (found, started) = choose_at_once(&mut ram, tries(most)?)
-            .ok()
-            .ok_or("refused")?
-            .ok_or("none")?;
+        let (found, started) = found(choose_at_once(&mut ram, tries(most)?))?;
         assert_eq!(rt; found.get(), 9);
         assert_eq!(rt; started.control(), 0x0188);
         assert_eq!(rt; started.bytes, FIRST);
@@ -192,10 +181,7 @@ fn loses_nothing_to_another_object(rt: HostRuntime) -> Result<(), Fail> {
     let mut ram = Contended::new(Profile::One, 64, &theirs);
     assert!(rt; ram.go_on());
     let received = one_byte()?;
-    let stored = receive(&mut ram, &received, tries(1)?)
-        .ok()
-        .ok_or("refused")?
-        .ok_or("none")?;
+    let stored = found(receive(&mut ram, &received, tries(1)?))?;
     assert_eq!(rt; stored.object.get(), 3);
     let sixth = ObjectNo::from_request(ram.profile(), 6);
     assert_eq!(rt; ram.look(sixth).control(), 0x0188);

@@ -1,6 +1,5 @@
-ghost use Rattle.ccan_object.specs.Profile.{Holds};
-
-use ccan_handler::*;
+use test_contended::calls::{choose, flags, interrupt, until};
+use ccan_handler::{ScanRefused, laws};
 
 mod moments;
 mod scans;
@@ -38,13 +37,6 @@ fn set(registers: &mut Iface, settings: &[(Reg, u16)]) {
 /// So many tries.
 fn tries(most: u16) -> Result<Tries, Fail> {
     Ok(Tries::new(most).ok_or("tries")?)
-}
-
-/// The object that a request names.
-fn object(ram: &Array, request: u16) -> ObjectNo
-    ensures { Holds (⟦<Array as Access>⟧.passes ram.now).terms.profile result }
-{
-    ObjectNo::from_request(ram.profile(), request)
 }
 
 /// A change by one port of the object that a request names.
@@ -98,12 +90,9 @@ fn reads_the_flags_of_all_objects(rt: HostRuntime) -> Result<(), Fail> {
     assert_eq!(rt; flags(&mut ram, Flag::MsgVal), 0);
     ram.at(PortName::Bus);
     assert_eq!(rt; choose(&mut ram, tries(4)?), Ok(None));
-    let second = object(&ram, 0x0002);
-    assert!(rt; !until(&mut ram, second, Flag::TxRqst, 1));
-    let last = object(&ram, 0x0000);
-    assert!(rt; until(&mut ram, last, Flag::TxRqst, 1));
-    let again = object(&ram, 0x0000);
-    assert!(rt; !until(&mut ram, again, Flag::TxRqst, 0));
+    assert!(rt; !until(&mut ram, 0x0002, Flag::TxRqst, 1));
+    assert!(rt; until(&mut ram, 0x0000, Flag::TxRqst, 1));
+    assert!(rt; !until(&mut ram, 0x0000, Flag::TxRqst, 0));
     Ok(())
 }
 

@@ -1,4 +1,5 @@
 //! The words of the command line.
+use crate::runs::shows;
 use ccan_run::{CliError, RunMode, mode};
 use std::test::Fail;
 
@@ -28,8 +29,7 @@ fn tells_each_fault(rt: HostRuntime) -> Result<(), Fail> {
         (CliError::Words, "ccan: command line", 2),
         (CliError::Memory, "ccan: out of memory", 3),
     ] {
-        let text = format!(in rt.alloc(); "{fault}")?;
-        assert_eq!(rt; text.as_str(), want);
+        shows(&rt, rt.alloc(), &fault, want)?;
         assert_eq!(rt; fault.status(), status, "at {want}");
     }
     Ok(())

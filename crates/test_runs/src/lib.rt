@@ -15,6 +15,8 @@ mod outcomes;
 #[cfg(test)]
 mod quotas;
 #[cfg(test)]
+mod runs;
+#[cfg(test)]
 mod streams;
 #[cfg(test)]
 mod worked;

@@ -1,9 +1,10 @@
 //! Scripts that are cut, spoiled, or written in unusual ways. The refusals are those of the order of the checks.
 use crate::faulty::{Spaces, new_sheet};
-use crate::streams::{SPENT, WRITE};
-use crate::worked::WORKED;
+use crate::runs::{holds, is_refused, prints, run};
+use crate::streams::{spent, write};
+use crate::worked::{WORKED, worked};
 use ccan_ram::PortName;
-use ccan_run::{RunError, run_stream};
+use ccan_run::RunError;
 use ccan_script::{ListName, ScriptError};
 use std::alloc::{AllocError, Global};
 use std::process::Abort;
@@ -33,83 +34,74 @@ fn range(list: ListName) -> ScriptError {
     ScriptError::Range { list, index: 0 }
 }
 
-/// What a script is refused as. Nothing is written.
-fn refusal(rt: &impl Abort, alloc: Global, script: &[u8]) -> RunError {
-    let mut reader = script;
-    let mut out = new_sheet(512);
-    let got = run_stream(alloc, &mut reader, &mut out);
-    assert!(rt; out.taken.as_slice().is_empty());
-    match got {
-        Ok(()) => panic!(rt; "not refused"),
-        Err(fault) => fault,
-    }
-}
-
 /// What bytes come to, which is the same the second time. Where they are refused, nothing is written.
 fn answer(rt: &impl Abort, alloc: Global, bytes: &[u8]) -> Result<(), RunError> {
     let mut first = new_sheet(4096);
     let mut second = new_sheet(4096);
-    let got = run_stream(alloc, &mut &bytes[..], &mut first);
-    let again = run_stream(alloc, &mut &bytes[..], &mut second);
+    let got = run(alloc, &mut &bytes[..], &mut first);
+    let again = run(alloc, &mut &bytes[..], &mut second);
     assert_eq!(rt; got, again);
     assert!(rt; first.taken.as_slice() == second.taken.as_slice());
     assert!(rt; got.is_ok() || first.taken.as_slice().is_empty());
     got
 }
 
+/// Each beginning of a script is refused.
+fn refuses_beginnings(rt: &impl Abort, alloc: Global, bytes: &[u8]) {
+    for length in 0..bytes.len() {
+        is_refused(rt, alloc, &bytes[..length], RunError::Script(NOT_JSON));
+    }
+}
+
 #[test]
 fn refuses_each_beginning(rt: HostRuntime) {
-    for (name, script, _) in WORKED {
-        let bytes = script.as_bytes();
-        for length in 0..bytes.len() {
-            let got = refusal(&rt, rt.alloc(), &bytes[..length]);
-            assert_eq!(rt;
-                got,
-                RunError::Script(NOT_JSON),
-                "{name} cut to {length} bytes"
-            );
-        }
+    for place in 0..WORKED {
+        let (_name, script, _text) = worked(place);
+        refuses_beginnings(&rt, rt.alloc(), script.as_bytes());
+    }
+}
+
+/// Answers twice alike with this byte at a place, and refuses one that no script has.
+fn answers_alike(rt: &impl Abort, alloc: Global, bytes: &[u8], other: u8) {
+    match answer(rt, alloc, bytes) {
+        Ok(()) => assert!(rt; other != 0xff && other != 0),
+        Err(fault) => assert_eq!(rt; fault.status(), 1),
     }
 }
 
 /// Each byte is exchanged for its neighbour in the code, for a quote, a space, a digit, a bracket, a zero byte, and a byte
 /// that no UTF-8 has.
-#[test]
-fn answers_twice_alike_with_a_byte_changed(rt: HostRuntime) -> Result<(), Fail> {
-    for script in [WRITE, SPENT] {
-        let mut bytes: Vec<u8> = Vec::new(rt.alloc());
-        bytes.extend_from_slice(script.as_bytes())?;
-        for place in 0..bytes.len() {
-            let byte = bytes[place];
-            for other in [byte ^ 1, b'"', b' ', b'0', b'}', 0, 0xff] {
-                bytes[place] = other;
-                match answer(&rt, rt.alloc(), &bytes) {
-                    Ok(()) => assert!(rt; other != 0xff && other != 0, "at {place}"),
-                    Err(fault) => assert_eq!(rt; fault.status(), 1, "at {place}"),
-                }
-            }
-            bytes[place] = byte;
+fn answers_twice_alike(rt: &impl Abort, alloc: Global, script: &str) -> Result<(), Fail> {
+    let mut bytes: Vec<u8> = Vec::new(alloc);
+    bytes.extend_from_slice(script.as_bytes())?;
+    for place in 0..bytes.len() {
+        let byte = bytes[place];
+        for other in [byte ^ 1, b'"', b' ', b'0', b'}', 0, 0xff] {
+            bytes[place] = other;
+            answers_alike(rt, alloc, &bytes, other);
         }
+        bytes[place] = byte;
     }
     Ok(())
+}
+
+#[test]
+fn answers_twice_alike_with_a_byte_changed(rt: HostRuntime) -> Result<(), Fail> {
+    answers_twice_alike(&rt, rt.alloc(), write().0)?;
+    answers_twice_alike(&rt, rt.alloc(), spent().0)
 }
 
 /// A name with escapes is the same name, and a text with escapes the same text.
 #[test]
 fn reads_escapes(rt: HostRuntime) {
+    let want = "if1 read 03 00000000 00000000 0000 0000000000000000\n";
     for script in [
         r#"{"\u0069f1":[{"op":"transfer","request":"0003"}]}"#,
         r#"{"if\u0031":[{"\u006fp":"transf\u0065r","request":"\u0030003"}]}"#,
         r#"{"if1":[{"op":"transfer","request":"000\u0033","s\u0065t":{"\u0063mask":"007\u0033"}}]}"#,
         " \t\r\n{ \"if1\" : [ { \"op\" : \"transfer\" , \"request\" : \"0003\" } ] } \n",
     ] {
-        let mut out = new_sheet(512);
-        assert_eq!(rt;
-            run_stream(rt.alloc(), &mut script.as_bytes(), &mut out),
-            Ok(())
-        );
-        let want = "if1 read 03 00000000 00000000 0000 0000000000000000\n";
-        assert!(rt; out.taken.as_slice() == want.as_bytes(), "at {script}");
+        prints(&rt, rt.alloc(), script, want, 512);
     }
 }
 
@@ -161,16 +153,25 @@ fn refuses_by_the_order_of_the_checks(rt: HostRuntime) {
         ),
         (r#"{"if2":[{"op":"flags"}]}"#, shape(if2)),
     ] {
-        let got = refusal(&rt, rt.alloc(), script.as_bytes());
-        assert_eq!(rt; got, RunError::Script(want), "at {script}");
+        is_refused(&rt, rt.alloc(), script.as_bytes(), RunError::Script(want));
     }
+}
+
+/// A script with a number at its top.
+fn at_the_top(alloc: Global, number: &str) -> Result<String, AllocError> {
+    format!(in alloc; "{{\"quota\":{number}}}")
+}
+
+/// A script with a number in a line.
+fn in_a_line(alloc: Global, number: &str) -> Result<String, AllocError> {
+    format!(in alloc; "{{\"bus\":[{{\"op\":\"recessive\",\"groups\":{number}}}]}}")
 }
 
 /// Numbers with a fraction, an exponent or a sign, and those of more than 64 bits, are no whole numbers; the largest of 64
 /// bits is one, and out of range.
 #[test]
 fn refuses_unusual_numbers(rt: HostRuntime) -> Result<(), Fail> {
-    for (number, in_range, want) in [
+    for (number, at_top, in_line) in [
         ("1e0", SHAPE, shape(ListName::Bus)),
         ("1E+2", SHAPE, shape(ListName::Bus)),
         ("1.0", SHAPE, shape(ListName::Bus)),
@@ -186,20 +187,16 @@ fn refuses_unusual_numbers(rt: HostRuntime) -> Result<(), Fail> {
         ("0x1", NOT_JSON, NOT_JSON),
         ("NaN", NOT_JSON, NOT_JSON),
     ] {
-        let top = format!(in rt.alloc(); "{{\"quota\":{number}}}")?;
-        let got = refusal(&rt, rt.alloc(), top.as_bytes());
-        assert_eq!(rt; got, RunError::Script(in_range), "at {top}");
-        let line = format!(in rt.alloc();
-            "{{\"bus\":[{{\"op\":\"recessive\",\"groups\":{number}}}]}}"
-        )?;
-        let got = refusal(&rt, rt.alloc(), line.as_bytes());
-        assert_eq!(rt; got, RunError::Script(want), "at {line}");
+        let top = at_the_top(rt.alloc(), number)?;
+        is_refused(&rt, rt.alloc(), top.as_bytes(), RunError::Script(at_top));
+        let line = in_a_line(rt.alloc(), number)?;
+        is_refused(&rt, rt.alloc(), line.as_bytes(), RunError::Script(in_line));
     }
     Ok(())
 }
 
 #[test]
-fn refuses_what_is_no_json(rt: HostRuntime) -> Result<(), Fail> {
+fn refuses_what_is_no_json(rt: HostRuntime) {
     let want = RunError::Script(NOT_JSON);
     for script in [
         "",
@@ -216,15 +213,15 @@ fn refuses_what_is_no_json(rt: HostRuntime) -> Result<(), Fail> {
         r#"{"\x69f1":1}"#,
         "{\"\n\":1}",
     ] {
-        let got = refusal(&rt, rt.alloc(), script.as_bytes());
-        assert_eq!(rt; got, want, "at {script}");
+        is_refused(&rt, rt.alloc(), script.as_bytes(), want);
     }
-    let mut no_utf8: Vec<u8> = Vec::new(rt.alloc());
-    no_utf8.extend_from_slice(br#"{"if1":[{"op":"transfer","request":"000"#)?;
-    no_utf8.push(0xff)?;
-    no_utf8.extend_from_slice(br#""}]}"#)?;
-    assert_eq!(rt; refusal(&rt, rt.alloc(), &no_utf8), want);
-    Ok(())
+}
+
+/// A byte that no UTF-8 has, in place of a digit.
+#[test]
+fn refuses_what_is_no_utf8(rt: HostRuntime) {
+    let script = b"{\"if1\":[{\"op\":\"transfer\",\"request\":\"000\xff\"}]}";
+    is_refused(&rt, rt.alloc(), script, RunError::Script(NOT_JSON));
 }
 
 /// So many lists, each in the one before.
@@ -238,7 +235,7 @@ fn nested(alloc: Global, depth: usize) -> Result<String, AllocError> {
     Ok(script)
 }
 
-/// A text of 127 lists is JSON, one of more is not; within a member there is room for one less.
+/// A text of 127 lists is JSON, one of more is not.
 #[test]
 fn refuses_deep_nesting(rt: HostRuntime) -> Result<(), Fail> {
     for (depth, want) in [
@@ -249,18 +246,18 @@ fn refuses_deep_nesting(rt: HostRuntime) -> Result<(), Fail> {
         (100_000, NOT_JSON),
     ] {
         let script = nested(rt.alloc(), depth)?;
-        let got = refusal(&rt, rt.alloc(), script.as_bytes());
-        assert_eq!(rt; got, RunError::Script(want), "at {depth} lists");
+        is_refused(&rt, rt.alloc(), script.as_bytes(), RunError::Script(want));
     }
+    Ok(())
+}
+
+/// Within a member there is room for one less.
+#[test]
+fn refuses_deep_nesting_in_a_member(rt: HostRuntime) -> Result<(), Fail> {
     for (depth, want) in [(126, SHAPE), (127, NOT_JSON)] {
         let inner = nested(rt.alloc(), depth)?;
-        let script = format!(in rt.alloc(); "{{\"quota\":{inner}}}")?;
-        let got = refusal(&rt, rt.alloc(), script.as_bytes());
-        assert_eq!(rt;
-            got,
-            RunError::Script(want),
-            "at {depth} lists in an object"
-        );
+        let script = at_the_top(rt.alloc(), inner.as_str())?;
+        is_refused(&rt, rt.alloc(), script.as_bytes(), RunError::Script(want));
     }
     Ok(())
 }
@@ -294,26 +291,34 @@ fn many(alloc: Global, name: &str, item: &str, count: usize) -> Result<String, A
 }
 
 #[test]
-fn holds_its_limits(rt: HostRuntime) -> Result<(), Fail> {
+fn takes_two_thousand_lines_and_no_more(rt: HostRuntime) -> Result<(), Fail> {
     for (name, list) in [
         ("if1", ListName::If1),
         ("if2", ListName::If2),
         ("bus", ListName::Bus),
     ] {
-        for (count, want) in [(2_000, shape(list)), (2_001, ScriptError::TooMany { list })] {
-            let script = many(rt.alloc(), name, "0", count)?;
-            let got = refusal(&rt, rt.alloc(), script.as_bytes());
-            assert_eq!(rt; got, RunError::Script(want), "at {name} {count}");
-        }
+        let most = many(rt.alloc(), name, "0", 2_000)?;
+        is_refused(
+            &rt,
+            rt.alloc(),
+            most.as_bytes(),
+            RunError::Script(shape(list)),
+        );
+        let more = many(rt.alloc(), name, "0", 2_001)?;
+        let want = RunError::Script(ScriptError::TooMany { list });
+        is_refused(&rt, rt.alloc(), more.as_bytes(), want);
     }
+    Ok(())
+}
+
+#[test]
+fn reads_four_mebibytes_and_no_more(rt: HostRuntime) {
     for (left, want) in [
         (4_194_304, RunError::Script(NOT_JSON)),
         (4_194_305, RunError::TooLong),
     ] {
         let mut out = new_sheet(512);
-        let got = run_stream(rt.alloc(), &mut Spaces { left }, &mut out);
-        assert_eq!(rt; got, Err(want));
-        assert!(rt; out.taken.as_slice().is_empty());
+        let got = run(rt.alloc(), &mut Spaces { left }, &mut out);
+        holds(&rt, "spaces", got, &out, Err(want), b"");
     }
-    Ok(())
 }

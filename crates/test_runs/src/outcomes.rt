@@ -1,12 +1,15 @@
 //! Reading a script by itself, and printing what a run without an order came to.
-use crate::faulty::{Counting, FAULTS, Fault, Pieces, Sheet, Spaces, new_sheet};
-use crate::streams::{WRITE, WRITE_TEXT};
+use crate::faulty::{Counting, FAULTS, Fault, Sheet, Spaces, new_sheet};
+use crate::runs::{holds, pieces};
+use crate::streams::write;
 use arrayvec::ArrayVec;
 use ccan_object::{MOST_OBJECTS, ObjectNo, Profile, Record, unpack};
 use ccan_ram::{Final, PortName};
-use ccan_run::{Outcome, RunError, print_outcome, read_input, run_ordered};
+use ccan_run::{Outcome, RunError, print_outcome, read_input};
 use ccan_script::{LineAnswer, ListName, ScriptError};
 use std::alloc::Global;
+use std::io::{ErrorKind, Read};
+use std::process::Abort;
 use std::test::Fail;
 
 #[test]
@@ -18,20 +21,17 @@ fn laws_hold() {
 
 #[test]
 fn reads_a_script_to_the_end_of_the_input(rt: HostRuntime) -> Result<(), Fail> {
-    let mut reader = Pieces {
-        rest: WRITE.as_bytes(),
-        step: 64,
-        calls: 0,
-        fault: None,
-    };
+    let mut reader = pieces(write().0, 64, 0, None);
     let script = read_input(rt.alloc(), &mut reader)?;
     assert!(rt; reader.rest.is_empty());
     assert_eq!(rt; script.if1.len(), 1);
     assert_eq!(rt; script.order.as_slice(), [PortName::If1].as_slice());
-    let mut out = new_sheet(512);
-    run_ordered(rt.alloc(), &script, &mut out)?;
-    assert!(rt; out.taken.as_slice() == WRITE_TEXT.as_bytes());
     Ok(())
+}
+
+/// Why a reader's input is no script.
+fn fault<R: Read>(alloc: Global, reader: &mut R) -> Option<RunError> {
+    read_input(alloc, reader).err()
 }
 
 #[test]
@@ -53,24 +53,26 @@ fn tells_why_input_is_no_script(rt: HostRuntime) {
             },
         ),
     ] {
-        let got = read_input(rt.alloc(), &mut input.as_bytes()).err();
+        let got = fault(rt.alloc(), &mut input.as_bytes());
         assert_eq!(rt; got, Some(RunError::Script(want)), "at {input}");
     }
+}
+
+#[test]
+fn tells_that_input_is_too_long(rt: HostRuntime) {
     for (left, want) in [
         (4_194_304, RunError::Script(ScriptError::NotJson)),
         (4_194_305, RunError::TooLong),
     ] {
-        let got = read_input(rt.alloc(), &mut Spaces { left }).err();
+        let got = fault(rt.alloc(), &mut Spaces { left });
         assert_eq!(rt; got, Some(want), "at {left} spaces");
     }
-    let mut reader = Pieces {
-        rest: WRITE.as_bytes(),
-        step: 64,
-        calls: 2,
-        fault: Some(Fault::Fails(std::io::ErrorKind::Interrupted)),
-    };
-    let got = read_input(rt.alloc(), &mut reader).err();
-    assert_eq!(rt; got, Some(RunError::Read));
+}
+
+#[test]
+fn tells_that_input_could_not_be_read(rt: HostRuntime) {
+    let mut reader = pieces(write().0, 64, 2, Some(Fault::Fails(ErrorKind::Interrupted)));
+    assert_eq!(rt; fault(rt.alloc(), &mut reader), Some(RunError::Read));
 }
 
 // ---- printing
@@ -157,22 +159,26 @@ fn prints_nothing(rt: HostRuntime) -> Result<(), Fail> {
     Ok(())
 }
 
+/// Prints an outcome whose writer meets a fault after so many bytes: exactly those went out.
+fn fails_to_print(rt: &impl Abort, outcome: &Outcome, text: &str, room: usize, fault: Fault) {
+    let mut out = Sheet {
+        taken: ArrayVec::new(),
+        step: 7,
+        room,
+        fault: Some(fault),
+    };
+    let got = print_outcome(outcome, &mut out);
+    let (front, _) = text.as_bytes().split_at(room.min(text.len()));
+    holds(rt, text, got, &out, Err(RunError::Write), front);
+}
+
 /// A write that fails or takes nothing is told and not tried again, wherever it comes.
 #[test]
 fn prints_a_prefix_where_a_write_fails(rt: HostRuntime) -> Result<(), Fail> {
     let outcome = outcome(rt.alloc(), Profile::Two)?;
     for fault in FAULTS {
         for room in 0..TWO_TEXT.len() {
-            let mut out = Sheet {
-                taken: ArrayVec::new(),
-                step: 7,
-                room,
-                fault: Some(fault),
-            };
-            let got = print_outcome(&outcome, &mut out);
-            assert_eq!(rt; got, Err(RunError::Write), "after {room} bytes");
-            let front = TWO_TEXT.as_bytes().get(..room).ok_or("too short")?;
-            assert!(rt; out.taken.as_slice() == front, "after {room} bytes");
+            fails_to_print(&rt, &outcome, TWO_TEXT, room, fault);
         }
     }
     Ok(())

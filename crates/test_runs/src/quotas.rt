@@ -3,12 +3,13 @@ ghost use Rattle.std.specs.Prelude.{◌≡◌};
 ghost use Rattle.ccan_ram.specs.Port.{IsQuota};
 
 use ccan_accept::Frame;
-use ccan_handler::{choose, flags, interrupt, receive, until};
+use ccan_handler::ScanRefused;
 use ccan_object::{CommandMask, Iface, ObjectNo, Profile, Record, Reg};
 use ccan_ram::{Access, Array, Change, Changed, Flag, On, PortName, Refused, SharedRam, Tries};
 use ccan_words::{RootRam, WordRam};
 use std::process::Abort;
 use std::test::Fail;
+use test_contended::calls::{choose, flags, interrupt, receive, until};
 
 /// The registers of an object that is ready, has a message, and receives standard frames 0x123.
 const READY: [(Reg, u16); 3] = [
@@ -56,37 +57,63 @@ fn spend<A: Access>(rt: &impl Abort, access: &mut A, quota: u64, first: u64) -> 
     Ok(())
 }
 
-/// After the quota each change is spent, whether it fits or not, and every look still answers.
-fn still_answers<A: Access>(rt: &impl Abort, access: &mut A) -> Result<(), Fail> {
-    let tries = Tries::new(1).ok_or("tries")?;
-    let fitting = frame(0x123)?;
+/// After the quota each change is spent, whether it fits or not.
+fn is_spent<A: Access>(rt: &impl Abort, access: &mut A) -> Result<(), Fail> {
     let clear = Change::Clear(CommandMask::of(0x000c));
-    let store = Change::Store(fitting);
+    let store = Change::Store(frame(0x123)?);
     for change in [write(), clear, store, Change::Start, Change::Finish] {
         for request in [1, 3] {
-            let object = ObjectNo::from_request(access.profile(), request);
-            let answer = access.change(object, &change, tries);
-            assert_eq!(rt; answer, Err(Refused::Spent));
+            refuses(rt, access, request, &change)?;
         }
     }
+    Ok(())
+}
+
+/// A change is refused, since the quota is spent.
+fn refuses<A: Access>(
+    rt: &impl Abort,
+    access: &mut A,
+    request: u16,
+    change: &Change,
+) -> Result<(), Fail> {
+    let tries = Tries::new(1).ok_or("tries")?;
+    let object = ObjectNo::from_request(access.profile(), request);
+    let answer = access.change(object, change, tries);
+    assert_eq!(rt; answer, Err(Refused::Spent));
+    Ok(())
+}
+
+/// A choice and a receipt are refused at object 3, and a frame that nobody accepts is not.
+fn scans_are_spent<A: Access>(rt: &impl Abort, access: &mut A) -> Result<(), Fail> {
+    let tries = Tries::new(1).ok_or("tries")?;
     let third = ObjectNo::from_request(access.profile(), 3);
-    assert_eq!(rt; shown(&access.look(third)), (0x848c0000, 0xa180));
-    match choose(access, tries) {
-        Err(refused) => assert_eq!(rt; (refused.at, refused.why), (third, Refused::Spent)),
-        Ok(_) => panic!(rt; "started"),
-    }
-    match receive(access, &fitting, tries) {
-        Err(refused) => assert_eq!(rt; (refused.at, refused.why), (third, Refused::Spent)),
-        Ok(_) => panic!(rt; "stored"),
-    }
-    assert!(rt; receive(access, &frame(0x124)?, tries) == Ok(None));
+    let spent = ScanRefused {
+        at: third,
+        why: Refused::Spent,
+    };
+    assert_eq!(rt; choose(access, tries), Err(spent));
+    assert_eq!(rt; receive(access, &frame(0x123)?, tries), Err(spent));
+    assert_eq!(rt; receive(access, &frame(0x124)?, tries), Ok(None));
+    Ok(())
+}
+
+/// Every look still answers.
+fn still_answers<A: Access>(rt: &impl Abort, access: &mut A) {
     assert_eq!(rt; interrupt(access, false), 0x0003);
     assert_eq!(rt; interrupt(access, true), 0x8000);
     assert_eq!(rt; flags(access, Flag::NewDat), 0x0004);
+    assert!(rt; until(access, 3, Flag::IntPnd, 1));
+    assert!(rt; !until(access, 3, Flag::MsgLst, 2));
     let third = ObjectNo::from_request(access.profile(), 3);
-    assert!(rt; until(access, third, Flag::IntPnd, 1));
-    let third = ObjectNo::from_request(access.profile(), 3);
-    assert!(rt; !until(access, third, Flag::MsgLst, 2));
+    assert_eq!(rt; shown(&access.look(third)), (0x848c0000, 0xa180));
+}
+
+/// Spends a port's quota, and shows what is refused then and what is answered.
+fn spends<A: Access>(rt: &impl Abort, access: &mut A, quota: u64, first: u64) -> Result<(), Fail> {
+    spend(rt, access, quota, first)?;
+    is_spent(rt, access)?;
+    scans_are_spent(rt, access)?;
+    still_answers(rt, access);
     Ok(())
 }
 
@@ -104,8 +131,7 @@ fn spends_an_array(rt: &impl Abort, quota: u64) -> Result<(), Fail>
     let mut ram = Array::new(Profile::One, quota);
     for (port, first) in PORTS {
         ram.at(port);
-        spend(rt, &mut ram, quota, first)?;
-        still_answers(rt, &mut ram)?;
+        spends(rt, &mut ram, quota, first)?;
     }
     Ok(())
 }
@@ -127,8 +153,7 @@ fn spends_a_port<R: SharedRam>(
     requires { (R.pass port).memory ≡ R.memory ram.now }
 {
     let mut access = On::new(ram, port);
-    spend(rt, &mut access, quota, first)?;
-    still_answers(rt, &mut access)
+    spends(rt, &mut access, quota, first)
 }
 
 /// Each port of a shared memory in turn.

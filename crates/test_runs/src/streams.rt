@@ -1,27 +1,29 @@
 //! Scripts through the whole stream: long ones, numbers at the ends of their ranges, want of memory, and the texts of faults.
 use crate::faulty::{Counting, new_sheet};
+use crate::runs::{prints, run, shows};
 use ccan_ram::PortName;
 use ccan_run::{RunError, run_ordered, run_stream};
 use ccan_script::{ListName, ScriptError, read_script};
 use std::alloc::{AllocError, Global};
 use std::fmt::Write as _;
+use std::process::Abort;
 use std::test::Fail;
 
-/// A write of one message.
-pub const WRITE: &str =
-    r#"{"if1":[{"op":"transfer","request":"0001","set":{"cmask":"00f3","arb2":"a48c","ctrl":"0088","dataa1":"2211","dataa2":"4433","datab1":"6655","datab2":"8877"}}]}"#;
+/// A write of one message, and what it prints. Nothing is promised of them, so a test's proof has no text to carry.
+pub fn write() -> (&'static str, &'static str) {
+    (
+        r#"{"if1":[{"op":"transfer","request":"0001","set":{"cmask":"00f3","arb2":"a48c","ctrl":"0088","dataa1":"2211","dataa2":"4433","datab1":"6655","datab2":"8877"}}]}"#,
+        "if1 write 01 a48c0000 00000000 0088 1122334455667788\nfinal 01 a48c0000 00000000 0088 1122334455667788\n",
+    )
+}
 
-/// What it prints.
-pub const WRITE_TEXT: &str =
-    "if1 write 01 a48c0000 00000000 0088 1122334455667788\nfinal 01 a48c0000 00000000 0088 1122334455667788\n";
-
-/// A quota of one, with a write, another one that is refused, and a read.
-pub const SPENT: &str =
-    r#"{"quota":1,"if1":[{"op":"transfer","request":"0001","set":{"cmask":"00f3","arb2":"a48c","ctrl":"0088","dataa1":"2211","dataa2":"4433","datab1":"6655","datab2":"8877"}},{"op":"transfer","request":"0001","set":{"cmask":"0087","dataa1":"9999","dataa2":"9999","datab1":"9999","datab2":"9999"}},{"op":"transfer","request":"0001","set":{"cmask":"0073"}}]}"#;
-
-/// What it prints.
-pub const SPENT_TEXT: &str =
-    "if1 write 01 a48c0000 00000000 0088 1122334455667788\nif1 spent 01\nif1 read 01 a48c0000 00000000 0088 1122334455667788\nfinal 01 a48c0000 00000000 0088 1122334455667788\n";
+/// A quota of one, with a write, another one that is refused, and a read; and what they print.
+pub fn spent() -> (&'static str, &'static str) {
+    (
+        r#"{"quota":1,"if1":[{"op":"transfer","request":"0001","set":{"cmask":"00f3","arb2":"a48c","ctrl":"0088","dataa1":"2211","dataa2":"4433","datab1":"6655","datab2":"8877"}},{"op":"transfer","request":"0001","set":{"cmask":"0087","dataa1":"9999","dataa2":"9999","datab1":"9999","datab2":"9999"}},{"op":"transfer","request":"0001","set":{"cmask":"0073"}}]}"#,
+        "if1 write 01 a48c0000 00000000 0088 1122334455667788\nif1 spent 01\nif1 read 01 a48c0000 00000000 0088 1122334455667788\nfinal 01 a48c0000 00000000 0088 1122334455667788\n",
+    )
+}
 
 #[test]
 fn runs_a_script_in_order(rt: HostRuntime) -> Result<(), Fail> {
@@ -95,14 +97,24 @@ fn all_lines_text(alloc: Global) -> Result<String, AllocError> {
     Ok(text)
 }
 
+/// Holds a script to its text, whatever the length of both.
+fn prints_at_length(
+    rt: &impl Abort,
+    alloc: Global,
+    script: &String,
+    want: &String,
+) -> Result<(), Fail> {
+    let mut out: Vec<u8> = Vec::new(alloc);
+    run_stream(alloc, &mut script.as_bytes(), &mut out)?;
+    assert!(rt; out.as_slice() == want.as_bytes());
+    Ok(())
+}
+
 #[test]
 fn runs_two_thousand_lines(rt: HostRuntime) -> Result<(), Fail> {
     let script = all_lines(rt.alloc())?;
     let want = all_lines_text(rt.alloc())?;
-    let mut out: Vec<u8> = Vec::new(rt.alloc());
-    run_stream(rt.alloc(), &mut script.as_bytes(), &mut out)?;
-    assert!(rt; out.as_slice() == want.as_bytes());
-    Ok(())
+    prints_at_length(&rt, rt.alloc(), &script, &want)
 }
 
 /// No number of lines is refused.
@@ -117,25 +129,26 @@ fn runs_each_number_of_lines(rt: HostRuntime) -> Result<(), Fail> {
         lines.push_str(r#"{"op":"transfer","request":"0001"}"#)?;
         want.push_str("if1 read 01 00000000 00000000 0000 0000000000000000\n")?;
         let script = format!(in rt.alloc(); "{{\"if1\":[{lines}]}}")?;
-        let mut out: Vec<u8> = Vec::new(rt.alloc());
-        run_stream(rt.alloc(), &mut script.as_bytes(), &mut out)?;
-        assert!(rt; out.as_slice() == want.as_bytes(), "at {count} lines");
+        prints_at_length(&rt, rt.alloc(), &script, &want)?;
     }
     Ok(())
 }
 
-/// The numbers at the ends of their ranges are no fault.
-#[test]
-fn takes_each_number_in_range(rt: HostRuntime) -> Result<(), Fail> {
+/// A script of one line with a number at its top.
+fn one_line(alloc: Global, name: &str, number: u32) -> Result<String, AllocError> {
     let line = r#"{"op":"transfer","request":"0002","set":{"cmask":"0090","ctrl":"a488"}}"#;
+    format!(in alloc; "{{\"{name}\":{number},\"if1\":[{line}]}}")
+}
+
+/// Every ninth number from the first to the last of its range is no fault.
+#[test]
+fn takes_the_numbers_in_range(rt: HostRuntime) -> Result<(), Fail> {
     let want =
         "if1 write 02 00000000 00000000 a488 0000000000000000\nfinal 02 00000000 00000000 a488 0000000000000000\n";
-    for (name, most) in [("quota", 4_096), ("tries", 1_000)] {
-        for number in 1..most + 1 {
-            let script = format!(in rt.alloc(); "{{\"{name}\":{number},\"if1\":[{line}]}}")?;
-            let mut out = new_sheet(512);
-            run_stream(rt.alloc(), &mut script.as_bytes(), &mut out)?;
-            assert!(rt; out.taken.as_slice() == want.as_bytes(), "at {script}");
+    for (name, most) in [("quota", 4_096u32), ("tries", 1_000)] {
+        for number in (1..most + 1).step_by(9) {
+            let script = one_line(rt.alloc(), name, number)?;
+            prints(&rt, rt.alloc(), script.as_str(), want, 512);
         }
     }
     Ok(())
@@ -154,9 +167,10 @@ fn writes_two_thousand_lines_in_few_calls(rt: HostRuntime) -> Result<(), Fail> {
 /// Holds too where any one allocation fails: then nothing is written.
 #[test]
 fn writes_nothing_without_memory(rt: HostRuntime) {
+    let (script, text) = spent();
     let mut out = new_sheet(512);
-    match run_stream(rt.alloc(), &mut SPENT.as_bytes(), &mut out) {
-        Ok(()) => assert!(rt; out.taken.as_slice() == SPENT_TEXT.as_bytes()),
+    match run(rt.alloc(), &mut script.as_bytes(), &mut out) {
+        Ok(()) => assert!(rt; out.taken.as_slice() == text.as_bytes()),
         Err(fault) => {
             assert_eq!(rt; fault.status(), 3);
             assert!(rt; out.taken.as_slice().is_empty());
@@ -164,55 +178,74 @@ fn writes_nothing_without_memory(rt: HostRuntime) {
     }
 }
 
+/// The texts of the faults of a script, and their status.
+const SCRIPT_FAULTS: [(ScriptError, &str, u8); 6] = [
+    (ScriptError::NotJson, "ccan: script: not JSON", 1),
+    (
+        ScriptError::Shape {
+            list: ListName::If1,
+            index: 12,
+        },
+        "ccan: script: shape, if1 12",
+        1,
+    ),
+    (
+        ScriptError::Range {
+            list: ListName::Top,
+            index: 0,
+        },
+        "ccan: script: range, top 0",
+        1,
+    ),
+    (
+        ScriptError::TooMany {
+            list: ListName::If1,
+        },
+        "ccan: script: too many, if1",
+        1,
+    ),
+    (
+        ScriptError::Order {
+            port: PortName::Bus,
+        },
+        "ccan: script: order, bus",
+        1,
+    ),
+    (ScriptError::Memory, "ccan: out of memory", 3),
+];
+
 #[test]
-fn tells_each_fault(rt: HostRuntime) -> Result<(), Fail> {
-    let list = ListName::If1;
-    let top = ListName::Top;
-    let in_script = |e| RunError::Script(e);
+fn tells_each_fault_of_a_script(rt: HostRuntime) -> Result<(), Fail> {
+    for (fault, want, status) in SCRIPT_FAULTS {
+        let fault = RunError::Script(fault);
+        shows(&rt, rt.alloc(), &fault, want)?;
+        assert_eq!(rt; fault.status(), status, "at {want}");
+    }
+    Ok(())
+}
+
+#[test]
+fn tells_each_fault_of_a_stream(rt: HostRuntime) -> Result<(), Fail> {
     for (fault, want, status) in [
         (RunError::Read, "ccan: input could not be read", 4),
         (RunError::TooLong, "ccan: input too long", 1),
-        (in_script(ScriptError::NotJson), "ccan: script: not JSON", 1),
-        (
-            in_script(ScriptError::Shape { list, index: 12 }),
-            "ccan: script: shape, if1 12",
-            1,
-        ),
-        (
-            in_script(ScriptError::Range {
-                list: top,
-                index: 0,
-            }),
-            "ccan: script: range, top 0",
-            1,
-        ),
-        (
-            in_script(ScriptError::TooMany { list }),
-            "ccan: script: too many, if1",
-            1,
-        ),
-        (
-            in_script(ScriptError::Order {
-                port: PortName::Bus,
-            }),
-            "ccan: script: order, bus",
-            1,
-        ),
-        (in_script(ScriptError::Memory), "ccan: out of memory", 3),
         (RunError::Memory, "ccan: out of memory", 3),
         (RunError::Write, "ccan: output could not be written", 4),
     ] {
-        let text = format!(in rt.alloc(); "{fault}")?;
-        assert_eq!(rt; text.as_str(), want);
+        shows(&rt, rt.alloc(), &fault, want)?;
         assert_eq!(rt; fault.status(), status, "at {want}");
     }
+    Ok(())
+}
+
+#[test]
+fn names_each_list(rt: HostRuntime) -> Result<(), Fail> {
     for (list, want) in [
         (ListName::If2, "if2"),
         (ListName::Bus, "bus"),
         (ListName::Order, "order"),
     ] {
-        let text = format!(in rt.alloc(); "{list}")?;
-        assert_eq!(rt; text.as_str(), want);
+        shows(&rt, rt.alloc(), &list, want)?;
     }
     Ok(())
 }

@@ -2,12 +2,18 @@
 //! three threads of a caller's own. There is nothing here but tests and what they stand on.
 #![tactic(auto)]
 
-pub mod callers;
-pub mod gates;
-pub mod refusing;
+#[cfg(test)]
+mod callers;
+#[cfg(test)]
+mod gates;
+#[cfg(test)]
+mod refusing;
 #[cfg(test)]
 mod tests;
 
-pub use callers::run_by_callers;
-pub use gates::{HeldFrom, Together};
-pub use refusing::Refusing;
+#[cfg(test)]
+use callers::run_by_callers;
+#[cfg(test)]
+use gates::{HeldFrom, Together};
+#[cfg(test)]
+use refusing::Refusing;

@@ -2,12 +2,20 @@
 //! ports in threads of their own. `Contended` is an access whose every try of a change is disturbed by another port.
 #![tactic(auto)]
 
-pub mod calls;
-pub mod contended;
-pub mod drafts;
-pub mod pictures;
-pub mod rivals;
+#[cfg(test)]
+mod calls;
+#[cfg(test)]
+mod contended;
+#[cfg(test)]
+mod drafts;
+#[cfg(test)]
+mod pictures;
+#[cfg(test)]
+mod rivals;
+#[cfg(test)]
+mod seat;
 #[cfg(test)]
 mod tests;
 
-pub use contended::Contended;
+#[cfg(test)]
+use contended::Contended;

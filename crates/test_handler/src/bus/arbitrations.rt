@@ -2,6 +2,7 @@
 
 use super::bench::{empty_frame, frame};
 use arrayvec::ArrayVec;
+use ccan_accept::Frame;
 use ccan_bus::{Fault, Outcome, RoundLine, arbitrate, arbitration_bits, laws};
 
 // The upper eleven bits of the frames below: 0x123. As the upper part of an extended identifier it is 0x48c0000.
@@ -27,42 +28,75 @@ fn sends_the_bits_in_order(rt: HostRuntime) {
     }
 }
 
+/// Frames of the four kinds with the same upper eleven bits, and an extended one below and above those.
+#[derive(Clone, Copy)]
+enum Kind {
+    StandardData,
+    StandardRemote,
+    ExtendedData,
+    ExtendedRemote,
+    NextData,
+    BeforeRemote,
+}
+
+use Kind::*;
+
+/// The frame of a kind.
+fn of_kind(kind: Kind) -> Frame {
+    match kind {
+        StandardData => frame(0x123, false, false, 0, [0; 8]),
+        StandardRemote => frame(0x123, false, true, 0, [0; 8]),
+        ExtendedData => frame(0x48c0000, true, false, 0, [0; 8]),
+        ExtendedRemote => frame(0x48c0000, true, true, 0, [0; 8]),
+        NextData => frame(0x48c0001, true, false, 0, [0; 8]),
+        BeforeRemote => frame(0x48bffff, true, true, 0, [0; 8]),
+    }
+}
+
+/// What comes of frames of these kinds.
+fn outcome(kinds: &[Kind]) -> Outcome {
+    let mut frames: ArrayVec<Frame, 8> = ArrayVec::new();
+    for kind in kinds {
+        let _full = frames.try_push(of_kind(*kind));
+    }
+    arbitrate(frames.as_slice())
+}
+
 #[test]
 fn arbitrates_across_the_four_kinds(rt: HostRuntime) {
-    let standard_data = frame(0x123, false, false, 0, [0; 8]);
-    let standard_remote = frame(0x123, false, true, 0, [0; 8]);
-    let extended_data = frame(0x48c0000, true, false, 0, [0; 8]);
-    let extended_remote = frame(0x48c0000, true, true, 0, [0; 8]);
-    let lower_data = frame(0x48c0001, true, false, 0, [0; 8]);
-    let before = frame(0x48bffff, true, true, 0, [0; 8]);
-    for (frames, winner) in [
-        ([standard_data, standard_remote], 0),
-        ([standard_remote, standard_data], 1),
-        ([extended_data, standard_remote], 1),
-        ([extended_data, standard_data], 1),
-        ([extended_remote, extended_data], 1),
-        ([extended_remote, standard_remote], 1),
-        ([lower_data, extended_data], 1),
-        ([lower_data, extended_remote], 1),
-        ([standard_data, before], 1),
+    for (kinds, winner) in [
+        ([StandardData, StandardRemote], 0),
+        ([StandardRemote, StandardData], 1),
+        ([ExtendedData, StandardRemote], 1),
+        ([ExtendedData, StandardData], 1),
+        ([ExtendedRemote, ExtendedData], 1),
+        ([ExtendedRemote, StandardRemote], 1),
+        ([NextData, ExtendedData], 1),
+        ([NextData, ExtendedRemote], 1),
+        ([StandardData, BeforeRemote], 1),
     ] {
-        assert!(rt; arbitrate(&frames) == Outcome::Winner(winner));
+        assert!(rt; outcome(&kinds) == Outcome::Winner(winner));
     }
-    let four = [
-        extended_remote,
-        extended_data,
-        standard_remote,
-        standard_data,
-    ];
-    assert!(rt; arbitrate(&four) == Outcome::Winner(3));
-    assert!(rt; arbitrate(&four[..3]) == Outcome::Winner(2));
-    assert!(rt; arbitrate(&four[..2]) == Outcome::Winner(1));
-    assert!(rt; arbitrate(&four[..1]) == Outcome::Winner(0));
-    let mut longer = standard_data;
-    assert!(rt; arbitrate(&[longer, standard_data]) == Outcome::Collision);
-    longer = frame(0x123, false, false, 8, [1; 8]);
-    assert!(rt; arbitrate(&[extended_data, longer, standard_data]) == Outcome::Collision);
-    assert!(rt; arbitrate(&[extended_data, before, extended_data]) == Outcome::Winner(1));
+}
+
+#[test]
+fn arbitrates_among_any_number(rt: HostRuntime) {
+    let four = [ExtendedRemote, ExtendedData, StandardRemote, StandardData];
+    for last in 0..4usize {
+        assert!(rt; outcome(&four[..last + 1]) == Outcome::Winner(last));
+    }
+    let three = [ExtendedData, BeforeRemote, ExtendedData];
+    assert!(rt; outcome(&three) == Outcome::Winner(1));
+}
+
+#[test]
+fn frames_with_the_same_bits_collide(rt: HostRuntime) {
+    let three = [ExtendedData, StandardData, StandardData];
+    assert!(rt; outcome(&three[1..]) == Outcome::Collision);
+    assert!(rt; outcome(&three) == Outcome::Collision);
+    let longer = frame(0x123, false, false, 8, [1; 8]);
+    let one = of_kind(StandardData);
+    assert!(rt; arbitrate(&[longer, one]) == Outcome::Collision);
 }
 
 #[test]

@@ -119,15 +119,16 @@ impl Bench {
 
     /// A round in which these nodes send, and this spoils the winner's frame. A line that can't be made is an idle round.
     pub fn round(&mut self, sends: &[(u8, Frame)], fault: Fault) -> RoundAnswer {
-        let mut send = ArrayVec::new();
-        for sender in sends {
-            let _full = send.try_push(*sender);
-        }
-        self.ram.at(PortName::Bus);
-        match RoundLine::new(8, send, fault) {
-            Some(line) => self.bus.round(&mut self.ram, &line, a_hundred_tries()),
+        match line_of(sends, fault) {
+            Some(line) => self.run(&line),
             None => RoundAnswer::Idle,
         }
+    }
+
+    /// A round of this line.
+    fn run(&mut self, line: &RoundLine) -> RoundAnswer {
+        self.ram.at(PortName::Bus);
+        self.bus.round(&mut self.ram, line, a_hundred_tries())
     }
 
     /// TEC, REC and the state of a node.
@@ -167,6 +168,15 @@ impl Bench {
         self.bus.recessive(groups);
         self.bus.counters(0).state()
     }
+}
+
+/// A line in which these nodes send, and this spoils the winner's frame. None: it can't be made.
+fn line_of(sends: &[(u8, Frame)], fault: Fault) -> Option<RoundLine> {
+    let mut send = ArrayVec::new();
+    for sender in sends {
+        let _full = send.try_push(*sender);
+    }
+    RoundLine::new(8, send, fault)
 }
 
 /// A hundred tries for each change.

@@ -1,7 +1,9 @@
 //! Flags, interrupt value and choice of one moment, over a plain memory.
 
 use super::{CONTROL, FIRST, MESSAGE, fields, tries, write};
-use ccan_handler::{ScanRefused, choose_at_once, flags_at_once, interrupt_at_once, laws};
+use crate::found::found;
+use test_contended::calls::{choose_at_once, flags_at_once, interrupt_at_once};
+use ccan_handler::{ScanRefused, laws};
 use ccan_object::{ObjectNo, Profile, Reg};
 use ccan_ram::{Access, Array, Flag, PortName, Refused};
 use std::test::Fail;
@@ -47,10 +49,7 @@ fn starts_the_first_object_that_was_ready(rt: HostRuntime) -> Result<(), Fail> {
         [&MESSAGE, &[(Reg::Ctrl, 0x8188)]],
     )?;
     ram.at(PortName::Bus);
-    let (object, after) = choose_at_once(&mut ram, tries(1)?)
-        .ok()
-        .ok_or("refused")?
-        .ok_or("none")?;
+    let (object, after) = found(choose_at_once(&mut ram, tries(1)?))?;
     assert_eq!(rt; object.get(), 64);
     assert_eq!(rt; fields(&after), (0xa48c0000, 0, 0x0188, FIRST));
     let at = ObjectNo::from_request(ram.profile(), 0x0000);

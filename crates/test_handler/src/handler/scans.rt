@@ -1,7 +1,9 @@
-use super::{CONTROL, FIRST, MESSAGE, RECEIVER, change, fields, object, tries, write};
+use super::{CONTROL, FIRST, MESSAGE, RECEIVER, change, fields, tries, write};
+use crate::found::found;
+use test_contended::calls::{choose, choose_from, receive, receive_from};
 use ccan_accept::Frame;
-use ccan_handler::{ScanRefused, choose, choose_from, receive, receive_from};
-use ccan_object::{Profile, Reg};
+use ccan_handler::ScanRefused;
+use ccan_object::{ObjectNo, Profile, Reg};
 use ccan_ram::{Array, Change, PortName, Refused};
 use std::test::Fail;
 
@@ -26,19 +28,15 @@ fn receives_where_the_filter_accepts(rt: HostRuntime) -> Result<(), Fail> {
     assert_eq!(rt; fields(&before), (0x848c0000, 0, 0x8488, [0; 8]));
     ram.at(PortName::Bus);
     let received = frame(3, [1, 2, 3, 0, 0, 0, 0, 0])?;
-    let stored = receive(&mut ram, &received, tries(4)?)
-        .ok()
-        .ok_or("refused")?
-        .ok_or("none")?;
+    let stored = found(receive(&mut ram, &received, tries(4)?))?;
     assert_eq!(rt; stored.object.get(), 2);
     assert_eq!(rt; stored.before, before);
     assert_eq!(rt;
         fields(&stored.after),
         (0x848c0000, 0, 0xe483, [1, 2, 3, 0, 0, 0, 0, 0])
     );
-    let third = object(&ram, 0x0003);
     assert_eq!(rt;
-        receive_from(&mut ram, &received, third, tries(4)?),
+        receive_from(&mut ram, &received, 0x0003, tries(4)?),
         Ok(None)
     );
     Ok(())
@@ -64,10 +62,7 @@ fn fills_a_buffer_in_turn(rt: HostRuntime) -> Result<(), Fail> {
     ] {
         let bytes = [byte, 0, 0, 0, 0, 0, 0, 0];
         let received = frame(1, bytes)?;
-        let stored = receive(&mut ram, &received, tries(1)?)
-            .ok()
-            .ok_or("refused")?
-            .ok_or("none")?;
+        let stored = found(receive(&mut ram, &received, tries(1)?))?;
         assert_eq!(rt; stored.object.get(), number);
         assert_eq!(rt; fields(&stored.after), (0x848c0000, 0, control, bytes));
     }
@@ -96,10 +91,7 @@ fn receives_remote_frames_by_the_four_cases(rt: HostRuntime) -> Result<(), Fail>
         let with_control = [(Reg::CMask, 0x0090), (Reg::Ctrl, control)];
         let before = write(&mut ram, PortName::If1, 0x0001, [&CONTROL, &with_control])?;
         ram.at(PortName::Bus);
-        let stored = receive(&mut ram, &requests, tries(4)?)
-            .ok()
-            .ok_or("refused")?
-            .ok_or("none")?;
+        let stored = found(receive(&mut ram, &requests, tries(4)?))?;
         assert_eq!(rt; stored.object.get(), 1);
         assert_eq!(rt; stored.before, before);
         assert_eq!(rt; stored.after.masks(), mask);
@@ -125,10 +117,7 @@ fn receives_an_extended_frame(rt: HostRuntime) -> Result<(), Fail> {
     let received = Frame::new(0x1fff_ffff, true, false, 15, bytes)
         .ok()
         .ok_or("frame")?;
-    let stored = receive(&mut ram, &received, tries(4)?)
-        .ok()
-        .ok_or("refused")?
-        .ok_or("none")?;
+    let stored = found(receive(&mut ram, &received, tries(4)?))?;
     assert_eq!(rt; fields(&stored.after), (0xdfffffff, 0, 0x808f, bytes));
     let standard = frame(0, [0; 8])?;
     assert_eq!(rt; receive(&mut ram, &standard, tries(4)?), Ok(None));
@@ -150,10 +139,7 @@ fn chooses_and_ends_a_transmission(rt: HostRuntime) -> Result<(), Fail> {
         let mut ram = Array::new(Profile::One, 64);
         let _written = write(&mut ram, PortName::If1, 0x0002, [&MESSAGE, &ready])?;
         ram.at(PortName::Bus);
-        let (chosen, started) = choose(&mut ram, tries(4)?)
-            .ok()
-            .ok_or("refused")?
-            .ok_or("none")?;
+        let (chosen, started) = found(choose(&mut ram, tries(4)?))?;
         assert_eq!(rt; chosen.get(), 2);
         assert_eq!(rt; fields(&started), (0xa48c0000, 0, 0x0188, FIRST));
         if meanwhile {
@@ -172,10 +158,7 @@ fn chooses_until_the_quota_is_spent(rt: HostRuntime) -> Result<(), Fail> {
     let _third = write(&mut ram, PortName::If1, 0x0003, [&MESSAGE, &ready])?;
     let _fifth = write(&mut ram, PortName::If2, 0x0005, [&MESSAGE, &ready])?;
     ram.at(PortName::Bus);
-    let (chosen, started) = choose(&mut ram, tries(4)?)
-        .ok()
-        .ok_or("refused")?
-        .ok_or("none")?;
+    let (chosen, started) = found(choose(&mut ram, tries(4)?))?;
     assert_eq!(rt; chosen.get(), 3);
     assert_eq!(rt; started.control(), 0x0188);
     let refused = Err(ScanRefused {
@@ -183,17 +166,15 @@ fn chooses_until_the_quota_is_spent(rt: HostRuntime) -> Result<(), Fail> {
         why: Refused::Spent,
     });
     assert_eq!(rt; choose(&mut ram, tries(4)?), refused);
-    let at = object(&ram, 0x0005);
-    let fourth = object(&ram, 0x0004);
+    let at = ObjectNo::from_request(Profile::One, 0x0005);
     assert_eq!(rt;
-        choose_from(&mut ram, fourth, tries(4)?),
+        choose_from(&mut ram, 0x0004, tries(4)?),
         Err(ScanRefused {
             at,
             why: Refused::Spent,
         })
     );
-    let sixth = object(&ram, 0x0006);
-    assert_eq!(rt; choose_from(&mut ram, sixth, tries(4)?), Ok(None));
+    assert_eq!(rt; choose_from(&mut ram, 0x0006, tries(4)?), Ok(None));
     Ok(())
 }
 
@@ -208,10 +189,7 @@ fn scans_up_to_the_last_object_of_the_profile(rt: HostRuntime) -> Result<(), Fai
             [&MESSAGE, &[(Reg::Ctrl, 0x0188)]],
         )?;
         ram.at(PortName::Bus);
-        let (chosen, _started) = choose(&mut ram, tries(4)?)
-            .ok()
-            .ok_or("refused")?
-            .ok_or("none")?;
+        let (chosen, _started) = found(choose(&mut ram, tries(4)?))?;
         assert_eq!(rt; chosen.get(), number);
     }
     Ok(())

@@ -12,33 +12,38 @@ const P: (u32, u32, u16, [u8; 8]) = (
 
 /// A start of an object that was made invalid after the look is lost, and the scan goes on to the next that is ready.
 fn start_of_an_invalid_object<R: SharedRam + Drop>(rt: &impl Abort, alloc: std::alloc::Global) {
-    let Ok((ram, mut if1, if2, mut bus)) = R::open_ram(alloc, Profile::One, 64) else {
+    let Ok((ram, if1, _if2, bus)) = R::open_ram(alloc, Profile::One, 64) else {
         panic!(rt; "no memory")
     };
-    let five = ObjectNo::from_request(ram.profile(), 5);
-    let nine = ObjectNo::from_request(ram.profile(), 9);
-    let first = calls::change(&ram, &mut if1, five, &message(0x0188), tries(1));
-    assert_eq!(rt; number(&first), Some(1));
-    let second = calls::change(&ram, &mut if1, nine, &message(0x0188), tries(1));
-    assert_eq!(rt; number(&second), Some(2));
-    let draft = calls::prepare(&ram, &mut bus, five);
+    let mut if1 = Seat::new(&ram, if1);
+    let mut bus = Seat::new(&ram, bus);
+    for (request, want) in [(5, 1), (9, 2)] {
+        let made = if1.change(request, &message(0x0188), tries(1));
+        assert_eq!(rt; number(&made), Some(want));
+    }
+    let _found = bus.prepare(5);
     let invalid = change_of(&[(Reg::CMask, 0x00a0), (Reg::Arb2, 0x048c)]);
-    let third = calls::change(&ram, &mut if1, five, &invalid, tries(1));
+    let third = if1.change(5, &invalid, tries(1));
     assert_eq!(rt; number(&third), Some(3));
-    let lost = calls::commit(&ram, &mut bus, draft, &Change::Start);
-    assert_eq!(rt; lost, Err(CommitError::Lost { now: 3 }));
-    let mut handler = On::new(&ram, bus);
-    let not_now = handler.change(five, &Change::Start, tries(1));
+    assert_eq!(rt;
+        bus.commit(&Change::Start),
+        Some(Err(CommitError::Lost { now: 3 }))
+    );
+    let not_now = bus.change(5, &Change::Start, tries(1));
     assert!(rt; matches!(&not_now, Ok(Changed::NotNow(_))));
-    let Ok(Some((chosen, started))) = choose(&mut handler, tries(1)) else {
+    assert_eq!(rt; (if1.used(), bus.used()), (3, 0));
+    starts_nine(rt, bus);
+    assert_eq!(rt; if1.prepare(9).1, 131073);
+}
+
+/// The next object that is ready is 9.
+fn starts_nine<R: SharedRam>(rt: &impl Abort, bus: Seat<'_, R>) {
+    let nine = bus.object(9);
+    let Ok(Some((chosen, started))) = choose(&mut bus.into_access(), tries(1)) else {
         panic!(rt; "nothing was started")
     };
     assert_eq!(rt; chosen, nine);
     assert_eq!(rt; shown(&started), (P.0, P.1, 0x0188, P.3));
-    let bus = handler.into_port();
-    assert_eq!(rt; (ram.used(&if1), ram.used(&if2), ram.used(&bus)), (3, 0, 1));
-    let draft = calls::prepare(&ram, &mut if1, nine);
-    assert_eq!(rt; draft.number(), 131073);
 }
 
 /// What comes of a commit of IF1 at object 4 after a change of IF2 at another object or the same, and what a change
@@ -48,16 +53,18 @@ fn commit_after<R: SharedRam + Drop>(
     alloc: std::alloc::Global,
     request: u16,
 ) -> (Result<Changed, CommitError>, Record) {
-    let Ok((ram, mut if1, mut if2, _bus)) = R::open_ram(alloc, Profile::One, 64) else {
+    let Ok((ram, if1, if2, _bus)) = R::open_ram(alloc, Profile::One, 64) else {
         panic!(rt; "no memory")
     };
-    let four = ObjectNo::from_request(ram.profile(), 4);
-    let other = ObjectNo::from_request(ram.profile(), request);
-    let draft = calls::prepare(&ram, &mut if1, four);
-    let theirs = calls::change(&ram, &mut if2, other, &data(0x9999), tries(1));
+    let mut if1 = Seat::new(&ram, if1);
+    let mut if2 = Seat::new(&ram, if2);
+    let _found = if1.prepare(4);
+    let theirs = if2.change(request, &data(0x9999), tries(1));
     assert_eq!(rt; number(&theirs), Some(65537));
-    let committed = calls::commit(&ram, &mut if1, draft, &control(0x0088));
-    let changed = calls::change(&ram, &mut if1, four, &control(0x0088), tries(1));
+    let Some(committed) = if1.commit(&control(0x0088)) else {
+        panic!(rt; "nothing was begun")
+    };
+    let changed = if1.change(4, &control(0x0088), tries(1));
     let Some((after, _)) = done(&changed) else {
         panic!(rt; "the change was not made")
     };
@@ -71,85 +78,89 @@ fn a_start_of_an_invalid_object_is_lost(rt: HostRuntime) {
     start_of_an_invalid_object::<EndlessRam>(&rt, rt.alloc());
 }
 
-#[test]
-fn changes_contend_by_the_layout(rt: HostRuntime) {
-    let (same, both) = commit_after::<WordRam>(&rt, rt.alloc(), 4);
+/// A change of another port at the same object costs a commit, and one elsewhere doesn't.
+fn contends_at_the_same_object<R: SharedRam + Drop>(rt: &impl Abort, alloc: std::alloc::Global) {
+    let (same, both) = commit_after::<R>(rt, alloc, 4);
     assert_eq!(rt; same, Err(CommitError::Lost { now: 65537 }));
     assert_eq!(rt; shown(&both), (0, 0, 0x0088, [0x99; 8]));
-    let (other, mine) = commit_after::<WordRam>(&rt, rt.alloc(), 6);
+    let (other, mine) = commit_after::<R>(rt, alloc, 6);
     assert_eq!(rt; number(&other), Some(1));
-    assert_eq!(rt; shown(&mine), (0, 0, 0x0088, [0; 8]));
-    let (same, both) = commit_after::<EndlessRam>(&rt, rt.alloc(), 4);
-    assert_eq!(rt; same, Err(CommitError::Lost { now: 65537 }));
-    assert_eq!(rt; shown(&both), (0, 0, 0x0088, [0x99; 8]));
-    let (other, mine) = commit_after::<EndlessRam>(&rt, rt.alloc(), 6);
-    assert_eq!(rt; number(&other), Some(1));
-    assert_eq!(rt; shown(&mine), (0, 0, 0x0088, [0; 8]));
-    let (same, both) = commit_after::<RootRam>(&rt, rt.alloc(), 4);
-    assert_eq!(rt; same, Err(CommitError::Lost { now: 65537 }));
-    assert_eq!(rt; shown(&both), (0, 0, 0x0088, [0x99; 8]));
-    let (other, mine) = commit_after::<RootRam>(&rt, rt.alloc(), 6);
-    assert_eq!(rt; other, Err(CommitError::Lost { now: 65537 }));
     assert_eq!(rt; shown(&mine), (0, 0, 0x0088, [0; 8]));
 }
 
 #[test]
+fn changes_contend_at_the_same_object(rt: HostRuntime) {
+    contends_at_the_same_object::<WordRam>(&rt, rt.alloc());
+    contends_at_the_same_object::<EndlessRam>(&rt, rt.alloc());
+}
+
+#[test]
+fn changes_contend_at_any_object_behind_one_word(rt: HostRuntime) {
+    for (request, bytes) in [(4, [0x99; 8]), (6, [0; 8])] {
+        let (lost, after) = commit_after::<RootRam>(&rt, rt.alloc(), request);
+        assert_eq!(rt; lost, Err(CommitError::Lost { now: 65537 }));
+        assert_eq!(rt; shown(&after), (0, 0, 0x0088, bytes));
+    }
+}
+
+/// Whether a memory is opened with this quota. None: it is refused for another reason than the quota.
+fn takes<R: SharedRam + Drop>(
+    alloc: std::alloc::Global,
+    profile: Profile,
+    quota: u64,
+) -> Option<bool> {
+    match R::open_ram(alloc, profile, quota) {
+        Ok(_) => Some(true),
+        Err(OpenError::QuotaRange) => Some(false),
+        Err(_) => None,
+    }
+}
+
+#[test]
 fn quotas_have_a_range(rt: HostRuntime) {
-    assert!(rt;
-        matches!(
-            RootRam::open_ram(rt.alloc(), Profile::One, 65),
-            Err(OpenError::QuotaRange)
-        )
-    );
-    assert!(rt;
-        matches!(
-            RootRam::open_ram(rt.alloc(), Profile::One, 0),
-            Err(OpenError::QuotaRange)
-        )
-    );
-    assert!(rt; matches!(RootRam::open_ram(rt.alloc(), Profile::One, 64), Ok(_)));
-    assert!(rt;
-        matches!(
-            WordRam::open_ram(rt.alloc(), Profile::Two, 4097),
-            Err(OpenError::QuotaRange)
-        )
-    );
-    assert!(rt; matches!(WordRam::open_ram(rt.alloc(), Profile::Two, 4096), Ok(_)));
-    assert!(rt; matches!(WordRam::open_ram(rt.alloc(), Profile::Two, 65), Ok(_)));
+    for (quota, want) in [(0, false), (64, true), (65, false)] {
+        let got = takes::<RootRam>(rt.alloc(), Profile::One, quota);
+        assert_eq!(rt; got, Some(want), "at {quota}");
+    }
+    for (quota, want) in [(65, true), (4096, true), (4097, false)] {
+        let got = takes::<WordRam>(rt.alloc(), Profile::Two, quota);
+        assert_eq!(rt; got, Some(want), "at {quota}");
+    }
 }
 
 #[test]
 fn a_memory_without_an_end_has_a_great_quota(rt: HostRuntime) {
     // 2^47 - 1 and one more
-    assert!(rt;
-        matches!(
-            EndlessRam::open_ram(rt.alloc(), Profile::Two, 140_737_488_355_327),
-            Ok(_)
-        )
-    );
-    for quota in [0, 140_737_488_355_328] {
-        assert!(rt;
-            matches!(
-                EndlessRam::open_ram(rt.alloc(), Profile::Two, quota),
-                Err(OpenError::QuotaRange)
-            )
-        );
+    let most = 140_737_488_355_327;
+    for (quota, want) in [(0, false), (most, true), (most + 1, false)] {
+        let got = takes::<EndlessRam>(rt.alloc(), Profile::Two, quota);
+        assert_eq!(rt; got, Some(want), "at {quota}");
     }
 }
 
 /// What another port sees of a write.
 fn write_is_seen<R: SharedRam + Drop>(rt: &impl Abort, alloc: std::alloc::Global) {
+    let Ok((ram, if1, if2, _bus)) = R::open_ram(alloc, Profile::One, 64) else {
+        panic!(rt; "no memory")
+    };
+    let mut if1 = Seat::new(&ram, if1);
+    let mut if2 = Seat::new(&ram, if2);
+    assert_eq!(rt; if1.look(1), Record::zero());
+    let written = if2.change(1, &message(0x0088), tries(1));
+    assert_eq!(rt; number(&written), Some(65537));
+    let (held, number) = if1.prepare(1);
+    assert_eq!(rt; shown(&held), P);
+    assert_eq!(rt; number, 65537);
+    assert_eq!(rt; shown(&if2.look(1)), P);
+}
+
+/// What a port that met another one sees of its write.
+fn write_is_met<R: SharedRam + Drop>(rt: &impl Abort, alloc: std::alloc::Global) {
     let Ok((ram, mut if1, mut if2, _bus)) = R::open_ram(alloc, Profile::One, 64) else {
         panic!(rt; "no memory")
     };
     let one = ObjectNo::from_request(ram.profile(), 1);
-    assert_eq!(rt; calls::look(&ram, &mut if1, one), Record::zero());
-    let written = calls::change(&ram, &mut if2, one, &message(0x0088), tries(1));
-    assert_eq!(rt; number(&written), Some(65537));
-    let draft = calls::prepare(&ram, &mut if1, one);
-    assert_eq!(rt; shown(&draft.held()), P);
-    assert_eq!(rt; (draft.object(), draft.number()), (one, 65537));
-    assert_eq!(rt; shown(&calls::look(&ram, &mut if2, one)), P);
+    let _written = calls::change(&ram, &mut if2, one, &message(0x0088), tries(1));
     ram.meet(&mut if1, &mut if2);
     assert_eq!(rt; shown(&calls::look(&ram, &mut if1, one)), P);
 }
@@ -159,6 +170,13 @@ fn a_write_is_seen_by_others(rt: HostRuntime) {
     write_is_seen::<WordRam>(&rt, rt.alloc());
     write_is_seen::<RootRam>(&rt, rt.alloc());
     write_is_seen::<EndlessRam>(&rt, rt.alloc());
+}
+
+#[test]
+fn a_write_is_seen_after_a_meeting(rt: HostRuntime) {
+    write_is_met::<WordRam>(&rt, rt.alloc());
+    write_is_met::<RootRam>(&rt, rt.alloc());
+    write_is_met::<EndlessRam>(&rt, rt.alloc());
 }
 
 /// A port makes its quota of changes, the last with this number, and then no more.
@@ -171,18 +189,16 @@ fn spent_after<R: SharedRam + Drop>(
     let Ok((ram, _if1, _if2, bus)) = R::open_ram(alloc, Profile::One, quota) else {
         panic!(rt; "no memory")
     };
-    let one = ObjectNo::from_request(ram.profile(), 1);
+    let mut bus = Seat::new(&ram, bus);
     let clear = change_of(&[(Reg::CMask, 0x000c)]);
     let mut last = None;
-    let mut handler = On::new(&ram, bus);
     for _ in 0..quota {
-        last = number(&handler.change(one, &clear, tries(1)));
+        last = number(&bus.change(1, &clear, tries(1)));
     }
     assert_eq!(rt; last, Some(greatest));
-    assert_eq!(rt; handler.change(one, &clear, tries(1)), Err(Refused::Spent));
-    assert_eq!(rt; handler.look(one), Record::zero());
-    let bus = handler.into_port();
-    assert_eq!(rt; ram.used(&bus), quota);
+    assert_eq!(rt; bus.change(1, &clear, tries(1)), Err(Refused::Spent));
+    assert_eq!(rt; bus.look(1), Record::zero());
+    assert_eq!(rt; bus.used(), quota);
 }
 
 #[test]
@@ -247,39 +263,58 @@ fn a_refused_scan_is_resumed(rt: HostRuntime) {
     scan_is_resumed::<EndlessRam>(&rt, rt.alloc());
 }
 
-/// Drafts of three ports at one object, one of them twice, and what comes of each.
+/// Drafts of three ports at one object, and what comes of each.
 fn three_ports_at_one_object<R: SharedRam + Drop>(rt: &impl Abort, alloc: std::alloc::Global) {
-    let Ok((ram, mut if1, mut if2, mut bus)) = R::open_ram(alloc, Profile::One, 64) else {
+    let Ok((ram, if1, if2, bus)) = R::open_ram(alloc, Profile::One, 64) else {
+        panic!(rt; "no memory")
+    };
+    let mut if1 = Seat::new(&ram, if1);
+    let mut if2 = Seat::new(&ram, if2);
+    let mut bus = Seat::new(&ram, bus);
+    let _drafts = (if1.prepare(4), if2.prepare(4), bus.prepare(4));
+    assert_eq!(rt; committed(if1.commit(&message(0x0088))), Some(1));
+    let clear = change_of(&[(Reg::CMask, 0x000c)]);
+    assert_eq!(rt; if2.commit(&clear), Some(Err(CommitError::Lost { now: 1 })));
+    let _again = if2.prepare(4);
+    assert_eq!(rt; committed(if2.commit(&clear)), Some(65537));
+    assert_eq!(rt;
+        bus.commit(&Change::Finish),
+        Some(Err(CommitError::Lost { now: 65537 }))
+    );
+    let (held, _number) = bus.prepare(4);
+    assert_eq!(rt; shown(&held), P);
+    assert_eq!(rt; bus.commit(&Change::Start), Some(Ok(Changed::NotNow(held))));
+    let _again = bus.prepare(4);
+    assert_eq!(rt; committed(bus.commit(&Change::Finish)), Some(131073));
+    assert_eq!(rt; (if1.used(), if2.used(), bus.used()), (1, 1, 1));
+    assert_eq!(rt; shown(&if1.look(4)), P);
+}
+
+/// The number of a change that was begun and made.
+fn committed(answer: Option<Result<Changed, CommitError>>) -> Option<u64> {
+    number(&answer?)
+}
+
+/// Two drafts of one port at one object, of which the other host's change costs the first, while the second is still begun.
+fn two_drafts_of_a_port<R: SharedRam + Drop>(rt: &impl Abort, alloc: std::alloc::Global) {
+    let Ok((ram, mut if1, _if2, mut bus)) = R::open_ram(alloc, Profile::One, 64) else {
         panic!(rt; "no memory")
     };
     let four = ObjectNo::from_request(ram.profile(), 4);
-    let own = calls::prepare(&ram, &mut if1, four);
-    let other = calls::prepare(&ram, &mut if2, four);
     let first = calls::prepare(&ram, &mut bus, four);
     let second = prepare_beside(&ram, &mut bus, four, &first);
-    let written = calls::commit(&ram, &mut if1, own, &message(0x0088));
-    assert_eq!(rt; number(&written), Some(1));
-    let clear = change_of(&[(Reg::CMask, 0x000c)]);
-    let lost = calls::commit(&ram, &mut if2, other, &clear);
-    assert_eq!(rt; lost, Err(CommitError::Lost { now: 1 }));
-    let again = calls::prepare(&ram, &mut if2, four);
-    let cleared = calls::commit(&ram, &mut if2, again, &clear);
-    assert!(rt;
-        matches!(&cleared, Ok(Changed::Done { before, after, number: 65537 }) if after == before)
-    );
+    let _written = calls::change(&ram, &mut if1, four, &message(0x0088), tries(1));
     let lost = commit_beside(&ram, &mut bus, first, &Change::Finish, &second);
-    assert_eq!(rt; lost, Err(CommitError::Lost { now: 65537 }));
+    assert_eq!(rt; lost, Err(CommitError::Lost { now: 1 }));
     let not_now = calls::commit(&ram, &mut bus, second, &Change::Start);
     assert_eq!(rt; not_now, Ok(Changed::NotNow(Record::zero())));
-    let third = calls::prepare(&ram, &mut bus, four);
-    let not_now = calls::commit(&ram, &mut bus, third, &Change::Start);
-    assert!(rt; matches!(&not_now, Ok(Changed::NotNow(object)) if shown(object) == P));
-    let fourth = calls::prepare(&ram, &mut bus, four);
-    let finished = calls::commit(&ram, &mut bus, fourth, &Change::Finish);
-    assert_eq!(rt; number(&finished), Some(131073));
-    assert_eq!(rt; (ram.used(&if1), ram.used(&if2), ram.used(&bus)), (1, 1, 1));
-    let last = calls::look(&ram, &mut if1, four);
-    assert_eq!(rt; shown(&last), P);
+}
+
+#[test]
+fn a_port_makes_two_drafts(rt: HostRuntime) {
+    two_drafts_of_a_port::<WordRam>(&rt, rt.alloc());
+    two_drafts_of_a_port::<RootRam>(&rt, rt.alloc());
+    two_drafts_of_a_port::<EndlessRam>(&rt, rt.alloc());
 }
 
 #[test]
@@ -291,20 +326,21 @@ fn three_ports_share_one_object(rt: HostRuntime) {
 
 /// The same record again is not the same version: a draft that was made before is lost.
 fn same_record_again<R: SharedRam + Drop>(rt: &impl Abort, alloc: std::alloc::Global) {
-    let Ok((ram, mut if1, mut if2, _bus)) = R::open_ram(alloc, Profile::One, 64) else {
+    let Ok((ram, if1, if2, _bus)) = R::open_ram(alloc, Profile::One, 64) else {
         panic!(rt; "no memory")
     };
-    let four = ObjectNo::from_request(ram.profile(), 4);
-    let first = calls::change(&ram, &mut if1, four, &message(0x0088), tries(1));
-    assert_eq!(rt; number(&first), Some(1));
-    let draft = calls::prepare(&ram, &mut if2, four);
-    let second = calls::change(&ram, &mut if1, four, &data(0x9999), tries(1));
-    assert_eq!(rt; number(&second), Some(2));
-    let third = calls::change(&ram, &mut if1, four, &message(0x0088), tries(1));
-    assert_eq!(rt; number(&third), Some(3));
-    assert_eq!(rt; draft.held(), calls::look(&ram, &mut if1, four));
-    let lost = calls::commit(&ram, &mut if2, draft, &control(0x0001));
-    assert_eq!(rt; lost, Err(CommitError::Lost { now: 3 }));
+    let mut if1 = Seat::new(&ram, if1);
+    let mut if2 = Seat::new(&ram, if2);
+    let _first = if1.change(4, &message(0x0088), tries(1));
+    let (held, _number) = if2.prepare(4);
+    for change in [data(0x9999), message(0x0088)] {
+        let _made = if1.change(4, &change, tries(1));
+    }
+    assert_eq!(rt; held, if1.look(4));
+    assert_eq!(rt;
+        if2.commit(&control(0x0001)),
+        Some(Err(CommitError::Lost { now: 3 }))
+    );
 }
 
 #[test]
