@@ -6,6 +6,7 @@ use ccan_object::{Iface, ObjectNo, Profile, Reg};
 use ccan_ram::{Access, Change, Changed, Refused, Tries};
 use std::test::Fail;
 use test_contended::{Contended, Transfer};
+use test_expect::{holds, same};
 
 /// The data of a first message.
 const FIRST: [u8; 8] = [0x11, 0x22, 0x33, 0x44, 0x55, 0x66, 0x77, 0x88];
@@ -65,7 +66,7 @@ fn one_byte() -> Result<Frame, Fail> {
 fn loses_a_try_and_makes_the_change(rt: HostRuntime) -> Result<(), Fail> {
     let theirs = [transfer(3, &RECEIVER), transfer(3, &DATA)];
     let mut ram = Contended::new(Profile::One, 64, &theirs);
-    assert!(rt; ram.go_on());
+    holds(&rt, ram.go_on());
     let third = ObjectNo::from_request(ram.profile(), 3);
     match ram.change(third, &Change::Store(one_byte()?), tries(2)?) {
         Ok(
@@ -75,15 +76,15 @@ fn loses_a_try_and_makes_the_change(rt: HostRuntime) -> Result<(), Fail> {
                 number,
             },
         ) => {
-            assert_eq!(rt; before.control(), 0x0088);
-            assert_eq!(rt; after.control(), 0x8081);
-            assert_eq!(rt; after.bytes, [1, 0, 0, 0, 0, 0, 0, 0]);
-            assert_eq!(rt; number, 131073);
+            same(&rt, before.control(), 0x0088);
+            same(&rt, after.control(), 0x8081);
+            same(&rt, after.bytes, [1, 0, 0, 0, 0, 0, 0, 0]);
+            same(&rt, number, 131073);
         }
         other => assert!(rt; false, "{other:?}"),
     }
-    assert!(rt; !ram.go_on());
-    assert_eq!(rt; ram.used(), 1);
+    holds(&rt, !ram.go_on());
+    same(&rt, ram.used(), 1);
     Ok(())
 }
 
@@ -95,19 +96,16 @@ fn is_busy_after_all_tries_and_goes_on_where_it_stopped(rt: HostRuntime) -> Resu
         transfer(3, &DATA),
     ];
     let mut ram = Contended::new(Profile::One, 64, &theirs);
-    assert!(rt; ram.go_on());
+    holds(&rt, ram.go_on());
     let received = one_byte()?;
     let at = ObjectNo::from_request(ram.profile(), 3);
     let why = Refused::Busy { tries: 2, now: 3 };
-    assert_eq!(rt;
-        receive(&mut ram, &received, tries(2)?),
-        Err(ScanRefused { at, why })
-    );
-    assert_eq!(rt; ram.used(), 0);
+    same(&rt, receive(&mut ram, &received, tries(2)?), Err(ScanRefused { at, why }));
+    same(&rt, ram.used(), 0);
     let stored = found(receive_from(&mut ram, &received, 3, tries(2)?))?;
-    assert_eq!(rt; stored.object, at);
-    assert_eq!(rt; stored.after.control(), 0x8081);
-    assert_eq!(rt; ram.used(), 1);
+    same(&rt, stored.object, at);
+    same(&rt, stored.after.control(), 0x8081);
+    same(&rt, ram.used(), 1);
     Ok(())
 }
 
@@ -120,27 +118,27 @@ fn goes_on_past_an_object_made_invalid(rt: HostRuntime) -> Result<(), Fail> {
             transfer(5, &INVALID),
         ];
         let mut ram = Contended::new(Profile::One, 64, &theirs);
-        assert!(rt; ram.go_on() && ram.go_on());
+        holds(&rt, ram.go_on() && ram.go_on());
         let object = ObjectNo::from_request(Profile::One, chosen);
         match choose(&mut ram, tries(most)?) {
             Ok(Some((found, started))) => {
-                assert!(rt; !busy);
-                assert_eq!(rt; found, object);
-                assert_eq!(rt; started.arbitration(), 0xa48c0000);
-                assert_eq!(rt; started.control(), 0x0188);
-                assert_eq!(rt; started.bytes, FIRST);
+                holds(&rt, !busy);
+                same(&rt, found, object);
+                same(&rt, started.arbitration(), 0xa48c0000);
+                same(&rt, started.control(), 0x0188);
+                same(&rt, started.bytes, FIRST);
             }
-            Ok(None) => assert!(rt; false),
+            Ok(None) => holds(&rt, false),
             Err(refused) => {
-                assert!(rt; busy);
+                holds(&rt, busy);
                 let why = Refused::Busy { tries: 1, now: 3 };
-                assert_eq!(rt; refused, ScanRefused { at: object, why });
+                same(&rt, refused, ScanRefused { at: object, why });
             }
         }
         let fifth = ObjectNo::from_request(ram.profile(), 5);
-        assert!(rt; !ram.look(fifth).valid);
+        holds(&rt, !ram.look(fifth).valid);
         let (resumed, _started) = found(choose_from(&mut ram, 6, tries(1)?))?;
-        assert_eq!(rt; resumed.get(), 9);
+        same(&rt, resumed.get(), 9);
     }
     Ok(())
 }
@@ -154,19 +152,16 @@ fn starts_the_next_object_where_the_first_is_ready_no_more(rt: HostRuntime) -> R
             transfer(5, &INVALID),
         ];
         let mut ram = Contended::new(Profile::One, 64, &theirs);
-        assert!(rt; ram.go_on() && ram.go_on());
+        holds(&rt, ram.go_on() && ram.go_on());
         if most == 1 {
             let at = ObjectNo::from_request(Profile::One, 5);
             let why = Refused::Busy { tries: 1, now: 3 };
-            assert_eq!(rt;
-                choose_at_once(&mut ram, tries(most)?),
-                Err(ScanRefused { at, why })
-            );
+            same(&rt, choose_at_once(&mut ram, tries(most)?), Err(ScanRefused { at, why }));
         }
         let (found, started) = found(choose_at_once(&mut ram, tries(most)?))?;
-        assert_eq!(rt; found.get(), 9);
-        assert_eq!(rt; started.control(), 0x0188);
-        assert_eq!(rt; started.bytes, FIRST);
+        same(&rt, found.get(), 9);
+        same(&rt, started.control(), 0x0188);
+        same(&rt, started.bytes, FIRST);
     }
     Ok(())
 }
@@ -179,12 +174,12 @@ fn loses_nothing_to_another_object(rt: HostRuntime) -> Result<(), Fail> {
         transfer(3, &DATA),
     ];
     let mut ram = Contended::new(Profile::One, 64, &theirs);
-    assert!(rt; ram.go_on());
+    holds(&rt, ram.go_on());
     let received = one_byte()?;
     let stored = found(receive(&mut ram, &received, tries(1)?))?;
-    assert_eq!(rt; stored.object.get(), 3);
+    same(&rt, stored.object.get(), 3);
     let sixth = ObjectNo::from_request(ram.profile(), 6);
-    assert_eq!(rt; ram.look(sixth).control(), 0x0188);
+    same(&rt, ram.look(sixth).control(), 0x0188);
     Ok(())
 }
 
@@ -197,19 +192,19 @@ fn stops_where_a_quota_is_spent(rt: HostRuntime) -> Result<(), Fail> {
         transfer(3, &DATA),
     ];
     let mut ram = Contended::new(Profile::One, 2, &theirs);
-    assert!(rt; ram.go_on());
+    holds(&rt, ram.go_on());
     let received = one_byte()?;
     for expected in [Some(1), Some(2), None] {
         let third = ObjectNo::from_request(ram.profile(), 3);
         match ram.change(third, &Change::Store(received), tries(2)?) {
-            Ok(_) => assert_eq!(rt; Some(ram.used()), expected),
+            Ok(_) => same(&rt, Some(ram.used()), expected),
             Err(why) => {
-                assert_eq!(rt; why, Refused::Spent);
-                assert_eq!(rt; expected, None);
+                same(&rt, why, Refused::Spent);
+                same(&rt, expected, None);
             }
         }
     }
-    assert!(rt; !ram.go_on());
+    holds(&rt, !ram.go_on());
     Ok(())
 }
 
@@ -219,9 +214,9 @@ fn clears_by_a_read_of_the_other_host(rt: HostRuntime) {
     let clearing = [(Reg::CMask, 0x0008)];
     let theirs = [transfer(7, &pending), transfer(7, &clearing)];
     let mut ram = Contended::new(Profile::One, 64, &theirs);
-    assert!(rt; ram.go_on());
-    assert_eq!(rt; interrupt(&mut ram, false), 7);
-    assert!(rt; ram.go_on());
-    assert_eq!(rt; interrupt(&mut ram, false), 0);
-    assert!(rt; !ram.go_on());
+    holds(&rt, ram.go_on());
+    same(&rt, interrupt(&mut ram, false), 7);
+    holds(&rt, ram.go_on());
+    same(&rt, interrupt(&mut ram, false), 0);
+    holds(&rt, !ram.go_on());
 }

@@ -7,6 +7,7 @@ mod scans;
 use ccan_object::{Iface, ObjectNo, Profile, Record, Reg};
 use ccan_ram::{Access, Array, Change, Changed, Flag, PortName, Refused, Tries};
 use std::test::Fail;
+use test_expect::{holds, same};
 
 /// The data of a first message.
 const FIRST: [u8; 8] = [0x11, 0x22, 0x33, 0x44, 0x55, 0x66, 0x77, 0x88];
@@ -86,13 +87,13 @@ fn reads_the_flags_of_all_objects(rt: HostRuntime) -> Result<(), Fail> {
         )?;
     }
     ram.at(PortName::If2);
-    assert_eq!(rt; flags(&mut ram, Flag::TxRqst), 0x8000_0001);
-    assert_eq!(rt; flags(&mut ram, Flag::MsgVal), 0);
+    same(&rt, flags(&mut ram, Flag::TxRqst), 0x8000_0001);
+    same(&rt, flags(&mut ram, Flag::MsgVal), 0);
     ram.at(PortName::Bus);
-    assert_eq!(rt; choose(&mut ram, tries(4)?), Ok(None));
-    assert!(rt; !until(&mut ram, 0x0002, Flag::TxRqst, 1));
-    assert!(rt; until(&mut ram, 0x0000, Flag::TxRqst, 1));
-    assert!(rt; !until(&mut ram, 0x0000, Flag::TxRqst, 0));
+    same(&rt, choose(&mut ram, tries(4)?), Ok(None));
+    holds(&rt, !until(&mut ram, 0x0002, Flag::TxRqst, 1));
+    holds(&rt, until(&mut ram, 0x0000, Flag::TxRqst, 1));
+    holds(&rt, !until(&mut ram, 0x0000, Flag::TxRqst, 0));
     Ok(())
 }
 
@@ -103,16 +104,16 @@ fn tells_the_interrupt_and_the_flag_of_the_last_object(rt: HostRuntime) -> Resul
         (Profile::Two, 0x0040, 0x8000_0000_0000_0000),
     ] {
         let mut ram = Array::new(profile, 64);
-        assert_eq!(rt; interrupt(&mut ram, false), 0);
+        same(&rt, interrupt(&mut ram, false), 0);
         let written = write(
             &mut ram,
             PortName::If1,
             0x0000,
             [&CONTROL, &[(Reg::Ctrl, 0x2000)]],
         )?;
-        assert_eq!(rt; fields(&written), (0, 0, 0x2000, [0; 8]));
-        assert_eq!(rt; interrupt(&mut ram, false), number);
-        assert_eq!(rt; flags(&mut ram, Flag::IntPnd), word);
+        same(&rt, fields(&written), (0, 0, 0x2000, [0; 8]));
+        same(&rt, interrupt(&mut ram, false), number);
+        same(&rt, flags(&mut ram, Flag::IntPnd), word);
     }
     Ok(())
 }
@@ -131,8 +132,8 @@ fn tells_the_first_interrupt_and_the_status_interrupt_before_it(
         )?;
     }
     ram.at(PortName::Bus);
-    assert_eq!(rt; interrupt(&mut ram, false), 0x0003);
-    assert_eq!(rt; interrupt(&mut ram, true), 0x8000);
+    same(&rt, interrupt(&mut ram, false), 0x0003);
+    same(&rt, interrupt(&mut ram, true), 0x8000);
     let mut registers = Iface::new();
     registers.set(Reg::CMask, 0x0008);
     let cleared = change(
@@ -141,9 +142,9 @@ fn tells_the_first_interrupt_and_the_status_interrupt_before_it(
         0x0003,
         &Change::Clear(registers.command()),
     )?;
-    assert_eq!(rt; fields(&cleared), (0, 0, 0x0080, [0; 8]));
+    same(&rt, fields(&cleared), (0, 0, 0x0080, [0; 8]));
     ram.at(PortName::Bus);
-    assert_eq!(rt; interrupt(&mut ram, false), 0x0007);
+    same(&rt, interrupt(&mut ram, false), 0x0007);
     Ok(())
 }
 
@@ -159,7 +160,7 @@ fn tells_why_a_scan_was_refused(rt: HostRuntime) -> Result<(), Fail> {
         ),
     ] {
         let printed = format!(in rt.alloc(); "{}", ScanRefused { at, why })?;
-        assert_eq!(rt; printed.as_str(), text);
+        same(&rt, printed.as_str(), text);
     }
     Ok(())
 }

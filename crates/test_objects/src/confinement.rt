@@ -1,6 +1,7 @@
 //! Worked examples, with numbers from the rules and not from the program.
 
 use ccan_confine::{BusEvent, Counters, NodeState, Status, StatusEvent, laws};
+use test_expect::{holds, same};
 
 /// The counters after so many equal events.
 fn repeated(counters: Counters, event: BusEvent, times: u16) -> Counters {
@@ -38,9 +39,9 @@ fn counters_follow_the_table(rt: HostRuntime) {
             second,
             seconds,
         );
-        assert_eq!(rt; counters.tec(), tec);
-        assert_eq!(rt; counters.rec(), rec);
-        assert_eq!(rt; counters.state(), state);
+        same(&rt, counters.tec(), tec);
+        same(&rt, counters.rec(), rec);
+        same(&rt, counters.state(), state);
     }
 }
 
@@ -86,10 +87,10 @@ fn node_goes_off_at_the_32nd_fault(rt: HostRuntime) {
         let mut counters = Counters::new(host);
         for (tec, state) in rows {
             counters = counters.after(BusEvent::SendFault);
-            assert_eq!(rt; counters.tec(), tec);
-            assert_eq!(rt; counters.rec(), 0);
-            assert_eq!(rt; counters.state(), state);
-            assert_eq!(rt; counters.recovering(), state == NodeState::Off && !host);
+            same(&rt, counters.tec(), tec);
+            same(&rt, counters.rec(), 0);
+            same(&rt, counters.state(), state);
+            same(&rt, counters.recovering(), state == NodeState::Off && !host);
         }
     }
 }
@@ -177,7 +178,7 @@ fn status_words_follow_the_events(rt: HostRuntime) {
             counters = counters.after(bus_event);
             status.after(status_event, &counters);
         }
-        assert_eq!(rt; status.read(&counters), word);
+        same(&rt, status.read(&counters), word);
     }
 }
 
@@ -197,7 +198,7 @@ fn read_shows_the_counters_of_the_moment(rt: HostRuntime) {
         (off, 0x00e5),
         (Counters::new(true), 0x0005),
     ] {
-        assert_eq!(rt; read(&mut status, &counters), word);
+        same(&rt, read(&mut status, &counters), word);
     }
 }
 
@@ -211,12 +212,12 @@ fn recovery_sets_the_code_and_no_interrupt(rt: HostRuntime) {
     status.after(StatusEvent::Level, &counters);
     counters = counters.recessive_groups(127);
     status.after(StatusEvent::Recovery, &counters);
-    assert!(rt; !status.pending());
+    holds(&rt, !status.pending());
     counters = counters.recessive_groups(1);
     status.after(StatusEvent::Recovery, &counters);
-    assert!(rt; status.pending());
-    assert_eq!(rt; status.read(&counters), 0x0005);
-    assert!(rt; !status.pending());
+    holds(&rt, status.pending());
+    same(&rt, status.read(&counters), 0x0005);
+    holds(&rt, !status.pending());
 }
 
 #[test]
@@ -226,7 +227,7 @@ fn transfers_interrupt_where_enabled(rt: HostRuntime) {
         let mut status = Status::new();
         status.enable(enabled, false);
         status.after(StatusEvent::Received, &counters);
-        assert_eq!(rt; status.pending(), enabled);
+        same(&rt, status.pending(), enabled);
     }
 }
 
@@ -238,19 +239,19 @@ fn warning_interrupts_once(rt: HostRuntime) {
     for _ in 0..11 {
         counters = counters.after(BusEvent::SendNoAck);
         status.after(StatusEvent::Fault(3), &counters);
-        assert!(rt; !status.pending());
+        holds(&rt, !status.pending());
     }
-    assert_eq!(rt; counters.tec(), 88);
+    same(&rt, counters.tec(), 88);
     counters = counters.after(BusEvent::SendNoAck);
     status.after(StatusEvent::Fault(3), &counters);
-    assert_eq!(rt; counters.tec(), 96);
-    assert!(rt; status.pending());
-    assert_eq!(rt; status.read(&counters), 0x0043);
-    assert!(rt; !status.pending());
+    same(&rt, counters.tec(), 96);
+    holds(&rt, status.pending());
+    same(&rt, status.read(&counters), 0x0043);
+    holds(&rt, !status.pending());
     counters = counters.after(BusEvent::SendNoAck);
     status.after(StatusEvent::Fault(3), &counters);
-    assert_eq!(rt; counters.tec(), 104);
-    assert!(rt; !status.pending());
+    same(&rt, counters.tec(), 104);
+    holds(&rt, !status.pending());
 }
 
 #[test]
@@ -262,9 +263,9 @@ fn states_print_in_order(rt: HostRuntime) -> Result<(), std::alloc::AllocError> 
     ];
     for (state, text) in rows {
         let printed = state.to_string(rt.alloc())?;
-        assert_eq!(rt; printed.as_str(), text);
+        same(&rt, printed.as_str(), text);
     }
-    assert!(rt; NodeState::Active < NodeState::Passive && NodeState::Passive < NodeState::Off);
+    holds(&rt, NodeState::Active < NodeState::Passive && NodeState::Passive < NodeState::Off);
     Ok(())
 }
 

@@ -4,6 +4,7 @@ use ccan_accept::*;
 use ccan_object::{CommandMask, Record, cleared, unpack};
 use std::alloc::AllocError;
 use std::process::Abort;
+use test_expect::{holds, same};
 
 /// The bytes that a driver writes into an object.
 const WRITTEN: [u8; 8] = [0x11, 0x22, 0x33, 0x44, 0x55, 0x66, 0x77, 0x88];
@@ -43,32 +44,23 @@ fn request(rt: &impl Abort) -> Frame {
 
 #[test]
 fn frames_have_ranges(rt: HostRuntime) {
-    assert_eq!(rt;
-        Frame::new(2048, false, false, 16, WRITTEN),
-        Err(FrameError::IdRange)
-    );
-    assert_eq!(rt;
-        Frame::new(2047, false, false, 16, WRITTEN),
-        Err(FrameError::DlcRange)
-    );
-    assert_eq!(rt;
-        Frame::new(536870912, true, false, 0, WRITTEN),
-        Err(FrameError::IdRange)
-    );
+    same(&rt, Frame::new(2048, false, false, 16, WRITTEN), Err(FrameError::IdRange));
+    same(&rt, Frame::new(2047, false, false, 16, WRITTEN), Err(FrameError::DlcRange));
+    same(&rt, Frame::new(536870912, true, false, 0, WRITTEN), Err(FrameError::IdRange));
     let extended = Frame::new(536870911, true, false, 15, WRITTEN)
         .ok()
         .expect(&rt, "a frame");
-    assert_eq!(rt; extended.id(), 536870911);
-    assert!(rt; extended.xtd() && !extended.rtr());
-    assert_eq!(rt; extended.dlc().get(), 15);
-    assert_eq!(rt; extended.bytes(), WRITTEN);
+    same(&rt, extended.id(), 536870911);
+    holds(&rt, extended.xtd() && !extended.rtr());
+    same(&rt, extended.dlc().get(), 15);
+    same(&rt, extended.bytes(), WRITTEN);
     let short = data(&rt, 2047, 3, WRITTEN);
-    assert_eq!(rt; short.bytes(), [0x11, 0x22, 0x33, 0, 0, 0, 0, 0]);
-    assert!(rt; !short.xtd());
+    same(&rt, short.bytes(), [0x11, 0x22, 0x33, 0, 0, 0, 0, 0]);
+    holds(&rt, !short.xtd());
     let remote = request(&rt);
-    assert!(rt; remote.rtr());
-    assert_eq!(rt; remote.dlc().get(), 4);
-    assert_eq!(rt; remote.bytes(), [0; 8]);
+    holds(&rt, remote.rtr());
+    same(&rt, remote.dlc().get(), 4);
+    same(&rt, remote.bytes(), [0; 8]);
 }
 
 #[test]
@@ -78,7 +70,7 @@ fn frame_errors_have_texts(rt: HostRuntime) -> Result<(), AllocError> {
         (FrameError::DlcRange, "data length code above 15"),
     ] {
         let text = format!(in rt.alloc(); "{error}")?;
-        assert_eq!(rt; text.as_str(), want);
+        same(&rt, text.as_str(), want);
     }
     Ok(())
 }
@@ -94,7 +86,7 @@ fn stores_through_a_mask(rt: HostRuntime) {
         );
     }
     let after = stored(&object, &data(&rt, 0x122, 0, [0; 8]));
-    assert_eq!(rt; shown(&after), (0x84880000, 0xdff80000, 0x9080, [0; 8]));
+    same(&rt, shown(&after), (0x84880000, 0xdff80000, 0x9080, [0; 8]));
 }
 
 #[test]
@@ -216,22 +208,16 @@ fn accepts_by_width_kind_and_mask(rt: HostRuntime) {
 fn stores_data_frames(rt: HostRuntime) {
     let object = record(&rt, 0x848c0000, 0, 0x8488, [0; 8]);
     let short = data(&rt, 0x123, 3, [1, 2, 3, 0, 0, 0, 0, 0]);
-    assert!(rt; accepts(&object, &short));
-    assert_eq!(rt;
-        shown(&stored(&object, &short)),
-        (0x848c0000, 0, 0xe483, [1, 2, 3, 0, 0, 0, 0, 0])
-    );
+    holds(&rt, accepts(&object, &short));
+    same(&rt, shown(&stored(&object, &short)), (0x848c0000, 0, 0xe483, [1, 2, 3, 0, 0, 0, 0, 0]));
     let extended = record(&rt, 0xdfffffff, 0, 0x0080, WRITTEN);
     let long = Frame::new(0x1fffffff, true, false, 15, [1, 2, 3, 4, 5, 6, 7, 8])
         .ok()
         .expect(&rt, "a frame");
-    assert!(rt; accepts(&extended, &long));
+    holds(&rt, accepts(&extended, &long));
     let after = stored(&extended, &long);
-    assert_eq!(rt;
-        shown(&after),
-        (0xdfffffff, 0, 0x808f, [1, 2, 3, 4, 5, 6, 7, 8])
-    );
-    assert_eq!(rt; frame_of(&Record { dir: true, ..after }), long);
+    same(&rt, shown(&after), (0xdfffffff, 0, 0x808f, [1, 2, 3, 4, 5, 6, 7, 8]));
+    same(&rt, frame_of(&Record { dir: true, ..after }), long);
 }
 
 /// The first of some objects that accepts a frame stores it: its place, and what its registers show then.
@@ -260,18 +246,15 @@ fn fills_a_fifo_buffer(rt: HostRuntime) {
     ] {
         let bytes = [byte, 0, 0, 0, 0, 0, 0, 0];
         let answer = receive(&mut objects, &data(&rt, 0x123, 1, bytes));
-        assert_eq!(rt; answer, Some((place, control, bytes)));
+        same(&rt, answer, Some((place, control, bytes)));
     }
     let [full, second, last] = objects;
-    assert_eq!(rt;
-        shown(&full),
-        (0x848c0000, 0, 0x8001, [1, 0, 0, 0, 0, 0, 0, 0])
-    );
+    same(&rt, shown(&full), (0x848c0000, 0, 0x8001, [1, 0, 0, 0, 0, 0, 0, 0]));
     // the host reads the first object, and clears NewDat
     let mut objects = [cleared(CommandMask::of(0x007f), &full), second, last];
     let bytes = [5, 0, 0, 0, 0, 0, 0, 0];
     let answer = receive(&mut objects, &data(&rt, 0x123, 1, bytes));
-    assert_eq!(rt; answer, Some((0, 0x8001, bytes)));
+    same(&rt, answer, Some((0, 0x8001, bytes)));
 }
 
 #[test]
@@ -301,22 +284,19 @@ fn answers_remote_frames(rt: HostRuntime) {
 #[test]
 fn sends_once(rt: HostRuntime) {
     let object = record(&rt, 0xa48c0000, 0, 0x8188, WRITTEN);
-    assert!(rt; ready(&object));
+    holds(&rt, ready(&object));
     let sent = started(&object);
-    assert_eq!(rt; shown(&sent), (0xa48c0000, 0, 0x0188, WRITTEN));
-    assert_eq!(rt; frame_of(&sent), data(&rt, 0x123, 8, WRITTEN));
+    same(&rt, shown(&sent), (0xa48c0000, 0, 0x0188, WRITTEN));
+    same(&rt, frame_of(&sent), data(&rt, 0x123, 8, WRITTEN));
     let done = finished(&sent);
-    assert_eq!(rt; shown(&done), (0xa48c0000, 0, 0x0088, WRITTEN));
-    assert!(rt; !ready(&done));
+    same(&rt, shown(&done), (0xa48c0000, 0, 0x0088, WRITTEN));
+    holds(&rt, !ready(&done));
     // a host writes new data between the start and the end
     let again = record(&rt, 0xa48c0000, 0, 0x8188, [0x99; 8]);
-    assert_eq!(rt;
-        shown(&finished(&again)),
-        (0xa48c0000, 0, 0x8188, [0x99; 8])
-    );
+    same(&rt, shown(&finished(&again)), (0xa48c0000, 0, 0x8188, [0x99; 8]));
     let receiving = record(&rt, 0x848c0000, 0, 0x0984, WRITTEN);
-    assert_eq!(rt; frame_of(&receiving), request(&rt));
-    assert_eq!(rt; finished(&receiving).control(), 0x2884);
+    same(&rt, frame_of(&receiving), request(&rt));
+    same(&rt, finished(&receiving).control(), 0x2884);
 }
 
 #[test]

@@ -4,6 +4,7 @@ use ccan_object::{
     CommandMask, DataLength, Group, Identifier, Iface, MOST_OBJECTS, ObjectNo, Profile, Record,
     Reg, cleared, laws, merged, pack, unpack,
 };
+use test_expect::{holds, same};
 
 /// What a record shows: Arbitration 2 and 1, Mask 2 and 1, Message Control, and the data.
 type Shown = (u32, u32, u16, [u8; 8]);
@@ -56,15 +57,15 @@ fn transfer(registers: &mut Iface, object: &mut Record) -> Shown {
 #[test]
 fn packs_the_first_message(rt: HostRuntime) {
     let object = interface(&FIRST_MESSAGE).buffer();
-    assert_eq!(rt; object.id, Identifier::of(0x123 << 18));
-    assert!(rt; object.valid && object.dir && object.eob && !object.xtd && !object.txrqst);
-    assert_eq!(rt; object.dlc, DataLength::of(8));
+    same(&rt, object.id, Identifier::of(0x123 << 18));
+    holds(&rt, object.valid && object.dir && object.eob && !object.xtd && !object.txrqst);
+    same(&rt, object.dlc, DataLength::of(8));
     let words = [0x00000000a48c0000, 0x0000000000000088, 0x8877665544332211];
-    assert_eq!(rt; pack(&object), words);
-    assert_eq!(rt; unpack(words), Some(object));
-    assert_eq!(rt; shown(&object), (0xa48c0000, 0, 0x0088, DATA));
-    assert_eq!(rt; pack(&Record::zero()), [0; 3]);
-    assert_eq!(rt; Record::default(), Record::zero());
+    same(&rt, pack(&object), words);
+    same(&rt, unpack(words), Some(object));
+    same(&rt, shown(&object), (0xa48c0000, 0, 0x0088, DATA));
+    same(&rt, pack(&Record::zero()), [0; 3]);
+    same(&rt, Record::default(), Record::zero());
 }
 
 #[test]
@@ -117,7 +118,7 @@ fn names_the_requested_object(rt: HostRuntime) {
         for (profile, number) in [(Profile::One, first), (Profile::Two, second)] {
             let object = ObjectNo::from_request(profile, request);
             assert_eq!(rt; object.get(), number, "{request:#x}");
-            assert!(rt; profile.holds(object));
+            holds(&rt, profile.holds(object));
         }
     }
     for (number, wanted) in [(0, None), (1, Some(1)), (64, Some(64)), (65, None)] {
@@ -127,23 +128,20 @@ fn names_the_requested_object(rt: HostRuntime) {
 
 #[test]
 fn numbers_the_objects_of_a_profile(rt: HostRuntime) {
-    assert_eq!(rt; Profile::default(), Profile::One);
+    same(&rt, Profile::default(), Profile::One);
     for (profile, objects, has_33) in [(Profile::One, 32, false), (Profile::Two, 64, true)] {
-        assert_eq!(rt; profile.objects(), objects);
-        assert_eq!(rt; profile.last().get(), objects);
-        assert_eq!(rt; has_object(profile, 33), has_33);
+        same(&rt, profile.objects(), objects);
+        same(&rt, profile.last().get(), objects);
+        same(&rt, has_object(profile, 33), has_33);
     }
-    assert_eq!(rt; MOST_OBJECTS, 64);
+    same(&rt, MOST_OBJECTS, 64);
 }
 
 #[test]
 fn writes_a_part_and_shows_the_whole(rt: HostRuntime) {
     let mut object = Record::zero();
     let mut registers = interface(&FIRST_MESSAGE);
-    assert_eq!(rt;
-        transfer(&mut registers, &mut object),
-        (0xa48c0000, 0, 0x0088, DATA)
-    );
+    same(&rt, transfer(&mut registers, &mut object), (0xa48c0000, 0, 0x0088, DATA));
     // the data alone, with a transmission request, from registers that show something else
     let mut other = interface(&[
         (Reg::CMask, 0x0087),
@@ -154,9 +152,9 @@ fn writes_a_part_and_shows_the_whole(rt: HostRuntime) {
         (Reg::DataB2, 0x9999),
     ]);
     let whole = (0xa48c0000, 0, 0x0188, [0x99; 8]);
-    assert_eq!(rt; transfer(&mut other, &mut object), whole);
-    assert_eq!(rt; shown(&object), whole);
-    assert_eq!(rt; other.get(Reg::CMask), 0x0087);
+    same(&rt, transfer(&mut other, &mut object), whole);
+    same(&rt, shown(&object), whole);
+    same(&rt, other.get(Reg::CMask), 0x0087);
 }
 
 #[test]
@@ -171,8 +169,8 @@ fn writes_new_data_after_a_start(rt: HostRuntime) {
     registers.set(Reg::CMask, 0x0093);
     registers.set(Reg::Ctrl, 0x8188);
     let whole = (0xa48c0000, 0, 0x8188, [0x99; 8]);
-    assert_eq!(rt; transfer(&mut registers, &mut object), whole);
-    assert_eq!(rt; shown(&object), whole);
+    same(&rt, transfer(&mut registers, &mut object), whole);
+    same(&rt, shown(&object), whole);
 }
 
 #[test]
@@ -203,11 +201,8 @@ fn reads_the_selected_bytes_alone(rt: HostRuntime) {
     let mut object = interface(&FIRST_MESSAGE).buffer();
     let mut registers = interface(&[(Reg::CMask, 0x0002), (Reg::DataB2, 0x1234)]);
     let first_half = [0x11, 0x22, 0x33, 0x44, 0, 0, 0x34, 0x12];
-    assert_eq!(rt;
-        transfer(&mut registers, &mut object),
-        (0, 0, 0, first_half)
-    );
-    assert_eq!(rt; shown(&object), (0xa48c0000, 0, 0x0088, DATA));
+    same(&rt, transfer(&mut registers, &mut object), (0, 0, 0, first_half));
+    same(&rt, shown(&object), (0xa48c0000, 0, 0x0088, DATA));
 }
 
 #[test]
@@ -236,12 +231,12 @@ fn commands_say_what_they_move(rt: HostRuntime) {
         assert_eq!(rt; data.selects(group), is_selected, "{group:?}");
     }
     let others = (data.has_txrqst_newdat(), data.clears_intpnd());
-    assert_eq!(rt; others, (true, false));
+    same(&rt, others, (true, false));
 }
 
 #[test]
 fn registers_drop_their_reserved_bits(rt: HostRuntime) {
-    assert_eq!(rt; Iface::default(), Iface::new());
+    same(&rt, Iface::default(), Iface::new());
     let mut registers = Iface::new();
     for (register, shows) in [
         (Reg::CMask, 0x00ff),
@@ -302,7 +297,7 @@ fn registers_show_the_records_of_the_examples(rt: HostRuntime) {
     ] {
         let (arbitration, masks, control) = wanted;
         let object = interface(&settings).buffer();
-        assert_eq!(rt; shown(&object), (arbitration, masks, control, [0; 8]));
+        same(&rt, shown(&object), (arbitration, masks, control, [0; 8]));
     }
 }
 
@@ -373,11 +368,11 @@ fn halves(bits: u32, low: u16, high: u16) -> (u32, u32) {
 #[test]
 fn identifiers_and_lengths_have_ranges(rt: HostRuntime) {
     let exchanged = halves(0x1234_5678, 0xabcd, 0xffff);
-    assert_eq!(rt; exchanged, (0x1234_abcd, 0x1fff_5678));
+    same(&rt, exchanged, (0x1234_abcd, 0x1fff_5678));
     for (bits, wanted) in [(0x1fff_ffff, Some(0x1fff_ffff)), (1 << 29, None)] {
-        assert_eq!(rt; identifier(bits), wanted);
+        same(&rt, identifier(bits), wanted);
     }
-    assert_eq!(rt; Identifier::of(u32::MAX).get(), 0x1fff_ffff);
+    same(&rt, Identifier::of(u32::MAX).get(), 0x1fff_ffff);
     for (code, count) in [
         (0, Some(0)),
         (1, Some(1)),
@@ -389,9 +384,9 @@ fn identifiers_and_lengths_have_ranges(rt: HostRuntime) {
     ] {
         assert_eq!(rt; byte_count(code), count, "{code}");
     }
-    assert_eq!(rt; DataLength::of(0x1235).get(), 5);
+    same(&rt, DataLength::of(0x1235).get(), 5);
     let defaults = (Identifier::default(), DataLength::default());
-    assert_eq!(rt; defaults, (Identifier::zero(), DataLength::zero()));
+    same(&rt, defaults, (Identifier::zero(), DataLength::zero()));
 }
 
 #[test]

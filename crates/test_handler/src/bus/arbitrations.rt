@@ -14,17 +14,17 @@ const UPPER: [bool; 11] = [
 fn sends_the_bits_in_order(rt: HostRuntime) {
     for (rtr, lower) in [(false, [false, false]), (true, [true, false])] {
         let bits = arbitration_bits(&frame(0x123, false, rtr, 0, [0; 8]));
-        assert_eq!(rt; bits.len(), 13);
-        assert!(rt; &bits.as_slice()[..11] == UPPER.as_slice());
-        assert!(rt; &bits.as_slice()[11..] == lower.as_slice());
+        same(&rt, bits.len(), 13);
+        holds(&rt, &bits.as_slice()[..11] == UPPER.as_slice());
+        holds(&rt, &bits.as_slice()[11..] == lower.as_slice());
     }
     for rtr in [false, true] {
         let bits = arbitration_bits(&frame(0x48c0001, true, rtr, 0, [0; 8]));
-        assert_eq!(rt; bits.len(), 32);
-        assert!(rt; &bits.as_slice()[..11] == UPPER.as_slice());
-        assert!(rt; bits.as_slice()[11] && bits.as_slice()[12]);
-        assert!(rt; &bits.as_slice()[13..30] == [false; 17].as_slice());
-        assert!(rt; bits.as_slice()[30] && bits.as_slice()[31] == rtr);
+        same(&rt, bits.len(), 32);
+        holds(&rt, &bits.as_slice()[..11] == UPPER.as_slice());
+        holds(&rt, bits.as_slice()[11] && bits.as_slice()[12]);
+        holds(&rt, &bits.as_slice()[13..30] == [false; 17].as_slice());
+        holds(&rt, bits.as_slice()[30] && bits.as_slice()[31] == rtr);
     }
 }
 
@@ -40,6 +40,7 @@ enum Kind {
 }
 
 use Kind::*;
+use test_expect::{holds, same};
 
 /// The frame of a kind.
 fn of_kind(kind: Kind) -> Frame {
@@ -75,7 +76,7 @@ fn arbitrates_across_the_four_kinds(rt: HostRuntime) {
         ([NextData, ExtendedRemote], 1),
         ([StandardData, BeforeRemote], 1),
     ] {
-        assert!(rt; outcome(&kinds) == Outcome::Winner(winner));
+        holds(&rt, outcome(&kinds) == Outcome::Winner(winner));
     }
 }
 
@@ -83,20 +84,20 @@ fn arbitrates_across_the_four_kinds(rt: HostRuntime) {
 fn arbitrates_among_any_number(rt: HostRuntime) {
     let four = [ExtendedRemote, ExtendedData, StandardRemote, StandardData];
     for last in 0..4usize {
-        assert!(rt; outcome(&four[..last + 1]) == Outcome::Winner(last));
+        holds(&rt, outcome(&four[..last + 1]) == Outcome::Winner(last));
     }
     let three = [ExtendedData, BeforeRemote, ExtendedData];
-    assert!(rt; outcome(&three) == Outcome::Winner(1));
+    holds(&rt, outcome(&three) == Outcome::Winner(1));
 }
 
 #[test]
 fn frames_with_the_same_bits_collide(rt: HostRuntime) {
     let three = [ExtendedData, StandardData, StandardData];
-    assert!(rt; outcome(&three[1..]) == Outcome::Collision);
-    assert!(rt; outcome(&three) == Outcome::Collision);
+    holds(&rt, outcome(&three[1..]) == Outcome::Collision);
+    holds(&rt, outcome(&three) == Outcome::Collision);
     let longer = frame(0x123, false, false, 8, [1; 8]);
     let one = of_kind(StandardData);
-    assert!(rt; arbitrate(&[longer, one]) == Outcome::Collision);
+    holds(&rt, arbitrate(&[longer, one]) == Outcome::Collision);
 }
 
 #[test]
@@ -115,10 +116,10 @@ fn takes_lines_with_each_node_once(rt: HostRuntime) {
             let _full = send.try_push((node, empty_frame(0x100)));
         }
         let line = RoundLine::new(nodes, send, Fault::Form);
-        assert_eq!(rt; line.is_some(), taken);
+        same(&rt, line.is_some(), taken);
         if let Some(line) = line {
-            assert_eq!(rt; line.sends().len(), 2);
-            assert!(rt; line.sends()[0].0 == senders[0] && line.fault() == Fault::Form);
+            same(&rt, line.sends().len(), 2);
+            holds(&rt, line.sends()[0].0 == senders[0] && line.fault() == Fault::Form);
         }
     }
 }
@@ -137,5 +138,5 @@ fn laws_are_there(rt: HostRuntime) {
     laws::refused_loads_leave_all();
     laws::others_rest_in_loop_back();
     laws::lines_are_unheard_in_loop_back();
-    assert!(rt; true);
+    holds(&rt, true);
 }

@@ -10,6 +10,7 @@ use ccan_confine::NodeState;
 use ccan_object::{Iface, Profile, Reg};
 use ccan_ram::{Access, Tries};
 use test_contended::{Contended, Transfer};
+use test_expect::{holds, same};
 
 /// A bus with one other node, for this memory.
 fn bus_of<A: Access>(ram: &A) -> Bus
@@ -80,14 +81,14 @@ fn a_busy_load_leaves_all(rt: HostRuntime) {
         transfer(1, &DATA, &[]),
     ];
     let mut ram = Contended::new(Profile::One, 64, &theirs);
-    assert!(rt; ram.go_on());
+    holds(&rt, ram.go_on());
     let mut bus = bus_of(&ram);
-    assert!(rt; load(&mut bus, &mut ram) == LoadAnswer::Busy(object(1)));
+    holds(&rt, load(&mut bus, &mut ram) == LoadAnswer::Busy(object(1)));
     let sends = [(1, empty_frame(0x100))];
-    assert!(rt; round(&mut bus, &mut ram, &sends) == RoundAnswer::Busy(object(1)));
-    assert_eq!(rt; told(&mut bus), (0, 0, NodeState::Active, 0x0000));
-    assert!(rt; matches!(load(&mut bus, &mut ram), LoadAnswer::Loaded(_, _)));
-    assert!(rt; matches!(round(&mut bus, &mut ram, &[]), RoundAnswer::Sent(_, _)));
+    holds(&rt, round(&mut bus, &mut ram, &sends) == RoundAnswer::Busy(object(1)));
+    same(&rt, told(&mut bus), (0, 0, NodeState::Active, 0x0000));
+    holds(&rt, matches!(load(&mut bus, &mut ram), LoadAnswer::Loaded(_, _)));
+    holds(&rt, matches!(round(&mut bus, &mut ram, &[]), RoundAnswer::Sent(_, _)));
 }
 
 #[test]
@@ -98,11 +99,11 @@ fn a_busy_finish_leaves_the_success(rt: HostRuntime) {
         transfer(1, &DATA, &[]),
     ];
     let mut ram = Contended::new(Profile::One, 64, &theirs);
-    assert!(rt; ram.go_on());
+    holds(&rt, ram.go_on());
     let mut bus = bus_of(&ram);
-    assert!(rt; round(&mut bus, &mut ram, &[]) == RoundAnswer::Busy(object(1)));
-    assert_eq!(rt; told(&mut bus), (0, 0, NodeState::Active, 0x0008));
-    assert!(rt; matches!(round(&mut bus, &mut ram, &[]), RoundAnswer::Sent(_, _)));
+    holds(&rt, round(&mut bus, &mut ram, &[]) == RoundAnswer::Busy(object(1)));
+    same(&rt, told(&mut bus), (0, 0, NodeState::Active, 0x0008));
+    holds(&rt, matches!(round(&mut bus, &mut ram, &[]), RoundAnswer::Sent(_, _)));
 }
 
 #[test]
@@ -112,15 +113,13 @@ fn a_busy_scan_leaves_the_success(rt: HostRuntime) {
         transfer(2, &DATA, &[]),
     ];
     let mut ram = Contended::new(Profile::One, 64, &theirs);
-    assert!(rt; ram.go_on());
+    holds(&rt, ram.go_on());
     let mut bus = bus_of(&ram);
     let sends = [(1, frame(0x123, false, false, 1, [1, 0, 0, 0, 0, 0, 0, 0]))];
-    assert!(rt; round(&mut bus, &mut ram, &sends) == RoundAnswer::Busy(object(2)));
-    assert_eq!(rt; told(&mut bus), (0, 0, NodeState::Active, 0x0010));
-    assert!(rt;
-        matches!(
+    holds(&rt, round(&mut bus, &mut ram, &sends) == RoundAnswer::Busy(object(2)));
+    same(&rt, told(&mut bus), (0, 0, NodeState::Active, 0x0010));
+    holds(&rt, matches!(
             round(&mut bus, &mut ram, &sends),
             RoundAnswer::Received(Some(_))
-        )
-    );
+        ));
 }

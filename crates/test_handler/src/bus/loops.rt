@@ -6,6 +6,7 @@ use super::bench::{BYTES, Bench, MESSAGE, RECEIVER, empty_frame, fields, object}
 use ccan_bus::{Fault, RoundAnswer};
 use ccan_confine::NodeState;
 use ccan_object::Reg;
+use test_expect::{holds, same};
 
 /// A controller alone in loop back mode, with a message that waits at object 1 and a receiver of it at object 2.
 fn own_receiver(quota: u64) -> Bench
@@ -23,40 +24,40 @@ fn receives_its_own_frame(rt: HostRuntime) {
     let mut bench = own_receiver(64);
     let answer = bench.round(&[], Fault::Quiet);
     let stored = Some((object(2), bench.record(2)));
-    assert!(rt; answer == RoundAnswer::Looped(object(1), bench.record(1), stored));
-    assert_eq!(rt; bench.status(), 0x0018);
-    assert_eq!(rt; bench.counters(0), (0, 0, NodeState::Active));
-    assert_eq!(rt; fields(&bench.record(1)), (0xa48c0000, 0, 0x0088, BYTES));
-    assert_eq!(rt; fields(&bench.record(2)), (0x848c0000, 0, 0x8088, BYTES));
+    same(&rt, answer, RoundAnswer::Looped(object(1), bench.record(1), stored));
+    same(&rt, bench.status(), 0x0018);
+    same(&rt, bench.counters(0), (0, 0, NodeState::Active));
+    same(&rt, fields(&bench.record(1)), (0xa48c0000, 0, 0x0088, BYTES));
+    same(&rt, fields(&bench.record(2)), (0x848c0000, 0, 0x8088, BYTES));
 }
 
 #[test]
 fn lets_the_other_nodes_rest(rt: HostRuntime) {
     let mut bench = Bench::new(1, 64);
-    assert!(rt; bench.transfer(0x0001, &MESSAGE, &[(Reg::Ctrl, 0x0188)]));
+    holds(&rt, bench.transfer(0x0001, &MESSAGE, &[(Reg::Ctrl, 0x0188)]));
     bench.loop_back(true);
     let sends = [(1, empty_frame(0x100))];
     let answer = bench.round(&sends, Fault::Crc);
-    assert!(rt; answer == RoundAnswer::Looped(object(1), bench.record(1), None));
-    assert_eq!(rt; bench.counters(1), (0, 0, NodeState::Active));
-    assert!(rt; bench.round(&sends, Fault::Crc) == RoundAnswer::Idle);
+    same(&rt, answer, RoundAnswer::Looped(object(1), bench.record(1), None));
+    same(&rt, bench.counters(1), (0, 0, NodeState::Active));
+    holds(&rt, bench.round(&sends, Fault::Crc) == RoundAnswer::Idle);
 }
 
 #[test]
 fn a_refused_scan_leaves_the_finish(rt: HostRuntime) {
     let mut bench = own_receiver(2);
-    assert!(rt; bench.round(&[], Fault::Quiet) == RoundAnswer::Spent(object(2)));
-    assert_eq!(rt; bench.status(), 0x0018);
-    assert_eq!(rt; fields(&bench.record(1)), (0xa48c0000, 0, 0x0088, BYTES));
-    assert_eq!(rt; fields(&bench.record(2)), (0x848c0000, 0, 0x0088, [0; 8]));
+    holds(&rt, bench.round(&[], Fault::Quiet) == RoundAnswer::Spent(object(2)));
+    same(&rt, bench.status(), 0x0018);
+    same(&rt, fields(&bench.record(1)), (0xa48c0000, 0, 0x0088, BYTES));
+    same(&rt, fields(&bench.record(2)), (0x848c0000, 0, 0x0088, [0; 8]));
 }
 
 #[test]
 fn hears_nobody_once_the_mode_is_off(rt: HostRuntime) {
     let mut bench = Bench::new(0, 64);
-    assert!(rt; bench.transfer(0x0001, &MESSAGE, &[(Reg::Ctrl, 0x0188)]));
+    holds(&rt, bench.transfer(0x0001, &MESSAGE, &[(Reg::Ctrl, 0x0188)]));
     bench.loop_back(true);
     bench.loop_back(false);
-    assert!(rt; bench.round(&[], Fault::Quiet) == RoundAnswer::NoAck);
-    assert_eq!(rt; bench.status(), 0x0003);
+    holds(&rt, bench.round(&[], Fault::Quiet) == RoundAnswer::NoAck);
+    same(&rt, bench.status(), 0x0003);
 }

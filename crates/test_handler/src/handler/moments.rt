@@ -7,11 +7,12 @@ use ccan_handler::{ScanRefused, laws};
 use ccan_object::{ObjectNo, Profile, Reg};
 use ccan_ram::{Access, Array, Flag, PortName, Refused};
 use std::test::Fail;
+use test_expect::same;
 
 #[test]
 fn reads_the_registers_of_one_moment(rt: HostRuntime) -> Result<(), Fail> {
     let mut ram = Array::new(Profile::One, 64);
-    assert_eq!(rt; interrupt_at_once(&mut ram, false), 0);
+    same(&rt, interrupt_at_once(&mut ram, false), 0);
     for (request, control) in [(0x0007, 0x2080), (0x0000, 0x6100)] {
         let _written = write(
             &mut ram,
@@ -21,13 +22,13 @@ fn reads_the_registers_of_one_moment(rt: HostRuntime) -> Result<(), Fail> {
         )?;
     }
     ram.at(PortName::If2);
-    assert_eq!(rt; flags_at_once(&mut ram, Flag::IntPnd), 0x8000_0040);
-    assert_eq!(rt; flags_at_once(&mut ram, Flag::TxRqst), 0x8000_0000);
-    assert_eq!(rt; flags_at_once(&mut ram, Flag::MsgLst), 0x8000_0000);
-    assert_eq!(rt; flags_at_once(&mut ram, Flag::NewDat), 0);
-    assert_eq!(rt; flags_at_once(&mut ram, Flag::MsgVal), 0);
-    assert_eq!(rt; interrupt_at_once(&mut ram, false), 0x0007);
-    assert_eq!(rt; interrupt_at_once(&mut ram, true), 0x8000);
+    same(&rt, flags_at_once(&mut ram, Flag::IntPnd), 0x8000_0040);
+    same(&rt, flags_at_once(&mut ram, Flag::TxRqst), 0x8000_0000);
+    same(&rt, flags_at_once(&mut ram, Flag::MsgLst), 0x8000_0000);
+    same(&rt, flags_at_once(&mut ram, Flag::NewDat), 0);
+    same(&rt, flags_at_once(&mut ram, Flag::MsgVal), 0);
+    same(&rt, interrupt_at_once(&mut ram, false), 0x0007);
+    same(&rt, interrupt_at_once(&mut ram, true), 0x8000);
     Ok(())
 }
 
@@ -35,7 +36,7 @@ fn reads_the_registers_of_one_moment(rt: HostRuntime) -> Result<(), Fail> {
 fn starts_the_first_object_that_was_ready(rt: HostRuntime) -> Result<(), Fail> {
     let mut ram = Array::new(Profile::Two, 1);
     ram.at(PortName::Bus);
-    assert_eq!(rt; choose_at_once(&mut ram, tries(1)?), Ok(None));
+    same(&rt, choose_at_once(&mut ram, tries(1)?), Ok(None));
     let _request_alone = write(
         &mut ram,
         PortName::If1,
@@ -50,14 +51,11 @@ fn starts_the_first_object_that_was_ready(rt: HostRuntime) -> Result<(), Fail> {
     )?;
     ram.at(PortName::Bus);
     let (object, after) = found(choose_at_once(&mut ram, tries(1)?))?;
-    assert_eq!(rt; object.get(), 64);
-    assert_eq!(rt; fields(&after), (0xa48c0000, 0, 0x0188, FIRST));
+    same(&rt, object.get(), 64);
+    same(&rt, fields(&after), (0xa48c0000, 0, 0x0188, FIRST));
     let at = ObjectNo::from_request(ram.profile(), 0x0000);
     let why = Refused::Spent;
-    assert_eq!(rt;
-        choose_at_once(&mut ram, tries(1)?),
-        Err(ScanRefused { at, why })
-    );
+    same(&rt, choose_at_once(&mut ram, tries(1)?), Err(ScanRefused { at, why }));
     Ok(())
 }
 

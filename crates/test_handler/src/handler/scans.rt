@@ -6,6 +6,7 @@ use ccan_handler::ScanRefused;
 use ccan_object::{ObjectNo, Profile, Reg};
 use ccan_ram::{Array, Change, PortName, Refused};
 use std::test::Fail;
+use test_expect::same;
 
 /// A standard data frame 0x123 with so many of these bytes.
 fn frame(length: u8, bytes: [u8; 8]) -> Result<Frame, Fail> {
@@ -25,20 +26,14 @@ fn receives_where_the_filter_accepts(rt: HostRuntime) -> Result<(), Fail> {
         0x0002,
         [&RECEIVER, &[(Reg::Ctrl, 0x8488)]],
     )?;
-    assert_eq!(rt; fields(&before), (0x848c0000, 0, 0x8488, [0; 8]));
+    same(&rt, fields(&before), (0x848c0000, 0, 0x8488, [0; 8]));
     ram.at(PortName::Bus);
     let received = frame(3, [1, 2, 3, 0, 0, 0, 0, 0])?;
     let stored = found(receive(&mut ram, &received, tries(4)?))?;
-    assert_eq!(rt; stored.object.get(), 2);
-    assert_eq!(rt; stored.before, before);
-    assert_eq!(rt;
-        fields(&stored.after),
-        (0x848c0000, 0, 0xe483, [1, 2, 3, 0, 0, 0, 0, 0])
-    );
-    assert_eq!(rt;
-        receive_from(&mut ram, &received, 0x0003, tries(4)?),
-        Ok(None)
-    );
+    same(&rt, stored.object.get(), 2);
+    same(&rt, stored.before, before);
+    same(&rt, fields(&stored.after), (0x848c0000, 0, 0xe483, [1, 2, 3, 0, 0, 0, 0, 0]));
+    same(&rt, receive_from(&mut ram, &received, 0x0003, tries(4)?), Ok(None));
     Ok(())
 }
 
@@ -63,8 +58,8 @@ fn fills_a_buffer_in_turn(rt: HostRuntime) -> Result<(), Fail> {
         let bytes = [byte, 0, 0, 0, 0, 0, 0, 0];
         let received = frame(1, bytes)?;
         let stored = found(receive(&mut ram, &received, tries(1)?))?;
-        assert_eq!(rt; stored.object.get(), number);
-        assert_eq!(rt; fields(&stored.after), (0x848c0000, 0, control, bytes));
+        same(&rt, stored.object.get(), number);
+        same(&rt, fields(&stored.after), (0x848c0000, 0, control, bytes));
     }
     Ok(())
 }
@@ -92,12 +87,12 @@ fn receives_remote_frames_by_the_four_cases(rt: HostRuntime) -> Result<(), Fail>
         let before = write(&mut ram, PortName::If1, 0x0001, [&CONTROL, &with_control])?;
         ram.at(PortName::Bus);
         let stored = found(receive(&mut ram, &requests, tries(4)?))?;
-        assert_eq!(rt; stored.object.get(), 1);
-        assert_eq!(rt; stored.before, before);
-        assert_eq!(rt; stored.after.masks(), mask);
-        assert_eq!(rt; stored.after.control(), expected);
-        assert_eq!(rt; stored.after.arbitration(), 0xa48c0000);
-        assert_eq!(rt; stored.after.bytes, FIRST);
+        same(&rt, stored.object.get(), 1);
+        same(&rt, stored.before, before);
+        same(&rt, stored.after.masks(), mask);
+        same(&rt, stored.after.control(), expected);
+        same(&rt, stored.after.arbitration(), 0xa48c0000);
+        same(&rt, stored.after.bytes, FIRST);
     }
     Ok(())
 }
@@ -118,9 +113,9 @@ fn receives_an_extended_frame(rt: HostRuntime) -> Result<(), Fail> {
         .ok()
         .ok_or("frame")?;
     let stored = found(receive(&mut ram, &received, tries(4)?))?;
-    assert_eq!(rt; fields(&stored.after), (0xdfffffff, 0, 0x808f, bytes));
+    same(&rt, fields(&stored.after), (0xdfffffff, 0, 0x808f, bytes));
     let standard = frame(0, [0; 8])?;
-    assert_eq!(rt; receive(&mut ram, &standard, tries(4)?), Ok(None));
+    same(&rt, receive(&mut ram, &standard, tries(4)?), Ok(None));
     Ok(())
 }
 
@@ -140,13 +135,13 @@ fn chooses_and_ends_a_transmission(rt: HostRuntime) -> Result<(), Fail> {
         let _written = write(&mut ram, PortName::If1, 0x0002, [&MESSAGE, &ready])?;
         ram.at(PortName::Bus);
         let (chosen, started) = found(choose(&mut ram, tries(4)?))?;
-        assert_eq!(rt; chosen.get(), 2);
-        assert_eq!(rt; fields(&started), (0xa48c0000, 0, 0x0188, FIRST));
+        same(&rt, chosen.get(), 2);
+        same(&rt, fields(&started), (0xa48c0000, 0, 0x0188, FIRST));
         if meanwhile {
             let _rewritten = write(&mut ram, PortName::If1, 0x0002, [&again, &[]])?;
         }
         let finished = change(&mut ram, PortName::Bus, 0x0002, &Change::Finish)?;
-        assert_eq!(rt; fields(&finished), (0xa48c0000, 0, control, bytes));
+        same(&rt, fields(&finished), (0xa48c0000, 0, control, bytes));
     }
     Ok(())
 }
@@ -159,22 +154,19 @@ fn chooses_until_the_quota_is_spent(rt: HostRuntime) -> Result<(), Fail> {
     let _fifth = write(&mut ram, PortName::If2, 0x0005, [&MESSAGE, &ready])?;
     ram.at(PortName::Bus);
     let (chosen, started) = found(choose(&mut ram, tries(4)?))?;
-    assert_eq!(rt; chosen.get(), 3);
-    assert_eq!(rt; started.control(), 0x0188);
+    same(&rt, chosen.get(), 3);
+    same(&rt, started.control(), 0x0188);
     let refused = Err(ScanRefused {
         at: chosen,
         why: Refused::Spent,
     });
-    assert_eq!(rt; choose(&mut ram, tries(4)?), refused);
+    same(&rt, choose(&mut ram, tries(4)?), refused);
     let at = ObjectNo::from_request(Profile::One, 0x0005);
-    assert_eq!(rt;
-        choose_from(&mut ram, 0x0004, tries(4)?),
-        Err(ScanRefused {
+    same(&rt, choose_from(&mut ram, 0x0004, tries(4)?), Err(ScanRefused {
             at,
             why: Refused::Spent,
-        })
-    );
-    assert_eq!(rt; choose_from(&mut ram, 0x0006, tries(4)?), Ok(None));
+        }));
+    same(&rt, choose_from(&mut ram, 0x0006, tries(4)?), Ok(None));
     Ok(())
 }
 
@@ -190,7 +182,7 @@ fn scans_up_to_the_last_object_of_the_profile(rt: HostRuntime) -> Result<(), Fai
         )?;
         ram.at(PortName::Bus);
         let (chosen, _started) = found(choose(&mut ram, tries(4)?))?;
-        assert_eq!(rt; chosen.get(), number);
+        same(&rt, chosen.get(), number);
     }
     Ok(())
 }

@@ -1,31 +1,26 @@
 use ccan_object::{ObjectNo, Profile, Record};
 use ccan_ram::{CommitError, Draft, OpenError};
 use std::test::Fail;
+use test_expect::same;
 
 #[test]
 fn a_draft_shows_what_its_look_found(rt: HostRuntime) {
     let object = ObjectNo::from_request(Profile::One, 5);
     let draft = Draft::new(object, Record::zero(), 65537);
-    assert_eq!(rt; draft.object(), object);
-    assert_eq!(rt; draft.held(), Record::zero());
-    assert_eq!(rt; draft.number(), 65537);
+    same(&rt, draft.object(), object);
+    same(&rt, draft.held(), Record::zero());
+    same(&rt, draft.number(), 65537);
 }
 
 #[test]
 fn errors_have_a_text(rt: HostRuntime) -> Result<(), Fail> {
     let lost = CommitError::Lost { now: 3 };
-    assert_eq!(rt;
-        format!(in rt.alloc(); "{lost}")?.as_str(),
-        "lost to a change that contends"
-    );
+    same(&rt, format!(in rt.alloc(); "{lost}")?.as_str(), "lost to a change that contends");
     let spent = format!(in rt.alloc(); "{}", CommitError::Spent)?;
-    assert_eq!(rt;
-        spent.as_str(),
-        "the port has made as many changes as it may"
-    );
+    same(&rt, spent.as_str(), "the port has made as many changes as it may");
     let range = format!(in rt.alloc(); "{}", OpenError::QuotaRange)?;
-    assert_eq!(rt; range.as_str(), "the quota is out of range");
+    same(&rt, range.as_str(), "the quota is out of range");
     let memory = format!(in rt.alloc(); "{}", OpenError::Memory)?;
-    assert_eq!(rt; memory.as_str(), "out of memory");
+    same(&rt, memory.as_str(), "out of memory");
     Ok(())
 }

@@ -3,6 +3,7 @@ use ccan_accept::Frame;
 use ccan_object::{Iface, Profile, Record, Reg};
 use ccan_ram::{Array, Change, Changed, Flag, PortName};
 use std::test::Fail;
+use test_expect::{holds, same};
 
 /// Sets registers and writes the object that the request names, as IF1.
 fn write(ram: &mut Array, request: u16, settings: [&[(Reg, u16)]; 2]) -> Result<(), Fail> {
@@ -49,13 +50,10 @@ fn marks_a_lost_message(rt: HostRuntime) -> Result<(), Fail> {
     write(&mut ram, 0x0002, [&RECEIVER, &[(Reg::Ctrl, 0x8488)]])?;
     let received = frame(3, [1, 2, 3, 0, 0, 0, 0, 0])?;
     let (object, after) = receive(&mut ram, received).ok_or("not stored")?;
-    assert_eq!(rt; object, 2);
-    assert_eq!(rt;
-        fields(&after),
-        (0x848c0000, 0, 0xe483, [1, 2, 3, 0, 0, 0, 0, 0])
-    );
-    assert!(rt; Flag::MsgLst.of(&after) && Flag::NewDat.of(&after) && Flag::IntPnd.of(&after));
-    assert!(rt; Flag::MsgVal.of(&after) && !Flag::TxRqst.of(&after));
+    same(&rt, object, 2);
+    same(&rt, fields(&after), (0x848c0000, 0, 0xe483, [1, 2, 3, 0, 0, 0, 0, 0]));
+    holds(&rt, Flag::MsgLst.of(&after) && Flag::NewDat.of(&after) && Flag::IntPnd.of(&after));
+    holds(&rt, Flag::MsgVal.of(&after) && !Flag::TxRqst.of(&after));
     Ok(())
 }
 
@@ -73,27 +71,18 @@ fn fills_a_buffer_and_writes_its_last_object_over(rt: HostRuntime) -> Result<(),
     ] {
         let received = frame(1, [byte, 0, 0, 0, 0, 0, 0, 0])?;
         let (place, after) = receive(&mut ram, received).ok_or("not stored")?;
-        assert_eq!(rt; place, object);
-        assert_eq!(rt;
-            fields(&after),
-            (0x848c0000, 0, control, [byte, 0, 0, 0, 0, 0, 0, 0])
-        );
+        same(&rt, place, object);
+        same(&rt, fields(&after), (0x848c0000, 0, control, [byte, 0, 0, 0, 0, 0, 0, 0]));
     }
     let mut registers = Iface::new();
     registers.set(Reg::CMask, 0x007f);
     ram.at(PortName::If1);
-    assert_eq!(rt; transfer(&mut ram, &mut registers, 0x0003), Some(4));
-    assert_eq!(rt;
-        fields(&registers.buffer()),
-        (0x848c0000, 0, 0x8001, [1, 0, 0, 0, 0, 0, 0, 0])
-    );
+    same(&rt, transfer(&mut ram, &mut registers, 0x0003), Some(4));
+    same(&rt, fields(&registers.buffer()), (0x848c0000, 0, 0x8001, [1, 0, 0, 0, 0, 0, 0, 0]));
     let received = frame(1, [5, 0, 0, 0, 0, 0, 0, 0])?;
     let (place, after) = receive(&mut ram, received).ok_or("not stored")?;
-    assert_eq!(rt; place, 3);
-    assert_eq!(rt;
-        fields(&after),
-        (0x848c0000, 0, 0x8001, [5, 0, 0, 0, 0, 0, 0, 0])
-    );
+    same(&rt, place, 3);
+    same(&rt, fields(&after), (0x848c0000, 0, 0x8001, [5, 0, 0, 0, 0, 0, 0, 0]));
     Ok(())
 }
 
@@ -123,10 +112,10 @@ fn stores_remote_frames_by_the_four_cases(rt: HostRuntime) -> Result<(), Fail> {
         set(&mut registers, &MESSAGE);
         registers.set(Reg::Ctrl, control);
         set(&mut registers, settings);
-        assert_eq!(rt; transfer(&mut ram, &mut registers, 0x0001), Some(1));
+        same(&rt, transfer(&mut ram, &mut registers, 0x0001), Some(1));
         let (place, after) = receive(&mut ram, requests).ok_or("not stored")?;
-        assert_eq!(rt; place, 1);
-        assert_eq!(rt; fields(&after), (0xa48c0000, mask, expected, FIRST));
+        same(&rt, place, 1);
+        same(&rt, fields(&after), (0xa48c0000, mask, expected, FIRST));
     }
     Ok(())
 }
@@ -147,7 +136,7 @@ fn numbers_a_store_that_changes_no_field(rt: HostRuntime) -> Result<(), Fail> {
                 after,
                 number,
             },
-        ) => assert!(rt; before == shown && after == shown && number == 131073),
+        ) => holds(&rt, before == shown && after == shown && number == 131073),
         other => assert!(rt; false, "{other:?}"),
     }
     Ok(())
@@ -167,8 +156,8 @@ fn stores_an_extended_frame(rt: HostRuntime) -> Result<(), Fail> {
         .ok()
         .ok_or("frame")?;
     let (place, after) = receive(&mut ram, received).ok_or("not stored")?;
-    assert_eq!(rt; place, 1);
-    assert_eq!(rt; fields(&after), (0xdfffffff, 0, 0x808f, bytes));
+    same(&rt, place, 1);
+    same(&rt, fields(&after), (0xdfffffff, 0, 0x808f, bytes));
     Ok(())
 }
 
@@ -177,7 +166,7 @@ fn sends_again_what_was_written_meanwhile(rt: HostRuntime) -> Result<(), Fail> {
     let mut ram = Array::new(Profile::One, 64);
     write(&mut ram, 0x0002, [&MESSAGE, &[(Reg::Ctrl, 0x8188)]])?;
     let started = handle(&mut ram, 0x0002, &Change::Start).ok_or("not ready")?;
-    assert_eq!(rt; fields(&started), (0xa48c0000, 0, 0x0188, FIRST));
+    same(&rt, fields(&started), (0xa48c0000, 0, 0x0188, FIRST));
     let data = 0x9999;
     let again = [
         (Reg::CMask, 0x0093),
@@ -189,18 +178,18 @@ fn sends_again_what_was_written_meanwhile(rt: HostRuntime) -> Result<(), Fail> {
     ];
     write(&mut ram, 0x0002, [&MESSAGE, &again])?;
     let finished = handle(&mut ram, 0x0002, &Change::Finish).ok_or("refused")?;
-    assert_eq!(rt; fields(&finished), (0xa48c0000, 0, 0x8188, [0x99; 8]));
+    same(&rt, fields(&finished), (0xa48c0000, 0, 0x8188, [0x99; 8]));
     Ok(())
 }
 
 #[test]
 fn ends_a_transmission(rt: HostRuntime) -> Result<(), Fail> {
     let mut ram = Array::new(Profile::One, 64);
-    assert_eq!(rt; handle(&mut ram, 0x0002, &Change::Start), None);
+    same(&rt, handle(&mut ram, 0x0002, &Change::Start), None);
     write(&mut ram, 0x0002, [&MESSAGE, &[(Reg::Ctrl, 0x8188)]])?;
     let _started = handle(&mut ram, 0x0002, &Change::Start).ok_or("not ready")?;
     let finished = handle(&mut ram, 0x0002, &Change::Finish).ok_or("refused")?;
-    assert_eq!(rt; fields(&finished), (0xa48c0000, 0, 0x0088, FIRST));
-    assert_eq!(rt; handle(&mut ram, 0x0002, &Change::Start), None);
+    same(&rt, fields(&finished), (0xa48c0000, 0, 0x0088, FIRST));
+    same(&rt, handle(&mut ram, 0x0002, &Change::Start), None);
     Ok(())
 }

@@ -2,6 +2,7 @@ use super::{FIRST, MESSAGE, fields, four_tries, look, number, set, transfer, try
 use ccan_object::{CommandMask, Iface, ObjectNo, Profile, Record, Reg};
 use ccan_ram::{Access, Array, Change, Changed, PortName, Refused, Tries};
 use std::test::Fail;
+use test_expect::{holds, same};
 
 /// Registers that nobody has set, but for a first message and its Message Control.
 fn first_message(control: u16) -> Iface {
@@ -15,26 +16,17 @@ fn first_message(control: u16) -> Iface {
 fn writes_a_message_and_then_a_part_of_it(rt: HostRuntime) {
     let mut ram = Array::new(Profile::One, 64);
     let mut registers = first_message(0x0088);
-    assert_eq!(rt; transfer(&mut ram, &mut registers, 0x0001), Some(1));
-    assert_eq!(rt; fields(&registers.buffer()), (0xa48c0000, 0, 0x0088, FIRST));
+    same(&rt, transfer(&mut ram, &mut registers, 0x0001), Some(1));
+    same(&rt, fields(&registers.buffer()), (0xa48c0000, 0, 0x0088, FIRST));
     let object = ObjectNo::from_request(ram.profile(), 1);
-    assert_eq!(rt;
-        fields(&ram.record_of(object)),
-        (0xa48c0000, 0, 0x0088, FIRST)
-    );
+    same(&rt, fields(&ram.record_of(object)), (0xa48c0000, 0, 0x0088, FIRST));
     registers.set(Reg::CMask, 0x0087);
     for register in [Reg::DataA1, Reg::DataA2, Reg::DataB1, Reg::DataB2] {
         registers.set(register, 0x9999);
     }
-    assert_eq!(rt; transfer(&mut ram, &mut registers, 0x0001), Some(2));
-    assert_eq!(rt;
-        fields(&registers.buffer()),
-        (0xa48c0000, 0, 0x0188, [0x99; 8])
-    );
-    assert_eq!(rt;
-        fields(&look(&mut ram, 0x0001)),
-        (0xa48c0000, 0, 0x0188, [0x99; 8])
-    );
+    same(&rt, transfer(&mut ram, &mut registers, 0x0001), Some(2));
+    same(&rt, fields(&registers.buffer()), (0xa48c0000, 0, 0x0188, [0x99; 8]));
+    same(&rt, fields(&look(&mut ram, 0x0001)), (0xa48c0000, 0, 0x0188, [0x99; 8]));
 }
 
 #[test]
@@ -43,8 +35,8 @@ fn reads_objects_that_nobody_wrote(rt: HostRuntime) {
     let mut registers = Iface::new();
     registers.set(Reg::CMask, 0x0073);
     for request in [0x0000, 0x0021, 0x003f] {
-        assert_eq!(rt; transfer(&mut ram, &mut registers, request), Some(0));
-        assert_eq!(rt; registers.buffer(), Record::zero());
+        same(&rt, transfer(&mut ram, &mut registers, request), Some(0));
+        same(&rt, registers.buffer(), Record::zero());
     }
 }
 
@@ -53,45 +45,39 @@ fn reads_back_with_clearing(rt: HostRuntime) {
     let mut ram = Array::new(Profile::One, 64);
     let mut registers = Iface::new();
     set(&mut registers, &[(Reg::CMask, 0x0090), (Reg::Ctrl, 0xa488)]);
-    assert_eq!(rt; transfer(&mut ram, &mut registers, 0x0002), Some(1));
+    same(&rt, transfer(&mut ram, &mut registers, 0x0002), Some(1));
     registers.set(Reg::CMask, 0x007f);
     for (made, control) in [(2, 0xa488), (3, 0x0488)] {
-        assert_eq!(rt; transfer(&mut ram, &mut registers, 0x0002), Some(made));
-        assert_eq!(rt; fields(&registers.buffer()), (0, 0, control, [0; 8]));
+        same(&rt, transfer(&mut ram, &mut registers, 0x0002), Some(made));
+        same(&rt, fields(&registers.buffer()), (0, 0, control, [0; 8]));
     }
-    assert_eq!(rt; fields(&look(&mut ram, 0x0002)), (0, 0, 0x0488, [0; 8]));
+    same(&rt, fields(&look(&mut ram, 0x0002)), (0, 0, 0x0488, [0; 8]));
 }
 
 #[test]
 fn reads_a_part_at_the_other_interface(rt: HostRuntime) {
     let mut ram = Array::new(Profile::One, 64);
-    assert_eq!(rt;
-        transfer(&mut ram, &mut first_message(0x0088), 0x0001),
-        Some(1)
-    );
+    same(&rt, transfer(&mut ram, &mut first_message(0x0088), 0x0001), Some(1));
     ram.at(PortName::If2);
     let mut second = Iface::new();
     second.set(Reg::CMask, 0x0002);
-    assert_eq!(rt; transfer(&mut ram, &mut second, 0x0001), Some(0));
+    same(&rt, transfer(&mut ram, &mut second, 0x0001), Some(0));
     let shown = [0x11, 0x22, 0x33, 0x44, 0, 0, 0, 0];
-    assert_eq!(rt; fields(&second.buffer()), (0, 0, 0, shown));
+    same(&rt, fields(&second.buffer()), (0, 0, 0, shown));
 }
 
 #[test]
 fn spends_a_quota_of_one(rt: HostRuntime) {
     let mut ram = Array::new(Profile::One, 1);
     let mut registers = first_message(0x0088);
-    assert_eq!(rt; transfer(&mut ram, &mut registers, 0x0001), Some(1));
+    same(&rt, transfer(&mut ram, &mut registers, 0x0001), Some(1));
     let clear = Change::Clear(CommandMask::of(0x0008));
-    assert_eq!(rt; try_change(&mut ram, 0x0001, &clear), Err(Refused::Spent));
+    same(&rt, try_change(&mut ram, 0x0001, &clear), Err(Refused::Spent));
     registers.set(Reg::CMask, 0x0073);
-    assert_eq!(rt; transfer(&mut ram, &mut registers, 0x0001), Some(0));
-    assert_eq!(rt; fields(&registers.buffer()), (0xa48c0000, 0, 0x0088, FIRST));
+    same(&rt, transfer(&mut ram, &mut registers, 0x0001), Some(0));
+    same(&rt, fields(&registers.buffer()), (0xa48c0000, 0, 0x0088, FIRST));
     ram.at(PortName::If2);
-    assert_eq!(rt;
-        transfer(&mut ram, &mut first_message(0x0088), 0x0002),
-        Some(65537)
-    );
+    same(&rt, transfer(&mut ram, &mut first_message(0x0088), 0x0002), Some(65537));
 }
 
 #[test]
@@ -104,12 +90,9 @@ fn numbers_the_changes_of_each_port(rt: HostRuntime) {
         (PortName::Bus, 131073),
     ] {
         ram.at(port);
-        assert_eq!(rt; number(try_change(&mut ram, 0x0005, &clear)), Some(first));
-        assert_eq!(rt;
-            number(try_change(&mut ram, 0x0005, &clear)),
-            Some(first + 1)
-        );
-        assert_eq!(rt; try_change(&mut ram, 0x0005, &clear), Err(Refused::Spent));
+        same(&rt, number(try_change(&mut ram, 0x0005, &clear)), Some(first));
+        same(&rt, number(try_change(&mut ram, 0x0005, &clear)), Some(first + 1));
+        same(&rt, try_change(&mut ram, 0x0005, &clear), Err(Refused::Spent));
     }
 }
 
@@ -119,25 +102,22 @@ fn spends_the_greatest_quota(rt: HostRuntime) {
     ram.at(PortName::Bus);
     let clear = Change::Clear(CommandMask::of(0));
     for _ in 1..4096 {
-        assert!(rt; try_change(&mut ram, 0x0001, &clear).is_ok());
+        holds(&rt, try_change(&mut ram, 0x0001, &clear).is_ok());
     }
-    assert_eq!(rt; number(try_change(&mut ram, 0x0001, &clear)), Some(135168));
-    assert_eq!(rt; try_change(&mut ram, 0x0001, &clear), Err(Refused::Spent));
-    assert_eq!(rt; look(&mut ram, 0x0001), Record::zero());
+    same(&rt, number(try_change(&mut ram, 0x0001, &clear)), Some(135168));
+    same(&rt, try_change(&mut ram, 0x0001, &clear), Err(Refused::Spent));
+    same(&rt, look(&mut ram, 0x0001), Record::zero());
 }
 
 #[test]
 fn has_as_many_objects_as_its_profile(rt: HostRuntime) -> Result<(), Fail> {
     for (profile, last) in [(Profile::One, 32), (Profile::Two, 64)] {
         let mut ram = Array::new(profile, 64);
-        assert_eq!(rt; ram.profile(), profile);
-        assert_eq!(rt;
-            transfer(&mut ram, &mut first_message(0x0088), 0x0000),
-            Some(1)
-        );
+        same(&rt, ram.profile(), profile);
+        same(&rt, transfer(&mut ram, &mut first_message(0x0088), 0x0000), Some(1));
         for number in 1..=last {
             let object = ObjectNo::new(number).ok_or("no such object")?;
-            assert!(rt; ram.profile().holds(object));
+            holds(&rt, ram.profile().holds(object));
             let written = ram.look(object) != Record::zero();
             assert_eq!(rt; written, number == last, "{number}");
         }
@@ -150,7 +130,7 @@ fn tells_how_often_a_change_may_be_tried(rt: HostRuntime) {
     for (tries, known) in [(0, false), (1, true), (1000, true), (1001, false)] {
         assert_eq!(rt; Tries::new(tries).is_some(), known, "{tries}");
     }
-    assert_eq!(rt; four_tries().get(), 4);
+    same(&rt, four_tries().get(), 4);
 }
 
 #[test]
@@ -158,25 +138,19 @@ fn tells_which_changes_fit_and_what_they_make(rt: HostRuntime) {
     let registers = first_message(0x0088);
     let write = Change::Write(registers.command(), registers.buffer());
     let empty = Record::zero();
-    assert!(rt; write.fits(&empty) && Change::Finish.fits(&empty) && !Change::Start.fits(&empty));
+    holds(&rt, write.fits(&empty) && Change::Finish.fits(&empty) && !Change::Start.fits(&empty));
     let written = write.applied(&empty);
-    assert_eq!(rt; fields(&written), (0xa48c0000, 0, 0x0088, FIRST));
-    assert_eq!(rt; Change::Finish.applied(&written), written);
+    same(&rt, fields(&written), (0xa48c0000, 0, 0x0088, FIRST));
+    same(&rt, Change::Finish.applied(&written), written);
 }
 
 #[test]
 fn shows_a_record_that_does_not_fit(rt: HostRuntime) {
     let mut ram = Array::new(Profile::One, 64);
-    assert_eq!(rt;
-        transfer(&mut ram, &mut first_message(0x0088), 0x0001),
-        Some(1)
-    );
+    same(&rt, transfer(&mut ram, &mut first_message(0x0088), 0x0001), Some(1));
     ram.at(PortName::Bus);
     let shown = look(&mut ram, 0x0001);
-    assert_eq!(rt;
-        try_change(&mut ram, 0x0001, &Change::Start),
-        Ok(Changed::NotNow(shown))
-    );
+    same(&rt, try_change(&mut ram, 0x0001, &Change::Start), Ok(Changed::NotNow(shown)));
 }
 
 #[test]

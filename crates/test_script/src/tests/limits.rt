@@ -3,6 +3,7 @@ use ccan_ram::PortName;
 use ccan_script::*;
 use std::alloc::{AllocError, Global};
 use std::test::Fail;
+use test_expect::same;
 
 /// The bytes of a script that are cut, spoiled or nested too deep.
 #[test]
@@ -17,14 +18,14 @@ fn refuses_what_is_no_json(rt: HostRuntime) -> Result<(), Fail> {
     no_utf8.extend_from_slice(br#"{"if1":[{"op":"transfer","request":"000"#)?;
     no_utf8.push(0xff)?;
     no_utf8.extend_from_slice(br#""}]}"#)?;
-    assert_eq!(rt; refusal(&rt, rt.alloc(), &no_utf8), want);
+    same(&rt, refusal(&rt, rt.alloc(), &no_utf8), want);
     let mut nested = String::new(rt.alloc());
     for bracket in ["[", "]"] {
         for _ in 0..200 {
             nested.push_str(bracket)?;
         }
     }
-    assert_eq!(rt; refusal(&rt, rt.alloc(), nested.as_bytes()), want);
+    same(&rt, refusal(&rt, rt.alloc(), nested.as_bytes()), want);
     Ok(())
 }
 
@@ -59,18 +60,18 @@ fn holds_its_limits(rt: HostRuntime) -> Result<(), Fail> {
         );
         let more = many(rt.alloc(), name, interrupt, 2_001)?;
         let want = ScriptError::TooMany { list };
-        assert_eq!(rt; refusal(&rt, rt.alloc(), more.as_bytes()), want);
+        same(&rt, refusal(&rt, rt.alloc(), more.as_bytes()), want);
     }
     let most = many(rt.alloc(), "order", "\"bus\"", 6_000)?;
     let want = ScriptError::Order {
         port: PortName::Bus,
     };
-    assert_eq!(rt; refusal(&rt, rt.alloc(), most.as_bytes()), want);
+    same(&rt, refusal(&rt, rt.alloc(), most.as_bytes()), want);
     let more = many(rt.alloc(), "order", "\"bus\"", 6_001)?;
     let want = ScriptError::TooMany {
         list: ListName::Order,
     };
-    assert_eq!(rt; refusal(&rt, rt.alloc(), more.as_bytes()), want);
+    same(&rt, refusal(&rt, rt.alloc(), more.as_bytes()), want);
     Ok(())
 }
 
@@ -109,7 +110,7 @@ fn tells_each_refusal(rt: HostRuntime) -> Result<(), Fail> {
         (ScriptError::Memory, "ccan: out of memory"),
     ] {
         let text = format!(in rt.alloc(); "{fault}")?;
-        assert_eq!(rt; text.as_str(), want);
+        same(&rt, text.as_str(), want);
     }
     Ok(())
 }
@@ -123,7 +124,7 @@ fn tells_want_of_memory(rt: HostRuntime) {
         "bus":[{"op":"round","send":[{"node":1,"id":1,"dlc":1,"data":"01"}]}],
         "order":["bus","if2","if1"]}"#;
     match read_script(rt.alloc(), script.as_bytes()) {
-        Ok(read) => assert_eq!(rt; read.order.len(), 3),
-        Err(fault) => assert_eq!(rt; fault, ScriptError::Memory),
+        Ok(read) => same(&rt, read.order.len(), 3),
+        Err(fault) => same(&rt, fault, ScriptError::Memory),
     }
 }

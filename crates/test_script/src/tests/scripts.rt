@@ -5,6 +5,7 @@ use ccan_script::*;
 use std::alloc::Global;
 use std::process::Abort;
 use std::test::Fail;
+use test_expect::{holds, same};
 
 /// A write of 0x123 with eight bytes.
 pub(crate) const WRITE: &str = r#"{"if1":[{"op":"transfer","request":"0001","set":{
@@ -29,22 +30,22 @@ pub(crate) fn object_no(rt: &impl Abort, number: u8) -> ObjectNo {
 #[test]
 fn reads_what_is_not_said(rt: HostRuntime) {
     let script = read(&rt, rt.alloc(), "{}");
-    assert_eq!(rt; script.profile, Profile::One);
-    assert_eq!(rt; script.quota, 64);
-    assert_eq!(rt; script.tries.get(), 100);
-    assert_eq!(rt; script.nodes, 0);
-    assert!(rt; script.if1.is_empty() && script.if2.is_empty());
-    assert!(rt; script.bus.is_empty() && script.order.is_empty());
+    same(&rt, script.profile, Profile::One);
+    same(&rt, script.quota, 64);
+    same(&rt, script.tries.get(), 100);
+    same(&rt, script.nodes, 0);
+    holds(&rt, script.if1.is_empty() && script.if2.is_empty());
+    holds(&rt, script.bus.is_empty() && script.order.is_empty());
 }
 
 #[test]
 fn reads_numbers(rt: HostRuntime) {
     let text = r#"{"nodes":8,"tries":1000,"quota":4096,"profile":2}"#;
     let script = read(&rt, rt.alloc(), text);
-    assert_eq!(rt; script.profile, Profile::Two);
-    assert_eq!(rt; script.quota, 4096);
-    assert_eq!(rt; script.tries.get(), 1000);
-    assert_eq!(rt; script.nodes, 8);
+    same(&rt, script.profile, Profile::Two);
+    same(&rt, script.quota, 4096);
+    same(&rt, script.tries.get(), 1000);
+    same(&rt, script.nodes, 8);
 }
 
 #[test]
@@ -53,7 +54,7 @@ fn reads_host_lines(rt: HostRuntime) -> Result<(), Fail> {
     let HostLine::Transfer { request, set } = script.if1.first().ok_or("no line")? else {
         return Err("no transfer".into());
     };
-    assert_eq!(rt; *request, 1);
+    same(&rt, *request, 1);
     let want = [
         (Reg::Arb2, 0xa48c),
         (Reg::CMask, 0x00f3),
@@ -63,7 +64,7 @@ fn reads_host_lines(rt: HostRuntime) -> Result<(), Fail> {
         (Reg::DataB1, 0x6655),
         (Reg::DataB2, 0x8877),
     ];
-    assert!(rt; set.as_slice() == want.as_slice());
+    holds(&rt, set.as_slice() == want.as_slice());
     let text = r#"{"profile":2,"if2":[
         {"op":"until","object":33,"flag":"msglst","turns":1000000},
         {"op":"interrupt"},
@@ -77,11 +78,11 @@ fn reads_host_lines(rt: HostRuntime) -> Result<(), Fail> {
     else {
         return Err("no wait".into());
     };
-    assert_eq!(rt; *object, object_no(&rt, 33));
-    assert_eq!(rt; *flag, Flag::MsgLst);
-    assert_eq!(rt; *turns, 1_000_000);
-    assert!(rt; matches!(script.if2.get(1), Some(HostLine::Interrupt)));
-    assert!(rt; matches!(script.if2.get(2), Some(HostLine::Flags(Flag::MsgVal))));
+    same(&rt, *object, object_no(&rt, 33));
+    same(&rt, *flag, Flag::MsgLst);
+    same(&rt, *turns, 1_000_000);
+    holds(&rt, matches!(script.if2.get(1), Some(HostLine::Interrupt)));
+    holds(&rt, matches!(script.if2.get(2), Some(HostLine::Flags(Flag::MsgVal))));
     Ok(())
 }
 
@@ -98,25 +99,23 @@ fn reads_bus_lines(rt: HostRuntime) {
         {"op":"recessive","groups":10000},
         {"op":"loopback","on":1}]}"#;
     let bus = read(&rt, rt.alloc(), text).bus;
-    assert_eq!(rt; bus.len(), 9);
-    assert!(rt; matches!(bus.first(), Some(BusLine::Load)));
-    assert!(rt; matches!(bus.get(1), Some(BusLine::Status)));
+    same(&rt, bus.len(), 9);
+    holds(&rt, matches!(bus.first(), Some(BusLine::Load)));
+    holds(&rt, matches!(bus.get(1), Some(BusLine::Status)));
     let control = bus.get(2);
-    assert!(rt;
-        matches!(
+    holds(&rt, matches!(
             control,
             Some(BusLine::Control {
                 sie: true,
                 eie: false
             })
-        )
-    );
-    assert!(rt; matches!(bus.get(3), Some(BusLine::Interrupt)));
-    assert!(rt; matches!(bus.get(4), Some(BusLine::Flags(Flag::TxRqst))));
-    assert!(rt; matches!(bus.get(5), Some(BusLine::Counters(2))));
-    assert!(rt; matches!(bus.get(6), Some(BusLine::Init)));
-    assert!(rt; matches!(bus.get(7), Some(BusLine::Recessive(10_000))));
-    assert!(rt; matches!(bus.get(8), Some(BusLine::LoopBack(true))));
+        ));
+    holds(&rt, matches!(bus.get(3), Some(BusLine::Interrupt)));
+    holds(&rt, matches!(bus.get(4), Some(BusLine::Flags(Flag::TxRqst))));
+    holds(&rt, matches!(bus.get(5), Some(BusLine::Counters(2))));
+    holds(&rt, matches!(bus.get(6), Some(BusLine::Init)));
+    holds(&rt, matches!(bus.get(7), Some(BusLine::Recessive(10_000))));
+    holds(&rt, matches!(bus.get(8), Some(BusLine::LoopBack(true))));
 }
 
 #[test]
@@ -127,7 +126,7 @@ fn reads_rounds(rt: HostRuntime) -> Result<(), Fail> {
             {"node":2,"id":536870911,"xtd":1,"dlc":15,"data":"0102030405060708"},
             {"node":1,"id":291,"rtr":1,"dlc":4},
             {"node":2,"id":0,"dlc":3,"data":"0A0b0C"}]}]}"#;
-    assert!(rt; read_script(rt.alloc(), text.as_bytes()).is_err());
+    holds(&rt, read_script(rt.alloc(), text.as_bytes()).is_err());
     let text = r#"{"nodes":2,"bus":[
         {"op":"round"},
         {"op":"round","fault":"crc","send":[
@@ -139,33 +138,27 @@ fn reads_rounds(rt: HostRuntime) -> Result<(), Fail> {
     let Some(BusLine::Round(empty)) = bus.first() else {
         return Err("no round".into());
     };
-    assert!(rt; empty.sends().is_empty());
-    assert_eq!(rt; empty.fault(), Fault::Quiet);
+    holds(&rt, empty.sends().is_empty());
+    same(&rt, empty.fault(), Fault::Quiet);
     let Some(BusLine::Round(two)) = bus.get(1) else {
         return Err("no round".into());
     };
-    assert_eq!(rt; two.fault(), Fault::Crc);
-    assert_eq!(rt; two.sends().len(), 2);
+    same(&rt, two.fault(), Fault::Crc);
+    same(&rt, two.sends().len(), 2);
     let (node, frame) = *two.sends().get(0).ok_or("no frame")?;
-    assert_eq!(rt;
-        (node, frame.id(), frame.xtd(), frame.rtr()),
-        (2, 0x1fff_ffff, true, false)
-    );
-    assert_eq!(rt; frame.dlc().get(), 15);
-    assert_eq!(rt; frame.bytes(), [1, 2, 3, 4, 5, 6, 7, 8]);
+    same(&rt, (node, frame.id(), frame.xtd(), frame.rtr()), (2, 0x1fff_ffff, true, false));
+    same(&rt, frame.dlc().get(), 15);
+    same(&rt, frame.bytes(), [1, 2, 3, 4, 5, 6, 7, 8]);
     let (node, frame) = *two.sends().get(1).ok_or("no frame")?;
-    assert_eq!(rt;
-        (node, frame.id(), frame.xtd(), frame.rtr()),
-        (1, 0x123, false, true)
-    );
-    assert_eq!(rt; frame.dlc().get(), 4);
-    assert_eq!(rt; frame.bytes(), [0; 8]);
+    same(&rt, (node, frame.id(), frame.xtd(), frame.rtr()), (1, 0x123, false, true));
+    same(&rt, frame.dlc().get(), 4);
+    same(&rt, frame.bytes(), [0; 8]);
     let Some(BusLine::Round(short)) = bus.get(2) else {
         return Err("no round".into());
     };
-    assert_eq!(rt; short.fault(), Fault::Bit0);
+    same(&rt, short.fault(), Fault::Bit0);
     let (_, frame) = *short.sends().first().ok_or("no frame")?;
-    assert_eq!(rt; frame.bytes(), [10, 11, 12, 0, 0, 0, 0, 0]);
+    same(&rt, frame.bytes(), [10, 11, 12, 0, 0, 0, 0, 0]);
     Ok(())
 }
 
@@ -186,7 +179,7 @@ fn reads_each_fault(rt: HostRuntime) -> Result<(), Fail> {
         let Some(BusLine::Round(round)) = bus.first() else {
             return Err("no round".into());
         };
-        assert_eq!(rt; round.fault(), want);
+        same(&rt, round.fault(), want);
     }
     Ok(())
 }
@@ -209,7 +202,7 @@ fn reads_orders(rt: HostRuntime) {
         match format!(in rt.alloc(); "{{{lines}{order}}}") {
             Ok(text) => {
                 let script = read(&rt, rt.alloc(), text.as_str());
-                assert!(rt; script.order.as_slice() == want.as_slice());
+                holds(&rt, script.order.as_slice() == want.as_slice());
             }
             Err(_) => panic!(rt; "no memory"),
         }

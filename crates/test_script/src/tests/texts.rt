@@ -6,11 +6,12 @@ use ccan_ram::{Flag, PortName};
 use ccan_script::*;
 use std::process::Abort;
 use std::test::Fail;
+use test_expect::{holds, same};
 
 /// What a line of a port says.
 fn says(rt: &impl Abort, port: PortName, answer: LineAnswer, want: &str) {
     let line = print_line(port, &answer);
-    assert_eq!(rt; line.as_str(), want);
+    same(rt, line.as_str(), want);
 }
 
 /// A message of identifier 0x123 with eight bytes, sent by the controller.
@@ -235,11 +236,8 @@ fn prints_the_bus_itself(rt: HostRuntime) {
 fn prints_what_is_left(rt: HostRuntime) -> Result<(), Fail> {
     let one = object_no(&rt, 1);
     let line = print_final(one, &message()).ok_or("no line")?;
-    assert_eq!(rt;
-        line.as_str(),
-        "final 01 a48c0000 00000000 0088 1122334455667788\n"
-    );
-    assert!(rt; print_final(one, &Record::zero()).is_none());
+    same(&rt, line.as_str(), "final 01 a48c0000 00000000 0088 1122334455667788\n");
+    holds(&rt, print_final(one, &Record::zero()).is_none());
     let extended = Record {
         valid: true,
         xtd: true,
@@ -250,9 +248,6 @@ fn prints_what_is_left(rt: HostRuntime) -> Result<(), Fail> {
         ..Record::zero()
     };
     let line = print_final(object_no(&rt, 7), &extended).ok_or("no line")?;
-    assert_eq!(rt;
-        line.as_str(),
-        "final 07 dabcdef0 40000000 8000 fe00000000000001\n"
-    );
+    same(&rt, line.as_str(), "final 07 dabcdef0 40000000 8000 fe00000000000001\n");
     Ok(())
 }

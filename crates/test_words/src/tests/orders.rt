@@ -2,6 +2,7 @@
 ghost use Rattle.std.specs.Prelude.{◌≡◌};
 
 use super::*;
+use test_expect::{holds, same};
 
 const P: (u32, u32, u16, [u8; 8]) = (
     0xa48c0000,
@@ -19,21 +20,18 @@ fn start_of_an_invalid_object<R: SharedRam + Drop>(rt: &impl Abort, alloc: std::
     let mut bus = Seat::new(&ram, bus);
     for (request, want) in [(5, 1), (9, 2)] {
         let made = if1.change(request, &message(0x0188), tries(1));
-        assert_eq!(rt; number(&made), Some(want));
+        same(rt, number(&made), Some(want));
     }
     let _found = bus.prepare(5);
     let invalid = change_of(&[(Reg::CMask, 0x00a0), (Reg::Arb2, 0x048c)]);
     let third = if1.change(5, &invalid, tries(1));
-    assert_eq!(rt; number(&third), Some(3));
-    assert_eq!(rt;
-        bus.commit(&Change::Start),
-        Some(Err(CommitError::Lost { now: 3 }))
-    );
+    same(rt, number(&third), Some(3));
+    same(rt, bus.commit(&Change::Start), Some(Err(CommitError::Lost { now: 3 })));
     let not_now = bus.change(5, &Change::Start, tries(1));
-    assert!(rt; matches!(&not_now, Ok(Changed::NotNow(_))));
-    assert_eq!(rt; (if1.used(), bus.used()), (3, 0));
+    holds(rt, matches!(&not_now, Ok(Changed::NotNow(_))));
+    same(rt, (if1.used(), bus.used()), (3, 0));
     starts_nine(rt, bus);
-    assert_eq!(rt; if1.prepare(9).1, 131073);
+    same(rt, if1.prepare(9).1, 131073);
 }
 
 /// The next object that is ready is 9.
@@ -42,8 +40,8 @@ fn starts_nine<R: SharedRam>(rt: &impl Abort, bus: Seat<'_, R>) {
     let Ok(Some((chosen, started))) = choose(&mut bus.into_access(), tries(1)) else {
         panic!(rt; "nothing was started")
     };
-    assert_eq!(rt; chosen, nine);
-    assert_eq!(rt; shown(&started), (P.0, P.1, 0x0188, P.3));
+    same(rt, chosen, nine);
+    same(rt, shown(&started), (P.0, P.1, 0x0188, P.3));
 }
 
 /// What comes of a commit of IF1 at object 4 after a change of IF2 at another object or the same, and what a change
@@ -60,7 +58,7 @@ fn commit_after<R: SharedRam + Drop>(
     let mut if2 = Seat::new(&ram, if2);
     let _found = if1.prepare(4);
     let theirs = if2.change(request, &data(0x9999), tries(1));
-    assert_eq!(rt; number(&theirs), Some(65537));
+    same(rt, number(&theirs), Some(65537));
     let Some(committed) = if1.commit(&control(0x0088)) else {
         panic!(rt; "nothing was begun")
     };
@@ -80,12 +78,12 @@ fn a_start_of_an_invalid_object_is_lost(rt: HostRuntime) {
 
 /// A change of another port at the same object costs a commit, and one elsewhere doesn't.
 fn contends_at_the_same_object<R: SharedRam + Drop>(rt: &impl Abort, alloc: std::alloc::Global) {
-    let (same, both) = commit_after::<R>(rt, alloc, 4);
-    assert_eq!(rt; same, Err(CommitError::Lost { now: 65537 }));
-    assert_eq!(rt; shown(&both), (0, 0, 0x0088, [0x99; 8]));
+    let (lost, both) = commit_after::<R>(rt, alloc, 4);
+    same(rt, lost, Err(CommitError::Lost { now: 65537 }));
+    same(rt, shown(&both), (0, 0, 0x0088, [0x99; 8]));
     let (other, mine) = commit_after::<R>(rt, alloc, 6);
-    assert_eq!(rt; number(&other), Some(1));
-    assert_eq!(rt; shown(&mine), (0, 0, 0x0088, [0; 8]));
+    same(rt, number(&other), Some(1));
+    same(rt, shown(&mine), (0, 0, 0x0088, [0; 8]));
 }
 
 #[test]
@@ -98,8 +96,8 @@ fn changes_contend_at_the_same_object(rt: HostRuntime) {
 fn changes_contend_at_any_object_behind_one_word(rt: HostRuntime) {
     for (request, bytes) in [(4, [0x99; 8]), (6, [0; 8])] {
         let (lost, after) = commit_after::<RootRam>(&rt, rt.alloc(), request);
-        assert_eq!(rt; lost, Err(CommitError::Lost { now: 65537 }));
-        assert_eq!(rt; shown(&after), (0, 0, 0x0088, bytes));
+        same(&rt, lost, Err(CommitError::Lost { now: 65537 }));
+        same(&rt, shown(&after), (0, 0, 0x0088, bytes));
     }
 }
 
@@ -145,13 +143,13 @@ fn write_is_seen<R: SharedRam + Drop>(rt: &impl Abort, alloc: std::alloc::Global
     };
     let mut if1 = Seat::new(&ram, if1);
     let mut if2 = Seat::new(&ram, if2);
-    assert_eq!(rt; if1.look(1), Record::zero());
+    same(rt, if1.look(1), Record::zero());
     let written = if2.change(1, &message(0x0088), tries(1));
-    assert_eq!(rt; number(&written), Some(65537));
+    same(rt, number(&written), Some(65537));
     let (held, number) = if1.prepare(1);
-    assert_eq!(rt; shown(&held), P);
-    assert_eq!(rt; number, 65537);
-    assert_eq!(rt; shown(&if2.look(1)), P);
+    same(rt, shown(&held), P);
+    same(rt, number, 65537);
+    same(rt, shown(&if2.look(1)), P);
 }
 
 /// What a port that met another one sees of its write.
@@ -162,7 +160,7 @@ fn write_is_met<R: SharedRam + Drop>(rt: &impl Abort, alloc: std::alloc::Global)
     let one = ObjectNo::from_request(ram.profile(), 1);
     let _written = calls::change(&ram, &mut if2, one, &message(0x0088), tries(1));
     ram.meet(&mut if1, &mut if2);
-    assert_eq!(rt; shown(&calls::look(&ram, &mut if1, one)), P);
+    same(rt, shown(&calls::look(&ram, &mut if1, one)), P);
 }
 
 #[test]
@@ -195,10 +193,10 @@ fn spent_after<R: SharedRam + Drop>(
     for _ in 0..quota {
         last = number(&bus.change(1, &clear, tries(1)));
     }
-    assert_eq!(rt; last, Some(greatest));
-    assert_eq!(rt; bus.change(1, &clear, tries(1)), Err(Refused::Spent));
-    assert_eq!(rt; bus.look(1), Record::zero());
-    assert_eq!(rt; bus.used(), quota);
+    same(rt, last, Some(greatest));
+    same(rt, bus.change(1, &clear, tries(1)), Err(Refused::Spent));
+    same(rt, bus.look(1), Record::zero());
+    same(rt, bus.used(), quota);
 }
 
 #[test]
@@ -226,7 +224,7 @@ fn scan_is_resumed<R: SharedRam + Drop>(rt: &impl Abort, alloc: std::alloc::Glob
         (Reg::Ctrl, 0x0088),
     ]);
     let first = calls::change(&ram, &mut if1, three, &receiver, tries(1));
-    assert_eq!(rt; number(&first), Some(1));
+    same(rt, number(&first), Some(1));
     let Ok(frame) = Frame::new(0x123, false, false, 1, [1, 0, 0, 0, 0, 0, 0, 0]) else {
         panic!(rt; "no frame")
     };
@@ -239,21 +237,18 @@ fn scan_is_resumed<R: SharedRam + Drop>(rt: &impl Abort, alloc: std::alloc::Glob
         at: three,
         why: Refused::Busy { tries: 2, now: 3 },
     };
-    assert_eq!(rt; refused, busy);
+    same(rt, refused, busy);
     let (bus, mut if1) = disturbed.into_ports();
-    assert_eq!(rt; (ram.used(&bus), ram.used(&if1)), (0, 3));
+    same(rt, (ram.used(&bus), ram.used(&if1)), (0, 3));
     let mut handler = On::new(&ram, bus);
     let Ok(Some(stored)) = receive_from(&mut handler, &frame, three, tries(2)) else {
         panic!(rt; "the frame was not stored")
     };
-    assert_eq!(rt; stored.object, three);
-    assert_eq!(rt; shown(&stored.before), (0x848c0000, 0, 0x0088, [0; 8]));
-    assert_eq!(rt;
-        shown(&stored.after),
-        (0x848c0000, 0, 0x8081, [1, 0, 0, 0, 0, 0, 0, 0])
-    );
+    same(rt, stored.object, three);
+    same(rt, shown(&stored.before), (0x848c0000, 0, 0x0088, [0; 8]));
+    same(rt, shown(&stored.after), (0x848c0000, 0, 0x8081, [1, 0, 0, 0, 0, 0, 0, 0]));
     let draft = calls::prepare(&ram, &mut if1, three);
-    assert_eq!(rt; draft.number(), 131073);
+    same(rt, draft.number(), 131073);
 }
 
 #[test]
@@ -272,22 +267,19 @@ fn three_ports_at_one_object<R: SharedRam + Drop>(rt: &impl Abort, alloc: std::a
     let mut if2 = Seat::new(&ram, if2);
     let mut bus = Seat::new(&ram, bus);
     let _drafts = (if1.prepare(4), if2.prepare(4), bus.prepare(4));
-    assert_eq!(rt; committed(if1.commit(&message(0x0088))), Some(1));
+    same(rt, committed(if1.commit(&message(0x0088))), Some(1));
     let clear = change_of(&[(Reg::CMask, 0x000c)]);
-    assert_eq!(rt; if2.commit(&clear), Some(Err(CommitError::Lost { now: 1 })));
+    same(rt, if2.commit(&clear), Some(Err(CommitError::Lost { now: 1 })));
     let _again = if2.prepare(4);
-    assert_eq!(rt; committed(if2.commit(&clear)), Some(65537));
-    assert_eq!(rt;
-        bus.commit(&Change::Finish),
-        Some(Err(CommitError::Lost { now: 65537 }))
-    );
+    same(rt, committed(if2.commit(&clear)), Some(65537));
+    same(rt, bus.commit(&Change::Finish), Some(Err(CommitError::Lost { now: 65537 })));
     let (held, _number) = bus.prepare(4);
-    assert_eq!(rt; shown(&held), P);
-    assert_eq!(rt; bus.commit(&Change::Start), Some(Ok(Changed::NotNow(held))));
+    same(rt, shown(&held), P);
+    same(rt, bus.commit(&Change::Start), Some(Ok(Changed::NotNow(held))));
     let _again = bus.prepare(4);
-    assert_eq!(rt; committed(bus.commit(&Change::Finish)), Some(131073));
-    assert_eq!(rt; (if1.used(), if2.used(), bus.used()), (1, 1, 1));
-    assert_eq!(rt; shown(&if1.look(4)), P);
+    same(rt, committed(bus.commit(&Change::Finish)), Some(131073));
+    same(rt, (if1.used(), if2.used(), bus.used()), (1, 1, 1));
+    same(rt, shown(&if1.look(4)), P);
 }
 
 /// The number of a change that was begun and made.
@@ -305,9 +297,9 @@ fn two_drafts_of_a_port<R: SharedRam + Drop>(rt: &impl Abort, alloc: std::alloc:
     let second = prepare_beside(&ram, &mut bus, four, &first);
     let _written = calls::change(&ram, &mut if1, four, &message(0x0088), tries(1));
     let lost = commit_beside(&ram, &mut bus, first, &Change::Finish, &second);
-    assert_eq!(rt; lost, Err(CommitError::Lost { now: 1 }));
+    same(rt, lost, Err(CommitError::Lost { now: 1 }));
     let not_now = calls::commit(&ram, &mut bus, second, &Change::Start);
-    assert_eq!(rt; not_now, Ok(Changed::NotNow(Record::zero())));
+    same(rt, not_now, Ok(Changed::NotNow(Record::zero())));
 }
 
 #[test]
@@ -336,11 +328,8 @@ fn same_record_again<R: SharedRam + Drop>(rt: &impl Abort, alloc: std::alloc::Gl
     for change in [data(0x9999), message(0x0088)] {
         let _made = if1.change(4, &change, tries(1));
     }
-    assert_eq!(rt; held, if1.look(4));
-    assert_eq!(rt;
-        if2.commit(&control(0x0001)),
-        Some(Err(CommitError::Lost { now: 3 }))
-    );
+    same(rt, held, if1.look(4));
+    same(rt, if2.commit(&control(0x0001)), Some(Err(CommitError::Lost { now: 3 })));
 }
 
 #[test]
@@ -358,16 +347,16 @@ fn chosen_are_ready_no_more<R: SharedRam + Drop>(rt: &impl Abort, alloc: std::al
     let two = ObjectNo::from_request(ram.profile(), 2);
     let four = ObjectNo::from_request(ram.profile(), 4);
     let first = calls::change(&ram, &mut if1, two, &message(0x0188), tries(1));
-    assert_eq!(rt; number(&first), Some(1));
+    same(rt, number(&first), Some(1));
     let second = calls::change(&ram, &mut if1, four, &message(0x0188), tries(1));
-    assert_eq!(rt; number(&second), Some(2));
+    same(rt, number(&second), Some(2));
     let mut disturbed = Contended::new(&ram, bus, if1, control(0), 64);
-    assert_eq!(rt; choose_at_once(&mut disturbed, tries(2)), Ok(None));
-    assert_eq!(rt; flags_at_once(&mut disturbed, Flag::MsgVal), 0xa);
-    assert_eq!(rt; flags_at_once(&mut disturbed, Flag::TxRqst), 0);
+    same(rt, choose_at_once(&mut disturbed, tries(2)), Ok(None));
+    same(rt, flags_at_once(&mut disturbed, Flag::MsgVal), 0xa);
+    same(rt, flags_at_once(&mut disturbed, Flag::TxRqst), 0);
     let (bus, if1) = disturbed.into_ports();
     // Of the two tries at each object one is lost, and the other finds no request; the rival writes in each.
-    assert_eq!(rt; (ram.used(&bus), ram.used(&if1)), (0, 2 + 2 * 2));
+    same(rt, (ram.used(&bus), ram.used(&if1)), (0, 2 + 2 * 2));
 }
 
 #[test]

@@ -4,6 +4,7 @@ ghost use Rattle.std.specs.Prelude.{◌≡◌};
 use super::*;
 use crate::pictures::{Pair, torn_beside};
 use std::thread::Threads;
+use test_expect::same;
 
 /// Two objects, as far apart as the smaller profile has them.
 fn ends() -> Pair
@@ -53,9 +54,9 @@ fn registers_show_the_flags_of_all_objects(rt: HostRuntime) {
         txrqst: 0x4,
         msgval: 0x4,
     };
-    assert_eq!(rt; written_objects::<WordRam>(&rt, rt.alloc()), registers);
-    assert_eq!(rt; written_objects::<RootRam>(&rt, rt.alloc()), registers);
-    assert_eq!(rt; written_objects::<EndlessRam>(&rt, rt.alloc()), registers);
+    same(&rt, written_objects::<WordRam>(&rt, rt.alloc()), registers);
+    same(&rt, written_objects::<RootRam>(&rt, rt.alloc()), registers);
+    same(&rt, written_objects::<EndlessRam>(&rt, rt.alloc()), registers);
 }
 
 // How many pairs of looks are torn goes by the schedule, so nothing is asked of them.
@@ -63,7 +64,7 @@ fn registers_show_the_flags_of_all_objects(rt: HostRuntime) {
 fn no_picture_is_torn(rt: HostRuntime) {
     for _ in 0..20u8 {
         let (pictures, _looks) = torn_of::<WordRam, HostRuntime>(&rt, rt.alloc(), 4096, 1024);
-        assert_eq!(rt; pictures, 0);
+        same(&rt, pictures, 0);
     }
     let (pictures, _looks) = torn_of::<EndlessRam, HostRuntime>(
         &rt,
@@ -71,7 +72,7 @@ fn no_picture_is_torn(rt: HostRuntime) {
         2_000_000,
         200_000,
     );
-    assert_eq!(rt; pictures, 0);
+    same(&rt, pictures, 0);
     let (pictures, _looks) = torn_of::<RootRam, HostRuntime>(&rt, rt.alloc(), 64, 16);
-    assert_eq!(rt; pictures, 0);
+    same(&rt, pictures, 0);
 }

@@ -3,6 +3,7 @@ use super::*;
 use crate::rivals::{Plan, three_at_work};
 use ccan_ram::Final;
 use std::thread::Threads;
+use test_expect::same;
 
 /// What three ports see who work on the objects of these requests, and what they leave.
 fn worked<R: SharedRam + Sync, T: Abort + Threads + Sync>(
@@ -47,10 +48,10 @@ fn other_objects_never_cost_a_try(rt: HostRuntime) {
             others_rise: true,
             busy: 0,
         };
-        assert_eq!(rt; port, alone);
+        same(&rt, port, alone);
     }
-    assert_eq!(rt; Task::Masks.count_in(&last.records[0]), 1000);
-    assert_eq!(rt; Task::Bytes.count_in(&last.records[1]), 1000);
+    same(&rt, Task::Masks.count_in(&last.records[0]), 1000);
+    same(&rt, Task::Bytes.count_in(&last.records[1]), 1000);
 }
 
 #[test]
@@ -69,8 +70,8 @@ fn three_threads_count_in_one_object(rt: HostRuntime) {
             "{port:?}"
         );
     }
-    assert_eq!(rt; Task::Masks.count_in(&last.records[0]), 1000);
-    assert_eq!(rt; Task::Bytes.count_in(&last.records[0]), 1000);
+    same(&rt, Task::Masks.count_in(&last.records[0]), 1000);
+    same(&rt, Task::Bytes.count_in(&last.records[0]), 1000);
 }
 
 #[test]
@@ -89,8 +90,8 @@ fn three_threads_count_in_one_object_without_an_end(rt: HostRuntime) {
             "{port:?}"
         );
     }
-    assert_eq!(rt; Task::Masks.count_in(&last.records[0]), 65_535);
-    assert_eq!(rt; Task::Bytes.count_in(&last.records[0]), 65_535);
+    same(&rt, Task::Masks.count_in(&last.records[0]), 65_535);
+    same(&rt, Task::Bytes.count_in(&last.records[0]), 65_535);
 }
 
 #[test]
@@ -109,6 +110,6 @@ fn three_threads_count_behind_one_word(rt: HostRuntime) {
             "{port:?}"
         );
     }
-    assert_eq!(rt; Task::Masks.count_in(&last.records[0]), 64);
-    assert_eq!(rt; Task::Bytes.count_in(&last.records[0]), 64);
+    same(&rt, Task::Masks.count_in(&last.records[0]), 64);
+    same(&rt, Task::Bytes.count_in(&last.records[0]), 64);
 }
