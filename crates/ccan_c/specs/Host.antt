@@ -1,5 +1,6 @@
--- What the calls on a host's handle stand for: the lines of a host port in a script. Source: this project's own.
-use Rattle.std.specs.Prelude.{ℕ, ◌≡◌, ◌==◌, Bool, [], Option, Some, None, MatchBool, MatchOption, if◌then◌else◌}
+-- What the calls on a host's handle stand for: the lines of a host port in a script, and looks of one moment. Source: this
+-- project's own.
+use Rattle.std.specs.Prelude.{ℕ, ◌≡◌, ◌==◌, Bool, false, [], Option, Some, None, MatchBool, MatchOption, if◌then◌else◌}
 use Rattle.ccan_object.specs.declared.register.Reg.{Reg}
 use Rattle.ccan_object.specs.declared.register.Reg.TheVariants.{CMask, Mask1, Mask2, Arb1, Arb2, Ctrl, DataA1, DataA2, DataB1, DataB2}
 use Rattle.ccan_object.specs.declared.profile.Profile.{Profile}
@@ -20,6 +21,7 @@ use Rattle.ccan_c.specs.Answer.{code_of}
 use Rattle.ccan_c.specs.Call.{IsRefused}
 use Rattle.ccan_c.specs.Codes.{done, register_range, object_range, flag_range, turns_range}
 use Rattle.ccan_c.specs.Held.{IsOpenAs, pass_of, passes}
+use Rattle.ccan_c.specs.Looks.{LooksForFlag, LooksForInterrupt}
 use Rattle.ccan_c.specs.Settings.{is_from_one_to}
 
 -- what a handle stands for
@@ -98,17 +100,15 @@ abbrev pub Requests : ℕ → Held → Option Held → ℕ → Type 0
 Requests request held after result =
     (reply : LineAnswer) × IsOpenAs (RunsHost (transfer request) reply held) after × (result ≡ code_of reply)
 
--- a flag of all objects
+-- a flag of all objects, on either kind of handle
 abbrev pub ReadsFlag : ℕ → Held → Option Held → ℕ → ℕ → Type 0
 ReadsFlag number held after result out =
     MatchOption (flag_numbered number) (IsRefused flag_range held after result)
-    (λ flag. (result ≡ done)
-    × IsOpenAs (RunsHost (line.Flags flag) (answer.Flags flag out (pass_of held).memory.profile) held) after)
+    (λ flag. (result ≡ done) × IsOpenAs (LooksForFlag flag out held) after)
 
--- the interrupt value
+-- the interrupt value; a host knows of no status interrupt
 abbrev pub ReadsInterrupt : Held → Option Held → ℕ → ℕ → Type 0
-ReadsInterrupt held after result out =
-    (result ≡ done) × IsOpenAs (RunsHost line.Interrupt (answer.Interrupt out) held) after
+ReadsInterrupt held after result out = (result ≡ done) × IsOpenAs (LooksForInterrupt false out held) after
 
 -- whether the number is that of an object
 abbrev pub is_object : Profile → ℕ → Bool

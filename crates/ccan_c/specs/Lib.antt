@@ -6,9 +6,8 @@ pub mod Seals
 pub mod Held
 pub mod Together
 pub mod Chip
-pub mod Renewal
-pub mod Copying
 pub mod Call
+pub mod Looks
 pub mod Host
 pub mod Lending
 pub mod Bus

@@ -54,7 +54,7 @@ pub extern "C" fn ccan_request(host: &mut HostHandle, request: u16) -> u32
     code_of(&answer)
 }
 
-/// Reads a flag of all objects, that of object k in bit k - 1.
+/// Reads a flag of all objects in one moment, that of object k in bit k - 1.
 #[unsafe(no_mangle)]
 pub extern "C" fn ccan_flags(host: &mut HostHandle, flag: u32, out: &mut u64) -> u32
     ensures call { IsCall (held_by host.old) (held_by host.new) result
@@ -71,7 +71,7 @@ pub extern "C" fn ccan_flags(host: &mut HostHandle, flag: u32, out: &mut u64) ->
     DONE
 }
 
-/// Reads the interrupt value: the number of the first object with IntPnd, or 0.
+/// Reads the interrupt value of one moment: the number of the first object with IntPnd, or 0.
 #[unsafe(no_mangle)]
 pub extern "C" fn ccan_interrupt(host: &mut HostHandle, out: &mut u16) -> u32
     ensures call { IsCall (held_by host.old) (held_by host.new) result
@@ -81,7 +81,7 @@ pub extern "C" fn ccan_interrupt(host: &mut HostHandle, out: &mut u16) -> u32
     if !host.handle.is_open() {
         return CLOSED;
     }
-    *out = host.handle.seal.as_mut().interrupt();
+    *out = host.handle.seal.as_mut().interrupt(false);
     DONE
 }
 

@@ -11,7 +11,7 @@
 //!      |            |            |
 //!    Held         Held         Held          a port, registers, a bus
 //!      \------------|------------/
-//!              one WordRam
+//!              one EndlessRam
 //! ```
 #![tactic(auto)]
 
@@ -20,17 +20,16 @@ mod bus_handle;
 mod bus_lines;
 mod chip;
 mod code;
-mod copying;
 mod ending;
 mod handle;
 mod held;
 mod host;
 mod host_handle;
 mod host_lines;
+mod looks;
 mod numbers;
 mod offer;
 mod opening;
-mod renewal;
 mod seal;
 mod settings;
 mod shared_port;
@@ -55,7 +54,6 @@ pub use host::{ccan_flags, ccan_get, ccan_interrupt, ccan_request, ccan_set, cca
 pub use host_handle::HostHandle;
 pub use offer::Offer;
 pub use opening::{ccan_is_open, ccan_open};
-pub use renewal::{ccan_renew, renewed_chips_end_alike};
 pub use shown_counters::ShownCounters;
 pub use shown_final::ShownFinal;
 pub use shown_load::ShownLoad;

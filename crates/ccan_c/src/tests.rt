@@ -9,7 +9,6 @@ use crate::host::{ccan_flags, ccan_get, ccan_interrupt, ccan_request, ccan_set, 
 use crate::host_handle::HostHandle;
 use crate::offer::Offer;
 use crate::opening::{ccan_is_open, ccan_open};
-use crate::renewal::ccan_renew;
 use crate::shown_counters::ShownCounters;
 use crate::shown_final::ShownFinal;
 use crate::shown_load::ShownLoad;
@@ -32,12 +31,11 @@ fn a_chip_opens_and_ends(rt: HostRuntime) {
     let mut chip = Chip::closed(alloc);
     let mut last = nothing();
     assert_eq!(rt; ccan_end(alloc, &mut chip, &mut last), 1);
-    assert_eq!(rt; ccan_open(alloc, &mut chip, 3, 0, 64, 100), 6);
-    assert_eq!(rt; ccan_open(alloc, &mut chip, 1, 9, 64, 100), 7);
-    assert_eq!(rt; ccan_open(alloc, &mut chip, 1, 8, 4097, 100), 8);
-    assert_eq!(rt; ccan_open(alloc, &mut chip, 2, 8, 4096, 0), 9);
+    assert_eq!(rt; ccan_open(alloc, &mut chip, 3, 0, 100), 6);
+    assert_eq!(rt; ccan_open(alloc, &mut chip, 1, 9, 100), 7);
+    assert_eq!(rt; ccan_open(alloc, &mut chip, 2, 8, 0), 9);
     assert!(rt; !ccan_is_open(&chip));
-    assert_eq!(rt; ccan_open(alloc, &mut chip, 2, 8, 4096, 1000), 0);
+    assert_eq!(rt; ccan_open(alloc, &mut chip, 2, 8, 1000), 0);
     assert!(rt; ccan_is_open(&chip));
     assert_eq!(rt; ccan_end(alloc, &mut chip, &mut last), 0);
     assert_eq!(rt; last.objects, 64);
@@ -56,7 +54,7 @@ fn what_one_host_writes_the_other_reads(rt: HostRuntime) {
     let alloc = rt.alloc();
     let mut chip = Chip::closed(alloc);
     assert_eq!(rt; ccan_set(&mut chip.if1, 0, 0x00f3), 1);
-    assert_eq!(rt; ccan_open(alloc, &mut chip, 1, 0, 64, 100), 0);
+    assert_eq!(rt; ccan_open(alloc, &mut chip, 1, 0, 100), 0);
     assert_eq!(rt; ccan_set(&mut chip.if1, 10, 0x00f3), 10);
     assert_eq!(rt; ccan_set(&mut chip.if1, 0, 0x00f3), 0);
     assert_eq!(rt; ccan_set(&mut chip.if1, 4, 0xa48c), 0);
@@ -82,13 +80,12 @@ fn what_one_host_writes_the_other_reads(rt: HostRuntime) {
 }
 
 #[test]
-fn a_quota_is_spent(rt: HostRuntime) {
+fn a_chip_that_ended_is_closed(rt: HostRuntime) {
     let alloc = rt.alloc();
     let mut chip = Chip::closed(alloc);
-    assert_eq!(rt; ccan_open(alloc, &mut chip, 1, 0, 1, 1), 0);
+    assert_eq!(rt; ccan_open(alloc, &mut chip, 1, 0, 1), 0);
     assert_eq!(rt; ccan_set(&mut chip.if1, 0, 0x0090), 0);
     assert_eq!(rt; ccan_request(&mut chip.if1, 1), 0);
-    assert_eq!(rt; ccan_request(&mut chip.if1, 1), 3);
     let mut last = nothing();
     assert_eq!(rt; ccan_end(alloc, &mut chip, &mut last), 0);
     assert_eq!(rt; ccan_request(&mut chip.if1, 1), 1);
@@ -131,7 +128,7 @@ fn a_frame_is_stored_and_one_is_sent(rt: HostRuntime) {
     let mut outcome = no_outcome();
     assert_eq!(rt; ccan_round(&mut chip.bus, &[], 0, &mut outcome), 1);
     assert_eq!(rt; outcome.kind, 77);
-    assert_eq!(rt; ccan_open(alloc, &mut chip, 1, 1, 64, 100), 0);
+    assert_eq!(rt; ccan_open(alloc, &mut chip, 1, 1, 100), 0);
     set(&mut chip.if1, &[(0, 0x00f3), (4, 0x848c), (5, 0x0488)]);
     assert_eq!(rt; ccan_request(&mut chip.if1, 5), 0);
     assert_eq!(rt; ccan_round(&mut chip.bus, &[offer(1)], 0, &mut outcome), 0);
@@ -166,7 +163,7 @@ fn a_frame_is_stored_and_one_is_sent(rt: HostRuntime) {
 fn numbers_out_of_range_are_refused(rt: HostRuntime) {
     let alloc = rt.alloc();
     let mut chip = Chip::closed(alloc);
-    assert_eq!(rt; ccan_open(alloc, &mut chip, 2, 1, 64, 100), 0);
+    assert_eq!(rt; ccan_open(alloc, &mut chip, 2, 1, 100), 0);
     let mut outcome = no_outcome();
     let bus = &mut chip.bus;
     assert_eq!(rt; ccan_round(bus, &[offer(1); 9], 0, &mut outcome), 16);
@@ -198,58 +195,6 @@ fn numbers_out_of_range_are_refused(rt: HostRuntime) {
 }
 
 #[test]
-fn a_renewal_keeps_records_and_registers(rt: HostRuntime) {
-    let alloc = rt.alloc();
-    let mut chip = Chip::closed(alloc);
-    assert_eq!(rt; ccan_renew(alloc, &mut chip), 1);
-    assert_eq!(rt; ccan_open(alloc, &mut chip, 1, 0, 64, 100), 0);
-    assert_eq!(rt; ccan_set(&mut chip.if1, 0, 0x00f3), 0);
-    assert_eq!(rt; ccan_set(&mut chip.if1, 4, 0xa48c), 0);
-    assert_eq!(rt; ccan_request(&mut chip.if1, 5), 0);
-    assert_eq!(rt; ccan_renew(alloc, &mut chip), 0);
-    assert!(rt; ccan_is_open(&chip));
-    assert_eq!(rt; shown(&mut chip.if1, 0), 0x00f3);
-    assert_eq!(rt; shown(&mut chip.if1, 4), 0xa48c);
-    set(&mut chip.if2, &[(0, 0x0073)]);
-    assert_eq!(rt; ccan_request(&mut chip.if2, 5), 0);
-    assert_eq!(rt; shown(&mut chip.if2, 4), 0xa48c);
-    assert_eq!(rt; ccan_request(&mut chip.if2, 6), 0);
-    assert_eq!(rt; shown(&mut chip.if2, 4), 0);
-}
-
-#[test]
-fn a_renewal_keeps_the_status(rt: HostRuntime) {
-    let alloc = rt.alloc();
-    let mut chip = Chip::closed(alloc);
-    let mut outcome = no_outcome();
-    assert_eq!(rt; ccan_open(alloc, &mut chip, 1, 1, 64, 100), 0);
-    assert_eq!(rt; ccan_round(&mut chip.bus, &[offer(1)], 0, &mut outcome), 0);
-    assert_eq!(rt; outcome.kind, 2);
-    assert_eq!(rt; ccan_renew(alloc, &mut chip), 0);
-    let mut word = 0;
-    assert_eq!(rt; ccan_status(&mut chip.bus, &mut word), 0);
-    assert_eq!(rt; word, 0x0010);
-}
-
-#[test]
-fn a_renewal_costs_if1_a_change_for_each_object(rt: HostRuntime) {
-    let alloc = rt.alloc();
-    let mut chip = Chip::closed(alloc);
-    assert_eq!(rt; ccan_open(alloc, &mut chip, 1, 0, 31, 100), 0);
-    assert_eq!(rt; ccan_renew(alloc, &mut chip), 8);
-    assert!(rt; ccan_is_open(&chip));
-    assert_eq!(rt; ccan_open(alloc, &mut chip, 2, 0, 65, 100), 0);
-    assert_eq!(rt; ccan_renew(alloc, &mut chip), 0);
-    set(&mut chip.if1, &[(0, 0x0090)]);
-    assert_eq!(rt; ccan_request(&mut chip.if1, 1), 0);
-    assert_eq!(rt; ccan_request(&mut chip.if1, 1), 3);
-    set(&mut chip.if2, &[(0, 0x0090)]);
-    assert_eq!(rt; ccan_request(&mut chip.if2, 1), 0);
-    assert_eq!(rt; ccan_request(&mut chip.if2, 1), 0);
-}
-
-#[test]
 fn laws_hold() {
     crate::handle::handles_may_cross();
-    crate::renewal::renewed_chips_end_alike();
 }
