@@ -1,3 +1,4 @@
+pub mod Version
 pub mod Codes
 pub mod Settings
 pub mod Record
@@ -7,6 +8,7 @@ pub mod Held
 pub mod Together
 pub mod Chip
 pub mod Call
+pub mod Meeting
 pub mod Looks
 pub mod Host
 pub mod Lending

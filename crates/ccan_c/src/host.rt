@@ -2,11 +2,12 @@
 ghost use Rattle.std.specs.Prelude.{◌≡◌, ◌≢◌};
 ghost use Rattle.ccan_c.specs.Call.{IsCall};
 ghost use Rattle.ccan_c.specs.Codes.{done};
-ghost use Rattle.ccan_c.specs.Host.{Gets, ReadsFlag, ReadsInterrupt, Requests, Sets, WaitsFor, held_by};
+ghost use Rattle.ccan_c.specs.Host.{Gets, Peeks, ReadsFlag, ReadsInterrupt, Requests, Sets, WaitsFor, held_by};
 
-use crate::code::{CLOSED, DONE, FLAG_RANGE, REGISTER_RANGE, code_of};
+use crate::code::{CLOSED, DONE, FLAG_RANGE, OBJECT_RANGE, REGISTER_RANGE, code_of};
 use crate::host_handle::HostHandle;
 use crate::numbers::{flag_numbered, number_of, register_numbered};
+use crate::shown_record::ShownRecord;
 
 /// Writes an interface register. The message RAM has no part in it.
 #[unsafe(no_mangle)]
@@ -83,6 +84,25 @@ pub extern "C" fn ccan_interrupt(host: &mut HostHandle, out: &mut u16) -> u32
     }
     *out = host.handle.seal.as_mut().interrupt(false);
     DONE
+}
+
+/// Looks at an object once, and gives its record. The interface registers have no part in it.
+#[unsafe(no_mangle)]
+pub extern "C" fn ccan_peek(host: &mut HostHandle, object: u32, out: &mut ShownRecord) -> u32
+    ensures call { IsCall (held_by host.old) (held_by host.new) result
+        (λ held. Peeks object held (held_by host.new) result out.new) }
+    ensures refused { result ≢ done → out.new ≡ out.old }
+{
+    if !host.handle.is_open() {
+        return CLOSED;
+    }
+    match host.handle.seal.as_mut().peek(object) {
+        Some(found) => {
+            *out = ShownRecord::of(&found);
+            DONE
+        }
+        None => OBJECT_RANGE,
+    }
 }
 
 /// Looks at an object until it shows the flag, at most so many times. 1 where it did, else 0.

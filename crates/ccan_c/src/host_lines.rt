@@ -38,7 +38,7 @@ impl Held {
     }
 
     /// The object of this number, where the chip has it.
-    fn object_numbered(&self, number: u32) -> Option<ObjectNo>
+    pub(crate) fn object_numbered(&self, number: u32) -> Option<ObjectNo>
         ensures known { IsSome result
             ↔ IsTrue (is_object (pass_of self.now).memory.profile number) }
         ensures value { IfSome result (λ object. (object ≡ number)

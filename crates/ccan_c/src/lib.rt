@@ -27,6 +27,7 @@ mod host;
 mod host_handle;
 mod host_lines;
 mod looks;
+mod meeting;
 mod numbers;
 mod offer;
 mod opening;
@@ -41,6 +42,7 @@ mod shown_record;
 mod shown_words;
 #[cfg(test)]
 mod tests;
+mod version;
 
 pub use bus::{
     ccan_bus_flags, ccan_bus_interrupt, ccan_control, ccan_counters, ccan_init, ccan_load,
@@ -50,8 +52,11 @@ pub use bus_handle::BusHandle;
 pub use chip::Chip;
 pub use ending::ccan_end;
 pub use handle::{Handle, handles_may_cross};
-pub use host::{ccan_flags, ccan_get, ccan_interrupt, ccan_request, ccan_set, ccan_until};
+pub use host::{
+    ccan_flags, ccan_get, ccan_interrupt, ccan_peek, ccan_request, ccan_set, ccan_until,
+};
 pub use host_handle::HostHandle;
+pub use meeting::ccan_meet;
 pub use offer::Offer;
 pub use opening::{ccan_is_open, ccan_open};
 pub use shown_counters::ShownCounters;
@@ -59,3 +64,4 @@ pub use shown_final::ShownFinal;
 pub use shown_load::ShownLoad;
 pub use shown_outcome::ShownOutcome;
 pub use shown_record::ShownRecord;
+pub use version::ccan_version;

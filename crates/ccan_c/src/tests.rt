@@ -5,8 +5,11 @@ use crate::bus::{
 };
 use crate::chip::Chip;
 use crate::ending::ccan_end;
-use crate::host::{ccan_flags, ccan_get, ccan_interrupt, ccan_request, ccan_set, ccan_until};
+use crate::host::{
+    ccan_flags, ccan_get, ccan_interrupt, ccan_peek, ccan_request, ccan_set, ccan_until,
+};
 use crate::host_handle::HostHandle;
+use crate::meeting::ccan_meet;
 use crate::offer::Offer;
 use crate::opening::{ccan_is_open, ccan_open};
 use crate::shown_counters::ShownCounters;
@@ -14,14 +17,20 @@ use crate::shown_final::ShownFinal;
 use crate::shown_load::ShownLoad;
 use crate::shown_outcome::ShownOutcome;
 use crate::shown_record::ShownRecord;
+use crate::version::ccan_version;
 use ccan_object::Record;
 use std::process::Abort;
+
+/// A record of which no bit is set.
+fn no_record() -> ShownRecord {
+    ShownRecord::of(&Record::zero())
+}
 
 /// A place for final records.
 fn nothing() -> ShownFinal {
     ShownFinal {
         objects: 0,
-        records: [ShownRecord::of(&Record::zero()); 64],
+        records: [no_record(); 64],
     }
 }
 
@@ -80,6 +89,42 @@ fn what_one_host_writes_the_other_reads(rt: HostRuntime) {
 }
 
 #[test]
+fn a_look_shows_the_record_and_leaves_the_registers(rt: HostRuntime) {
+    let alloc = rt.alloc();
+    let mut chip = Chip::closed(alloc);
+    let mut seen = no_record();
+    assert_eq!(rt; ccan_peek(&mut chip.if1, 5, &mut seen), 1);
+    assert_eq!(rt; ccan_open(alloc, &mut chip, 1, 0, 100), 0);
+    assert_eq!(rt; ccan_set(&mut chip.if1, 0, 0x00f3), 0);
+    assert_eq!(rt; ccan_set(&mut chip.if1, 4, 0xa48c), 0);
+    assert_eq!(rt; ccan_set(&mut chip.if1, 6, 0x2211), 0);
+    assert_eq!(rt; ccan_request(&mut chip.if1, 5), 0);
+    assert_eq!(rt; ccan_peek(&mut chip.if2, 33, &mut seen), 11);
+    assert_eq!(rt; seen.arbitration, 0);
+    assert_eq!(rt; ccan_peek(&mut chip.if2, 5, &mut seen), 0);
+    assert_eq!(rt; seen.arbitration, 0xa48c0000);
+    assert_eq!(rt; seen.bytes[0], 0x11);
+    assert_eq!(rt; shown(&mut chip.if2, 4), 0);
+}
+
+#[test]
+fn the_ports_of_a_chip_meet(rt: HostRuntime) {
+    let alloc = rt.alloc();
+    let mut chip = Chip::closed(alloc);
+    assert_eq!(rt; ccan_meet(alloc, &mut chip), 1);
+    assert_eq!(rt; ccan_open(alloc, &mut chip, 1, 0, 100), 0);
+    assert_eq!(rt; ccan_set(&mut chip.if1, 0, 0x0090), 0);
+    assert_eq!(rt; ccan_set(&mut chip.if1, 5, 0x8000), 0);
+    assert_eq!(rt; ccan_request(&mut chip.if1, 5), 0);
+    assert_eq!(rt; ccan_meet(alloc, &mut chip), 0);
+    assert!(rt; ccan_is_open(&chip));
+    let mut word = 0;
+    assert_eq!(rt; ccan_bus_flags(&mut chip.bus, 0, &mut word), 0);
+    assert_eq!(rt; word, 0x10);
+    assert_eq!(rt; shown(&mut chip.if1, 5), 0x8000);
+}
+
+#[test]
 fn a_chip_that_ended_is_closed(rt: HostRuntime) {
     let alloc = rt.alloc();
     let mut chip = Chip::closed(alloc);
@@ -115,9 +160,9 @@ fn no_outcome() -> ShownOutcome {
     ShownOutcome {
         kind: 77,
         object: 0,
-        finished: ShownRecord::of(&Record::zero()),
+        finished: no_record(),
         stored: 0,
-        stored_record: ShownRecord::of(&Record::zero()),
+        stored_record: no_record(),
     }
 }
 
@@ -148,7 +193,7 @@ fn a_frame_is_stored_and_one_is_sent(rt: HostRuntime) {
     let mut loaded = ShownLoad {
         kind: 77,
         object: 0,
-        held: ShownRecord::of(&Record::zero()),
+        held: no_record(),
     };
     assert_eq!(rt; ccan_load(&mut chip.bus, &mut loaded), 0);
     assert_eq!(rt; loaded.kind, 1);
@@ -192,6 +237,11 @@ fn numbers_out_of_range_are_refused(rt: HostRuntime) {
     assert_eq!(rt; ccan_loop_back(bus, 1), 0);
     assert_eq!(rt; ccan_round(bus, &[], 0, &mut outcome), 0);
     assert_eq!(rt; outcome.kind, 0);
+}
+
+#[test]
+fn the_version_is_that_of_the_header(rt: HostRuntime) {
+    assert_eq!(rt; ccan_version(), 200);
 }
 
 #[test]
