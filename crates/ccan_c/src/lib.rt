@@ -41,6 +41,8 @@ mod shown_outcome;
 mod shown_record;
 mod shown_words;
 #[cfg(test)]
+mod table;
+#[cfg(test)]
 mod tests;
 mod version;
 

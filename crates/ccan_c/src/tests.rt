@@ -125,6 +125,17 @@ fn the_ports_of_a_chip_meet(rt: HostRuntime) {
 }
 
 #[test]
+fn an_open_chip_opens_anew(rt: HostRuntime) {
+    let alloc = rt.alloc();
+    let mut chip = Chip::closed(alloc);
+    let mut last = nothing();
+    assert_eq!(rt; ccan_open(alloc, &mut chip, 2, 0, 100), 0);
+    assert_eq!(rt; ccan_open(alloc, &mut chip, 1, 0, 100), 0);
+    assert_eq!(rt; ccan_end(alloc, &mut chip, &mut last), 0);
+    assert_eq!(rt; last.objects, 32);
+}
+
+#[test]
 fn a_chip_that_ended_is_closed(rt: HostRuntime) {
     let alloc = rt.alloc();
     let mut chip = Chip::closed(alloc);
