@@ -68,7 +68,7 @@ static int all_calls(ccan_chip *chip)
 static long open_refused(ccan_chip *chip, bool was_open)
 {
     long before = live;
-    for (long number = 0;; number++) {
+    for (long number = 0; number < 1000; number++) {
         left = number;
         uint32_t code = ccan_open(chip, 2, 8, 100);
         left = -1;
@@ -79,6 +79,8 @@ static long open_refused(ccan_chip *chip, bool was_open)
             return -1;
         }
     }
+    printf("a chip that is %s does not open\n", was_open ? "open" : "closed");
+    return -1;
 }
 
 int main(void)
@@ -90,7 +92,9 @@ int main(void)
     ccan_chip_init(chip);
     long number = open_refused(chip, false);
     long blocks = live;
-    if (number <= 0 || open_refused(chip, true) != number || live != blocks) {
+    if (number <= 0 || open_refused(chip, true) != number)
+        return 1;
+    if (live != blocks) {
         printf("an open chip that is opened again: %ld blocks instead of %ld\n", live, blocks);
         return 1;
     }
@@ -104,6 +108,13 @@ int main(void)
     if (code != CCAN_DONE || live != 0 || ccan_request(&chip->if1, 7) != CCAN_CLOSED) {
         printf("end: %s, %ld blocks left\n", ccan_text(code), live);
         return 1;
+    }
+    /* with memory at hand: a call that takes a block and keeps it is found here alone */
+    for (int turn = 0; turn < 3; turn++) {
+        if (ccan_open(chip, 1, 0, 1) != CCAN_DONE || !ccan_is_open(chip) || ccan_end(chip, &last) != CCAN_DONE || live != 0) {
+            printf("opened and ended: %ld blocks left\n", live);
+            return 1;
+        }
     }
     printf("%ld requests for memory refused in turn: the chip stays as it was, nothing is lost\n", number);
     __real_free(chip);
