@@ -5,19 +5,20 @@
  * shows how, from ccan_open to a running example.
  *
  * What is proved, for each call as it is written here:
- *  - It is safe for every number that it is given. It ends by returning, whatever the other threads do: it takes no lock,
- *    waits for nobody, and calls nothing of C's but malloc, realloc and free.
+ *  - It is safe for every number that it is given, and it ends by returning, whatever the other threads do: it waits for
+ *    nobody.
  *  - There is one history of the message RAM from ccan_open to ccan_end, in which the steps of each port stand in the order of
- *    the calls on its handle. ccan_request, ccan_flags, ccan_interrupt, ccan_peek, ccan_bus_flags and ccan_bus_interrupt
- *    answer what a memory of one thread answers at one place of it. ccan_until, ccan_load and ccan_round make several steps,
- *    each at a place of its own, and other ports' steps may stand between. ccan_end gives the records that the whole history
- *    leaves.
+ *    the calls on its handle. ccan_request where it is done, ccan_flags, ccan_interrupt, ccan_peek, ccan_bus_flags and
+ *    ccan_bus_interrupt answer what a memory of one thread answers at one place of it. ccan_until, ccan_load and ccan_round
+ *    make several steps, each at a place of its own, and other ports' steps may stand between. ccan_end gives the records that
+ *    the whole history leaves.
  *  - ccan_request, ccan_until, ccan_load, ccan_round, ccan_status, ccan_counters, ccan_control, ccan_init, ccan_recessive and
  *    ccan_loop_back stand for the line of that name in a script of the program `ccan`: the same steps, the same answer, and the
  *    same registers or the same bus. The four calls on flags and interrupt value are of one moment, as on the part; a
  *    script's lines of these names look at one object after another.
  *  - It answers the numbers below, in just the cases that are said at each call. Where a call is refused, that is for each
  *    number but CCAN_DONE, CCAN_BUSY, CCAN_SPENT and CCAN_SHARED, handle and output stay as they were.
+ * Read off the sources: that a call takes no lock, but for those of malloc, realloc and free in ccan_open and ccan_end.
  * Only tested: that no call but ccan_open takes memory, that CCAN_SHARED never comes where C keeps its promises, and that this
  * header has the numbers, sizes and offsets of the library. Not proved, and not claimed: how long a call takes, and that a
  * thread is ever run. A look begins anew where another port changed what it looks at meanwhile: one object for ccan_request,
@@ -194,8 +195,8 @@ CCAN_CODE ccan_get(ccan_host *host, uint32_t reg, uint16_t *out);
 
 /* Writes the Command Request register: makes the transfer that the Command Mask register says, between the interface
  * registers and the object that the low six bits of `request` name (0 is the last object). CCAN_DONE: the transfer is in the
- * history, and the registers show it. CCAN_BUSY, CCAN_SPENT: no change was made, the registers are as they were, and the call
- * may be made again. */
+ * history, and the registers show it. CCAN_BUSY, CCAN_SPENT: no change was made, and the registers are as they were; after
+ * CCAN_BUSY the call may be made again. */
 CCAN_CODE ccan_request(ccan_host *host, uint16_t request);
 
 /* A flag of all objects in one moment, that of object k in bit k - 1. CCAN_FLAG_RANGE. */
@@ -223,7 +224,8 @@ typedef struct {
 CCAN_HOLDS(sizeof(ccan_loaded) == 28 && offsetof(ccan_loaded, object) == 4 && offsetof(ccan_loaded, held) == 8);
 
 /* The controller chooses the object to send, and starts it, where it is on and has none. It looks at one object after
- * another. CCAN_BUSY and CCAN_SPENT go with the kinds of that name: `object` wasn't started, and the call may be made again. */
+ * another. CCAN_BUSY and CCAN_SPENT go with the kinds of that name: `object` wasn't started; after CCAN_BUSY the call may be
+ * made again. */
 CCAN_CODE ccan_load(ccan_bus *bus, ccan_loaded *out);
 
 /* What another node sends. A switch is 0 for no, and each other number is yes. */
