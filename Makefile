@@ -3,7 +3,7 @@ SCRIPT ?= examples/first_write.json
 PREFIX ?= /usr/local
 export SCRIPT PREFIX
 
-.PHONY: help run try prove test install bench sweep hostile soak c-test schema clean
+.PHONY: help run try prove test install bench sweep hostile soak c-test c-wrong schema clean
 
 help:
 	@tools/targets
@@ -46,6 +46,9 @@ soak:
 
 c-test:
 	@tools/c_test
+
+c-wrong:
+	@tools/c_wrong
 
 schema:
 	tools/check_schema

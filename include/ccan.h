@@ -1,33 +1,48 @@
-/* libccan: a Bosch C_CAN controller (User's Manual 1.2) as a proved library for C11 and C++.
+/* libccan 0.2: a Bosch C_CAN controller (User's Manual 1.2) as a proved library for C11 and C++11.
  *
  * A chip is the message RAM with its three ports: the hosts behind the interface registers IF1 and IF2, and the bus. A
  * ccan_chip has a handle for each, and each handle may be used by a thread of its own, without a lock. docs/EMBEDDING.md
  * shows how, from ccan_open to a running example.
  *
  * What is proved, for each call as it is written here:
- *  - It is safe for every number that it is given, it ends whatever the other threads do, and it waits for nothing.
- *  - A call on a host's handle and one on the bus's handle stand for the same events of the message RAM, the same answer and
- *    the same registers as the line of that name in a script of the program `ccan`.
- *  - There is one history of the message RAM from ccan_open to ccan_end. It holds what each call did, once, in the order of
- *    the calls on its handle, and each call answers what a memory of one thread answers at that place. ccan_end gives the
- *    records that this history leaves. ccan_renew ends one history, and begins the next with the records of the first.
+ *  - It is safe for every number that it is given, and it ends by returning, whatever the other threads do: it waits for
+ *    nobody.
+ *  - There is one history of the message RAM from ccan_open to ccan_end, in which the steps of each port stand in the order of
+ *    the calls on its handle. ccan_request where it is done, ccan_flags, ccan_interrupt, ccan_peek, ccan_bus_flags and
+ *    ccan_bus_interrupt answer what a memory of one thread answers at one place of it. ccan_until, ccan_load and ccan_round
+ *    make several steps, each at a place of its own, and other ports' steps may stand between. ccan_end gives the records that
+ *    the whole history leaves.
+ *  - ccan_request, ccan_until, ccan_load, ccan_round, ccan_status, ccan_counters, ccan_control, ccan_init, ccan_recessive and
+ *    ccan_loop_back stand for the line of that name in a script of the program `ccan`: the same steps, the same answer, and the
+ *    same registers or the same bus. The four calls on flags and interrupt value are of one moment, as on the part; a
+ *    script's lines of these names look at one object after another.
  *  - It answers the numbers below, in just the cases that are said at each call. Where a call is refused, that is for each
- *    number but 0, CCAN_BUSY, CCAN_SPENT and CCAN_SHARED, handle and output stay as they were.
- * Only tested: that no call but ccan_open and ccan_renew takes memory, and that CCAN_SHARED never comes where C keeps its
- * promises. Not proved, and not claimed: how long a call takes, and that a thread is ever run.
+ *    number but CCAN_DONE, CCAN_BUSY, CCAN_SPENT and CCAN_SHARED, handle and output stay as they were.
+ * Read off the sources: that a call takes no lock, but for those of malloc, realloc and free in ccan_open and ccan_end.
+ * Only tested: that no call but ccan_open takes memory, that CCAN_SHARED never comes where C keeps its promises, and that this
+ * header has the numbers, sizes and offsets of the library. Not proved, and not claimed: how long a call takes, and that a
+ * thread is ever run. A look begins anew where another port changed what it looks at meanwhile: one object for ccan_request,
+ * ccan_until and ccan_peek, any object for the flags and the interrupt value.
  *
  * What C promises. The proofs assume it, and no call can check it:
- *  1. A ccan_chip begins as CCAN_CHIP_CLOSED. C neither reads nor writes the insides of a chip or a handle, and neither
- *     copies nor moves them. Only handles of such a chip are passed to a call.
- *  2. A handle is in one call at a time. Which thread calls may change, if the calls are ordered by the start or the join of
- *     a thread, a mutex, or a seq_cst atomic. Different handles of one chip may be in calls at the same time.
- *  3. ccan_open, ccan_renew, ccan_end and ccan_is_open take the whole chip: no call on one of its handles runs at that time.
- *  4. Each pointer leads to a valid object of its type, none is null, and no two arguments of a call overlap. A call
- *     writes to an output that may have held anything.
- *  5. malloc, realloc and free are of one allocator, whose blocks are aligned to 16. No call is made from a signal handler,
+ *  1. A ccan_chip begins as CCAN_CHIP_CLOSED, or by ccan_chip_init. C neither reads nor writes the insides of a chip or a
+ *     handle, and neither copies nor moves them. Only handles of such a chip are passed to a call.
+ *  2. A handle is in one call at a time. Different handles of one chip may be in calls at the same time.
+ *  3. ccan_open, ccan_end, ccan_meet and ccan_is_open take the whole chip: while one of them runs, no other of them does on
+ *     that chip, and no call on one of its handles.
+ *  4. Where calls on one handle, or on the whole chip, are made by different threads, C orders them: by the start or the join
+ *     of a thread, a mutex, a condition variable or a barrier, or an atomic that is stored and then loaded as seq_cst. So
+ *     ccan_open comes before the first call of a thread that is started after it. A call orders no memory of C's own: what one
+ *     thread wrote, another reads only after one of these too.
+ *  5. Each pointer leads to a valid object of its type, none is null, and no two arguments of a call overlap. While a call
+ *     runs, nobody else touches what its arguments lead to. A call writes to an output that may have held anything.
+ *  6. malloc, realloc and free are of one allocator, whose blocks are aligned to 16. No call is made from a signal handler,
  *     nor in the child of a fork of a process with several threads.
- *  6. A chip that is let go without ccan_end loses its memory.
- * A call on a closed handle is safe, and so is a second ccan_end: both answer CCAN_CLOSED. */
+ *  7. A chip that is let go without ccan_end loses its memory.
+ * A call on a closed handle is safe, and so is a second ccan_end: both answer CCAN_CLOSED.
+ *
+ * The library is built for Linux on x86-64, for processors of x86-64-v2 or later. The asserts below hold the compiler of C to
+ * the layout that the library has there. */
 #ifndef CCAN_H
 #define CCAN_H
 #include <stdbool.h>
@@ -35,6 +50,24 @@
 #include <stdint.h>
 #ifdef __cplusplus
 extern "C" {
+#endif
+
+/* The version of this header: ten thousand times the first number, a hundred times the second, and the third. ccan_version
+ * tells that of the library. */
+#define CCAN_VERSION 200
+
+/* A call answers a code, which a program may not drop without a word. */
+#if defined(__GNUC__)
+#define CCAN_CODE __attribute__((warn_unused_result)) uint32_t
+#else
+#define CCAN_CODE uint32_t
+#endif
+
+/* What holds where this header is compiled for the platform of the library. */
+#ifdef __cplusplus
+#define CCAN_HOLDS(fact) static_assert(fact, #fact)
+#else
+#define CCAN_HOLDS(fact) _Static_assert(fact, #fact)
 #endif
 
 /* A host's handle, IF1 or IF2. */
@@ -51,20 +84,36 @@ typedef struct {
     ccan_bus bus;
 } ccan_chip;
 
+CCAN_HOLDS(sizeof(bool) == 1 && sizeof(void *) == 8 && sizeof(size_t) == 8);
+CCAN_HOLDS(sizeof(ccan_host) == 16 && offsetof(ccan_host, ccan_private_at) == 8);
+CCAN_HOLDS(sizeof(ccan_bus) == 16 && offsetof(ccan_bus, ccan_private_at) == 8);
+CCAN_HOLDS(sizeof(ccan_chip) == 272 && offsetof(ccan_chip, if2) == 128 && offsetof(ccan_chip, bus) == 256);
+
 /* A chip that is closed, as each begins. */
 #define CCAN_CHIP_CLOSED { { false, NULL }, { 0 }, { false, NULL }, { 0 }, { false, NULL } }
+
+/* Makes memory that may hold anything, as that of malloc, a chip that is closed. A chip that is open would lose its memory.
+ * This function is C, and not proved. */
+static inline void ccan_chip_init(ccan_chip *chip)
+{
+    static const ccan_chip closed = CCAN_CHIP_CLOSED;
+    *chip = closed;
+}
+
+/* The version of the library, as CCAN_VERSION has that of the header. */
+uint32_t ccan_version(void);
 
 /* What a call answers. Where several apply, the call says which comes first. */
 enum ccan_code {
     CCAN_DONE = 0,
     CCAN_CLOSED = 1,         /* the handle is closed, or a handle of the chip is */
-    CCAN_BUSY = 2,           /* each try of a change was lost to a change of another port */
-    CCAN_SPENT = 3,          /* the port has made as many changes as its quota */
+    CCAN_BUSY = 2,           /* each try of a change was lost to a change of the same object by another port */
+    CCAN_SPENT = 3,          /* the port has made all the changes that it can: 2^47 - 1, some 1.4 * 10^14 */
     CCAN_NO_MEMORY = 4,      /* malloc refused */
     CCAN_SHARED = 5,         /* C has broken its promises: somebody else holds the memory */
     CCAN_PROFILE_RANGE = 6,  /* the profile is neither 1 nor 2 */
     CCAN_NODES_RANGE = 7,    /* there are more than 8 other nodes */
-    CCAN_QUOTA_RANGE = 8,    /* the quota isn't 1 to 4096, or is less than a renewal needs */
+    /* 8 was CCAN_QUOTA_RANGE before version 0.2 */
     CCAN_TRIES_RANGE = 9,    /* the tries aren't 1 to 1000 */
     CCAN_REGISTER_RANGE = 10,/* no register has this number */
     CCAN_OBJECT_RANGE = 11,  /* the chip has no object of this number */
@@ -83,8 +132,8 @@ static inline const char *ccan_text(uint32_t code)
 {
     static const char *const texts[] = {
         "done", "the handle is closed", "each try was lost to a change of another port",
-        "the port has made as many changes as its quota", "out of memory", "somebody else holds the memory",
-        "the profile is out of range", "the number of nodes is out of range", "the quota is out of range",
+        "the port has made all the changes that it can", "out of memory", "somebody else holds the memory",
+        "the profile is out of range", "the number of nodes is out of range", "no code",
         "the number of tries is out of range", "no such register", "no such object", "no such flag",
         "the number of turns is out of range", "no such node", "the number of groups is out of range",
         "too many frames", "an identifier or a length is out of range", "no such fault",
@@ -102,36 +151,32 @@ typedef struct {
                              the data length code in bits 3 to 0 */
     uint8_t bytes[8];     /* the data, byte 0 first */
 } ccan_record;
+CCAN_HOLDS(sizeof(ccan_record) == 20 && offsetof(ccan_record, arbitration) == 4);
+CCAN_HOLDS(offsetof(ccan_record, control) == 8 && offsetof(ccan_record, bytes) == 10);
 
 typedef struct {
     uint32_t objects;         /* 32 or 64 */
     ccan_record records[64];  /* object k at k - 1; zero past the last object */
 } ccan_final;
+CCAN_HOLDS(sizeof(ccan_final) == 1284 && offsetof(ccan_final, records) == 4);
 
 /* Opens a chip whose records and registers are all zero, all of it or nothing. `profile` is 1 for 32 message objects, 2 for
- * 64; `nodes` how many other nodes are on the bus, 0 to 8; `quota` how many changes each port may make, 1 to 4096; `tries`
- * how often a change may be tried, 1 to 1000. Answers the first of CCAN_PROFILE_RANGE, CCAN_NODES_RANGE, CCAN_QUOTA_RANGE
- * and CCAN_TRIES_RANGE that applies; else CCAN_NO_MEMORY or CCAN_DONE. A chip that was open ends, without its records, where
- * it answers CCAN_DONE. */
-uint32_t ccan_open(ccan_chip *chip, uint32_t profile, uint32_t nodes, uint64_t quota, uint32_t tries);
+ * 64; `nodes` how many other nodes are on the bus, 0 to 8; `tries` how often a change may be tried, 1 to 1000. Answers the
+ * first of CCAN_PROFILE_RANGE, CCAN_NODES_RANGE and CCAN_TRIES_RANGE that applies; else CCAN_NO_MEMORY or CCAN_DONE. A chip
+ * that was open ends, without its records, where it answers CCAN_DONE. */
+CCAN_CODE ccan_open(ccan_chip *chip, uint32_t profile, uint32_t nodes, uint32_t tries);
 
 /* Whether all three handles are open. */
 bool ccan_is_open(const ccan_chip *chip);
 
 /* Ends a chip, frees its memory, and gives the records that its history leaves. The chip is then closed, and may be opened
  * again. CCAN_CLOSED where it isn't open; CCAN_SHARED closes the chip, and leaves `out` as it was. */
-uint32_t ccan_end(ccan_chip *chip, ccan_final *out);
+CCAN_CODE ccan_end(ccan_chip *chip, ccan_final *out);
 
-/* Gives the chip a new message RAM of the same profile and quota, so that each port may make as many changes again, but for
- * IF1: it writes the records of the old one into the new one, which is a change for each of the 32 or 64 objects. All else
- * of the chip stays: the interface registers, the tries, the error counters, the Status register, the enables, and what is
- * loaded. CCAN_DONE: the old history has ended as with ccan_end. A new one begins with what IF1 wrote, and nobody did
- * anything else in it; that part leaves the records with which the old history ended, and each handle has seen it. What a
- * handle sees later goes on from there.
- * CCAN_CLOSED where the chip isn't open; else CCAN_QUOTA_RANGE where the quota is less than the number of objects; else
- * CCAN_NO_MEMORY, CCAN_SHARED, which closes the chip, or CCAN_DONE. The new memory is taken before the old one is given
- * back. */
-uint32_t ccan_renew(ccan_chip *chip);
+/* Shows each port of the chip what the others have seen: the next call on each handle goes on from all that was done on the
+ * three. For who has the whole chip in one thread and reads by one handle what was written by another. It makes no step of the
+ * message RAM. CCAN_CLOSED where the chip isn't open; else CCAN_DONE. */
+CCAN_CODE ccan_meet(ccan_chip *chip);
 
 /* ---- a host: each call answers CCAN_CLOSED first, where its handle is closed */
 
@@ -143,25 +188,29 @@ enum ccan_register {
 enum ccan_flag { CCAN_NEWDAT, CCAN_MSGLST, CCAN_INTPND, CCAN_TXRQST, CCAN_MSGVAL };
 
 /* Writes an interface register; its reserved bits are dropped. The message RAM has no part in it. CCAN_REGISTER_RANGE. */
-uint32_t ccan_set(ccan_host *host, uint32_t reg, uint16_t value);
+CCAN_CODE ccan_set(ccan_host *host, uint32_t reg, uint16_t value);
 
 /* Reads an interface register; its reserved bits are 0. The message RAM has no part in it. CCAN_REGISTER_RANGE. */
-uint32_t ccan_get(ccan_host *host, uint32_t reg, uint16_t *out);
+CCAN_CODE ccan_get(ccan_host *host, uint32_t reg, uint16_t *out);
 
 /* Writes the Command Request register: makes the transfer that the Command Mask register says, between the interface
  * registers and the object that the low six bits of `request` name (0 is the last object). CCAN_DONE: the transfer is in the
- * history, and the registers show it. CCAN_BUSY, CCAN_SPENT: the message RAM and the registers are as they were. */
-uint32_t ccan_request(ccan_host *host, uint16_t request);
+ * history, and the registers show it. CCAN_BUSY, CCAN_SPENT: no change was made, and the registers are as they were; after
+ * CCAN_BUSY the call may be made again. */
+CCAN_CODE ccan_request(ccan_host *host, uint16_t request);
 
-/* A flag of all objects, that of object k in bit k - 1, each as a look of its own shows it. CCAN_FLAG_RANGE. */
-uint32_t ccan_flags(ccan_host *host, uint32_t flag, uint64_t *out);
+/* A flag of all objects in one moment, that of object k in bit k - 1. CCAN_FLAG_RANGE. */
+CCAN_CODE ccan_flags(ccan_host *host, uint32_t flag, uint64_t *out);
 
-/* The interrupt value: the number of the first object whose look shows IntPnd, or 0. */
-uint32_t ccan_interrupt(ccan_host *host, uint16_t *out);
+/* The interrupt value in one moment: the number of the first object with IntPnd, or 0. */
+CCAN_CODE ccan_interrupt(ccan_host *host, uint16_t *out);
+
+/* One look at an object: its record. The interface registers have no part in it, and nothing is changed. CCAN_OBJECT_RANGE. */
+CCAN_CODE ccan_peek(ccan_host *host, uint32_t object, ccan_record *out);
 
 /* Looks at an object until it shows the flag, at most `turns` times: 1 where a look did, else 0. The first of
  * CCAN_OBJECT_RANGE, CCAN_FLAG_RANGE and CCAN_TURNS_RANGE that applies. */
-uint32_t ccan_until(ccan_host *host, uint32_t object, uint32_t flag, uint32_t turns, uint32_t *out);
+CCAN_CODE ccan_until(ccan_host *host, uint32_t object, uint32_t flag, uint32_t turns, uint32_t *out);
 
 /* ---- the bus: each call answers CCAN_CLOSED first, where its handle is closed */
 
@@ -172,10 +221,12 @@ typedef struct {
     uint32_t object;  /* the object, 0 with CCAN_LOAD_NOTHING */
     ccan_record held; /* its record after the start with CCAN_LOAD_LOADED, else zero */
 } ccan_loaded;
+CCAN_HOLDS(sizeof(ccan_loaded) == 28 && offsetof(ccan_loaded, object) == 4 && offsetof(ccan_loaded, held) == 8);
 
-/* The controller chooses the object to send, and starts it, where it is on and has none. CCAN_BUSY and CCAN_SPENT go with
- * the kinds of that name: the object wasn't started. */
-uint32_t ccan_load(ccan_bus *bus, ccan_loaded *out);
+/* The controller chooses the object to send, and starts it, where it is on and has none. It looks at one object after
+ * another. CCAN_BUSY and CCAN_SPENT go with the kinds of that name: `object` wasn't started; after CCAN_BUSY the call may be
+ * made again. */
+CCAN_CODE ccan_load(ccan_bus *bus, ccan_loaded *out);
 
 /* What another node sends. A switch is 0 for no, and each other number is yes. */
 typedef struct {
@@ -186,8 +237,11 @@ typedef struct {
     uint8_t dlc;      /* the data length code, 0 to 15; from 8 on it means eight bytes */
     uint8_t bytes[8]; /* the data, byte 0 first; what is past the length doesn't count */
 } ccan_offer;
+CCAN_HOLDS(sizeof(ccan_offer) == 16 && offsetof(ccan_offer, node) == 4 && offsetof(ccan_offer, xtd) == 5);
+CCAN_HOLDS(offsetof(ccan_offer, rtr) == 6 && offsetof(ccan_offer, dlc) == 7 && offsetof(ccan_offer, bytes) == 8);
 
-/* What spoils the frame that wins. */
+/* What spoils the frame that wins. These numbers are not those that the Status register then shows as the last error code:
+ * stuff 1, form 2, bit 1 as 4, bit 0 as 5, CRC 6. */
 enum ccan_fault { CCAN_QUIET, CCAN_STUFF, CCAN_FORM, CCAN_BIT1, CCAN_BIT0, CCAN_CRC };
 
 enum ccan_round_kind {
@@ -199,7 +253,7 @@ enum ccan_round_kind {
     CCAN_NO_ACK,    /* no other node is on, so nobody acknowledged the frame */
     CCAN_FAULT,     /* the fault spoiled the frame */
     CCAN_LOOPED,    /* in loop back mode the controller sent to itself */
-    CCAN_ROUND_BUSY, CCAN_ROUND_SPENT /* a step of the message RAM at `object` was given up; all else stands */
+    CCAN_ROUND_BUSY, CCAN_ROUND_SPENT /* a change of `object` was given up; all else stands, see ccan_round */
 };
 
 typedef struct {
@@ -209,16 +263,23 @@ typedef struct {
     uint32_t stored;           /* the object that stored the frame, 0 where none did */
     ccan_record stored_record; /* its record after the store; else zero */
 } ccan_outcome;
+CCAN_HOLDS(sizeof(ccan_outcome) == 52 && offsetof(ccan_outcome, object) == 4 && offsetof(ccan_outcome, finished) == 8);
+CCAN_HOLDS(offsetof(ccan_outcome, stored) == 28 && offsetof(ccan_outcome, stored_record) == 32);
 
-/* Plays a round: loads as ccan_load does; then the frames of all nodes that are on contend, the one with the lowest
- * identifier wins, and `fault` spoils it where it isn't CCAN_QUIET. `offers` are `count` frames, not null even for 0. The
- * first of CCAN_FRAMES_RANGE, CCAN_FRAME_RANGE, CCAN_FAULT_RANGE and CCAN_SENDERS that applies; else CCAN_BUSY and CCAN_SPENT
- * go with the kinds of that name, and `out` is written. */
-uint32_t ccan_round(ccan_bus *bus, const ccan_offer *offers, size_t count, uint32_t fault, ccan_outcome *out);
+/* Plays a round: loads as ccan_load does; then the frames of all nodes that are on contend, and `fault` spoils the winner's
+ * where it isn't CCAN_QUIET. The lowest identifier wins, by its first 11 bits and then by the 18 others; with the same first
+ * 11 bits a standard frame beats an extended one, and with the same identifier a data frame beats a remote frame. `offers`
+ * are `count` frames, not null even for 0. The first of CCAN_FRAMES_RANGE, CCAN_FRAME_RANGE, CCAN_FAULT_RANGE and
+ * CCAN_SENDERS that applies; else CCAN_BUSY and CCAN_SPENT go with the kinds of that name, and `out` is written.
+ * With CCAN_BUSY and CCAN_SPENT a change of `object` was given up, and is not made later. If that was the start of what is to
+ * be sent, no frame was on the bus. Else the frame was: the error counters and the Status register have it, but the object
+ * that was sent is not finished, or no object stored the frame. A second call plays a second round. A program that wants to
+ * tell the two apart calls ccan_load right before: after CCAN_LOAD_LOADED and CCAN_LOAD_HELD the round has nothing to start. */
+CCAN_CODE ccan_round(ccan_bus *bus, const ccan_offer *offers, size_t count, uint32_t fault, ccan_outcome *out);
 
 /* The Status register: BOff 7, EWarn 6, EPass 5, RxOk 4, TxOk 3, the last error code in bits 2 to 0. The status interrupt is
  * then no longer pending. */
-uint32_t ccan_status(ccan_bus *bus, uint16_t *out);
+CCAN_CODE ccan_status(ccan_bus *bus, uint16_t *out);
 
 enum ccan_state { CCAN_ACTIVE, CCAN_PASSIVE, CCAN_OFF };
 
@@ -227,28 +288,30 @@ typedef struct {
     uint32_t rec;   /* the receive error counter, 0 to 255 */
     uint32_t state; /* an enum ccan_state */
 } ccan_counts;
+CCAN_HOLDS(sizeof(ccan_counts) == 12 && offsetof(ccan_counts, rec) == 4 && offsetof(ccan_counts, state) == 8);
 
 /* The error counters of a node; node 0 is the controller. CCAN_NODE_RANGE. */
-uint32_t ccan_counters(ccan_bus *bus, uint32_t node, ccan_counts *out);
+CCAN_CODE ccan_counters(ccan_bus *bus, uint32_t node, ccan_counts *out);
 
 /* Sets SIE and EIE of the CAN Control register, two switches: 0 is off, each other number is on. */
-uint32_t ccan_control(ccan_bus *bus, uint32_t sie, uint32_t eie);
+CCAN_CODE ccan_control(ccan_bus *bus, uint32_t sie, uint32_t eie);
 
 /* Clears Init, from where on groups of recessive bits count for a controller that is off. */
-uint32_t ccan_init(ccan_bus *bus);
+CCAN_CODE ccan_init(ccan_bus *bus);
 
 /* Lets 1 to 10000 groups of eleven recessive bits pass, and gives the controller's state, an enum ccan_state.
  * CCAN_GROUPS_RANGE. */
-uint32_t ccan_recessive(ccan_bus *bus, uint32_t groups, uint32_t *out);
+CCAN_CODE ccan_recessive(ccan_bus *bus, uint32_t groups, uint32_t *out);
 
 /* Sets loop back mode, a switch. */
-uint32_t ccan_loop_back(ccan_bus *bus, uint32_t on);
+CCAN_CODE ccan_loop_back(ccan_bus *bus, uint32_t on);
 
-/* The interrupt value as the bus knows it: 0x8000 while the status interrupt is pending, else as ccan_interrupt. */
-uint32_t ccan_bus_interrupt(ccan_bus *bus, uint16_t *out);
+/* The interrupt value in one moment, as the bus knows it: 0x8000 while the status interrupt is pending, else as
+ * ccan_interrupt. */
+CCAN_CODE ccan_bus_interrupt(ccan_bus *bus, uint16_t *out);
 
-/* As ccan_flags. CCAN_FLAG_RANGE. */
-uint32_t ccan_bus_flags(ccan_bus *bus, uint32_t flag, uint64_t *out);
+/* As ccan_flags, in one moment. CCAN_FLAG_RANGE. */
+CCAN_CODE ccan_bus_flags(ccan_bus *bus, uint32_t flag, uint64_t *out);
 
 #ifdef __cplusplus
 }

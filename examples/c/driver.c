@@ -124,7 +124,7 @@ int main(void)
     static ccan_final last;
     pthread_t threads[3];
     uint64_t sum = 0, sent = 0;
-    must(ccan_open(&chip, 1, 1, 4096, 1000), "ccan_open");
+    must(ccan_open(&chip, 1, 1, 1000), "ccan_open");
     configure(RECEIVES, 0x848c, 0x0482); /* valid, receives 0x123; RxIE, EoB, two bytes */
     configure(SENDS, 0xa400, 0x0082);    /* valid, sends 0x100; EoB, two bytes */
     pthread_create(&threads[0], NULL, receive, &sum);

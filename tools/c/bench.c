@@ -1,6 +1,6 @@
-/* Times calls of the library from C: a wait that one look ends, a read that clears nothing, a write of a whole object, the
- * flags of 32 objects, and the same writes while the other host writes to an object of its own in a thread of its own, and
- * while the bus stores frames in a third. Prints nanoseconds a call, the median of the chips that it opens. */
+/* Times calls of the library from C: a wait that one look ends, a read that clears nothing, a write of a whole object, a flag
+ * of 32 objects in one moment, and the same writes while the other host writes to an object of its own in a thread of its
+ * own, and while the bus stores frames in a third. Prints nanoseconds a call, the median of the chips that it opens. */
 #define _POSIX_C_SOURCE 200809L
 #include <ccan.h>
 #include <pthread.h>
@@ -8,7 +8,7 @@
 #include <stdlib.h>
 #include <time.h>
 
-enum { QUOTA = 4096, CHIPS = 101 };
+enum { CALLS = 4096, CHIPS = 101 };
 
 static ccan_chip chip = CCAN_CHIP_CLOSED;
 static ccan_final last;
@@ -32,9 +32,9 @@ static void must(uint32_t code)
 static double transfers(ccan_host *host, uint16_t object)
 {
     double start = now();
-    for (int i = 0; i < QUOTA; i++)
+    for (int i = 0; i < CALLS; i++)
         must(ccan_request(host, object));
-    return (now() - start) / QUOTA;
+    return (now() - start) / CALLS;
 }
 
 static double reads(void)
@@ -63,13 +63,13 @@ static double waits(void)
     uint32_t shown = 0, times = 0;
     make_valid();
     double start = now();
-    for (int i = 0; i < QUOTA; i++) {
+    for (int i = 0; i < CALLS; i++) {
         must(ccan_until(&chip.if1, 1, CCAN_MSGVAL, 1, &shown));
         times += shown;
     }
     double took = now() - start;
-    must(times == QUOTA ? CCAN_DONE : CCAN_FLAG_RANGE);
-    return took / QUOTA;
+    must(times == CALLS ? CCAN_DONE : CCAN_FLAG_RANGE);
+    return took / CALLS;
 }
 
 static double flags(void)
@@ -77,11 +77,11 @@ static double flags(void)
     uint64_t shown = 0;
     make_valid();
     double start = now();
-    for (int i = 0; i < QUOTA; i++)
+    for (int i = 0; i < CALLS; i++)
         must(ccan_flags(&chip.if1, CCAN_MSGVAL, &shown));
     double took = now() - start;
     must(shown == 0xffffffff ? CCAN_DONE : CCAN_FLAG_RANGE);
-    return took / QUOTA;
+    return took / CALLS;
 }
 
 static void *second_host(void *nothing)
@@ -96,7 +96,7 @@ static void *rounds(void *nothing)
 {
     ccan_offer offer = { 0, 1, 0, 0, 8, { 0 } };
     ccan_outcome outcome;
-    for (int i = 0; i < QUOTA; i++)
+    for (int i = 0; i < CALLS; i++)
         must(ccan_round(&chip.bus, &offer, 1, CCAN_QUIET, &outcome));
     return nothing;
 }
@@ -128,12 +128,12 @@ static double writes_beside_both(void)
     must(ccan_set(&chip.if1, CCAN_ARB2, 0));
     pthread_t second = begin(second_host), third = begin(rounds);
     double start = now();
-    for (int i = 1; i < QUOTA; i++)
+    for (int i = 1; i < CALLS; i++)
         must(ccan_request(&chip.if1, 1));
     double took = now() - start;
     pthread_join(second, NULL);
     pthread_join(third, NULL);
-    return took / (QUOTA - 1);
+    return took / (CALLS - 1);
 }
 
 static int compare(const void *a, const void *b)
@@ -146,7 +146,7 @@ static void measure(const char *name, double (*run)(void))
 {
     static double took[CHIPS];
     for (int i = 0; i < CHIPS; i++) {
-        must(ccan_open(&chip, 1, 1, QUOTA, 1000));
+        must(ccan_open(&chip, 1, 1, 1000));
         took[i] = run();
         must(ccan_end(&chip, &last));
     }
@@ -159,7 +159,7 @@ int main(void)
     measure("a wait of one look", waits);
     measure("a read into the registers", reads);
     measure("a full write", writes);
-    measure("32 looks of a flag", flags);
+    measure("a flag of 32 objects in one moment", flags);
     measure("a full write beside the other host", writes_beside_the_other);
     measure("a full write beside the other host and the bus", writes_beside_both);
     return 0;

@@ -1,5 +1,6 @@
-/* Each request for memory of ccan_open and of ccan_renew is refused in turn: they answer CCAN_NO_MEMORY, the chip stays as it
- * was, and nothing is lost. Once it is open, no other call asks for memory. Link with -Wl,--wrap=malloc,--wrap=realloc,--wrap=free. */
+/* Each request for memory of ccan_open is refused in turn: it answers CCAN_NO_MEMORY, the chip stays as it was, closed or
+ * open, and nothing is lost. No other call asks for memory, and ccan_end gives all of it back. Link with
+ * -Wl,--wrap=malloc,--wrap=realloc,--wrap=free. */
 #include <ccan.h>
 #include <stdio.h>
 #include <stdlib.h>
@@ -39,25 +40,6 @@ void __wrap_free(void *block)
     __real_free(block);
 }
 
-/* Refuses each request of a renewal in turn, of a chip whose object 7 alone has NewDat. Gives how many there were, 0 where
- * something is wrong. */
-static long renew(ccan_chip *chip)
-{
-    long before = live, number = 0;
-    uint64_t word;
-    for (;; number++) {
-        left = number;
-        uint32_t code = ccan_renew(chip);
-        left = -1;
-        if (code != CCAN_DONE && code != CCAN_NO_MEMORY)
-            return 0;
-        if (!ccan_is_open(chip) || live != before || ccan_flags(&chip->if2, CCAN_NEWDAT, &word) || word != 0x40)
-            return 0;
-        if (code == CCAN_DONE)
-            return number;
-    }
-}
-
 /* Each call on a handle once, while every request for memory is refused; object 7 alone has NewDat then. Whether each was done. */
 static int all_calls(ccan_chip *chip)
 {
@@ -68,10 +50,12 @@ static int all_calls(ccan_chip *chip)
     ccan_counts counts;
     ccan_outcome outcome;
     ccan_offer none;
+    ccan_record found;
     return !ccan_set(&chip->if1, CCAN_CMASK, 0x0090) && !ccan_set(&chip->if1, CCAN_CTRL, 0x8000)
         && !ccan_request(&chip->if1, 7) && !ccan_get(&chip->if1, CCAN_CTRL, &value)
         && !ccan_flags(&chip->if2, CCAN_NEWDAT, &word) && !ccan_interrupt(&chip->if2, &value)
-        && !ccan_until(&chip->if2, 7, CCAN_NEWDAT, 3, &number)
+        && !ccan_until(&chip->if2, 7, CCAN_NEWDAT, 3, &number) && !ccan_meet(chip)
+        && !ccan_peek(&chip->if2, 7, &found) && found.control == 0x8000
         && !ccan_load(&chip->bus, &loaded) && !ccan_round(&chip->bus, &none, 0, CCAN_QUIET, &outcome)
         && !ccan_status(&chip->bus, &value) && !ccan_control(&chip->bus, 1, 1) && !ccan_init(&chip->bus)
         && !ccan_recessive(&chip->bus, 128, &number) && !ccan_loop_back(&chip->bus, 0)
@@ -79,42 +63,60 @@ static int all_calls(ccan_chip *chip)
         && !ccan_bus_flags(&chip->bus, CCAN_NEWDAT, &word) && !ccan_bus_interrupt(&chip->bus, &value);
 }
 
-int main(void)
+/* Refuses each request of ccan_open in turn, until none is refused: where one was, the chip is as it was before. Gives how many
+ * there were, -1 where something is wrong. */
+static long open_refused(ccan_chip *chip, bool was_open)
 {
-    static ccan_chip chip = CCAN_CHIP_CLOSED;
-    static ccan_final last;
-    long number = 0;
-    uint32_t code;
-    for (;; number++) {
+    long before = live;
+    for (long number = 0; number < 1000; number++) {
         left = number;
-        code = ccan_open(&chip, 2, 8, 4096, 100);
+        uint32_t code = ccan_open(chip, 2, 8, 100);
         left = -1;
         if (code == CCAN_DONE)
-            break;
-        if (code != CCAN_NO_MEMORY || ccan_is_open(&chip) || live != 0) {
-            printf("request %ld refused: %s, %ld blocks left\n", number + 1, ccan_text(code), live);
-            return 1;
+            return number;
+        if (code != CCAN_NO_MEMORY || ccan_is_open(chip) != was_open || live != before) {
+            printf("request %ld refused: %s, %ld blocks instead of %ld\n", number + 1, ccan_text(code), live, before);
+            return -1;
         }
     }
+    printf("a chip that is %s does not open\n", was_open ? "open" : "closed");
+    return -1;
+}
+
+int main(void)
+{
+    static ccan_final last;
+    ccan_chip *chip = __real_malloc(sizeof *chip);
+    if (chip == NULL)
+        return 2;
+    ccan_chip_init(chip);
+    long number = open_refused(chip, false);
+    long blocks = live;
+    if (number <= 0 || open_refused(chip, true) != number)
+        return 1;
+    if (live != blocks) {
+        printf("an open chip that is opened again: %ld blocks instead of %ld\n", live, blocks);
+        return 1;
+    }
     left = 0;
-    if (!all_calls(&chip)) {
+    if (!all_calls(chip)) {
         printf("a call asked for memory\n");
         return 1;
     }
+    uint32_t code = ccan_end(chip, &last);
     left = -1;
-    long renewals = renew(&chip);
-    if (renewals == 0) {
-        printf("a refused renewal changed the chip, or lost memory\n");
-        return 1;
-    }
-    left = 0;
-    code = ccan_end(&chip, &last);
-    left = -1;
-    if (code != CCAN_DONE || live != 0 || ccan_request(&chip.if1, 7) != CCAN_CLOSED) {
+    if (code != CCAN_DONE || live != 0 || ccan_request(&chip->if1, 7) != CCAN_CLOSED) {
         printf("end: %s, %ld blocks left\n", ccan_text(code), live);
         return 1;
     }
-    printf("%ld requests for memory refused in turn: nothing opened, nothing lost\n", number);
-    printf("%ld requests of a renewal refused in turn: the chip stays as it was\n", renewals);
+    /* with memory at hand: a call that takes a block and keeps it is found here alone */
+    for (int turn = 0; turn < 3; turn++) {
+        if (ccan_open(chip, 1, 0, 1) != CCAN_DONE || !ccan_is_open(chip) || ccan_end(chip, &last) != CCAN_DONE || live != 0) {
+            printf("opened and ended: %ld blocks left\n", live);
+            return 1;
+        }
+    }
+    printf("%ld requests for memory refused in turn: the chip stays as it was, nothing is lost\n", number);
+    __real_free(chip);
     return 0;
 }

@@ -1,61 +1,55 @@
-/* Three threads, one for each port of a chip, with 4,096 changes each; many chips, one after another. On objects of their own
- * each port must find at the end what it wrote last; on one object one of the three ports' last data must be there, and each
- * port must have been answered as many changes as its quota allows. That none is lost or made twice in between is counted by
- * the tests of the memories and of the threads.
- * Usage: stress [own|one] [chips] */
+/* Three threads, one for each port of a chip, with as many changes each as the program is told; several chips, one after
+ * another. On objects of their own each port must find at the end what it wrote last; on one object one of the three ports'
+ * last data must be there. Each port must have been answered done as often as it was told to make a change. That none is
+ * lost or made twice in between is counted by the tests of the memories and of the threads.
+ * Usage: stress own|one CHANGES CHIPS */
 #include <ccan.h>
 #include <pthread.h>
 #include <stdio.h>
 #include <stdlib.h>
 #include <string.h>
 
-#define QUOTA 4096
-
 static ccan_chip chip = CCAN_CHIP_CLOSED;
 static int one_object;
-static uint64_t faults;
+static uint64_t changes, faults;
 
 typedef struct { int port; uint64_t done, busy, bad; uint16_t last; } worker;
 
 static void expect(worker *w, int holds) { if (!holds) w->bad++; }
 
-/* A host writes two bytes again and again, until its quota is spent. A write of the data group finds any record. */
+/* A host writes two bytes again and again. A write of the data group finds any record. */
 static void host_works(worker *w, ccan_host *host, uint16_t object)
 {
-    uint32_t code;
     expect(w, ccan_set(host, CCAN_CMASK, 0x0082) == CCAN_DONE);
-    for (uint16_t value = 1;; value++) {
-        uint16_t shown;
-        expect(w, ccan_set(host, CCAN_DATAA1, (uint16_t)(value * 2 + w->port)) == CCAN_DONE);
+    for (uint64_t turn = 1; turn <= changes; turn++) {
+        uint16_t shown, value = (uint16_t)(turn * 2 + (uint64_t)w->port);
+        uint32_t code;
+        expect(w, ccan_set(host, CCAN_DATAA1, value) == CCAN_DONE);
         while ((code = ccan_request(host, object)) == CCAN_BUSY)
             w->busy++;
-        if (code != CCAN_DONE)
-            break;
-        w->done++;
-        w->last = (uint16_t)(value * 2 + w->port);
-        expect(w, ccan_get(host, CCAN_DATAA1, &shown) == CCAN_DONE && shown == w->last);
+        expect(w, code == CCAN_DONE);
+        w->done += code == CCAN_DONE;
+        w->last = value;
+        expect(w, ccan_get(host, CCAN_DATAA1, &shown) == CCAN_DONE && shown == value);
     }
-    expect(w, code == CCAN_SPENT);
 }
 
-/* The bus stores frames, until its quota is spent. */
+/* The bus stores frames. Where the store is given up, the next round offers the frame again. */
 static void bus_works(worker *w, ccan_bus *bus, uint16_t object)
 {
-    for (;;) {
-        ccan_offer offer = { 0x123, 1, 0, 0, 2, { 0xbb, 0xbb } };
+    ccan_offer offer = { 0x123, 1, 0, 0, 2, { 0xbb, 0xbb } };
+    while (w->done < changes) {
         ccan_outcome outcome;
         uint32_t code = ccan_round(bus, &offer, 1, CCAN_QUIET, &outcome);
         if (code == CCAN_BUSY) {
+            expect(w, outcome.kind == CCAN_ROUND_BUSY && outcome.object == object);
             w->busy++;
             continue;
         }
-        if (code != CCAN_DONE) {
-            expect(w, code == CCAN_SPENT && outcome.kind == CCAN_ROUND_SPENT);
-            return;
-        }
+        expect(w, code == CCAN_DONE && outcome.kind == CCAN_RECEIVED && outcome.stored == object
+            && outcome.stored_record.bytes[0] == 0xbb);
         w->done++;
         w->last = 0xbbbb;
-        expect(w, outcome.kind == CCAN_RECEIVED && outcome.stored == object && outcome.stored_record.bytes[0] == 0xbb);
     }
 }
 
@@ -78,7 +72,7 @@ static uint16_t data(const ccan_final *last, int object)
     return (uint16_t)(last->records[object - 1].bytes[0] | last->records[object - 1].bytes[1] << 8);
 }
 
-/* Object 3 receives 0x123, as written by IF1. It costs IF1 one change. */
+/* Object 3 receives 0x123, as written by IF1. */
 static void prepare(void)
 {
     if (ccan_set(&chip.if1, CCAN_CMASK, 0x00f3) || ccan_set(&chip.if1, CCAN_ARB2, 0x848c)
@@ -88,14 +82,17 @@ static void prepare(void)
 
 int main(int argc, char **argv)
 {
-    int chips = argc > 2 ? atoi(argv[2]) : 245;
+    if (argc != 4)
+        return 2;
+    one_object = strcmp(argv[1], "one") == 0;
+    changes = strtoull(argv[2], NULL, 10);
+    int chips = atoi(argv[3]);
     uint64_t done = 0, busy = 0;
     static ccan_final last;
-    one_object = argc > 1 && strcmp(argv[1], "one") == 0;
     for (int k = 0; k < chips; k++) {
         worker w[3] = { { 0, 0, 0, 0, 0 }, { 1, 0, 0, 0, 0 }, { 2, 0, 0, 0, 0 } };
         pthread_t threads[3];
-        if (ccan_open(&chip, 1 + (uint32_t)(k % 2), 1, QUOTA, 1 + (uint32_t)(k % 3)) != CCAN_DONE)
+        if (ccan_open(&chip, 1 + (uint32_t)(k % 2), 1, 1 + (uint32_t)(k % 3)) != CCAN_DONE)
             return 2;
         prepare();
         for (int i = 0; i < 3; i++)
@@ -108,7 +105,7 @@ int main(int argc, char **argv)
         for (int i = 0; i < 3; i++) {
             done += w[i].done;
             busy += w[i].busy;
-            faults += w[i].bad + (w[i].done != QUOTA - (i == 0));
+            faults += w[i].bad + (w[i].done != changes);
             if (!one_object && data(&last, i + 1) != w[i].last)
                 faults++;
         }

@@ -2,5 +2,4 @@ pub mod AsBox
 pub mod Chips
 pub mod Lines
 pub mod Calls
-pub mod Writes
-pub mod Renewals
+pub mod Meetings

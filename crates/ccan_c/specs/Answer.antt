@@ -98,13 +98,7 @@ abbrev pub state_shown : LineAnswer → ℕ
 state_shown (answer.Recessive state) = state_number state
 state_shown reply = 0
 
--- the Status register, or the interrupt value
+-- the Status register
 abbrev pub word_shown : LineAnswer → ℕ
 word_shown (answer.Status word) = word
-word_shown (answer.Interrupt value) = value
 word_shown reply = 0
-
--- a flag of all objects
-abbrev pub flags_shown : LineAnswer → ℕ
-flags_shown (answer.Flags flag word profile) = word
-flags_shown reply = 0

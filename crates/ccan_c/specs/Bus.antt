@@ -1,7 +1,11 @@
--- What the calls on the bus's handle stand for: the lines of the bus in a script. Source: this project's own.
-use Rattle.std.specs.Prelude.{ℕ, ◌≡◌, ◌==◌, Bool, not, Option, Some, MatchBool, MatchOption, nat_le}
+-- What the calls on the bus's handle stand for: the lines of the bus in a script, and looks of one moment. Source: this
+-- project's own.
+use Rattle.std.specs.Prelude.{ℕ, ◌≡◌, ◌↔◌, ◌==◌, Bool, IsTrue, not, Option, Some, MatchBool, nat_le}
 use Rattle.ccan_ram.specs.Access.{Goes}
+use Rattle.ccan_bus.specs.declared.bus.Bus.{Bus}
 use Rattle.ccan_bus.specs.Bus.{LedTo}
+use Rattle.ccan_bus.specs.Past.{BusPast}
+use Rattle.ccan_confine.specs.Status.{IsPending}
 use Rattle.ccan_script.specs.declared.bus_line.BusLine.{BusLine}
 use Rattle.ccan_script.specs.declared.bus_line.BusLine.TheVariants as line
 use Rattle.ccan_script.specs.declared.line_answer.LineAnswer.{LineAnswer}
@@ -12,9 +16,9 @@ use Rattle.ccan_c.specs.declared.held.Held.{Held}
 use Rattle.ccan_c.specs.declared.bus_handle.BusHandle.{BusHandle}
 use Rattle.ccan_c.specs.Answer.{code_of}
 use Rattle.ccan_c.specs.Call.{IsRefused}
-use Rattle.ccan_c.specs.Codes.{flag_range, node_range, groups_range}
+use Rattle.ccan_c.specs.Codes.{done, node_range, groups_range}
 use Rattle.ccan_c.specs.Held.{IsOpenAs, passes}
-use Rattle.ccan_c.specs.Host.{flag_numbered}
+use Rattle.ccan_c.specs.Looks.{LooksForInterrupt}
 use Rattle.ccan_c.specs.Settings.{is_from_one_to}
 
 -- what a handle stands for
@@ -61,8 +65,14 @@ Recovers groups shown held after result out =
     MatchBool (is_from_one_to most_groups groups) (Answers (line.Recessive groups) shown held after result out)
     (IsRefused groups_range held after result)
 
--- a flag of all objects
-abbrev pub ReadsFlag : {Out : Type 0} → ℕ → (LineAnswer → Out) → Held → Option Held → ℕ → Out → Type 0
-ReadsFlag number shown held after result out =
-    MatchOption (flag_numbered number) (IsRefused flag_range held after result)
-    (λ flag. Answers (line.Flags flag) shown held after result out)
+-- ---- looks of one moment
+
+-- whether the status interrupt is pending, by each past that may have led to the bus
+abbrev pub KnowsPending : Bus → Bool → Type 0
+KnowsPending bus pending = (past : BusPast) → LedTo past bus → IsTrue pending ↔ IsPending past.steps
+
+-- the interrupt value, with the status interrupt
+abbrev pub ReadsInterrupt : Held → Option Held → ℕ → ℕ → Type 0
+ReadsInterrupt held after result out =
+    (result ≡ done)
+    × ((pending : Bool) × KnowsPending held.bus pending × IsOpenAs (LooksForInterrupt pending out held) after)

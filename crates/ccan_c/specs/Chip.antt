@@ -5,6 +5,7 @@ use Rattle.ccan_ram.specs.declared.ending.Final.{Final}
 use Rattle.ccan_ram.specs.declared.port.PortName.TheVariants.{If1, If2, Bus}
 use Rattle.ccan_ram.specs.Ending.{Ends}
 use Rattle.ccan_ram.specs.SharedRam.{Memory, IsMemoryOf, opened}
+use Rattle.ccan_endless.specs.Layout.{most}
 use Rattle.ccan_c.specs.declared.held.Held.{Held}
 use Rattle.ccan_c.specs.declared.chip.Chip.{Chip}
 use Rattle.ccan_c.specs.declared.shown_final.ShownFinal.{ShownFinal}
@@ -29,10 +30,10 @@ pub record IsClosed (chip : Chip) : Type 0 where
   pub if2 : chip.if2.handle.seal.value ≡ None
   pub bus : chip.bus.handle.seal.value ≡ None
 
--- the three ports of a memory that was just opened, each in its place
-pub record Opens (profile : Profile) (nodes quota tries : ℕ) (chip : Chip) : Type 0 where
+-- the three ports of a memory that was just opened, each in its place; a port may make as many changes as the memory numbers
+pub record Opens (profile : Profile) (nodes tries : ℕ) (chip : Chip) : Type 0 where
   pub memory : Memory
-  pub memory_is : IsMemoryOf profile quota memory
+  pub memory_is : IsMemoryOf profile most memory
   pub handles : AllOpen chip (λ h k l. IsOpening (opened memory If1) nodes tries h
       × IsOpening (opened memory If2) nodes tries k × IsOpening (opened memory Bus) nodes tries l)
 
@@ -42,6 +43,6 @@ EndsWith chip out =
     AllOpen chip (λ h k l. (final : Final) × Ends (pass_of h) (pass_of k) (pass_of l) final × IsFinal final out)
 
 -- the same for a profile by its number
-abbrev pub OpensAs : ℕ → ℕ → ℕ → ℕ → Chip → Type 0
-OpensAs number nodes quota tries chip =
-    (profile : Profile) × (profile_numbered number ≡ Some profile) × Opens profile nodes quota tries chip
+abbrev pub OpensAs : ℕ → ℕ → ℕ → Chip → Type 0
+OpensAs number nodes tries chip =
+    (profile : Profile) × (profile_numbered number ≡ Some profile) × Opens profile nodes tries chip

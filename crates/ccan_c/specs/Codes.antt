@@ -1,4 +1,5 @@
--- The numbers that calls from C answer, for each of which the header has a name. Source: this project's own.
+-- The numbers that calls from C answer, for each of which the header has a name. 8 is none: a call of version 0.1 answered it.
+-- Source: this project's own.
 use Rattle.std.specs.Prelude.{ℕ}
 
 abbrev pub done : ℕ
@@ -24,9 +25,6 @@ profile_range = 6
 
 abbrev pub nodes_range : ℕ
 nodes_range = 7
-
-abbrev pub quota_range : ℕ
-quota_range = 8
 
 abbrev pub tries_range : ℕ
 tries_range = 9

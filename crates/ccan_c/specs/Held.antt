@@ -3,7 +3,7 @@ use Rattle.std.specs.Prelude.{ℕ, ◌≡◌, Option, Some}
 use Rattle.ccan_object.specs.Interface.{zero_registers}
 use Rattle.ccan_ram.specs.Access.{Passes}
 use Rattle.ccan_ram.specs.SharedRam.{Pass, passes_of}
-use Rattle.ccan_words.specs.OneWordEach.{same_object}
+use Rattle.ccan_endless.specs.Layout.{same_object}
 use Rattle.ccan_bus.specs.Bus.{LedTo}
 use Rattle.ccan_bus.specs.Past as past
 use Rattle.ccan_c.specs.declared.held.Held.{Held}
@@ -23,6 +23,13 @@ pub record IsOpening (pass : Pass) (nodes tries : ℕ) (held : Held) : Type 0 wh
   pub nodes_are : held.nodes ≡ nodes
   pub registers_are : held.registers ≡ zero_registers
   pub bus_is : LedTo (past.opened nodes) held.bus
+
+-- all else that the handle stands for is as it was
+pub record IsKept (old new : Held) : Type 0 where
+  pub tries : new.tries ≡ old.tries
+  pub nodes : new.nodes ≡ old.nodes
+  pub registers : new.registers ≡ old.registers
+  pub bus : new.bus ≡ old.bus
 
 -- it is open, and this holds of what it stands for
 abbrev pub IsOpenAs : (Held → Type 0) → Option Held → Type 0

@@ -1,8 +1,10 @@
--- What the calls on a host's handle stand for: the lines of a host port in a script. Source: this project's own.
-use Rattle.std.specs.Prelude.{ℕ, ◌≡◌, ◌==◌, Bool, [], Option, Some, None, MatchBool, MatchOption, if◌then◌else◌}
+-- What the calls on a host's handle stand for: the lines of a host port in a script, and looks of one moment. Source: this
+-- project's own.
+use Rattle.std.specs.Prelude.{ℕ, ◌≡◌, ◌==◌, Bool, false, [], Option, Some, None, MatchBool, MatchOption, if◌then◌else◌}
 use Rattle.ccan_object.specs.declared.register.Reg.{Reg}
 use Rattle.ccan_object.specs.declared.register.Reg.TheVariants.{CMask, Mask1, Mask2, Arb1, Arb2, Ctrl, DataA1, DataA2, DataB1, DataB2}
 use Rattle.ccan_object.specs.declared.profile.Profile.{Profile}
+use Rattle.ccan_object.specs.declared.record.Record.{Record}
 use Rattle.ccan_object.specs.Interface.{set_register, shown}
 use Rattle.ccan_object.specs.Profile.{objects_in}
 use Rattle.ccan_ram.specs.declared.flag.Flag.{Flag}
@@ -16,10 +18,13 @@ use Rattle.ccan_script.specs.Limits.{most_turns}
 use Rattle.ccan_run.specs.Host.{HostLineMeans}
 use Rattle.ccan_c.specs.declared.held.Held.{Held}
 use Rattle.ccan_c.specs.declared.host_handle.HostHandle.{HostHandle}
+use Rattle.ccan_c.specs.declared.shown_record.ShownRecord.{ShownRecord}
 use Rattle.ccan_c.specs.Answer.{code_of}
 use Rattle.ccan_c.specs.Call.{IsRefused}
 use Rattle.ccan_c.specs.Codes.{done, register_range, object_range, flag_range, turns_range}
 use Rattle.ccan_c.specs.Held.{IsOpenAs, pass_of, passes}
+use Rattle.ccan_c.specs.Looks.{LooksAt, LooksForFlag, LooksForInterrupt}
+use Rattle.ccan_c.specs.Record.{c_record}
 use Rattle.ccan_c.specs.Settings.{is_from_one_to}
 
 -- what a handle stands for
@@ -98,21 +103,30 @@ abbrev pub Requests : ℕ → Held → Option Held → ℕ → Type 0
 Requests request held after result =
     (reply : LineAnswer) × IsOpenAs (RunsHost (transfer request) reply held) after × (result ≡ code_of reply)
 
--- a flag of all objects
+-- a flag of all objects, on either kind of handle
 abbrev pub ReadsFlag : ℕ → Held → Option Held → ℕ → ℕ → Type 0
 ReadsFlag number held after result out =
     MatchOption (flag_numbered number) (IsRefused flag_range held after result)
-    (λ flag. (result ≡ done)
-    × IsOpenAs (RunsHost (line.Flags flag) (answer.Flags flag out (pass_of held).memory.profile) held) after)
+    (λ flag. (result ≡ done) × IsOpenAs (LooksForFlag flag out held) after)
 
--- the interrupt value
+-- the interrupt value; a host knows of no status interrupt
 abbrev pub ReadsInterrupt : Held → Option Held → ℕ → ℕ → Type 0
-ReadsInterrupt held after result out =
-    (result ≡ done) × IsOpenAs (RunsHost line.Interrupt (answer.Interrupt out) held) after
+ReadsInterrupt held after result out = (result ≡ done) × IsOpenAs (LooksForInterrupt false out held) after
 
 -- whether the number is that of an object
 abbrev pub is_object : Profile → ℕ → Bool
 is_object profile number = is_from_one_to (objects_in profile) number
+
+-- one look at an object, whose record C sees
+abbrev pub PeeksAt : ℕ → Held → Option Held → ℕ → ShownRecord → Type 0
+PeeksAt object held after result out =
+    (result ≡ done) × ((found : Record) × (out ≡ c_record found) × IsOpenAs (LooksAt object found held) after)
+
+-- the same, where the chip has the object
+abbrev pub Peeks : ℕ → Held → Option Held → ℕ → ShownRecord → Type 0
+Peeks object held after result out =
+    MatchBool (is_object (pass_of held).memory.profile object) (PeeksAt object held after result out)
+    (IsRefused object_range held after result)
 
 -- looks at an object, until it shows the flag
 abbrev pub Waits : ℕ → Flag → ℕ → Held → Option Held → ℕ → ℕ → Type 0

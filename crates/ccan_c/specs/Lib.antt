@@ -1,3 +1,4 @@
+pub mod Version
 pub mod Codes
 pub mod Settings
 pub mod Record
@@ -6,9 +7,9 @@ pub mod Seals
 pub mod Held
 pub mod Together
 pub mod Chip
-pub mod Renewal
-pub mod Copying
 pub mod Call
+pub mod Meeting
+pub mod Looks
 pub mod Host
 pub mod Lending
 pub mod Bus

@@ -5,27 +5,21 @@ use Rattle.ccan_object.specs.declared.profile.Profile.{Profile}
 use Rattle.ccan_object.specs.declared.profile.Profile.TheVariants.{One, Two}
 use Rattle.ccan_ram.specs.Tries.{most_tries}
 use Rattle.ccan_script.specs.Limits.{most_nodes}
-use Rattle.ccan_c.specs.Codes.{profile_range, nodes_range, quota_range, tries_range}
+use Rattle.ccan_c.specs.Codes.{profile_range, nodes_range, tries_range}
 
 -- the profile of this number
 abbrev pub profile_numbered : ℕ → Option Profile
 profile_numbered number = if number == 1 then Some One else (if number == 2 then Some Two else None)
 
-abbrev pub most_changes : ℕ
-most_changes = 4096
-
 abbrev pub is_from_one_to : ℕ → ℕ → Bool
 is_from_one_to most number = nat_le 1 number && nat_le number most
 
 -- the first of the settings that is out of its range, if any is
-abbrev pub range_fault : ℕ → ℕ → ℕ → Option ℕ
-range_fault nodes quota tries =
-    if nat_le nodes most_nodes
-    then (if is_from_one_to most_changes quota
-    then (if is_from_one_to most_tries tries then None else Some tries_range)
-    else Some quota_range)
+abbrev pub range_fault : ℕ → ℕ → Option ℕ
+range_fault nodes tries =
+    if nat_le nodes most_nodes then (if is_from_one_to most_tries tries then None else Some tries_range)
     else Some nodes_range
 
-abbrev pub settings_fault : ℕ → ℕ → ℕ → ℕ → Option ℕ
-settings_fault profile nodes quota tries =
-    option_map_or (λ known. range_fault nodes quota tries) (profile_numbered profile) (Some profile_range)
+abbrev pub settings_fault : ℕ → ℕ → ℕ → Option ℕ
+settings_fault profile nodes tries =
+    option_map_or (λ known. range_fault nodes tries) (profile_numbered profile) (Some profile_range)

@@ -1,23 +1,24 @@
 //! The calls of the bus.
 ghost use Rattle.std.specs.Prelude.{◌≡◌, ◌≢◌, ◌⊎◌};
 ghost use Rattle.ccan_script.specs.declared.bus_line.BusLine.TheVariants as line;
-ghost use Rattle.ccan_c.specs.Answer.{counters_shown, flags_shown, load_shown, state_shown, word_shown};
-ghost use Rattle.ccan_c.specs.Bus.{Answers, CountsNode, Does, ReadsFlag, Recovers, held_on, is_on};
+ghost use Rattle.ccan_c.specs.Answer.{counters_shown, load_shown, state_shown, word_shown};
+ghost use Rattle.ccan_c.specs.Bus.{Answers, CountsNode, Does, ReadsInterrupt, Recovers, held_on, is_on};
 ghost use Rattle.ccan_c.specs.Call.{IsCall};
+ghost use Rattle.ccan_c.specs.Host.{ReadsFlag};
 ghost use Rattle.ccan_c.specs.Round.{Plays};
-ghost use Rattle.ccan_c.specs.Codes.{busy, closed, done, spent, flag_range, groups_range, node_range};
+ghost use Rattle.ccan_c.specs.Codes.{busy, closed, done, spent, groups_range, node_range};
 
 use crate::bus_handle::BusHandle;
 use crate::code::{
-    CLOSED, FAULT_RANGE, FLAG_RANGE, FRAME_RANGE, FRAMES_RANGE, GROUPS_RANGE, NODE_RANGE, SENDERS,
-    code_of,
+    CLOSED, DONE, FAULT_RANGE, FLAG_RANGE, FRAME_RANGE, FRAMES_RANGE, GROUPS_RANGE, NODE_RANGE,
+    SENDERS, code_of,
 };
 use crate::numbers::flag_numbered;
 use crate::offer::{Offer, fault_numbered, read_offers};
 use crate::shown_counters::ShownCounters;
 use crate::shown_load::ShownLoad;
 use crate::shown_outcome::ShownOutcome;
-use crate::shown_words::{flags_shown, state_shown, word_shown};
+use crate::shown_words::{state_shown, word_shown};
 use ccan_script::{BusLine, MAX_FRAMES};
 
 /// The controller chooses an object to send, and starts it.
@@ -110,27 +111,28 @@ pub extern "C" fn ccan_recessive(bus: &mut BusHandle, groups: u32, out: &mut u32
     code_of(&answer)
 }
 
-/// Reads the interrupt value: 0x8000 the status interrupt, else the first object with IntPnd, or 0.
+/// Reads the interrupt value of one moment: 0x8000 the status interrupt, else the first object with IntPnd, or 0.
 #[unsafe(no_mangle)]
 pub extern "C" fn ccan_bus_interrupt(bus: &mut BusHandle, out: &mut u16) -> u32
     ensures call { IsCall (held_on bus.old) (held_on bus.new) result
-        (λ held. Answers line.Interrupt word_shown held (held_on bus.new) result out.new) }
-    ensures refused { result ≡ closed → out.new ≡ out.old }
+        (λ held. ReadsInterrupt held (held_on bus.new) result out.new) }
+    ensures refused { result ≢ done → out.new ≡ out.old }
 {
     if !bus.handle.is_open() {
         return CLOSED;
     }
-    let answer = bus.run(&BusLine::Interrupt);
-    *out = word_shown(&answer);
-    code_of(&answer)
+    let held = bus.handle.seal.as_mut();
+    let pending = held.bus.status_pending();
+    *out = held.interrupt(pending);
+    DONE
 }
 
-/// Reads a flag of all objects, that of object k in bit k - 1.
+/// Reads a flag of all objects in one moment, that of object k in bit k - 1.
 #[unsafe(no_mangle)]
 pub extern "C" fn ccan_bus_flags(bus: &mut BusHandle, flag: u32, out: &mut u64) -> u32
     ensures call { IsCall (held_on bus.old) (held_on bus.new) result
-        (λ held. ReadsFlag flag flags_shown held (held_on bus.new) result out.new) }
-    ensures refused { (result ≡ closed) ⊎ (result ≡ flag_range) → out.new ≡ out.old }
+        (λ held. ReadsFlag flag held (held_on bus.new) result out.new) }
+    ensures refused { result ≢ done → out.new ≡ out.old }
 {
     if !bus.handle.is_open() {
         return CLOSED;
@@ -138,9 +140,8 @@ pub extern "C" fn ccan_bus_flags(bus: &mut BusHandle, flag: u32, out: &mut u64) 
     let Some(flag) = flag_numbered(flag) else {
         return FLAG_RANGE;
     };
-    let answer = bus.run(&BusLine::Flags(flag));
-    *out = flags_shown(&answer);
-    code_of(&answer)
+    *out = bus.handle.seal.as_mut().flags(flag);
+    DONE
 }
 
 /// Reads the error counters of a node, node 0 being the controller.

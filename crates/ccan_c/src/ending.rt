@@ -16,7 +16,7 @@ use std::mem::replace;
 use std::sync::Arc;
 
 /// The records of a memory that its three ports give back. None where somebody else holds it.
-pub(crate) fn ended(if1: SharedPort, if2: SharedPort, bus: SharedPort) -> Option<Final>
+fn ended(if1: SharedPort, if2: SharedPort, bus: SharedPort) -> Option<Final>
     requires second { if1.port.memory ≡ if2.port.memory }
     requires third { if1.port.memory ≡ bus.port.memory }
     requires named_if1 { if1.port.port ≡ If1 }

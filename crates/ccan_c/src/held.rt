@@ -11,8 +11,6 @@ use ccan_ram::Tries;
 #[derive(Drop)]
 pub struct Held {
     pub access: SharedPort,
-    /// How many changes the port may make.
-    pub quota: u64,
     /// How often a call may try a change.
     pub tries: Tries,
     pub registers: Iface,
@@ -22,5 +20,4 @@ pub struct Held {
     ghost few: { nodes ≤ most_nodes },
     ghost known: { nodes ≤ bus.others },
     ghost same_profile: { bus.profile ≡ access.port.memory.profile },
-    ghost same_quota: { quota ≡ access.port.memory.quota },
 }

@@ -2,11 +2,12 @@
 ghost use Rattle.std.specs.Prelude.{◌≡◌, ◌≢◌};
 ghost use Rattle.ccan_c.specs.Call.{IsCall};
 ghost use Rattle.ccan_c.specs.Codes.{done};
-ghost use Rattle.ccan_c.specs.Host.{Gets, ReadsFlag, ReadsInterrupt, Requests, Sets, WaitsFor, held_by};
+ghost use Rattle.ccan_c.specs.Host.{Gets, Peeks, ReadsFlag, ReadsInterrupt, Requests, Sets, WaitsFor, held_by};
 
-use crate::code::{CLOSED, DONE, FLAG_RANGE, REGISTER_RANGE, code_of};
+use crate::code::{CLOSED, DONE, FLAG_RANGE, OBJECT_RANGE, REGISTER_RANGE, code_of};
 use crate::host_handle::HostHandle;
 use crate::numbers::{flag_numbered, number_of, register_numbered};
+use crate::shown_record::ShownRecord;
 
 /// Writes an interface register. The message RAM has no part in it.
 #[unsafe(no_mangle)]
@@ -54,7 +55,7 @@ pub extern "C" fn ccan_request(host: &mut HostHandle, request: u16) -> u32
     code_of(&answer)
 }
 
-/// Reads a flag of all objects, that of object k in bit k - 1.
+/// Reads a flag of all objects in one moment, that of object k in bit k - 1.
 #[unsafe(no_mangle)]
 pub extern "C" fn ccan_flags(host: &mut HostHandle, flag: u32, out: &mut u64) -> u32
     ensures call { IsCall (held_by host.old) (held_by host.new) result
@@ -71,7 +72,7 @@ pub extern "C" fn ccan_flags(host: &mut HostHandle, flag: u32, out: &mut u64) ->
     DONE
 }
 
-/// Reads the interrupt value: the number of the first object with IntPnd, or 0.
+/// Reads the interrupt value of one moment: the number of the first object with IntPnd, or 0.
 #[unsafe(no_mangle)]
 pub extern "C" fn ccan_interrupt(host: &mut HostHandle, out: &mut u16) -> u32
     ensures call { IsCall (held_by host.old) (held_by host.new) result
@@ -81,8 +82,27 @@ pub extern "C" fn ccan_interrupt(host: &mut HostHandle, out: &mut u16) -> u32
     if !host.handle.is_open() {
         return CLOSED;
     }
-    *out = host.handle.seal.as_mut().interrupt();
+    *out = host.handle.seal.as_mut().interrupt(false);
     DONE
+}
+
+/// Looks at an object once, and gives its record. The interface registers have no part in it.
+#[unsafe(no_mangle)]
+pub extern "C" fn ccan_peek(host: &mut HostHandle, object: u32, out: &mut ShownRecord) -> u32
+    ensures call { IsCall (held_by host.old) (held_by host.new) result
+        (λ held. Peeks object held (held_by host.new) result out.new) }
+    ensures refused { result ≢ done → out.new ≡ out.old }
+{
+    if !host.handle.is_open() {
+        return CLOSED;
+    }
+    match host.handle.seal.as_mut().peek(object) {
+        Some(found) => {
+            *out = ShownRecord::of(&found);
+            DONE
+        }
+        None => OBJECT_RANGE,
+    }
 }
 
 /// Looks at an object until it shows the flag, at most so many times. 1 where it did, else 0.

@@ -2,7 +2,7 @@
 use crate::code::{FLAG_RANGE, OBJECT_RANGE, TURNS_RANGE};
 use crate::held::Held;
 use crate::numbers::flag_numbered;
-use ccan_handler::{flags, interrupt, until};
+use ccan_handler::until;
 use ccan_object::ObjectNo;
 use ccan_ram::{Access, Flag};
 use ccan_run::Side;
@@ -28,21 +28,6 @@ impl Held {
         self.registers.run_line(&mut self.access, &line, self.tries)
     }
 
-    /// A flag of all objects.
-    pub(crate) fn flags(&mut self, flag: Flag) -> u64
-        ensures { RunsHost (HostLine.Flags flag)
-            (LineAnswer.Flags flag result (pass_of self.old).memory.profile) self.old self.new }
-    {
-        flags(&mut self.access, flag)
-    }
-
-    /// The interrupt value.
-    pub(crate) fn interrupt(&mut self) -> u16
-        ensures { RunsHost HostLine.Interrupt (LineAnswer.Interrupt result) self.old self.new }
-    {
-        interrupt(&mut self.access, false)
-    }
-
     /// Looks at an object until it shows the flag.
     pub(crate) fn until(&mut self, object: ObjectNo, flag: Flag, turns: u32) -> bool
         requires { Holds (pass_of self.old).memory.profile object }
@@ -53,7 +38,7 @@ impl Held {
     }
 
     /// The object of this number, where the chip has it.
-    fn object_numbered(&self, number: u32) -> Option<ObjectNo>
+    pub(crate) fn object_numbered(&self, number: u32) -> Option<ObjectNo>
         ensures known { IsSome result
             ↔ IsTrue (is_object (pass_of self.now).memory.profile number) }
         ensures value { IfSome result (λ object. (object ≡ number)

@@ -2,8 +2,8 @@
 //!
 //! A chip lies in memory of C's and has three handles, one for each port. A handle is a mark and a pointer that says
 //! nothing of what it leads to: a port of the memory without a lock with a share of that memory, interface registers, and
-//! a bus. A call runs the line of its name on these as a script would, so it means what that line means, in one history of
-//! all three handles.
+//! a bus. A call runs the line of its name on these as a script would, so it means what that line means, or it looks at the
+//! memory in one moment; all of it is in one history of all three handles.
 //!
 //! ```text
 //!  thread A     thread B     thread C
@@ -11,7 +11,7 @@
 //!      |            |            |
 //!    Held         Held         Held          a port, registers, a bus
 //!      \------------|------------/
-//!              one WordRam
+//!              one EndlessRam
 //! ```
 #![tactic(auto)]
 
@@ -20,17 +20,17 @@ mod bus_handle;
 mod bus_lines;
 mod chip;
 mod code;
-mod copying;
 mod ending;
 mod handle;
 mod held;
 mod host;
 mod host_handle;
 mod host_lines;
+mod looks;
+mod meeting;
 mod numbers;
 mod offer;
 mod opening;
-mod renewal;
 mod seal;
 mod settings;
 mod shared_port;
@@ -41,7 +41,10 @@ mod shown_outcome;
 mod shown_record;
 mod shown_words;
 #[cfg(test)]
+mod table;
+#[cfg(test)]
 mod tests;
+mod version;
 
 pub use bus::{
     ccan_bus_flags, ccan_bus_interrupt, ccan_control, ccan_counters, ccan_init, ccan_load,
@@ -51,13 +54,16 @@ pub use bus_handle::BusHandle;
 pub use chip::Chip;
 pub use ending::ccan_end;
 pub use handle::{Handle, handles_may_cross};
-pub use host::{ccan_flags, ccan_get, ccan_interrupt, ccan_request, ccan_set, ccan_until};
+pub use host::{
+    ccan_flags, ccan_get, ccan_interrupt, ccan_peek, ccan_request, ccan_set, ccan_until,
+};
 pub use host_handle::HostHandle;
+pub use meeting::ccan_meet;
 pub use offer::Offer;
 pub use opening::{ccan_is_open, ccan_open};
-pub use renewal::{ccan_renew, renewed_chips_end_alike};
 pub use shown_counters::ShownCounters;
 pub use shown_final::ShownFinal;
 pub use shown_load::ShownLoad;
 pub use shown_outcome::ShownOutcome;
 pub use shown_record::ShownRecord;
+pub use version::ccan_version;

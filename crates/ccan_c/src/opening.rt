@@ -12,22 +12,21 @@ use crate::held::Held;
 use crate::settings::Settings;
 use crate::shared_port::SharedPort;
 use ccan_bus::Bus;
+use ccan_endless::{EndlessRam, MOST, Port};
 use ccan_object::Iface;
 use ccan_ram::SharedRam;
-use ccan_words::{Port, WordRam};
 use std::alloc::Global;
 use std::sync::Arc;
 
 /// A handle of a port, as it opens.
 fn hold(
     alloc: Global,
-    ram: &Arc<WordRam, Global>,
+    ram: &Arc<EndlessRam, Global>,
     port: Port,
     settings: &Settings,
 ) -> Option<Handle>
     requires belongs { port.memory ≡ ram.now.value.words }
     requires profile { port.memory.profile ≡ settings.now.profile }
-    requires quota { port.memory.quota ≡ settings.now.quota }
     ensures { IfSome result (λ handle.
         IsOpenAs (IsOpening port settings.now.nodes settings.now.tries) handle.seal.value) }
 {
@@ -36,7 +35,6 @@ fn hold(
     };
     let held = Held {
         access: SharedPort { ram, port },
-        quota: settings.quota,
         tries: settings.tries,
         registers: Iface::new(),
         nodes: settings.nodes,
@@ -49,11 +47,11 @@ fn hold(
 }
 
 /// A chip of a memory that is all zero. None where memory ran out.
-pub(crate) fn opened(alloc: Global, settings: &Settings) -> Option<Chip>
-    ensures { IfSome result (Opens settings.now.profile settings.now.nodes settings.now.quota
-        settings.now.tries) }
+fn opened(alloc: Global, settings: &Settings) -> Option<Chip>
+    ensures { IfSome result
+        (Opens settings.now.profile settings.now.nodes settings.now.tries) }
 {
-    let Ok((ram, if1, if2, bus)) = WordRam::open_ram(alloc, settings.profile, settings.quota) else {
+    let Ok((ram, if1, if2, bus)) = EndlessRam::open_ram(alloc, settings.profile, MOST) else {
         return None;
     };
     let Ok(ram) = Arc::new(alloc, ram) else {
@@ -65,22 +63,22 @@ pub(crate) fn opened(alloc: Global, settings: &Settings) -> Option<Chip>
     Some(Chip::of(if1, if2, bus))
 }
 
-/// Opens a chip. What the place held is closed first, where it answers 0.
+/// Opens a chip, each port of which may make as many changes as the memory numbers. What the place held is closed where it
+/// answers 0.
 #[unsafe(no_mangle)]
 pub extern "C" fn ccan_open(
     alloc: Global,
     chip: &mut Chip,
     profile: u32,
     nodes: u32,
-    quota: u64,
     tries: u32,
 ) -> u32
-    ensures done { result ≡ done → OpensAs profile nodes quota tries chip.new }
+    ensures done { result ≡ done → OpensAs profile nodes tries chip.new }
     ensures refused { result ≢ done → chip.new ≡ chip.old }
-    ensures code { MatchOption (settings_fault profile nodes quota tries)
+    ensures code { MatchOption (settings_fault profile nodes tries)
         ((result ≡ done) ⊎ (result ≡ no_memory)) (λ fault. result ≡ fault) }
 {
-    let settings = match Settings::read(profile, nodes, quota, tries) {
+    let settings = match Settings::read(profile, nodes, tries) {
         Ok(settings) => settings,
         Err(fault) => return fault,
     };

@@ -2,7 +2,7 @@ ghost use Rattle.std.specs.Prelude.{◌≡◌, ◌≤◌, Some, None, IfOk, IfEr
 ghost use Rattle.ccan_script.specs.Limits.{most_nodes};
 ghost use Rattle.ccan_c.specs.Settings.{profile_numbered, settings_fault};
 
-use crate::code::{NODES_RANGE, PROFILE_RANGE, QUOTA_RANGE, TRIES_RANGE};
+use crate::code::{NODES_RANGE, PROFILE_RANGE, TRIES_RANGE};
 use ccan_object::Profile;
 use ccan_ram::Tries;
 
@@ -11,7 +11,6 @@ use ccan_ram::Tries;
 pub(crate) struct Settings {
     pub profile: Profile,
     pub nodes: u8,
-    pub quota: u64,
     pub tries: Tries,
     ghost few: { nodes ≤ most_nodes },
 }
@@ -29,21 +28,18 @@ fn profile_numbered(number: u32) -> Option<Profile>
 
 impl Settings {
     /// Reads the settings that C gives, and tells the first that is out of its range.
-    pub(crate) fn read(profile: u32, nodes: u32, quota: u64, tries: u32) -> Result<Settings, u32>
+    pub(crate) fn read(profile: u32, nodes: u32, tries: u32) -> Result<Settings, u32>
         ensures fault { IfErr result
-            (λ code. settings_fault profile nodes quota tries ≡ Some code) }
-        ensures none { IfOk result (λ settings. settings_fault profile nodes quota tries ≡ None) }
+            (λ code. settings_fault profile nodes tries ≡ Some code) }
+        ensures none { IfOk result (λ settings. settings_fault profile nodes tries ≡ None) }
         ensures read { IfOk result (λ settings. (profile_numbered profile ≡ Some settings.profile)
-            × (settings.nodes ≡ nodes) × (settings.quota ≡ quota) × (settings.tries ≡ tries)) }
+            × (settings.nodes ≡ nodes) × (settings.tries ≡ tries)) }
     {
         let Some(profile) = profile_numbered(profile) else {
             return Err(PROFILE_RANGE);
         };
         if nodes > 8 {
             return Err(NODES_RANGE);
-        }
-        if quota < 1 || quota > 4096 {
-            return Err(QUOTA_RANGE);
         }
         if tries < 1 || tries > 1000 {
             return Err(TRIES_RANGE);
@@ -54,7 +50,6 @@ impl Settings {
         Ok(Settings {
             profile,
             nodes: nodes as u8,
-            quota,
             tries,
         })
     }

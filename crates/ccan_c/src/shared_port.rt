@@ -1,9 +1,9 @@
 ghost use Rattle.std.specs.Prelude.{◌≡◌};
 ghost use Rattle.std.specs.Arc.{arc_value};
 
+use ccan_endless::{EndlessRam, Port};
 use ccan_object::{ObjectNo, Profile, Record};
 use ccan_ram::{Access, Change, Changed, HandlerRegisters, Refused, SharedRam, Tries};
-use ccan_words::{Port, WordRam};
 use std::alloc::Global;
 use std::sync::Arc;
 
@@ -11,14 +11,14 @@ use std::sync::Arc;
 /// the port has seen.
 #[derive(Drop)]
 pub struct SharedPort {
-    pub ram: Arc<WordRam, Global>,
+    pub ram: Arc<EndlessRam, Global>,
     pub port: Port,
     ghost belongs: { port.memory ≡ (arc_value ram).words },
 }
 
 impl Access for SharedPort {
     ghost use Rattle.ccan_ram.specs.SharedRam.{passes_of};
-    ghost use Rattle.ccan_words.specs.OneWordEach.{same_object};
+    ghost use Rattle.ccan_endless.specs.Layout.{same_object};
 
     ghost passes = { λ shared. passes_of same_object shared.port };
 

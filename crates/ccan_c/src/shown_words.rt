@@ -1,27 +1,16 @@
 //! Answers that are one number.
 ghost use Rattle.std.specs.Prelude.{◌≡◌};
-ghost use Rattle.ccan_c.specs.Answer.{flags_shown, state_shown, word_shown};
+ghost use Rattle.ccan_c.specs.Answer.{state_shown, word_shown};
 
 use crate::shown_counters::state_number;
 use ccan_script::LineAnswer;
 
-/// The Status register, or the interrupt value.
+/// The Status register.
 pub(crate) fn word_shown(answer: &LineAnswer) -> u16
     ensures { result ≡ word_shown answer.now }
 {
     match answer {
         LineAnswer::Status(word) => *word,
-        LineAnswer::Interrupt(value) => *value,
-        _ => 0,
-    }
-}
-
-/// A flag of all objects.
-pub(crate) fn flags_shown(answer: &LineAnswer) -> u64
-    ensures { result ≡ flags_shown answer.now }
-{
-    match answer {
-        LineAnswer::Flags(_, word, _) => *word,
         _ => 0,
     }
 }

@@ -5,24 +5,32 @@ use crate::bus::{
 };
 use crate::chip::Chip;
 use crate::ending::ccan_end;
-use crate::host::{ccan_flags, ccan_get, ccan_interrupt, ccan_request, ccan_set, ccan_until};
+use crate::host::{
+    ccan_flags, ccan_get, ccan_interrupt, ccan_peek, ccan_request, ccan_set, ccan_until,
+};
 use crate::host_handle::HostHandle;
+use crate::meeting::ccan_meet;
 use crate::offer::Offer;
 use crate::opening::{ccan_is_open, ccan_open};
-use crate::renewal::ccan_renew;
 use crate::shown_counters::ShownCounters;
 use crate::shown_final::ShownFinal;
 use crate::shown_load::ShownLoad;
 use crate::shown_outcome::ShownOutcome;
 use crate::shown_record::ShownRecord;
+use crate::version::ccan_version;
 use ccan_object::Record;
 use std::process::Abort;
+
+/// A record of which no bit is set.
+fn no_record() -> ShownRecord {
+    ShownRecord::of(&Record::zero())
+}
 
 /// A place for final records.
 fn nothing() -> ShownFinal {
     ShownFinal {
         objects: 0,
-        records: [ShownRecord::of(&Record::zero()); 64],
+        records: [no_record(); 64],
     }
 }
 
@@ -32,12 +40,11 @@ fn a_chip_opens_and_ends(rt: HostRuntime) {
     let mut chip = Chip::closed(alloc);
     let mut last = nothing();
     assert_eq!(rt; ccan_end(alloc, &mut chip, &mut last), 1);
-    assert_eq!(rt; ccan_open(alloc, &mut chip, 3, 0, 64, 100), 6);
-    assert_eq!(rt; ccan_open(alloc, &mut chip, 1, 9, 64, 100), 7);
-    assert_eq!(rt; ccan_open(alloc, &mut chip, 1, 8, 4097, 100), 8);
-    assert_eq!(rt; ccan_open(alloc, &mut chip, 2, 8, 4096, 0), 9);
+    assert_eq!(rt; ccan_open(alloc, &mut chip, 3, 0, 100), 6);
+    assert_eq!(rt; ccan_open(alloc, &mut chip, 1, 9, 100), 7);
+    assert_eq!(rt; ccan_open(alloc, &mut chip, 2, 8, 0), 9);
     assert!(rt; !ccan_is_open(&chip));
-    assert_eq!(rt; ccan_open(alloc, &mut chip, 2, 8, 4096, 1000), 0);
+    assert_eq!(rt; ccan_open(alloc, &mut chip, 2, 8, 1000), 0);
     assert!(rt; ccan_is_open(&chip));
     assert_eq!(rt; ccan_end(alloc, &mut chip, &mut last), 0);
     assert_eq!(rt; last.objects, 64);
@@ -56,7 +63,7 @@ fn what_one_host_writes_the_other_reads(rt: HostRuntime) {
     let alloc = rt.alloc();
     let mut chip = Chip::closed(alloc);
     assert_eq!(rt; ccan_set(&mut chip.if1, 0, 0x00f3), 1);
-    assert_eq!(rt; ccan_open(alloc, &mut chip, 1, 0, 64, 100), 0);
+    assert_eq!(rt; ccan_open(alloc, &mut chip, 1, 0, 100), 0);
     assert_eq!(rt; ccan_set(&mut chip.if1, 10, 0x00f3), 10);
     assert_eq!(rt; ccan_set(&mut chip.if1, 0, 0x00f3), 0);
     assert_eq!(rt; ccan_set(&mut chip.if1, 4, 0xa48c), 0);
@@ -82,13 +89,59 @@ fn what_one_host_writes_the_other_reads(rt: HostRuntime) {
 }
 
 #[test]
-fn a_quota_is_spent(rt: HostRuntime) {
+fn a_look_shows_the_record_and_leaves_the_registers(rt: HostRuntime) {
     let alloc = rt.alloc();
     let mut chip = Chip::closed(alloc);
-    assert_eq!(rt; ccan_open(alloc, &mut chip, 1, 0, 1, 1), 0);
+    let mut seen = no_record();
+    assert_eq!(rt; ccan_peek(&mut chip.if1, 5, &mut seen), 1);
+    assert_eq!(rt; ccan_open(alloc, &mut chip, 1, 0, 100), 0);
+    assert_eq!(rt; ccan_set(&mut chip.if1, 0, 0x00f3), 0);
+    assert_eq!(rt; ccan_set(&mut chip.if1, 4, 0xa48c), 0);
+    assert_eq!(rt; ccan_set(&mut chip.if1, 6, 0x2211), 0);
+    assert_eq!(rt; ccan_request(&mut chip.if1, 5), 0);
+    assert_eq!(rt; ccan_peek(&mut chip.if2, 33, &mut seen), 11);
+    assert_eq!(rt; seen.arbitration, 0);
+    assert_eq!(rt; ccan_peek(&mut chip.if2, 5, &mut seen), 0);
+    assert_eq!(rt; seen.arbitration, 0xa48c0000);
+    assert_eq!(rt; seen.bytes[0], 0x11);
+    assert_eq!(rt; shown(&mut chip.if2, 4), 0);
+}
+
+#[test]
+fn the_ports_of_a_chip_meet(rt: HostRuntime) {
+    let alloc = rt.alloc();
+    let mut chip = Chip::closed(alloc);
+    assert_eq!(rt; ccan_meet(alloc, &mut chip), 1);
+    assert_eq!(rt; ccan_open(alloc, &mut chip, 1, 0, 100), 0);
+    assert_eq!(rt; ccan_set(&mut chip.if1, 0, 0x0090), 0);
+    assert_eq!(rt; ccan_set(&mut chip.if1, 5, 0x8000), 0);
+    assert_eq!(rt; ccan_request(&mut chip.if1, 5), 0);
+    assert_eq!(rt; ccan_meet(alloc, &mut chip), 0);
+    assert!(rt; ccan_is_open(&chip));
+    let mut word = 0;
+    assert_eq!(rt; ccan_bus_flags(&mut chip.bus, 0, &mut word), 0);
+    assert_eq!(rt; word, 0x10);
+    assert_eq!(rt; shown(&mut chip.if1, 5), 0x8000);
+}
+
+#[test]
+fn an_open_chip_opens_anew(rt: HostRuntime) {
+    let alloc = rt.alloc();
+    let mut chip = Chip::closed(alloc);
+    let mut last = nothing();
+    assert_eq!(rt; ccan_open(alloc, &mut chip, 2, 0, 100), 0);
+    assert_eq!(rt; ccan_open(alloc, &mut chip, 1, 0, 100), 0);
+    assert_eq!(rt; ccan_end(alloc, &mut chip, &mut last), 0);
+    assert_eq!(rt; last.objects, 32);
+}
+
+#[test]
+fn a_chip_that_ended_is_closed(rt: HostRuntime) {
+    let alloc = rt.alloc();
+    let mut chip = Chip::closed(alloc);
+    assert_eq!(rt; ccan_open(alloc, &mut chip, 1, 0, 1), 0);
     assert_eq!(rt; ccan_set(&mut chip.if1, 0, 0x0090), 0);
     assert_eq!(rt; ccan_request(&mut chip.if1, 1), 0);
-    assert_eq!(rt; ccan_request(&mut chip.if1, 1), 3);
     let mut last = nothing();
     assert_eq!(rt; ccan_end(alloc, &mut chip, &mut last), 0);
     assert_eq!(rt; ccan_request(&mut chip.if1, 1), 1);
@@ -118,9 +171,9 @@ fn no_outcome() -> ShownOutcome {
     ShownOutcome {
         kind: 77,
         object: 0,
-        finished: ShownRecord::of(&Record::zero()),
+        finished: no_record(),
         stored: 0,
-        stored_record: ShownRecord::of(&Record::zero()),
+        stored_record: no_record(),
     }
 }
 
@@ -131,7 +184,7 @@ fn a_frame_is_stored_and_one_is_sent(rt: HostRuntime) {
     let mut outcome = no_outcome();
     assert_eq!(rt; ccan_round(&mut chip.bus, &[], 0, &mut outcome), 1);
     assert_eq!(rt; outcome.kind, 77);
-    assert_eq!(rt; ccan_open(alloc, &mut chip, 1, 1, 64, 100), 0);
+    assert_eq!(rt; ccan_open(alloc, &mut chip, 1, 1, 100), 0);
     set(&mut chip.if1, &[(0, 0x00f3), (4, 0x848c), (5, 0x0488)]);
     assert_eq!(rt; ccan_request(&mut chip.if1, 5), 0);
     assert_eq!(rt; ccan_round(&mut chip.bus, &[offer(1)], 0, &mut outcome), 0);
@@ -151,7 +204,7 @@ fn a_frame_is_stored_and_one_is_sent(rt: HostRuntime) {
     let mut loaded = ShownLoad {
         kind: 77,
         object: 0,
-        held: ShownRecord::of(&Record::zero()),
+        held: no_record(),
     };
     assert_eq!(rt; ccan_load(&mut chip.bus, &mut loaded), 0);
     assert_eq!(rt; loaded.kind, 1);
@@ -166,7 +219,7 @@ fn a_frame_is_stored_and_one_is_sent(rt: HostRuntime) {
 fn numbers_out_of_range_are_refused(rt: HostRuntime) {
     let alloc = rt.alloc();
     let mut chip = Chip::closed(alloc);
-    assert_eq!(rt; ccan_open(alloc, &mut chip, 2, 1, 64, 100), 0);
+    assert_eq!(rt; ccan_open(alloc, &mut chip, 2, 1, 100), 0);
     let mut outcome = no_outcome();
     let bus = &mut chip.bus;
     assert_eq!(rt; ccan_round(bus, &[offer(1); 9], 0, &mut outcome), 16);
@@ -198,58 +251,11 @@ fn numbers_out_of_range_are_refused(rt: HostRuntime) {
 }
 
 #[test]
-fn a_renewal_keeps_records_and_registers(rt: HostRuntime) {
-    let alloc = rt.alloc();
-    let mut chip = Chip::closed(alloc);
-    assert_eq!(rt; ccan_renew(alloc, &mut chip), 1);
-    assert_eq!(rt; ccan_open(alloc, &mut chip, 1, 0, 64, 100), 0);
-    assert_eq!(rt; ccan_set(&mut chip.if1, 0, 0x00f3), 0);
-    assert_eq!(rt; ccan_set(&mut chip.if1, 4, 0xa48c), 0);
-    assert_eq!(rt; ccan_request(&mut chip.if1, 5), 0);
-    assert_eq!(rt; ccan_renew(alloc, &mut chip), 0);
-    assert!(rt; ccan_is_open(&chip));
-    assert_eq!(rt; shown(&mut chip.if1, 0), 0x00f3);
-    assert_eq!(rt; shown(&mut chip.if1, 4), 0xa48c);
-    set(&mut chip.if2, &[(0, 0x0073)]);
-    assert_eq!(rt; ccan_request(&mut chip.if2, 5), 0);
-    assert_eq!(rt; shown(&mut chip.if2, 4), 0xa48c);
-    assert_eq!(rt; ccan_request(&mut chip.if2, 6), 0);
-    assert_eq!(rt; shown(&mut chip.if2, 4), 0);
-}
-
-#[test]
-fn a_renewal_keeps_the_status(rt: HostRuntime) {
-    let alloc = rt.alloc();
-    let mut chip = Chip::closed(alloc);
-    let mut outcome = no_outcome();
-    assert_eq!(rt; ccan_open(alloc, &mut chip, 1, 1, 64, 100), 0);
-    assert_eq!(rt; ccan_round(&mut chip.bus, &[offer(1)], 0, &mut outcome), 0);
-    assert_eq!(rt; outcome.kind, 2);
-    assert_eq!(rt; ccan_renew(alloc, &mut chip), 0);
-    let mut word = 0;
-    assert_eq!(rt; ccan_status(&mut chip.bus, &mut word), 0);
-    assert_eq!(rt; word, 0x0010);
-}
-
-#[test]
-fn a_renewal_costs_if1_a_change_for_each_object(rt: HostRuntime) {
-    let alloc = rt.alloc();
-    let mut chip = Chip::closed(alloc);
-    assert_eq!(rt; ccan_open(alloc, &mut chip, 1, 0, 31, 100), 0);
-    assert_eq!(rt; ccan_renew(alloc, &mut chip), 8);
-    assert!(rt; ccan_is_open(&chip));
-    assert_eq!(rt; ccan_open(alloc, &mut chip, 2, 0, 65, 100), 0);
-    assert_eq!(rt; ccan_renew(alloc, &mut chip), 0);
-    set(&mut chip.if1, &[(0, 0x0090)]);
-    assert_eq!(rt; ccan_request(&mut chip.if1, 1), 0);
-    assert_eq!(rt; ccan_request(&mut chip.if1, 1), 3);
-    set(&mut chip.if2, &[(0, 0x0090)]);
-    assert_eq!(rt; ccan_request(&mut chip.if2, 1), 0);
-    assert_eq!(rt; ccan_request(&mut chip.if2, 1), 0);
+fn the_version_is_that_of_the_header(rt: HostRuntime) {
+    assert_eq!(rt; ccan_version(), 200);
 }
 
 #[test]
 fn laws_hold() {
     crate::handle::handles_may_cross();
-    crate::renewal::renewed_chips_end_alike();
 }

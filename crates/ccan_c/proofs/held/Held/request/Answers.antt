@@ -2,7 +2,7 @@ use Rattle.std.proofs.Common.{ℕ, List, refl, subst}
 use Rattle.ccan_object.specs.declared.register.Reg.{Reg}
 use Rattle.ccan_ram.specs.Access.{Goes}
 use Rattle.ccan_ram.specs.SharedRam.{passes_of}
-use Rattle.ccan_words.specs.OneWordEach.{same_object}
+use Rattle.ccan_endless.specs.Layout.{same_object}
 use Rattle.ccan_run.specs.Host.{HostLineMeans}
 use Rattle.ccan_script.specs.declared.host_line.HostLine.TheVariants.{Transfer}
 use Rattle.ccan_c.specs.Held.{passes}

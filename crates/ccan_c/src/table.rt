@@ -1,0 +1,163 @@
+//! The numbers and sizes of `include/ccan.h`, as the library has them. `tools/c_table` reads the lines of this file that end
+//! in a name, and holds the header to them, so each is one line of the form `assert_eq!(rt; LIBRARY, NUMBER); // NAME`.
+use crate::bus_handle::BusHandle;
+use crate::chip::Chip;
+use crate::code;
+use crate::host_handle::HostHandle;
+use crate::numbers::{flag_numbered, register_numbered};
+use crate::offer::{Offer, fault_numbered};
+use crate::shown_counters::{ShownCounters, state_number};
+use crate::shown_final::ShownFinal;
+use crate::shown_load::ShownLoad;
+use crate::shown_outcome::ShownOutcome;
+use crate::shown_record::ShownRecord;
+use crate::version::ccan_version;
+use ccan_bus::{Fault, LoadAnswer, RoundAnswer};
+use ccan_confine::NodeState;
+use ccan_object::{Profile, Record, Reg};
+use ccan_ram::Flag;
+use ccan_script::LineAnswer;
+use std::mem::size_of;
+use std::process::Abort;
+
+#[test]
+fn codes_of_opening(rt: HostRuntime) {
+    assert_eq!(rt; ccan_version(), 200); // CCAN_VERSION
+    assert_eq!(rt; code::DONE, 0); // CCAN_DONE
+    assert_eq!(rt; code::CLOSED, 1); // CCAN_CLOSED
+    assert_eq!(rt; code::BUSY, 2); // CCAN_BUSY
+    assert_eq!(rt; code::SPENT, 3); // CCAN_SPENT
+    assert_eq!(rt; code::NO_MEMORY, 4); // CCAN_NO_MEMORY
+    assert_eq!(rt; code::SHARED, 5); // CCAN_SHARED
+    assert_eq!(rt; code::PROFILE_RANGE, 6); // CCAN_PROFILE_RANGE
+    assert_eq!(rt; code::NODES_RANGE, 7); // CCAN_NODES_RANGE
+    assert_eq!(rt; code::TRIES_RANGE, 9); // CCAN_TRIES_RANGE
+}
+
+#[test]
+fn codes_of_handles(rt: HostRuntime) {
+    assert_eq!(rt; code::REGISTER_RANGE, 10); // CCAN_REGISTER_RANGE
+    assert_eq!(rt; code::OBJECT_RANGE, 11); // CCAN_OBJECT_RANGE
+    assert_eq!(rt; code::FLAG_RANGE, 12); // CCAN_FLAG_RANGE
+    assert_eq!(rt; code::TURNS_RANGE, 13); // CCAN_TURNS_RANGE
+    assert_eq!(rt; code::NODE_RANGE, 14); // CCAN_NODE_RANGE
+    assert_eq!(rt; code::GROUPS_RANGE, 15); // CCAN_GROUPS_RANGE
+    assert_eq!(rt; code::FRAMES_RANGE, 16); // CCAN_FRAMES_RANGE
+    assert_eq!(rt; code::FRAME_RANGE, 17); // CCAN_FRAME_RANGE
+    assert_eq!(rt; code::FAULT_RANGE, 18); // CCAN_FAULT_RANGE
+    assert_eq!(rt; code::SENDERS, 19); // CCAN_SENDERS
+}
+
+/// The number of a register, 77 where it has none.
+fn register(sought: Reg) -> u32 {
+    for number in 0..77 {
+        if register_numbered(number) == Some(sought) {
+            return number;
+        }
+    }
+    77
+}
+
+#[test]
+fn registers(rt: HostRuntime) {
+    assert_eq!(rt; register(Reg::CMask), 0); // CCAN_CMASK
+    assert_eq!(rt; register(Reg::Mask1), 1); // CCAN_MASK1
+    assert_eq!(rt; register(Reg::Mask2), 2); // CCAN_MASK2
+    assert_eq!(rt; register(Reg::Arb1), 3); // CCAN_ARB1
+    assert_eq!(rt; register(Reg::Arb2), 4); // CCAN_ARB2
+    assert_eq!(rt; register(Reg::Ctrl), 5); // CCAN_CTRL
+    assert_eq!(rt; register(Reg::DataA1), 6); // CCAN_DATAA1
+    assert_eq!(rt; register(Reg::DataA2), 7); // CCAN_DATAA2
+    assert_eq!(rt; register(Reg::DataB1), 8); // CCAN_DATAB1
+    assert_eq!(rt; register(Reg::DataB2), 9); // CCAN_DATAB2
+}
+
+/// The number of a flag, 77 where it has none.
+fn flag(sought: Flag) -> u32 {
+    for number in 0..77 {
+        if flag_numbered(number) == Some(sought) {
+            return number;
+        }
+    }
+    77
+}
+
+#[test]
+fn flags(rt: HostRuntime) {
+    assert_eq!(rt; flag(Flag::NewDat), 0); // CCAN_NEWDAT
+    assert_eq!(rt; flag(Flag::MsgLst), 1); // CCAN_MSGLST
+    assert_eq!(rt; flag(Flag::IntPnd), 2); // CCAN_INTPND
+    assert_eq!(rt; flag(Flag::TxRqst), 3); // CCAN_TXRQST
+    assert_eq!(rt; flag(Flag::MsgVal), 4); // CCAN_MSGVAL
+}
+
+/// The number of a fault, 77 where it has none.
+fn fault(sought: Fault) -> u32 {
+    for number in 0..77 {
+        if fault_numbered(number) == Some(sought) {
+            return number;
+        }
+    }
+    77
+}
+
+#[test]
+fn faults_and_states(rt: HostRuntime) {
+    assert_eq!(rt; fault(Fault::Quiet), 0); // CCAN_QUIET
+    assert_eq!(rt; fault(Fault::Stuff), 1); // CCAN_STUFF
+    assert_eq!(rt; fault(Fault::Form), 2); // CCAN_FORM
+    assert_eq!(rt; fault(Fault::Bit1), 3); // CCAN_BIT1
+    assert_eq!(rt; fault(Fault::Bit0), 4); // CCAN_BIT0
+    assert_eq!(rt; fault(Fault::Crc), 5); // CCAN_CRC
+    assert_eq!(rt; state_number(NodeState::Active), 0); // CCAN_ACTIVE
+    assert_eq!(rt; state_number(NodeState::Passive), 1); // CCAN_PASSIVE
+    assert_eq!(rt; state_number(NodeState::Off), 2); // CCAN_OFF
+}
+
+/// The kind of a load.
+fn load(came: LoadAnswer) -> u32 {
+    ShownLoad::of(&LineAnswer::Load(came)).kind
+}
+
+#[test]
+fn loads(rt: HostRuntime) {
+    let last = Profile::One.last();
+    assert_eq!(rt; load(LoadAnswer::Nothing), 0); // CCAN_LOAD_NOTHING
+    assert_eq!(rt; load(LoadAnswer::Loaded(last, Record::zero())), 1); // CCAN_LOAD_LOADED
+    assert_eq!(rt; load(LoadAnswer::Held(last)), 2); // CCAN_LOAD_HELD
+    assert_eq!(rt; load(LoadAnswer::Busy(last)), 3); // CCAN_LOAD_BUSY
+    assert_eq!(rt; load(LoadAnswer::Spent(last)), 4); // CCAN_LOAD_SPENT
+}
+
+/// The kind of a round.
+fn round(came: RoundAnswer) -> u32 {
+    ShownOutcome::of(&LineAnswer::Round(came)).kind
+}
+
+#[test]
+fn rounds(rt: HostRuntime) {
+    let last = Profile::One.last();
+    assert_eq!(rt; round(RoundAnswer::Idle), 0); // CCAN_IDLE
+    assert_eq!(rt; round(RoundAnswer::Sent(last, Record::zero())), 1); // CCAN_SENT
+    assert_eq!(rt; round(RoundAnswer::Received(None)), 2); // CCAN_RECEIVED
+    assert_eq!(rt; round(RoundAnswer::Passed), 3); // CCAN_PASSED
+    assert_eq!(rt; round(RoundAnswer::Collision), 4); // CCAN_COLLISION
+    assert_eq!(rt; round(RoundAnswer::NoAck), 5); // CCAN_NO_ACK
+    assert_eq!(rt; round(RoundAnswer::Fault), 6); // CCAN_FAULT
+    assert_eq!(rt; round(RoundAnswer::Looped(last, Record::zero(), None)), 7); // CCAN_LOOPED
+    assert_eq!(rt; round(RoundAnswer::Busy(last)), 8); // CCAN_ROUND_BUSY
+    assert_eq!(rt; round(RoundAnswer::Spent(last)), 9); // CCAN_ROUND_SPENT
+}
+
+#[test]
+fn sizes(rt: HostRuntime) {
+    assert_eq!(rt; size_of::<HostHandle>(), 16); // sizeof(ccan_host)
+    assert_eq!(rt; size_of::<BusHandle>(), 16); // sizeof(ccan_bus)
+    assert_eq!(rt; size_of::<Chip>(), 272); // sizeof(ccan_chip)
+    assert_eq!(rt; size_of::<ShownRecord>(), 20); // sizeof(ccan_record)
+    assert_eq!(rt; size_of::<ShownFinal>(), 1284); // sizeof(ccan_final)
+    assert_eq!(rt; size_of::<ShownLoad>(), 28); // sizeof(ccan_loaded)
+    assert_eq!(rt; size_of::<Offer>(), 16); // sizeof(ccan_offer)
+    assert_eq!(rt; size_of::<ShownOutcome>(), 52); // sizeof(ccan_outcome)
+    assert_eq!(rt; size_of::<ShownCounters>(), 12); // sizeof(ccan_counts)
+}

@@ -1,0 +1,125 @@
+/* Each field of each struct that crosses: the library writes it, or reads it, where the header has it, and writes nothing past
+ * the end of an output. */
+#include <ccan.h>
+#include <stdio.h>
+#include <stdlib.h>
+#include <string.h>
+
+#define EXPECT(holds) do { if (!(holds)) { printf("line %d: not so: %s\n", __LINE__, #holds); exit(1); } } while (0)
+
+/* An output, between guards that nobody may write to. It held anything before. */
+#define GUARDED(type) struct { uint8_t before[16]; type out; uint8_t after[16]; }
+#define FILL(guarded) memset(&(guarded), 0xa5, sizeof(guarded))
+#define INTACT(guarded) (is_intact((guarded).before) && is_intact((guarded).after))
+
+static int is_intact(const uint8_t *guard)
+{
+    for (int i = 0; i < 16; i++)
+        if (guard[i] != 0xa5)
+            return 0;
+    return 1;
+}
+
+static ccan_chip chip = CCAN_CHIP_CLOSED;
+
+static void set(uint32_t reg, uint16_t value) { EXPECT(ccan_set(&chip.if1, reg, value) == CCAN_DONE); }
+
+/* Writes an object by IF1, with different bits in each register. */
+static void write_object(uint16_t object, uint16_t arb2, uint16_t control)
+{
+    set(CCAN_CMASK, 0x00f3);
+    set(CCAN_MASK1, 0x1234);
+    set(CCAN_MASK2, 0xd567);
+    set(CCAN_ARB1, 0x89ab);
+    set(CCAN_ARB2, arb2);
+    set(CCAN_CTRL, control);
+    set(CCAN_DATAA1, 0x0201);
+    set(CCAN_DATAA2, 0x0403);
+    set(CCAN_DATAB1, 0x0605);
+    set(CCAN_DATAB2, 0x0807);
+    EXPECT(ccan_request(&chip.if1, object) == CCAN_DONE);
+}
+
+static int is_written(const ccan_record *record, uint32_t arbitration, uint16_t control)
+{
+    for (int i = 0; i < 8; i++)
+        if (record->bytes[i] != i + 1)
+            return 0;
+    return record->masks == 0xd5671234u && record->arbitration == arbitration && record->control == control;
+}
+
+/* Object 3 sends the extended identifier, and object 5 takes whatever has the first bits of 0x123. */
+static void rounds(void)
+{
+    GUARDED(ccan_loaded) loaded;
+    GUARDED(ccan_outcome) outcome;
+    GUARDED(ccan_counts) counts;
+    ccan_offer offer = { .id = 0x123, .node = 2, .dlc = 3, .bytes = { 0x11, 0x22, 0x33, 0x44 } };
+    FILL(loaded);
+    FILL(outcome);
+    FILL(counts);
+    EXPECT(ccan_load(&chip.bus, &loaded.out) == CCAN_DONE && INTACT(loaded));
+    EXPECT(loaded.out.kind == CCAN_LOAD_LOADED && loaded.out.object == 3);
+    EXPECT(is_written(&loaded.out.held, 0xe48c89abu, 0x0188));
+    EXPECT(ccan_round(&chip.bus, &offer, 1, CCAN_QUIET, &outcome.out) == CCAN_DONE && INTACT(outcome));
+    EXPECT(outcome.out.kind == CCAN_RECEIVED && outcome.out.object == 0 && outcome.out.stored == 5);
+    EXPECT(outcome.out.stored_record.control == 0xa483 && outcome.out.stored_record.bytes[2] == 0x33);
+    EXPECT(outcome.out.stored_record.arbitration == 0x848c0000u && outcome.out.finished.arbitration == 0);
+    EXPECT(ccan_round(&chip.bus, &offer, 0, CCAN_QUIET, &outcome.out) == CCAN_DONE && INTACT(outcome));
+    EXPECT(outcome.out.kind == CCAN_SENT && outcome.out.object == 3 && outcome.out.stored == 0);
+    EXPECT(is_written(&outcome.out.finished, 0xe48c89abu, 0x0088) && outcome.out.stored_record.arbitration == 0);
+    /* the other fields of an offer: an extended remote frame asks for object 3 and is stored nowhere */
+    offer.id = 0x048c89abu;
+    offer.xtd = 1;
+    offer.rtr = 1;
+    EXPECT(ccan_round(&chip.bus, &offer, 1, CCAN_CRC, &outcome.out) == CCAN_DONE && outcome.out.kind == CCAN_FAULT);
+    EXPECT(ccan_counters(&chip.bus, 0, &counts.out) == CCAN_DONE && INTACT(counts));
+    EXPECT(counts.out.tec == 0 && counts.out.rec == 1 && counts.out.state == CCAN_ACTIVE);
+    EXPECT(ccan_counters(&chip.bus, 2, &counts.out) == CCAN_DONE && INTACT(counts));
+    EXPECT(counts.out.tec == 8 && counts.out.rec == 0 && counts.out.state == CCAN_ACTIVE);
+    offer.node = 3;
+    EXPECT(ccan_round(&chip.bus, &offer, 1, CCAN_QUIET, &outcome.out) == CCAN_SENDERS);
+    offer.node = 2;
+    offer.dlc = 16;
+    EXPECT(ccan_round(&chip.bus, &offer, 1, CCAN_QUIET, &outcome.out) == CCAN_FRAME_RANGE);
+}
+
+/* Calls from which one number or nothing comes. */
+static void numbers(void)
+{
+    GUARDED(uint16_t) half;
+    GUARDED(uint32_t) word;
+    GUARDED(uint64_t) flags;
+    FILL(half);
+    FILL(word);
+    FILL(flags);
+    EXPECT(ccan_get(&chip.if1, CCAN_MASK2, &half.out) == CCAN_DONE && INTACT(half) && half.out == 0xd567);
+    EXPECT(ccan_flags(&chip.if2, CCAN_MSGVAL, &flags.out) == CCAN_DONE && INTACT(flags) && flags.out == 0x14);
+    EXPECT(ccan_bus_flags(&chip.bus, CCAN_NEWDAT, &flags.out) == CCAN_DONE && INTACT(flags) && flags.out == 0x10);
+    EXPECT(ccan_interrupt(&chip.if2, &half.out) == CCAN_DONE && INTACT(half) && half.out == 5);
+    EXPECT(ccan_bus_interrupt(&chip.bus, &half.out) == CCAN_DONE && INTACT(half) && half.out == 5);
+    EXPECT(ccan_status(&chip.bus, &half.out) == CCAN_DONE && INTACT(half) && (half.out & 7) == 6);
+    EXPECT(ccan_until(&chip.if2, 5, CCAN_NEWDAT, 1, &word.out) == CCAN_DONE && INTACT(word) && word.out == 1);
+    EXPECT(ccan_until(&chip.if2, 5, CCAN_MSGLST, 1, &word.out) == CCAN_DONE && INTACT(word) && word.out == 0);
+    EXPECT(ccan_recessive(&chip.bus, 1, &word.out) == CCAN_DONE && INTACT(word) && word.out == CCAN_ACTIVE);
+    EXPECT(ccan_version() == CCAN_VERSION && ccan_is_open(&chip));
+}
+
+int main(void)
+{
+    static GUARDED(ccan_final) last;
+    GUARDED(ccan_record) record;
+    FILL(record);
+    FILL(last);
+    EXPECT(ccan_open(&chip, 1, 2, 100) == CCAN_DONE);
+    write_object(3, 0xe48c, 0x0188);
+    write_object(5, 0x848c, 0x0480);
+    EXPECT(ccan_peek(&chip.if2, 3, &record.out) == CCAN_DONE && INTACT(record) && is_written(&record.out, 0xe48c89abu, 0x0188));
+    rounds();
+    numbers();
+    EXPECT(ccan_end(&chip, &last.out) == CCAN_DONE && INTACT(last) && last.out.objects == 32);
+    EXPECT(is_written(&last.out.records[2], 0xe48c89abu, 0x0088) && last.out.records[4].bytes[0] == 0x11);
+    EXPECT(last.out.records[63].masks == 0 && last.out.records[63].control == 0);
+    printf("each field stands where the header has it\n");
+    return 0;
+}
