@@ -66,8 +66,8 @@ module _ (terms : Terms) (line : RoundLine) (tries : ℕ) (seen first rest last 
   empty_after (load.Loaded object started) l h = empty_transferred terms line tries rest last between after (hears_itself between) reply h not
   empty_after (load.Held object) l h = empty_transferred terms line tries rest last between after (hears_itself between) reply h not
   empty_after load.Nothing l h = empty_transferred terms line tries rest last between after (hears_itself between) reply h not
-  empty_after (load.Busy object) l h = ap (λ (p : BusPast). p.loaded) (h.same ∙ l.2.same) ∙ l.2.scan.empty
-  empty_after (load.Spent object) l h = ap (λ (p : BusPast). p.loaded) (h.same ∙ l.same) ∙ l.scan.empty
+  empty_after (load.Busy object) l h = ap (λ (p : BusPast). p.loaded) (h.same ∙ l.2.same) ∙ l.2.choice.empty
+  empty_after (load.Spent object) l h = ap (λ (p : BusPast). p.loaded) (h.same ∙ l.same) ∙ l.choice.empty
 
 pub nothing_after : NothingIsLoadedAfterwards
 nothing_after terms line tries seen added past after reply r not =

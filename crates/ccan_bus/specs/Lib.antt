@@ -2,6 +2,7 @@ pub mod Arbitration
 pub mod Lead
 pub mod RoundLine
 pub mod Nodes
+pub mod Choice
 pub mod Past
 pub mod Bus
 pub mod Contenders

@@ -20,6 +20,7 @@
 pub mod answer;
 pub mod arbitration;
 pub mod bus;
+pub mod choice;
 mod contenders;
 mod course;
 pub mod laws;
@@ -34,4 +35,5 @@ mod transfer;
 pub use answer::{LoadAnswer, RoundAnswer};
 pub use arbitration::{Bits, Outcome, arbitrate, arbitration_bits};
 pub use bus::Bus;
+pub use choice::Choice;
 pub use round_line::{Fault, RoundLine};

@@ -5,7 +5,7 @@ ghost use Rattle.ccan_bus.specs.Load.{Loads, refusal_of_load};
 
 use crate::answer::LoadAnswer;
 use crate::bus::Bus;
-use ccan_handler::{ScanRefused, choose};
+use ccan_handler::ScanRefused;
 use ccan_object::{ObjectNo, Record};
 use ccan_ram::{Access, Refused, Tries};
 
@@ -58,7 +58,7 @@ impl Bus {
     {
         let is_on = self.is_on(0);
         if is_on {
-            match choose(access, tries) {
+            match self.choice.start(access, tries) {
                 Ok(Some((object, started))) => {
                     self.loaded = loaded(object, &started);
                     loaded_answer(object, &started)

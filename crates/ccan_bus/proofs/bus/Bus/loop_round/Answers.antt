@@ -19,4 +19,4 @@ returns-in-Some g c =
 
 pub returns-in-None : goal.returns-in-None
 returns-in-None g c =
-    record { same = record { profile = refl; others = refl }; goes_on = loop_idle c.args.tries c.args.self.now c.in-None.ensures.none }
+    record { same = record { profile = refl; others = refl; choice = refl }; goes_on = loop_idle c.args.tries c.args.self.now c.in-None.ensures.none }

@@ -8,7 +8,7 @@ use Rattle.ccan_bus.proofs.bus.Bus.run.Goals as goal
 pub returns-then-is_empty : goal.returns-then-is_empty
 returns-then-is_empty c =
     record {
-      same = record { profile = refl; others = refl };
+      same = record { profile = refl; others = refl; choice = refl };
       goes_on = idle c.args.self.now c.args.line.now (sym c.contenders-contenders.ensures ∙ c.is_empty.ensures.none c.if-is_empty.true);
     }
 
