@@ -9,6 +9,8 @@ pub mod Contenders
 pub mod Load
 pub mod LoopBack
 pub mod Round
-pub mod Course
-pub mod Transfer
+pub mod Decision
+pub mod Decide
+pub mod Complete
+pub mod RoundReport
 pub mod Laws

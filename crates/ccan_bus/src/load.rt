@@ -33,7 +33,15 @@ fn refusal_of_load(refused: ScanRefused) -> LoadAnswer
 }
 
 impl Bus {
-    ghost use Rattle.ccan_bus.specs.Bus.{GoesOnWith, IsSameBus};
+    ghost use Rattle.ccan_bus.specs.Bus.{GoesOnWith, IsSameBus, LedTo};
+    ghost use Rattle.ccan_bus.specs.Past.{BusPast};
+
+    /// The object whose transmission was started and whose frame has not been sent yet, with its record after the start.
+    pub fn loaded(&self) -> Option<(ObjectNo, Record)>
+        ensures { (past : BusPast) → LedTo past self.now → result ≡ past.loaded }
+    {
+        self.loaded
+    }
 
     /// Chooses and starts an object, where the controller is on and nothing is loaded.
     pub fn load<A: Access>(&mut self, access: &mut A, tries: Tries) -> LoadAnswer
