@@ -1,7 +1,7 @@
 //! Laws of arbitration and of rounds. The functions do nothing: their contracts are the laws.
 
 ghost use Rattle.ccan_bus.specs.Laws.{AtMostOneSends, DataBeatsRemote, LeastUpperPartWins, LinesAreUnheardInLoopBack};
-ghost use Rattle.ccan_bus.specs.Laws.{LoopsWhatWasLoaded, NothingIsLoadedAfterwards, OffNodesHaveNoEvent};
+ghost use Rattle.ccan_bus.specs.Laws.{LoadsAreOfOneMoment, LoopsWhatWasLoaded, NothingIsLoadedAfterwards, OffNodesHaveNoEvent};
 ghost use Rattle.ccan_bus.specs.Laws.{OneSendsExactlyOnSuccess, OthersRestInLoopBack, RefusedLoadsLeaveAll};
 ghost use Rattle.ccan_bus.specs.Laws.{SendsWhatWasLoaded, StandardBeatsExtended};
 ghost use Rattle.ccan_bus.specs.RoundReport.{RoundsAreTheirSteps};
@@ -49,6 +49,11 @@ pub fn sends_what_was_loaded()
 /// A round in loop back mode sends and receives what was loaded, whatever hosts wrote in between.
 pub fn loops_what_was_loaded()
     ensures { LoopsWhatWasLoaded }
+{}
+
+/// What is loaded by a choice at one moment was ready then, and no object before it was, but for those that are no more.
+pub fn loads_are_of_one_moment()
+    ensures { LoadsAreOfOneMoment }
 {}
 
 /// Nothing is loaded after a round that wasn't idle.
