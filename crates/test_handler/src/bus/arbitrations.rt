@@ -103,5 +103,7 @@ fn laws_are_there(rt: HostRuntime) {
     laws::refused_loads_leave_all();
     laws::others_rest_in_loop_back();
     laws::lines_are_unheard_in_loop_back();
+    laws::rounds_are_their_steps();
+    laws::loads_are_of_one_moment();
     assert!(rt; true);
 }

@@ -6,7 +6,7 @@ ghost use Rattle.ccan_ram.specs.Port.{IsQuota};
 
 use arrayvec::ArrayVec;
 use ccan_accept::Frame;
-use ccan_bus::{Bus, Fault, LoadAnswer, RoundAnswer, RoundLine};
+use ccan_bus::{Bus, Decision, Fault, LoadAnswer, RoundAnswer, RoundEnd, RoundLine, RoundReport};
 use ccan_confine::NodeState;
 use ccan_handler::interrupt;
 use ccan_object::{Iface, ObjectNo, Profile, Record, Reg};
@@ -119,15 +119,36 @@ impl Bench {
 
     /// A round in which these nodes send, and this spoils the winner's frame. A line that can't be made is an idle round.
     pub fn round(&mut self, sends: &[(u8, Frame)], fault: Fault) -> RoundAnswer {
-        let mut send = ArrayVec::new();
-        for sender in sends {
-            let _full = send.try_push(*sender);
-        }
         self.ram.at(PortName::Bus);
-        match RoundLine::new(8, send, fault) {
+        match line_of(sends, fault) {
             Some(line) => self.bus.round(&mut self.ram, &line, a_hundred_tries()),
             None => RoundAnswer::Idle,
         }
+    }
+
+    /// The same, with what came of each of its steps.
+    pub fn report(&mut self, sends: &[(u8, Frame)], fault: Fault) -> Option<RoundReport> {
+        let line = line_of(sends, fault)?;
+        self.ram.at(PortName::Bus);
+        Some(
+            self.bus
+                .report_round(&mut self.ram, &line, a_hundred_tries()),
+        )
+    }
+
+    /// The same by a call for each step, where the load isn't refused.
+    pub fn steps(&mut self, sends: &[(u8, Frame)], fault: Fault) -> Option<RoundReport> {
+        let line = line_of(sends, fault)?;
+        self.ram.at(PortName::Bus);
+        let loading = self.bus.load(&mut self.ram, a_hundred_tries());
+        let decision = self.bus.decide(&line);
+        let end = decision.complete(&mut self.ram, a_hundred_tries());
+        Some(report_of(loading, decision, end))
+    }
+
+    /// What waits to be sent.
+    pub fn loaded(&self) -> Option<(ObjectNo, Record)> {
+        self.bus.loaded()
     }
 
     /// TEC, REC and the state of a node.
@@ -166,6 +187,22 @@ impl Bench {
     pub fn recessive(&mut self, groups: u16) -> NodeState {
         self.bus.recessive(groups);
         self.bus.counters(0).state()
+    }
+}
+
+fn line_of(sends: &[(u8, Frame)], fault: Fault) -> Option<RoundLine> {
+    let mut send = ArrayVec::new();
+    for sender in sends {
+        let _full = send.try_push(*sender);
+    }
+    RoundLine::new(8, send, fault)
+}
+
+fn report_of(loading: LoadAnswer, decision: Decision, end: RoundEnd) -> RoundReport {
+    RoundReport {
+        loading,
+        decision: Some(decision),
+        end,
     }
 }
 
