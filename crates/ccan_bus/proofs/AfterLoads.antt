@@ -31,7 +31,8 @@ module _ (line : RoundLine) (bus new : Bus) (decided : Decision) where
       GoesOn-weaker g (λ past after led there h.
       subst (λ b. Decides b line past after decided) (sym (hears_now past bus led ∙ is)) h)
 
-  pub decides_between : (bus.loops_back && is_on_now bus 0) ≡ false → GoesOn bus new (λ past after. DecidesBetween line past after decided)
+  pub decides_between : (bus.loops_back && is_on_now bus 0) ≡ false
+      → GoesOn bus new (λ past after. DecidesBetween line past after decided)
       → GoesOn bus new (λ past after. Decides (hears_itself past) line past after decided)
   decides_between is g =
       GoesOn-weaker g (λ past after led there h.

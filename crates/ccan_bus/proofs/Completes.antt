@@ -55,13 +55,22 @@ pub back_scanned : {x y z : Passes} (tries object : ℕ) (frame : Frame) (finish
     → Goes x z (λ terms seen added. TakesBack terms tries seen added object frame end)
 back_scanned tries object frame finished outcome end told finish scan =
     Goes-then finish scan (λ seen xs ys p q.
-    Scanned (record { finished = finished; first = xs; last = ys; whole = refl; finish = p; outcome = outcome; scan = q; told = told }))
+    Scanned (record {
+      finished = finished;
+      first = xs;
+      last = ys;
+      whole = refl;
+      finish = p;
+      outcome = outcome;
+      scan = q;
+      told = told;
+    }))
 
 -- ---- the steps of a round
 
 module _ (line : RoundLine) (tries : ℕ) where
-  pub steps_run : {x y z : Passes} (a b c : Bus) (loading : LoadAnswer) (decided : Decision) (end : RoundEnd) (report : RoundReport)
-      → refusal_of_round loading ≡ None → report ≡ record { loading = loading; decision = Some decided; end = end }
+  pub steps_run : {x y z : Passes} (a b c : Bus) (loading : LoadAnswer) (decided : Decision) (end : RoundEnd)
+      (report : RoundReport) → refusal_of_round loading ≡ None → report ≡ record { loading = loading; decision = Some decided; end = end }
       → GoesOnWith x y a b (λ terms seen added past after. Loads terms tries seen added past after loading)
       → GoesOn b c (λ past after. Decides (hears_itself past) line past after decided)
       → Goes y z (λ terms seen added. Completes terms tries seen added decided end)

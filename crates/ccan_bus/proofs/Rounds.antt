@@ -154,12 +154,14 @@ module _ (bus : Bus) (line : RoundLine) where
         record {
           another = λ zero_is. another (sym at ∙ zero_is);
           on = on_same past bus led 0 ∙ on;
-          success = subst (λ f. IsSuccess line past after node f) (sym same) (subst (λ n. IsSuccess line past after n frame) (sym at) s);
+          success =
+              subst (λ f. IsSuccess line past after node f) (sym same) (subst (λ n. IsSuccess line past after n frame) (sym at) s);
         }
     by_due past after led s (decision.Passed node sent) (off, at, same) =
         record {
           off = on_same past bus led 0 ∙ off;
-          success = subst (λ f. IsSuccess line past after node f) (sym same) (subst (λ n. IsSuccess line past after n frame) (sym at) s);
+          success =
+              subst (λ f. IsSuccess line past after node f) (sym same) (subst (λ n. IsSuccess line past after n frame) (sym at) s);
         }
     by_due past after led s decision.Idle (own, none) =
         absurd (no_own (is_on past) line frame

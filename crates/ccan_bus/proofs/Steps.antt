@@ -1,6 +1,6 @@
 -- A round is its steps. Each case of a round is parted into what is decided and the memory steps that are due, and each
 -- decision with its memory steps is a case of a round.
-use Rattle.std.proofs.Common.{ℕ, ◌≡◌, ◌≢◌, Bool, true, false, List, ◌++◌, refl, sym, ap, subst, Option, Some, None, Ok, Err}
+use Rattle.std.proofs.Common.{ℕ, ◌≡◌, Bool, true, false, List, ◌++◌, refl, sym, ap, subst, Option, Some, None, Ok, Err}
 use Rattle.std.specs.Prelude.{Result}
 use Rattle.ccan_object.specs.declared.record.Record.{Record}
 use Rattle.ccan_accept.specs.declared.frame.Frame.{Frame}
@@ -25,12 +25,14 @@ use Rattle.ccan_bus.specs.declared.memory_step.MemoryStep.TheVariants as step
 use Rattle.ccan_bus.specs.declared.round_end.RoundEnd.{RoundEnd}
 use Rattle.ccan_bus.specs.declared.round_line.RoundLine.{RoundLine}
 use Rattle.ccan_bus.specs.declared.round_report.RoundReport.{RoundReport}
-use Rattle.ccan_bus.specs.Past.{BusPast, is_on, hears_itself}
+use Rattle.ccan_bus.specs.Past.{BusPast, hears_itself}
 use Rattle.ccan_bus.specs.Bus.{GoesOnWith}
 use Rattle.ccan_bus.specs.LoopBack.{IsLoopFinish, IsLoop, IsLoopRefused, AtFinish, AtScan, LoopsBack}
-use Rattle.ccan_bus.specs.Decide.{Decides, DecidesBack, DecidesBetween}
-use Rattle.ccan_bus.specs.Complete.{Finishes, ended, refusal_at, refused_at, end_of_finish, end_of_receipt, end_of_loop, TakesBack, Stops, Scanned, Completes}
-use Rattle.ccan_bus.specs.Round.{IsSuccess, IsRefused, RefusedFinish, RefusedScan, Contends, Transfers, Continues, Round, refusal_of_round}
+use Rattle.ccan_bus.specs.Decide.{DueFinish, DueReceipt, Decides, DecidesBack, DecidesBetween}
+use Rattle.ccan_bus.specs.Complete.{Finishes, ended, refusal_at, refused_at, end_of_finish, end_of_receipt, end_of_loop}
+use Rattle.ccan_bus.specs.Complete.{TakesBack, Stops, Scanned, Completes}
+use Rattle.ccan_bus.specs.Round.{IsFinish, IsReceipt, IsRefused, RefusedFinish, RefusedScan, Contends, Transfers, Continues, Round}
+use Rattle.ccan_bus.specs.Round.{refusal_of_round}
 use Rattle.ccan_bus.specs.RoundReport.{refused_start, RunsOn, RunsSteps, RunsStepsTo, RoundsAreTheirSteps}
 use Rattle.ccan_bus.proofs.Pasts.{GoesOn-weaker}
 
@@ -40,31 +42,37 @@ module _ (line : RoundLine) (tries : ℕ) (terms : Terms) (seen added : List Eve
   abbrev Ends : RoundAnswer → Type 0
   Ends reply = Contends terms line tries seen added past after reply
 
-  by_finish : (object : ℕ) (started : Record) (frame : Frame) → past.loaded ≡ Some (object, started) → IsSuccess line past after 0 frame
-      → (outcome : Result Record Refused) → Finishes terms tries seen added object outcome → Ends ((end_of_finish object outcome).answer)
-  by_finish object started frame is success (Ok finished) h =
-      record { before = h.0; number = h.1; finish = record { started = started; frame = frame; sent = is; success = success; finish = h.2 } }
-  by_finish object started frame is success (Err (Busy told now)) h =
-      (told, now, RefusedFinish (record { started = started; frame = frame; sent = is; success = success; finish = h }))
-  by_finish object started frame is success (Err Spent) h =
-      RefusedFinish (record { started = started; frame = frame; sent = is; success = success; finish = h })
+  module _ (object : ℕ) (frame : Frame) (due : DueFinish line past after object frame) where
+    finish_is : (outcome : Result Changed Refused) → Attempt terms object Finish tries seen added outcome
+        → IsFinish terms line tries seen added past after object outcome
+    finish_is outcome h =
+        record { started = due.started; frame = frame; sent = due.sent; success = due.success; finish = h }
 
-  module _ (winner : ℕ) (frame : Frame) (another : winner ≢ 0) (on : is_on past 0 ≡ true) (success : IsSuccess line past after winner frame) where
-    by_refusal : (at : ℕ) (why : Refused) → Scans terms (Store frame) 1 tries seen added (Err (record { at = at; why = why }))
+    by_finish : (outcome : Result Record Refused) → Finishes terms tries seen added object outcome
+        → Ends ((end_of_finish object outcome).answer)
+    by_finish (Ok finished) h = record { before = h.0; number = h.1; finish = finish_is _ h.2 }
+    by_finish (Err (Busy told now)) h = (told, now, RefusedFinish (finish_is _ h))
+    by_finish (Err Spent) h = RefusedFinish (finish_is _ h)
+
+  module _ (winner : ℕ) (frame : Frame) (due : DueReceipt line past after winner frame) where
+    receipt_is : (end : ScanEnd) → Scan terms (Store frame) 1 tries seen added end
+        → IsReceipt terms line tries seen added past after end
+    receipt_is end h =
+        record { winner = winner; frame = frame; another = due.another; on = due.on; success = due.success; scan = h }
+
+    by_refusal : (at : ℕ) (why : Refused) → Scan terms (Store frame) 1 tries seen added (RefusedAt at why)
         → Ends ((refused_at step.Store at why).answer)
-    by_refusal at (Busy told now) h =
-        (told, now, RefusedScan (record { winner = winner; frame = frame; another = another; on = on; success = success; scan = h }))
-    by_refusal at Spent h = RefusedScan (record { winner = winner; frame = frame; another = another; on = on; success = success; scan = h })
+    by_refusal at (Busy told now) h = (told, now, RefusedScan (receipt_is _ h))
+    by_refusal at Spent h = RefusedScan (receipt_is _ h)
 
     by_scan : (outcome : Result (Option Stored) ScanRefused) → Scans terms (Store frame) 1 tries seen added outcome
         → Ends ((end_of_receipt outcome).answer)
-    by_scan (Ok None) h = record { winner = winner; frame = frame; another = another; on = on; success = success; scan = h }
-    by_scan (Ok (Some found)) h =
-        (found.before, h.0, record { winner = winner; frame = frame; another = another; on = on; success = success; scan = h.1 })
+    by_scan (Ok None) h = receipt_is _ h
+    by_scan (Ok (Some found)) h = (found.before, h.0, receipt_is _ h.1)
     by_scan (Err refused) h = by_refusal refused.at refused.why h
 
-  contends : (decided : Decision) (end : RoundEnd) → DecidesBetween line past after decided → Completes terms tries seen added decided end
-      → Ends end.answer
+  contends : (decided : Decision) (end : RoundEnd) → DecidesBetween line past after decided
+      → Completes terms tries seen added decided end → Ends end.answer
   contends decision.Idle end d (none, told) = rw told (record { nobody = d.nobody; quiet = none; same = d.same })
   contends decision.Collision end d (none, told) = rw told (record { outcome = d.outcome; quiet = none; happened = d.happened })
   contends (decision.Fault winner frame) end d (none, told) =
@@ -92,9 +100,9 @@ module _ (line : RoundLine) (tries : ℕ) (terms : Terms) (seen added : List Eve
   contends (decision.Passed winner frame) end d (none, told) =
       rw told (record { winner = winner; frame = frame; off = d.off; success = d.success; quiet = none })
   contends (decision.Finish object frame) end d (outcome, finish, told) =
-      rw told (by_finish object d.started frame d.sent d.success outcome finish)
+      rw told (by_finish object frame d outcome finish)
   contends (decision.Receipt winner frame) end d (outcome, scan, told) =
-      rw told (by_scan winner frame d.another d.on d.success outcome scan)
+      rw told (by_scan winner frame d outcome scan)
   contends (decision.LoopBack object frame) end d c = absurd d
 
 -- ---- the same in loop back mode
@@ -114,7 +122,8 @@ module _ (tries : ℕ) (terms : Terms) (seen added : List Event) (past after : B
       finish = h;
     }
 
-    stopped : (why : Refused) → Attempt terms object Finish tries seen added (Err why) → EndsBack ((refused_at step.Finish object why).answer)
+    stopped : (why : Refused) → Attempt terms object Finish tries seen added (Err why)
+        → EndsBack ((refused_at step.Finish object why).answer)
     stopped (Busy told now) h = (told, now, AtFinish frame (finish_of added _ h))
     stopped Spent h = AtFinish frame (finish_of added _ h)
 
@@ -174,8 +183,8 @@ module _ (terms : Terms) (line : RoundLine) (tries : ℕ) (seen added : List Eve
   continues None (Some decided) end (d, c) = transfers (hears_itself past) decided end d c
   continues None None end h = absurd h
 
-pub round_of : (terms : Terms) (line : RoundLine) (tries : ℕ) (seen added : List Event) (past after : BusPast) (report : RoundReport)
-    → RunsSteps terms line tries seen added past after report → Round terms line tries seen added past after report.end.answer
+pub round_of : (terms : Terms) (line : RoundLine) (tries : ℕ) (seen added : List Event) (past after : BusPast)
+    (report : RoundReport) → RunsSteps terms line tries seen added past after report → Round terms line tries seen added past after report.end.answer
 round_of terms line tries seen added past after report r =
     record {
       between = r.between;
@@ -185,7 +194,8 @@ round_of terms line tries seen added past after report r =
       whole = r.whole;
       loads = r.loads;
       continues =
-          continues terms line tries (r.first ++ seen) r.last r.between after (refusal_of_round report.loading) report.decision report.end r.runs;
+          continues terms line tries (r.first ++ seen) r.last r.between after (refusal_of_round report.loading) report.decision
+          report.end r.runs;
     }
 
 pub rounds_run : {x y : Passes} (line : RoundLine) (tries : ℕ) (bus new : Bus) (report : RoundReport)
@@ -337,7 +347,8 @@ module _ (line : RoundLine) (tries : ℕ) (terms : Terms) (seen added : List Eve
     told = refl;
   }
 
-  of_loop_refusal : (at : ℕ) (why : Refused) → IsLoopRefused terms tries seen added past after at why → Parts true (refusal_at at why)
+  of_loop_refusal : (at : ℕ) (why : Refused) → IsLoopRefused terms tries seen added past after at why
+      → Parts true (refusal_at at why)
   of_loop_refusal at why (AtFinish frame h) = record {
     decided = decision.LoopBack at frame;
     end = refused_at step.Finish at why;
@@ -380,12 +391,14 @@ module _ (line : RoundLine) (tries : ℕ) (terms : Terms) (seen added : List Eve
   runs_on (Some refusal) reply h =
       (None, refused_start refusal, record { told = refl; quiet = h.quiet; same = h.same }, sym h.told)
   runs_on None reply h =
-      let parts = parts_of (hears_itself past) reply h in (Some parts.decided, parts.end, (parts.decides, parts.completes), parts.told)
+      let parts = parts_of (hears_itself past) reply h in
+      (Some parts.decided, parts.end, (parts.decides, parts.completes), parts.told)
 
 steps_of : (terms : Terms) (line : RoundLine) (tries : ℕ) (seen added : List Event) (past after : BusPast) (reply : RoundAnswer)
     → Round terms line tries seen added past after reply → RunsStepsTo terms line tries seen added past after reply
 steps_of terms line tries seen added past after reply r =
-    let on = runs_on line tries terms (r.first ++ seen) r.last r.between after (refusal_of_round r.loading) reply r.continues in (
+    let refusal = refusal_of_round r.loading in
+    let on = runs_on line tries terms (r.first ++ seen) r.last r.between after refusal reply r.continues in (
       record { loading = r.loading; decision = on.0; end = on.1 },
       record { between = r.between; first = r.first; last = r.last; whole = r.whole; loads = r.loads; runs = on.2 },
       on.3,

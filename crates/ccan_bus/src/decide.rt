@@ -1,10 +1,8 @@
 //! What a round decides before any memory step: what comes of its frames.
 
-ghost use Rattle.std.specs.Prelude.{ℕ, ◌≡◌, ◌<◌, ◌≤◌, true, false, None, Some, IfSome, IfNone, ◌∷◌, ◌≢◌, ◌==◌, if◌then◌else◌};
+ghost use Rattle.std.specs.Prelude.{ℕ, ◌≡◌, ◌<◌, ◌≤◌, true, false, ◌∷◌, ◌≢◌, ◌==◌, if◌then◌else◌};
 ghost use Rattle.std.specs.List.{filter};
 ghost use Rattle.arrayvec.specs.ArrayVec.{array_vec_len};
-ghost use Rattle.ccan_accept.specs.Send.{frame_of};
-ghost use Rattle.ccan_object.specs.declared.record.Record.{Record};
 ghost use Rattle.ccan_confine.specs.declared.bus_event.BusEvent.{BusEvent};
 ghost use Rattle.ccan_confine.specs.Status.{AddsStep, Happened};
 ghost use Rattle.ccan_confine.specs.StatusEvent.{HasFaultCode};
@@ -17,32 +15,10 @@ use crate::bus::Bus;
 use crate::contenders::Contenders;
 use crate::decision::Decision;
 use crate::nodes::{counted, is_off, only};
+use crate::own::own_of;
 use crate::round_line::RoundLine;
 use ccan_accept::{Frame, frame_of};
 use ccan_confine::{BusEvent, Counters, Status, StatusEvent};
-use ccan_object::{ObjectNo, Record};
-
-/// What the controller sends: the object that is loaded, and its frame.
-#[derive(Clone, Copy, PartialEq, Eq, Debug)]
-pub(crate) struct Own {
-    pub object: ObjectNo,
-    pub frame: Frame,
-}
-
-/// What is loaded, as what is sent.
-pub(crate) fn own_of(loaded: &Option<(ObjectNo, Record)>) -> Option<Own>
-    ensures some { IfSome result (λ own. (started : Record)
-        × (loaded.now ≡ Some (own.object, started)) × (own.frame ≡ frame_of started)) }
-    ensures none { IfNone result (loaded.now ≡ None) }
-{
-    match loaded {
-        Some((object, started)) => Some(Own {
-            object: *object,
-            frame: frame_of(started),
-        }),
-        None => None,
-    }
-}
 
 /// The Status register's event where a frame is sent and acknowledged.
 fn transfer_of(winner: u8) -> StatusEvent

@@ -35,6 +35,7 @@ mod load;
 mod loop_back;
 pub mod memory_step;
 mod nodes;
+mod own;
 mod round;
 pub mod round_end;
 pub mod round_line;

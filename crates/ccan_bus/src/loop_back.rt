@@ -4,8 +4,8 @@ ghost use Rattle.std.specs.Prelude.{◌≡◌, true};
 ghost use Rattle.ccan_bus.specs.Decide.{DecidesBack, IsOf};
 
 use crate::bus::Bus;
-use crate::decide::own_of;
 use crate::decision::Decision;
+use crate::own::own_of;
 use ccan_confine::{BusEvent, StatusEvent};
 
 impl Bus {

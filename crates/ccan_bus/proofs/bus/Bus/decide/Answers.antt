@@ -9,7 +9,8 @@ decide_back-requires c =
     let bus = c.args.self.now in
     let loops : (bus.loops_back && is_on_now bus 0) ≡ true =
     elim c.if-self.branch [
-      | then-self w ↦ and_true bus.loops_back (is_on_now bus 0) c.if-self.loops w.if-self.true (w.loops-is ∙ w.is_on-loops.ensures) c.if-loops.true
+      | then-self w ↦ and_true bus.loops_back (is_on_now bus 0) c.if-self.loops w.if-self.true
+          (w.loops-is ∙ w.is_on-loops.ensures) c.if-loops.true
       | else-self w ↦ absurd (let e = sym w.loops-is ∙ c.if-loops.true in cc)
     ] in
     and_second bus.loops_back (is_on_now bus 0) loops
@@ -19,7 +20,8 @@ returns-then-loops c =
     let bus = c.args.self.now in
     let loops : (bus.loops_back && is_on_now bus 0) ≡ true =
     elim c.if-self.branch [
-      | then-self w ↦ and_true bus.loops_back (is_on_now bus 0) c.if-self.loops w.if-self.true (w.loops-is ∙ w.is_on-loops.ensures) c.if-loops.true
+      | then-self w ↦ and_true bus.loops_back (is_on_now bus 0) c.if-self.loops w.if-self.true
+          (w.loops-is ∙ w.is_on-loops.ensures) c.if-loops.true
       | else-self w ↦ absurd (let e = sym w.loops-is ∙ c.if-loops.true in cc)
     ] in
     record {
@@ -33,7 +35,8 @@ returns-else-loops c =
     let bus = c.args.self.now in
     let loops : (bus.loops_back && is_on_now bus 0) ≡ false =
     elim c.if-self.branch [
-      | then-self w ↦ and_false bus.loops_back (is_on_now bus 0) c.if-self.loops w.if-self.true (w.loops-is ∙ w.is_on-loops.ensures) c.if-loops.false
+      | then-self w ↦ and_false bus.loops_back (is_on_now bus 0) c.if-self.loops w.if-self.true
+          (w.loops-is ∙ w.is_on-loops.ensures) c.if-loops.false
       | else-self w ↦ and_first bus.loops_back (is_on_now bus 0) w.if-self.false
     ] in
     record {

@@ -8,8 +8,8 @@ returns-in-Some g c =
     record {
       same = c.load-loading.ensures.same;
       goes_on =
-          load_refused c.args.line.now c.args.tries c.args.self.now c.load-loading.new.self c.load-loading.result c.in-Some.answer _
-          (sym c.in-Some.ensures) c.of_refused_load.ensures c.load-loading.ensures.goes_on;
+          load_refused c.args.line.now c.args.tries c.args.self.now c.load-loading.new.self c.load-loading.result
+          c.in-Some.answer _ (sym c.in-Some.ensures) c.of_refused_load.ensures c.load-loading.ensures.goes_on;
     }
 
 pub returns-in-None : goal.returns-in-None
