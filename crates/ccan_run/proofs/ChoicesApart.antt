@@ -39,7 +39,8 @@ module _ (terms : Terms) (tries : ℕ) (some : 1 ≤ tries) where
     starts_apart object seen added (Ok None) alone (inr (ready, now, h)) =
         inr (ready, now, attempts_undisturbed terms object Start tries seen added (Ok (NotNow now)) some alone h)
     starts_apart object seen added (Ok (Some after)) alone (ready, before, number, h) =
-        (ready, before, number, attempts_undisturbed terms object Start tries seen added (Ok (Done before after number)) some alone h)
+        let apart = attempts_undisturbed terms object Start tries seen added (Ok (Done before after number)) some alone h in
+        (ready, before, number, apart)
     starts_apart object seen added (Err why) alone (ready, h) =
         (ready, attempts_undisturbed terms object Start tries seen added (Err why) some alone h)
 

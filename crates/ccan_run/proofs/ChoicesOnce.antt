@@ -1,6 +1,7 @@
 -- The choice of what to send, where nobody else acts: what is seen decides what it adds and comes to, whether it is made in
 -- turn or at one moment.
-use Rattle.std.proofs.Common.{◌≡◌, ◌<◌, ◌≤◌, ◌+◌, ℕ, zero, suc, true, false, List, [], ◌++◌, inl, inr, ⊎_elim, Option, Some, None, Result, Ok, Err, refl, sym, ap, ap₂, subst, ◌∙◌, arith, true≢false}
+use Rattle.std.proofs.Common.{◌≡◌, ◌<◌, ◌≤◌, ◌+◌, ℕ, zero, suc, true, false, List, [], ◌++◌, inl, inr, ⊎_elim, Option, Some, None}
+use Rattle.std.proofs.Common.{Result, Ok, Err, refl, sym, ap, ap₂, subst, ◌∙◌, arith, true≢false}
 use Rattle.std.proofs.lemmas.Bool.{cases_lt}
 use Rattle.ccan_object.specs.declared.record.Record.{Record}
 use Rattle.ccan_object.specs.Profile.{objects_in}
@@ -59,7 +60,8 @@ module _ (terms : Terms) (alone : terms.alone ≡ true) (tries : ℕ) (some : 1 
         → Starts terms shown object tries seen added answer → Case object seen added answer
     case_of object seen added (Ok None) (inl (not, none)) = unready not refl none
     case_of object seen added (Ok None) (inr (ready, now, attempt)) = tried ready (Ok (NotNow now)) attempt refl
-    case_of object seen added (Ok (Some after)) (ready, before, number, attempt) = tried ready (Ok (Done before after number)) attempt refl
+    case_of object seen added (Ok (Some after)) (ready, before, number, attempt) =
+        tried ready (Ok (Done before after number)) attempt refl
     case_of object seen added (Err why) (ready, attempt) = tried ready (Err why) attempt refl
 
     cases_once : (object : ℕ) (seen added added' : List Event) (answer answer' : Result (Option Record) Refused)
@@ -71,7 +73,8 @@ module _ (terms : Terms) (alone : terms.alone ≡ true) (tries : ℕ) (some : 1 
         absurd (true≢false (sym ready ∙ not))
     cases_once object seen added added' answer answer' legal legal' (tried ready _ _ _) (unready not _ _) =
         absurd (true≢false (sym ready ∙ not))
-    cases_once object seen added added' answer answer' legal legal' (tried ready outcome attempt is) (tried ready' outcome' attempt' is') =
+    cases_once object seen added added' answer answer' legal legal' (tried ready outcome attempt is)
+        (tried ready' outcome' attempt' is') =
         let a = attempts_alone terms object Start tries seen added outcome alone some legal attempt in
         let b = attempts_alone terms object Start tries seen added' outcome' alone some legal' attempt' in
         (a.1 ∙ sym b.1, is ∙ (ap answer_of (a.0 ∙ sym b.0) ∙ sym is'))
@@ -81,18 +84,23 @@ module _ (terms : Terms) (alone : terms.alone ≡ true) (tries : ℕ) (some : 1 
         → Starts terms shown object tries seen added answer → Starts terms shown object tries seen added' answer'
         → (added ≡ added') × (answer ≡ answer')
     starts_once object seen added added' answer answer' legal legal' h h' =
-        cases_once object seen added added' answer answer' legal legal' (case_of object seen added answer h) (case_of object seen added' answer' h')
+        cases_once object seen added added' answer answer' legal legal' (case_of object seen added answer h)
+        (case_of object seen added' answer' h')
 
-    skips_once : (n : ℕ) (seen added added' : List Event) → IsLegal terms.profile (added ++ seen) → IsLegal terms.profile (added' ++ seen)
+    skips_once : (n : ℕ) (seen added added' : List Event)
+        → IsLegal terms.profile (added ++ seen) → IsLegal terms.profile (added' ++ seen)
         → Skips terms shown tries n seen added → Skips terms shown tries n seen added' → added ≡ added'
     skips_once zero seen added added' legal legal' none none' = none ∙ sym none'
-    skips_once (suc n) seen added added' legal legal' (last, earlier, whole, start, rest) (last', earlier', whole', start', rest') =
+    skips_once (suc n) seen added added' legal legal' (last, earlier, whole, start, rest)
+        (last', earlier', whole', start', rest') =
         let so_far = legal_first terms seen added last earlier whole legal in
         let so_far' = legal_first terms seen added' last' earlier' whole' legal' in
-        let ih : earlier ≡ earlier' = skips_once n seen earlier earlier' (IsLegal-older terms.profile last (earlier ++ seen) so_far)
+        let ih : earlier ≡ earlier' = skips_once n seen earlier earlier'
+        (IsLegal-older terms.profile last (earlier ++ seen) so_far)
         (IsLegal-older terms.profile last' (earlier' ++ seen) so_far') rest rest' in
         let there = subst (λ (es : List Event). IsLegal terms.profile (last' ++ (es ++ seen))) (sym ih) so_far' in
-        let start'' = subst (λ (es : List Event). Starts terms shown (suc n) tries (es ++ seen) last' (Ok None)) (sym ih) start' in
+        let start'' =
+        subst (λ (es : List Event). Starts terms shown (suc n) tries (es ++ seen) last' (Ok None)) (sym ih) start' in
         let once = starts_once (suc n) (earlier ++ seen) last last' (Ok None) (Ok None) so_far there start start'' in
         whole ∙ (ap₂ ◌++◌ once.0 ih ∙ sym whole')
 
@@ -154,11 +162,13 @@ module _ (terms : Terms) (alone : terms.alone ≡ true) (tries : ℕ) (some : 1 
           | inr rest ↦ elim rest [
             | inl same ↦
                 let skips' = subst (λ (m : ℕ). Skips terms shown tries m seen s'.skipped) (sym same) s'.skips in
-                let skipped : s.skipped ≡ s'.skipped = skips_once s.below seen s.skipped s'.skipped older older' s.skips skips' in
+                let skipped : s.skipped ≡ s'.skipped =
+                skips_once s.below seen s.skipped s'.skipped older older' s.skips skips' in
                 let object_is : object ≡ object' = omega (arith, s.is, s'.is, same) in
                 let there = subst (λ (es : List Event). IsLegal terms.profile (s'.last ++ (es ++ seen))) (sym skipped) so_far' in
                 let start' = subst (λ (m : ℕ). Starts terms shown m tries (s.skipped ++ seen) s'.last answer') (sym object_is)
-                (subst (λ (es : List Event). Starts terms shown object' tries (es ++ seen) s'.last answer') (sym skipped) s'.start) in
+                (subst (λ (es : List Event). Starts terms shown object' tries (es ++ seen) s'.last answer') (sym skipped)
+                s'.start) in
                 let once = starts_once object (s.skipped ++ seen) s.last s'.last answer answer' so_far there s.start start' in
                 (object_is, s.whole ∙ (ap₂ ◌++◌ once.0 skipped ∙ sym s'.whole), once.1)
             | inr more ↦ absurd (not' (stop_skipped s.below object' seen added' s.skipped answer' legal' older s' more s.skips))
@@ -181,24 +191,32 @@ module _ (terms : Terms) (alone : terms.alone ≡ true) (tries : ℕ) (some : 1 
     among_once seen added added' (Ok None) (Ok None) legal legal' h h' =
         (skips_once (objects_in terms.profile) seen added added' legal legal' h h', refl)
     among_once seen added added' (Ok None) (Ok (Some (object', after'))) legal legal' h h' =
-        absurd (let e = stop_skipped (objects_in terms.profile) object' seen added' added (Ok (Some after')) legal' legal h' h'.held h in cc)
+        absurd (let e = stop_skipped (objects_in terms.profile) object' seen added' added (Ok (Some after')) legal' legal
+        h' h'.held h in cc)
     among_once seen added added' (Ok None) (Err refused') legal legal' h h' =
-        absurd (let e = stop_skipped (objects_in terms.profile) refused'.at seen added' added (Err refused'.why) legal' legal h' h'.held h in cc)
+        absurd (let e = stop_skipped (objects_in terms.profile) refused'.at seen added' added (Err refused'.why) legal' legal
+        h' h'.held h in cc)
     among_once seen added added' (Ok (Some (object, after))) (Ok None) legal legal' h h' =
-        absurd (let e = stop_skipped (objects_in terms.profile) object seen added added' (Ok (Some after)) legal legal' h h.held h' in cc)
+        absurd (let e = stop_skipped (objects_in terms.profile) object seen added added' (Ok (Some after)) legal legal'
+        h h.held h' in cc)
     among_once seen added added' (Err refused) (Ok None) legal legal' h h' =
-        absurd (let e = stop_skipped (objects_in terms.profile) refused.at seen added added' (Err refused.why) legal legal' h h.held h' in cc)
+        absurd (let e = stop_skipped (objects_in terms.profile) refused.at seen added added' (Err refused.why) legal legal'
+        h h.held h' in cc)
     among_once seen added added' (Ok (Some (object, after))) (Ok (Some (object', after'))) legal legal' h h' =
-        let once = stops_once object object' seen added added' (Ok (Some after)) (Ok (Some after')) legal legal' (λ e. absurd cc) (λ e. absurd cc) h h' in
+        let once = stops_once object object' seen added added' (Ok (Some after)) (Ok (Some after'))
+        legal legal' (λ e. absurd cc) (λ e. absurd cc) h h' in
         (once.1, ap₂ (λ (o : ℕ) (r : Record). Ok (Some (o, r))) once.0 (ap (after_in after) once.2))
     among_once seen added added' (Ok (Some (object, after))) (Err refused') legal legal' h h' =
-        absurd (let once = stops_once object refused'.at seen added added' (Ok (Some after)) (Err refused'.why) legal legal' (λ e. absurd cc) (λ e. absurd cc) h h' in
+        absurd (let once = stops_once object refused'.at seen added added' (Ok (Some after)) (Err refused'.why)
+        legal legal' (λ e. absurd cc) (λ e. absurd cc) h h' in
         let e = once.2 in cc)
     among_once seen added added' (Err refused) (Ok (Some (object', after'))) legal legal' h h' =
-        absurd (let once = stops_once refused.at object' seen added added' (Err refused.why) (Ok (Some after')) legal legal' (λ e. absurd cc) (λ e. absurd cc) h h' in
+        absurd (let once = stops_once refused.at object' seen added added' (Err refused.why) (Ok (Some after'))
+        legal legal' (λ e. absurd cc) (λ e. absurd cc) h h' in
         let e = once.2 in cc)
     among_once seen added added' (Err refused) (Err refused') legal legal' h h' =
-        let once = stops_once refused.at refused'.at seen added added' (Err refused.why) (Err refused'.why) legal legal' (λ e. absurd cc) (λ e. absurd cc) h h' in
+        let once = stops_once refused.at refused'.at seen added added' (Err refused.why) (Err refused'.why)
+        legal legal' (λ e. absurd cc) (λ e. absurd cc) h h' in
         (once.1, ap₂ (λ (o : ℕ) (w : Refused). Err (record { at = o; why = w })) once.0 (ap (why_in refused.why) once.2))
 
   at_once_once : (seen added added' : List Event) (chosen chosen' : Chosen)
@@ -209,12 +227,15 @@ module _ (terms : Terms) (alone : terms.alone ≡ true) (tries : ℕ) (some : 1 
       let so_far = legal_first terms seen added h.tried h.looked h.whole legal in
       let so_far' = legal_first terms seen added' h'.tried h'.looked h'.whole legal' in
       let looked : h.looked ≡ h'.looked =
-      alone_added terms alone h.shown seen h.looked h.picture ∙ sym (alone_added terms alone h'.shown seen h'.looked h'.picture) in
+      alone_added terms alone h.shown seen h.looked h.picture
+      ∙ sym (alone_added terms alone h'.shown seen h'.looked h'.picture) in
       let shown : h.shown ≡ h'.shown =
-      alone_shown terms alone h.shown seen h.looked h.picture ∙ sym (alone_shown terms alone h'.shown seen h'.looked h'.picture) in
+      alone_shown terms alone h.shown seen h.looked h.picture
+      ∙ sym (alone_shown terms alone h'.shown seen h'.looked h'.picture) in
       let there = subst (λ (es : List Event). IsLegal terms.profile (h'.tried ++ (es ++ seen))) (sym looked) so_far' in
       let choice' = subst (λ (es : List Event). ChoosesAmong terms h.shown tries (es ++ seen) h'.tried chosen') (sym looked)
-      (subst (λ (r : HandlerRegisters). ChoosesAmong terms r tries (h'.looked ++ seen) h'.tried chosen') (sym shown) h'.choice) in
+      (subst (λ (r : HandlerRegisters). ChoosesAmong terms r tries (h'.looked ++ seen) h'.tried chosen') (sym shown)
+      h'.choice) in
       let once = among_once h.shown (h.looked ++ seen) h.tried h'.tried chosen chosen' so_far there h.choice choice' in
       (h.whole ∙ (ap₂ ◌++◌ once.0 looked ∙ sym h'.whole), once.1)
 
@@ -229,4 +250,5 @@ module _ (terms : Terms) (alone : terms.alone ≡ true) (tries : ℕ) (some : 1 
       let b = scanned terms tries seen added' chosen' h' in
       let once = scans_once terms alone Start tries some 1 seen added added' legal legal' a.0 b.0 a.1 b.1 in
       (once.0, a.2 ∙ (ap chosen_by once.1 ∙ sym b.2))
-  choices_once AtOnce seen added added' chosen chosen' legal legal' h h' = at_once_once seen added added' chosen chosen' legal legal' h h'
+  choices_once AtOnce seen added added' chosen chosen' legal legal' h h' =
+      at_once_once seen added added' chosen chosen' legal legal' h h'
