@@ -1,5 +1,5 @@
--- What a round leaves loaded, and what one whose load was refused leaves.
-use Rattle.std.proofs.Common.{ℕ, ◌≡◌, ◌≢◌, Bool, true, false, List, refl, ap, ◌∙◌, Some, None}
+-- What a load finds by a choice at one moment, what a round leaves loaded, and what one whose load was refused leaves.
+use Rattle.std.proofs.Common.{ℕ, ◌≡◌, ◌≢◌, Bool, true, false, List, refl, ap, subst, ◌∙◌, Some, None, Ok}
 use Rattle.ccan_ram.specs.declared.event.Event.{Event}
 use Rattle.ccan_ram.specs.Terms.{Terms}
 use Rattle.ccan_confine.specs.declared.bus_event.BusEvent.{BusEvent}
@@ -13,7 +13,14 @@ use Rattle.ccan_bus.specs.Past.{BusPast, hears_itself, happens, sends_to_itself}
 use Rattle.ccan_bus.specs.Load.{Loads}
 use Rattle.ccan_bus.specs.LoopBack.{AtFinish, AtScan, LoopsBack}
 use Rattle.ccan_bus.specs.Round.{RefusedFinish, RefusedScan, Contends, Transfers, Continues, refusal_of_round}
-use Rattle.ccan_bus.specs.Laws.{NothingIsLoadedAfterwards, RefusedLoadsLeaveAll}
+use Rattle.ccan_handler.proofs.MomentLaws.{choice_of_one_moment}
+use Rattle.ccan_bus.specs.Choice.{Chooses}
+use Rattle.ccan_bus.specs.Laws.{LoadsAreOfOneMoment, NothingIsLoadedAfterwards, RefusedLoadsLeaveAll}
+
+pub at_one_moment : LoadsAreOfOneMoment
+at_one_moment terms tries object started seen added past after at_once l =
+    choice_of_one_moment terms tries object started seen added
+    (subst (λ choice. Chooses choice terms tries seen added (Ok (Some (object, started)))) at_once l.choice.chooses)
 
 pub unloaded : (past after : BusPast) (event : ℕ → BusEvent) (noted : StatusEvent) → after ≡ happens event noted past → after.loaded ≡ None
 unloaded past after event noted is = ap (λ (p : BusPast). p.loaded) is
@@ -66,8 +73,8 @@ module _ (terms : Terms) (line : RoundLine) (tries : ℕ) (seen first rest last 
   empty_after (load.Loaded object started) l h = empty_transferred terms line tries rest last between after (hears_itself between) reply h not
   empty_after (load.Held object) l h = empty_transferred terms line tries rest last between after (hears_itself between) reply h not
   empty_after load.Nothing l h = empty_transferred terms line tries rest last between after (hears_itself between) reply h not
-  empty_after (load.Busy object) l h = ap (λ (p : BusPast). p.loaded) (h.same ∙ l.2.same) ∙ l.2.scan.empty
-  empty_after (load.Spent object) l h = ap (λ (p : BusPast). p.loaded) (h.same ∙ l.same) ∙ l.scan.empty
+  empty_after (load.Busy object) l h = ap (λ (p : BusPast). p.loaded) (h.same ∙ l.2.same) ∙ l.2.choice.empty
+  empty_after (load.Spent object) l h = ap (λ (p : BusPast). p.loaded) (h.same ∙ l.same) ∙ l.choice.empty
 
 pub nothing_after : NothingIsLoadedAfterwards
 nothing_after terms line tries seen added past after reply r not =

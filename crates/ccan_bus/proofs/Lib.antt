@@ -4,11 +4,11 @@ pub mod Pasts
 pub mod Loads
 pub mod Least
 pub mod Rounds
-pub mod Transfers
+pub mod Completes
 pub mod Profiles
 pub mod OwnEvents
 pub mod RecessiveGroups
-pub mod LoopRounds
+pub mod Steps
 pub mod AfterLoads
 pub mod Senders
 pub mod NodeEvents

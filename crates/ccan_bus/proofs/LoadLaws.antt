@@ -69,14 +69,14 @@ module _ (terms : Terms) (line : RoundLine) (tries : ℕ) (past : BusPast) (obje
     round_sent : (loading : LoadAnswer) → Loads terms tries seen first past between loading
         → Continues (refusal_of_round loading) terms line tries rest last between after (answer.Sent place finished)
         → (place ≡ object) × IsWonBy (contenders_of past line) 0 (frame_of started)
-    round_sent (load.Loaded o s) l h = absurd (let e = sym l.scan.empty ∙ is in cc)
+    round_sent (load.Loaded o s) l h = absurd (let e = sym l.choice.empty ∙ is in cc)
     round_sent (load.Held o) l h =
         sent_by rest last after place finished (hears_itself past)
         (subst (λ b. Transfers (hears_itself b) terms line tries rest last b after (answer.Sent place finished)) l.same h)
     round_sent load.Nothing (inl l) h = absurd (let e = sym l.empty ∙ is in cc)
-    round_sent load.Nothing (inr l) h = absurd (let e = sym l.scan.empty ∙ is in cc)
-    round_sent (load.Busy o) l h = absurd (let e = sym l.2.scan.empty ∙ is in cc)
-    round_sent (load.Spent o) l h = absurd (let e = sym l.scan.empty ∙ is in cc)
+    round_sent load.Nothing (inr l) h = absurd (let e = sym l.choice.empty ∙ is in cc)
+    round_sent (load.Busy o) l h = absurd (let e = sym l.2.choice.empty ∙ is in cc)
+    round_sent (load.Spent o) l h = absurd (let e = sym l.choice.empty ∙ is in cc)
 
   in_scan : (seen first last first' : List Event) (frame : Frame) (end : ScanEnd) (added : List Event)
       → added ≡ (last ++ first') ++ first → frame ≡ frame_of started
@@ -112,14 +112,14 @@ module _ (terms : Terms) (line : RoundLine) (tries : ℕ) (past : BusPast) (obje
     round_looped : (loading : LoadAnswer) → Loads terms tries seen first past between loading
         → Continues (refusal_of_round loading) terms line tries (first ++ seen) last between after (answer.Looped place finished found)
         → (place ≡ object) × EndsInScanFor terms tries (frame_of started) seen added
-    round_looped (load.Loaded o s) l h = absurd (let e = sym l.scan.empty ∙ is in cc)
+    round_looped (load.Loaded o s) l h = absurd (let e = sym l.choice.empty ∙ is in cc)
     round_looped (load.Held o) l h =
         looped_by seen first last added whole after place finished (hears_itself past) found
         (subst (λ b. Transfers (hears_itself b) terms line tries (first ++ seen) last b after (answer.Looped place finished found)) l.same h)
     round_looped load.Nothing (inl l) h = absurd (let e = sym l.empty ∙ is in cc)
-    round_looped load.Nothing (inr l) h = absurd (let e = sym l.scan.empty ∙ is in cc)
-    round_looped (load.Busy o) l h = absurd (let e = sym l.2.scan.empty ∙ is in cc)
-    round_looped (load.Spent o) l h = absurd (let e = sym l.scan.empty ∙ is in cc)
+    round_looped load.Nothing (inr l) h = absurd (let e = sym l.choice.empty ∙ is in cc)
+    round_looped (load.Busy o) l h = absurd (let e = sym l.2.choice.empty ∙ is in cc)
+    round_looped (load.Spent o) l h = absurd (let e = sym l.choice.empty ∙ is in cc)
 
 pub sends_loaded : SendsWhatWasLoaded
 sends_loaded terms line tries earlier loading seen added before loaded past after object place started finished l same r =

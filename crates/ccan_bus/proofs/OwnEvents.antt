@@ -16,6 +16,7 @@ pub record HasOwn (event : NodeEvent) (old new : Bus) : Type 0 where
   pub own : AddsEvent event (counters_at old 0) (counters_at new 0)
   pub rest : (node : ℕ) → is_controller node ≡ false → counters_at new node ≡ counters_at old node
   pub loops_back : new.loops_back ≡ old.loops_back
+  pub choice : new.choice ≡ old.choice
 
 module _ (event : NodeEvent) (old new : Bus) (has : HasOwn event old new) (past : BusPast) (led : LedTo past old) where
   by_node : (node : ℕ) → node ≤ past.others → (own : Bool) → is_controller node ≡ own
@@ -36,9 +37,10 @@ module _ (event : NodeEvent) (old new : Bus) (has : HasOwn event old new) (past 
 
 -- the first place of the array is written
 pub only_own : (event : NodeEvent) (old new : Bus) (k d : Counts) → new.others ≡ old.others → new.loops_back ≡ old.loops_back
+    → new.choice ≡ old.choice
     → length old.nodes ≡ 9
     → new.nodes ≡ set old.nodes 0 k → AddsEvent event (get_or old.nodes 0 d) k → HasOwn event old new
-only_own event old new k d others loops all nodes adds =
+only_own event old new k d others loops chooses all nodes adds =
     record {
       others = others;
       own =
@@ -47,6 +49,7 @@ only_own event old new k d others loops all nodes adds =
           (subst (AddsEvent event (get_or old.nodes 0 d)) (sym (get_or-set_same old.nodes 0 k (new_counts false) (omega (arith, all)))) adds));
       rest = λ node other. rw nodes (get_or-set_other old.nodes 0 node k (new_counts false) (λ is. absurd (let e = ap is_controller is in cc)));
       loops_back = loops;
+      choice = chooses;
     }
 
 pub own_is : (old new : Bus) (k : Counts) → length old.nodes ≡ 9 → new.nodes ≡ set old.nodes 0 k → k.levels ≡ (counters_at new 0).levels
@@ -56,13 +59,14 @@ own_is old new k all nodes = rw nodes (ap (λ (c : Counts). c.levels) (sym (get_
 pub record WritesFirst (old new : Bus) (k : Counts) : Type 0 where
   pub others : new.others ≡ old.others
   pub loops_back : new.loops_back ≡ old.loops_back
+  pub choice : new.choice ≡ old.choice
   pub nodes : new.nodes ≡ set old.nodes 0 k
 
 pub cleared_init : (old new : Bus) (k d : Counts) → WritesFirst old new k → new.loaded ≡ old.loaded
     → AddsEvent ClearInit (get_or old.nodes 0 d) k
     → AddsStep (Happened status.Level k.levels) old.status new.status → GoesOn old new (λ past after. after ≡ clears_init past)
 cleared_init old new k d writes loaded event adds =
-    let has = only_own ClearInit old new k d writes.others writes.loops_back old.all writes.nodes event in
+    let has = only_own ClearInit old new k d writes.others writes.loops_back writes.choice old.all writes.nodes event in
     record {
       each = λ past led. (
         clears_init past,
@@ -74,6 +78,7 @@ cleared_init old new k d writes loaded event adds =
               (own_is old new k old.all writes.nodes ∙ levels_own ClearInit old new has past led) (adds past.steps led.status);
           loaded = loaded ∙ led.loaded;
           loops_back = has.loops_back ∙ led.loops_back;
+          choice = has.choice ∙ led.choice;
         },
         refl,
       );
@@ -84,7 +89,7 @@ pub sent_to_itself : (old new : Bus) (k d : Counts) (between : Held) → WritesF
     → AddsStep (Happened status.Sent k.levels) old.status between → AddsStep (Happened status.Received k.levels) between new.status
     → GoesOn old new (λ past after. after ≡ sends_to_itself past)
 sent_to_itself old new k d between writes loaded event sends receives =
-    let has = only_own (BusEventOf Sent) old new k d writes.others writes.loops_back old.all writes.nodes event in
+    let has = only_own (BusEventOf Sent) old new k d writes.others writes.loops_back writes.choice old.all writes.nodes event in
     record {
       each = λ past led. (
         sends_to_itself past,
@@ -96,6 +101,7 @@ sent_to_itself old new k d between writes loaded event sends receives =
               (own_is old new k old.all writes.nodes ∙ levels_own (BusEventOf Sent) old new has past led) (receives _ (sends past.steps led.status));
           loaded = loaded;
           loops_back = has.loops_back ∙ led.loops_back;
+          choice = has.choice ∙ led.choice;
         },
         refl,
       );

@@ -10,7 +10,8 @@ use Rattle.std.proofs.lemmas.List.{get_or_default}
 use Rattle.ccan_confine.specs.Status.{Held, StatusStep, Happened, IsHeldAfter, AddsStep}
 use Rattle.ccan_confine.proofs.Calls.{listed_levels, listed_after}
 use Rattle.ccan_bus.specs.declared.bus.Bus.{Bus}
-use Rattle.ccan_bus.specs.Past.{opened, BusPast, is_controller, levels_at, is_on, events_after, steps_after, happens}
+use Rattle.ccan_bus.specs.declared.choice.Choice.{Choice}
+use Rattle.ccan_bus.specs.Past.{opened_with, BusPast, is_controller, levels_at, is_on, events_after, steps_after, happens}
 use Rattle.ccan_bus.specs.Bus.{counters_at, is_on_now, LedTo, GoesOn}
 
 and_same : (a x y : Bool) → (a ≡ true → x ≡ y) → (a && x) ≡ (a && y)
@@ -78,6 +79,7 @@ pub record Spreads (event : ℕ → BusEvent) (noted : StatusEvent) (old new : B
   pub noted_off : is_on_now old 0 ≡ false → new.status ≡ old.status
   pub loaded : new.loaded ≡ None
   pub loops_back : new.loops_back ≡ old.loops_back
+  pub choice : new.choice ≡ old.choice
 
 counters_after : (past : BusPast) (old new : Bus) (event : ℕ → BusEvent) (noted : StatusEvent) → LedTo past old → old.others ≤ 8
     → Spreads event noted old new
@@ -106,6 +108,7 @@ happened event noted old new few spread past led =
           (λ off. spread.noted_off (sym (on_same past old led 0) ∙ off));
       loaded = spread.loaded;
       loops_back = spread.loops_back ∙ led.loops_back;
+      choice = spread.choice ∙ led.choice;
     }
 
 pub GoesOn-happens : (event : ℕ → BusEvent) (noted : StatusEvent) (old new : Bus) → old.others ≤ 8 → Spreads event noted old new
@@ -134,6 +137,7 @@ pub record KeepsAll (old new : Bus) : Type 0 where
   pub nodes : new.nodes ≡ old.nodes
   pub status : new.status ≡ old.status
   pub loops_back : new.loops_back ≡ old.loops_back
+  pub choice : new.choice ≡ old.choice
 
 pub LedTo-loaded : (past : BusPast) (old new : Bus) (now : Option (ℕ × Record)) → KeepsAll old new → new.loaded ≡ now → LedTo past old
     → LedTo (record past { loaded = now }) new
@@ -146,6 +150,7 @@ LedTo-loaded past old new now keeps is led =
       status = subst (IsHeldAfter past.steps) (sym keeps.status) led.status;
       loaded = is;
       loops_back = keeps.loops_back ∙ led.loops_back;
+      choice = keeps.choice ∙ led.choice;
     }
 
 and_left : (a b : Bool) → (a && b) ≡ true → a ≡ true
@@ -163,23 +168,24 @@ unfolding counts_of life_of levels_of since_off since_clearing
 none_yet false = refl
 none_yet true = refl
 
-pub opens : (bus : Bus) (others : ℕ) → others ≤ 8 → bus.others ≡ others
+pub opens : (bus : Bus) (others : ℕ) (choice : Choice) → others ≤ 8 → bus.others ≡ others
     → ((node : ℕ) → node < 9 → counters_at bus node ≡ new_counts (node == 0)) → IsHeldAfter [] bus.status
-    → bus.loaded ≡ None → bus.loops_back ≡ false → LedTo (opened others) bus
-opens bus others few same counters status loaded loops =
+    → bus.loaded ≡ None → bus.loops_back ≡ false → bus.choice ≡ choice → LedTo (opened_with choice others) bus
+opens bus others choice few same counters status loaded loops chooses =
     record {
       others = same;
       counters = λ node within. subst (AreAfter (is_controller node) []) (sym (counters node (omega arith))) (none_yet (node == 0));
       status = status;
       loaded = loaded;
       loops_back = loops;
+      choice = chooses;
     }
 
 -- only the Status register has a step
 pub LedTo-step : (past : BusPast) (old new : Bus) (step : StatusStep) → new.others ≡ old.others → new.nodes ≡ old.nodes
-    → new.loaded ≡ old.loaded → new.loops_back ≡ old.loops_back
+    → new.loaded ≡ old.loaded → new.loops_back ≡ old.loops_back → new.choice ≡ old.choice
     → AddsStep step old.status new.status → LedTo past old → LedTo (record past { steps = step ∷ past.steps }) new
-LedTo-step past old new step others nodes loaded loops adds led =
+LedTo-step past old new step others nodes loaded loops chooses adds led =
     record {
       others = others ∙ led.others;
       counters =
@@ -188,6 +194,7 @@ LedTo-step past old new step others nodes loaded loops adds led =
       status = adds past.steps led.status;
       loaded = loaded ∙ led.loaded;
       loops_back = loops ∙ led.loops_back;
+      choice = chooses ∙ led.choice;
     }
 
 pub levels_now : (past : BusPast) (bus : Bus) (k : Counts) → LedTo past bus → 0 < length bus.nodes

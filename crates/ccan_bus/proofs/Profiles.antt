@@ -16,7 +16,7 @@ pub held_by : (bus : Bus) (object : ℕ) (started : Record) → bus.loaded ≡ S
 held_by bus object started is profile same = rw same (bus.held (object, started) is)
 
 pub same_twice : {a b c : Bus} → IsSameBus a b → IsSameBus b c → IsSameBus a c
-same_twice f g = record { profile = g.profile ∙ f.profile; others = g.others ∙ f.others }
+same_twice f g = record { profile = g.profile ∙ f.profile; others = g.others ∙ f.others; choice = g.choice ∙ f.choice }
 
 pub still_same : {what : Terms → List Event → List Event → BusPast → BusPast → Type 0} (x y : Passes) (a b : Bus)
     → GoesOnWith x y a b what → IsSameBus a b

@@ -16,6 +16,7 @@ pub record HaveAllGroups (groups : ℕ) (old new : Bus) : Type 0 where
   pub each : (node : ℕ) → node ≤ 8 → AddsEvent (Groups groups) (counters_at old node) (counters_at new node)
   pub loaded : new.loaded ≡ old.loaded
   pub loops_back : new.loops_back ≡ old.loops_back
+  pub choice : new.choice ≡ old.choice
 
 abbrev pub recovery_event : ℕ → Bool → StatusEvent
 recovery_event groups recovering = cond (nat_le 1 groups && recovering) status.Recovery status.Level
@@ -60,6 +61,7 @@ recovered groups old new recovering event d e has all tells_read event_is adds_r
               (group_levels groups old new has few past led) (adds past.steps led.status));
           loaded = has.loaded ∙ led.loaded;
           loops_back = has.loops_back ∙ led.loops_back;
+          choice = has.choice ∙ led.choice;
         },
         refl,
       );

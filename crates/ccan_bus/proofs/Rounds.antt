@@ -10,8 +10,8 @@ use Rattle.ccan_confine.specs.declared.status_event.StatusEvent.{StatusEvent}
 use Rattle.ccan_confine.specs.declared.status_event.StatusEvent.TheVariants as status
 use Rattle.ccan_bus.specs.declared.arbitration.Outcome.TheVariants.{Collision}
 use Rattle.ccan_bus.specs.declared.bus.Bus.{Bus}
-use Rattle.ccan_bus.specs.declared.course.Course.{Course}
-use Rattle.ccan_bus.specs.declared.course.Course.TheVariants as course
+use Rattle.ccan_bus.specs.declared.decision.Decision.{Decision}
+use Rattle.ccan_bus.specs.declared.decision.Decision.TheVariants as decision
 use Rattle.ccan_bus.specs.declared.round_line.RoundLine.{RoundLine}
 use Rattle.ccan_bus.specs.Arbitration.{Arbitrates}
 use Rattle.ccan_bus.specs.Past.{BusPast, is_on, happens}
@@ -19,8 +19,8 @@ use Rattle.ccan_bus.specs.Bus.{LedTo, GoesOn, is_on_now}
 use Rattle.ccan_bus.specs.Nodes.{sends_at, IsSharedOut}
 use Rattle.ccan_bus.specs.RoundLine.{code_of}
 use Rattle.ccan_bus.specs.Contenders.{own_frame, contenders, contenders_of, frames_of, sends_least, IsWonBy}
-use Rattle.ccan_bus.specs.Round.{shared, is_node}
-use Rattle.ccan_bus.specs.Course.{RunsSo}
+use Rattle.ccan_bus.specs.Round.{shared, is_node, IsSuccess}
+use Rattle.ccan_bus.specs.Decide.{DecidesBetween, IsDue}
 use Rattle.ccan_bus.proofs.Pasts.{on_same, GoesOn-none, GoesOn-weaker}
 
 filter_same : (p q : ℕ → Bool) → ((n : ℕ) → p n ≡ q n) → (xs : List (ℕ × Frame)) → filter (λ c. p c.0) xs ≡ filter (λ c. q c.0) xs
@@ -63,7 +63,7 @@ none_left None h = refl
 none_left (Some x) h = absurd (h x refl)
 
 module _ (bus : Bus) (line : RoundLine) where
-  pub idle : contenders_now bus line ≡ [] → GoesOn bus bus (λ past after. RunsSo line past after course.Idle)
+  pub idle : contenders_now bus line ≡ [] → GoesOn bus bus (λ past after. DecidesBetween line past after decision.Idle)
   idle nobody = GoesOn-none bus _ (λ past led. record { nobody = sym (contenders_same past bus led line) ∙ nobody; quiet = refl; same = refl })
 
   -- events that are shared out by the places of an array
@@ -80,7 +80,7 @@ module _ (bus : Bus) (line : RoundLine) where
       → ((node : ℕ) → node < 9 → sends_at senders node ≡ sends_least (contenders_now bus line) node)
       → code ≡ cond (sends_at senders 0) 4 1 → 0 < 9
       → Happens new senders SendFault ReceiveFault (status.Fault code)
-      → GoesOn bus new (λ past after. RunsSo line past after course.Collision)
+      → GoesOn bus new (λ past after. DecidesBetween line past after decision.Collision)
   collided new senders code tie sends told first happen =
       GoesOn-weaker (happen (shared (sends_least (contenders_now bus line)) SendFault ReceiveFault) (share senders _ SendFault ReceiveFault sends))
       (λ past after led here e.
@@ -101,17 +101,21 @@ module _ (bus : Bus) (line : RoundLine) where
     won_by past led = subst (λ cs. IsWonBy cs winner frame) (contenders_same past bus led line) won
 
     pub spoiled : (code : ℕ) → code_of line.fault ≡ Some code → Happens new senders SendFault ReceiveFault (status.Fault code)
-        → GoesOn bus new (λ past after. RunsSo line past after course.Fault)
+        → GoesOn bus new (λ past after. DecidesBetween line past after (decision.Fault winner frame))
     spoiled code fault happen =
         GoesOn-weaker (happen (shared (is_node winner) SendFault ReceiveFault) (share senders _ SendFault ReceiveFault one))
         (λ past after led here e. record {
-          winner = winner;
-          frame = frame;
-          won = won_by past led;
-          code = code;
-          fault = fault;
-          quiet = refl;
-          happened = e;
+          fault = record {
+            winner = winner;
+            frame = frame;
+            won = won_by past led;
+            code = code;
+            fault = fault;
+            quiet = refl;
+            happened = e;
+          };
+          winner_is = refl;
+          frame_is = refl;
         })
 
     both : (b : Bool) (event : BusEvent) → event ≡ cond b event event
@@ -120,31 +124,65 @@ module _ (bus : Bus) (line : RoundLine) where
 
     pub unheard : code_of line.fault ≡ None → ((node : ℕ) → is_on_now bus node ≡ true → node ≡ winner)
         → Happens new senders SendNoAck SendNoAck (status.Fault 3)
-        → GoesOn bus new (λ past after. RunsSo line past after course.NoAck)
+        → GoesOn bus new (λ past after. DecidesBetween line past after (decision.NoAck winner frame))
     unheard quiet alone happen =
         GoesOn-weaker (happen (λ node. SendNoAck) (λ node within. both (sends_at senders node) SendNoAck))
         (λ past after led here e. record {
-          winner = winner;
-          frame = frame;
-          won = won_by past led;
-          no_fault = quiet;
-          alone = λ node on. alone node (sym (on_same past bus led node) ∙ on);
-          quiet = refl;
-          happened = e;
+          no_ack = record {
+            winner = winner;
+            frame = frame;
+            won = won_by past led;
+            no_fault = quiet;
+            alone = λ node on. alone node (sym (on_same past bus led node) ∙ on);
+            quiet = refl;
+            happened = e;
+          };
+          winner_is = refl;
+          frame_is = refl;
         })
 
-    pub heard : (reply : Course) (noted : StatusEvent) → reply ≡ course.Success winner frame
+    -- what is due is what is decided
+    by_due : (past after : BusPast) → LedTo past bus → IsSuccess line past after winner frame → (decided : Decision)
+        → IsDue bus winner frame decided → DecidesBetween line past after decided
+    by_due past after led s (decision.Finish object sent) (own, same, started, loaded) =
+        record {
+          started = started;
+          sent = sym led.loaded ∙ loaded;
+          success = subst (λ f. IsSuccess line past after 0 f) (sym same) (subst (λ n. IsSuccess line past after n frame) own s);
+        }
+    by_due past after led s (decision.Receipt node sent) (another, on, at, same) =
+        record {
+          another = λ zero_is. another (sym at ∙ zero_is);
+          on = on_same past bus led 0 ∙ on;
+          success =
+              subst (λ f. IsSuccess line past after node f) (sym same) (subst (λ n. IsSuccess line past after n frame) (sym at) s);
+        }
+    by_due past after led s (decision.Passed node sent) (off, at, same) =
+        record {
+          off = on_same past bus led 0 ∙ off;
+          success =
+              subst (λ f. IsSuccess line past after node f) (sym same) (subst (λ n. IsSuccess line past after n frame) (sym at) s);
+        }
+    by_due past after led s decision.Idle (own, none) =
+        absurd (no_own (is_on past) line frame
+        (subst (λ l. IsWonBy (contenders (is_on past) l line.send.items) 0 frame) (sym led.loaded ∙ none)
+        (subst (λ n. IsSuccess line past after n frame) own s).won))
+    by_due past after led s decision.Collision h = absurd h
+    by_due past after led s (decision.Fault node sent) h = absurd h
+    by_due past after led s (decision.NoAck node sent) h = absurd h
+    by_due past after led s (decision.LoopBack object sent) h = absurd h
+
+    pub heard : (decided : Decision) (noted : StatusEvent) → IsDue bus winner frame decided
         → noted ≡ cond (winner == 0) status.Sent status.Received
         → code_of line.fault ≡ None → (node : ℕ) × (node ≢ winner) × (is_on_now bus node ≡ true) → Happens new senders Sent Received noted
-        → GoesOn bus new (λ past after. RunsSo line past after reply)
-    heard reply noted told noted_is quiet listener happen =
-        subst (λ r. GoesOn bus new (λ past after. RunsSo line past after r)) (sym told)
-        (GoesOn-weaker (happen (shared (is_node winner) Sent Received) (share senders _ Sent Received one))
-        (λ past after led here e. record {
+        → GoesOn bus new (λ past after. DecidesBetween line past after decided)
+    heard decided noted due noted_is quiet listener happen =
+        GoesOn-weaker (happen (shared (is_node winner) Sent Received) (share senders _ Sent Received one))
+        (λ past after led here e. by_due past after led (record {
           won = won_by past led;
           no_fault = quiet;
           listener = listener.0;
           another = listener.1;
           listens = on_same past bus led listener.0 ∙ listener.2;
           happened = e ∙ ap (λ n. happens (shared (is_node winner) Sent Received) n past) noted_is;
-        }))
+        }) decided due)

@@ -23,11 +23,13 @@ pub record LedTo (past : BusPast) (bus : Bus) : Type 0 where
   pub status : IsHeldAfter past.steps bus.status
   pub loaded : bus.loaded ≡ past.loaded
   pub loops_back : bus.loops_back ≡ past.loops_back
+  pub choice : bus.choice ≡ past.choice
 
--- a call keeps the profile and the nodes
+-- a call keeps the profile, the nodes and the choice
 pub record IsSameBus (old new : Bus) : Type 0 where
   pub profile : new.profile ≡ old.profile
   pub others : new.others ≡ old.others
+  pub choice : new.choice ≡ old.choice
 
 -- each past that may have led to the old bus goes on to one that may have led to the new one, and between them this holds
 pub record GoesOn (old new : Bus) (what : BusPast → BusPast → Type 0) : Type 0 where

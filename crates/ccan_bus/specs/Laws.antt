@@ -1,14 +1,17 @@
 -- Laws of arbitration and of rounds, in the words of CAN Specification 2.0, part B ("Arbitration", "Arbitration Field",
 -- "Fault Confinement"); those of loads and of loop back mode are this project's own. They hold of every memory that meets
 -- `Access`.
-use Rattle.std.specs.Prelude.{ℕ, ◌≡◌, ◌≢◌, ◌≤◌, ◌/◌, ◌^◌, ◌↔◌, Bool, true, false, IsTrue, List, ◌∷◌, ◌++◌, Option, Some, None, slice_get, if◌then◌else◌}
+use Rattle.std.specs.Prelude.{ℕ, ◌≡◌, ◌≢◌, ◌<◌, ◌≤◌, ◌+◌, ◌/◌, ◌^◌, ◌⊎◌, ◌↔◌, Bool, true, false, IsTrue, List, ◌∷◌, ◌++◌, Option, Some, None, slice_get, if◌then◌else◌}
 use Rattle.ccan_object.specs.declared.record.Record.{Record}
 use Rattle.ccan_accept.specs.declared.frame.Frame.{Frame}
 use Rattle.ccan_accept.specs.Frame.{IsFrame}
 use Rattle.ccan_accept.specs.Send.{frame_of}
-use Rattle.ccan_ram.specs.declared.change.Change.TheVariants.{Store}
+use Rattle.ccan_ram.specs.declared.change.Change.TheVariants.{Start, Store}
 use Rattle.ccan_ram.specs.declared.event.Event.{Event}
+use Rattle.ccan_ram.specs.Change.{fits}
+use Rattle.ccan_ram.specs.History.{record_at}
 use Rattle.ccan_ram.specs.Terms.{Terms}
+use Rattle.ccan_handler.specs.Moment.{AtOneMoment, IsWithdrawn}
 use Rattle.ccan_handler.specs.Scan.{Scan, ScanEnd}
 use Rattle.ccan_confine.specs.declared.bus_event.BusEvent.{BusEvent}
 use Rattle.ccan_confine.specs.declared.bus_event.BusEvent.TheVariants.{Sent}
@@ -18,6 +21,7 @@ use Rattle.ccan_bus.specs.declared.round_line.RoundLine.{RoundLine}
 use Rattle.ccan_bus.specs.declared.answer.LoadAnswer.TheVariants as load
 use Rattle.ccan_bus.specs.declared.answer.RoundAnswer.{RoundAnswer}
 use Rattle.ccan_bus.specs.declared.answer.RoundAnswer.TheVariants as answer
+use Rattle.ccan_bus.specs.declared.choice.Choice.TheVariants.{AtOnce}
 use Rattle.ccan_bus.specs.Arbitration.{arbitration_bits, precedes, Arbitrates}
 use Rattle.ccan_bus.specs.Past.{BusPast, is_on, hears_itself}
 use Rattle.ccan_bus.specs.Contenders.{IsWonBy, contenders_of}
@@ -124,6 +128,14 @@ LoopsWhatWasLoaded =
     → Loads terms tries earlier loading before loaded (load.Loaded object started) → past.loaded ≡ loaded.loaded
     → Round terms line tries seen added past after (answer.Looped place finished found)
     → (place ≡ object) × EndsInScanFor terms tries (frame_of started) seen added
+
+-- what is loaded by a choice at one moment was ready then, and no object before it was, but for those that are no more
+abbrev pub LoadsAreOfOneMoment : Type 0
+LoadsAreOfOneMoment =
+    (terms : Terms) (tries object : ℕ) (started : Record) (seen added : List Event) (past after : BusPast)
+    → past.choice ≡ AtOnce → Loads terms tries seen added past after (load.Loaded object started)
+    → AtOneMoment seen added (λ h. (fits Start (record_at object h) ≡ true)
+    × ((k : ℕ) → k + 1 < object → (fits Start (record_at (k + 1) h) ≡ false) ⊎ IsWithdrawn terms tries (k + 1) seen added))
 
 -- nothing is loaded after a round that wasn't idle
 abbrev pub NothingIsLoadedAfterwards : Type 0

@@ -2,12 +2,15 @@ pub mod Arbitration
 pub mod Lead
 pub mod RoundLine
 pub mod Nodes
+pub mod Choice
 pub mod Past
 pub mod Bus
 pub mod Contenders
 pub mod Load
 pub mod LoopBack
 pub mod Round
-pub mod Course
-pub mod Transfer
+pub mod Decision
+pub mod Decide
+pub mod Complete
+pub mod RoundReport
 pub mod Laws

@@ -8,6 +8,8 @@ use Rattle.ccan_confine.specs.declared.status_event.StatusEvent.{StatusEvent}
 use Rattle.ccan_confine.specs.declared.status_event.StatusEvent.TheVariants as status
 use Rattle.ccan_confine.specs.Counters.{Levels, is_off, NodeEvent, Bus, Groups, ClearInit, levels_after_all, is_recovering_after}
 use Rattle.ccan_confine.specs.Status.{StatusStep, Happened}
+use Rattle.ccan_bus.specs.declared.choice.Choice.{Choice}
+use Rattle.ccan_bus.specs.declared.choice.Choice.TheVariants.{InTurn, AtOnce}
 
 pub record BusPast : Type 0 where
   -- how many other nodes there are; node 0 is the controller
@@ -20,13 +22,24 @@ pub record BusPast : Type 0 where
   pub loaded : Option (ℕ × Record)
   -- loop back mode
   pub loops_back : Bool
+  -- how it chooses what it sends next
+  pub choice : Choice
 
 abbrev pub is_controller : ℕ → Bool
 is_controller node = node == 0
 
 -- a bus as it opens
+abbrev pub opened_with : Choice → ℕ → BusPast
+opened_with choice others =
+    record { others = others; events = λ node. []; steps = []; loaded = None; loops_back = false; choice = choice }
+
+-- one that chooses object after object, as scripts have it
 abbrev pub opened : ℕ → BusPast
-opened others = record { others = others; events = λ node. []; steps = []; loaded = None; loops_back = false }
+opened others = opened_with InTurn others
+
+-- and one that chooses at one moment
+abbrev pub opened_at_once : ℕ → BusPast
+opened_at_once others = opened_with AtOnce others
 
 -- the error counters of a node
 abbrev pub levels_at : BusPast → ℕ → Levels
@@ -70,6 +83,7 @@ happens event noted past =
       steps = steps_after event noted past;
       loaded = None;
       loops_back = past.loops_back;
+      choice = past.choice;
     }
 
 -- in loop back mode a transfer ends: the controller has sent, the Status register has Sent and then Received, and nothing
@@ -83,6 +97,7 @@ sends_to_itself past =
           Happened status.Received (own_levels (Bus Sent) past) ∷ Happened status.Sent (own_levels (Bus Sent) past) ∷ past.steps;
       loaded = None;
       loops_back = past.loops_back;
+      choice = past.choice;
     }
 
 -- ---- what a clearing of Init and recessive bits add

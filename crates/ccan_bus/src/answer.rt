@@ -1,7 +1,7 @@
 use ccan_object::{ObjectNo, Record};
 
 /// What came of a load.
-#[derive(Clone, Copy, PartialEq, Eq, Debug)]
+#[derive(Clone, Copy, PartialEq, Eq, Hash, Debug)]
 pub enum LoadAnswer {
     /// The transmission of this object was started; the record is that after the start.
     Loaded(ObjectNo, Record),
@@ -16,7 +16,7 @@ pub enum LoadAnswer {
 }
 
 /// What came of a round. Records are those after the memory step.
-#[derive(Clone, Copy, PartialEq, Eq, Debug)]
+#[derive(Clone, Copy, PartialEq, Eq, Hash, Debug)]
 pub enum RoundAnswer {
     /// No frame contended.
     Idle,

@@ -5,6 +5,7 @@ ghost use Rattle.ccan_confine.specs.Counters.{AreAfter};
 ghost use Rattle.ccan_confine.specs.Status.{Enabled, IsPending};
 ghost use Rattle.ccan_confine.specs.StatusEvent.{HasFaultCode};
 
+use crate::choice::Choice;
 use crate::nodes::{grouped, new_nodes};
 use ccan_confine::{Counters, Status, StatusEvent};
 use ccan_object::{ObjectNo, Profile, Record};
@@ -24,7 +25,7 @@ fn recovery_of(groups: u16, recovering: bool) -> StatusEvent
 
 /// The bus: the controller (node 0) and up to eight other nodes, with the error counters of each, the Status register and
 /// what the controller is about to send.
-#[derive(Drop)]
+#[derive(Clone, Copy, PartialEq, Eq, Hash, Debug)]
 pub struct Bus {
     pub(crate) profile: Profile,
     pub(crate) others: u8,
@@ -32,6 +33,7 @@ pub struct Bus {
     pub(crate) status: Status,
     pub(crate) loaded: Option<(ObjectNo, Record)>,
     pub(crate) loops_back: bool,
+    pub(crate) choice: Choice,
     ghost few: { others ≤ 8 },
     ghost all: { length nodes ≡ 9 },
     ghost held: { ForSome loaded (λ found. Holds profile found.0) },
@@ -39,14 +41,33 @@ pub struct Bus {
 
 impl Bus {
     ghost use Rattle.ccan_bus.specs.Bus.{GoesOn, IsSameBus, LedTo, ReadsStatus};
-    ghost use Rattle.ccan_bus.specs.Past.{BusPast, clears_init, is_controller, opened, recovers};
+    ghost use Rattle.ccan_bus.specs.Past.{BusPast, clears_init, is_controller, opened, opened_at_once};
+    ghost use Rattle.ccan_bus.specs.Past.{opened_with, recovers};
 
     /// A bus with so many other nodes, to which nothing happened yet. Loop back mode is off. The profile is that of the
-    /// message RAM with which its calls will be made.
+    /// message RAM with which its calls will be made. It chooses what it sends object after object.
     pub fn new(profile: Profile, nodes: u8) -> Bus
         requires { nodes ≤ 8 }
         ensures same_profile { result.profile ≡ profile }
         ensures opened { LedTo (opened nodes) result }
+    {
+        Bus::opened(profile, nodes, Choice::InTurn)
+    }
+
+    /// The same, but it chooses what it sends at one moment, as the part does.
+    pub fn choosing_at_once(profile: Profile, nodes: u8) -> Bus
+        requires { nodes ≤ 8 }
+        ensures same_profile { result.profile ≡ profile }
+        ensures opened { LedTo (opened_at_once nodes) result }
+    {
+        Bus::opened(profile, nodes, Choice::AtOnce)
+    }
+
+    /// A bus as it opens, which makes this choice.
+    fn opened(profile: Profile, nodes: u8, choice: Choice) -> Bus
+        requires { nodes ≤ 8 }
+        ensures same_profile { result.profile ≡ profile }
+        ensures opened { LedTo (opened_with choice nodes) result }
     {
         Bus {
             profile,
@@ -55,7 +76,15 @@ impl Bus {
             status: Status::new(),
             loaded: None,
             loops_back: false,
+            choice,
         }
+    }
+
+    /// How it chooses what it sends next.
+    pub fn choice(&self) -> Choice
+        ensures { result ≡ self.now.choice }
+    {
+        self.choice
     }
 
     /// How many nodes there are beside the controller.

@@ -1,9 +1,10 @@
 //! Laws of arbitration and of rounds. The functions do nothing: their contracts are the laws.
 
 ghost use Rattle.ccan_bus.specs.Laws.{AtMostOneSends, DataBeatsRemote, LeastUpperPartWins, LinesAreUnheardInLoopBack};
-ghost use Rattle.ccan_bus.specs.Laws.{LoopsWhatWasLoaded, NothingIsLoadedAfterwards, OffNodesHaveNoEvent};
+ghost use Rattle.ccan_bus.specs.Laws.{LoadsAreOfOneMoment, LoopsWhatWasLoaded, NothingIsLoadedAfterwards, OffNodesHaveNoEvent};
 ghost use Rattle.ccan_bus.specs.Laws.{OneSendsExactlyOnSuccess, OthersRestInLoopBack, RefusedLoadsLeaveAll};
 ghost use Rattle.ccan_bus.specs.Laws.{SendsWhatWasLoaded, StandardBeatsExtended};
+ghost use Rattle.ccan_bus.specs.RoundReport.{RoundsAreTheirSteps};
 
 /// A data frame wins over the remote frame with the same identifier.
 pub fn data_beats_remote()
@@ -18,6 +19,11 @@ pub fn standard_beats_extended()
 /// The upper eleven bits of the winner's identifier are, as a number, no greater than any other's.
 pub fn least_upper_part_wins()
     ensures { LeastUpperPartWins }
+{}
+
+/// A round is a load, a decision that needs no memory, and the memory steps that are due; and nothing else is a round.
+pub fn rounds_are_their_steps()
+    ensures { RoundsAreTheirSteps }
 {}
 
 /// In every round at most one node sends its frame well.
@@ -43,6 +49,11 @@ pub fn sends_what_was_loaded()
 /// A round in loop back mode sends and receives what was loaded, whatever hosts wrote in between.
 pub fn loops_what_was_loaded()
     ensures { LoopsWhatWasLoaded }
+{}
+
+/// What is loaded by a choice at one moment was ready then, and no object before it was, but for those that are no more.
+pub fn loads_are_of_one_moment()
+    ensures { LoadsAreOfOneMoment }
 {}
 
 /// Nothing is loaded after a round that wasn't idle.

@@ -5,7 +5,7 @@ ghost use Rattle.ccan_bus.specs.Load.{Loads, refusal_of_load};
 
 use crate::answer::LoadAnswer;
 use crate::bus::Bus;
-use ccan_handler::{ScanRefused, choose};
+use ccan_handler::ScanRefused;
 use ccan_object::{ObjectNo, Record};
 use ccan_ram::{Access, Refused, Tries};
 
@@ -33,7 +33,15 @@ fn refusal_of_load(refused: ScanRefused) -> LoadAnswer
 }
 
 impl Bus {
-    ghost use Rattle.ccan_bus.specs.Bus.{GoesOnWith, IsSameBus};
+    ghost use Rattle.ccan_bus.specs.Bus.{GoesOnWith, IsSameBus, LedTo};
+    ghost use Rattle.ccan_bus.specs.Past.{BusPast};
+
+    /// The object whose transmission was started and whose frame has not been sent yet, with its record after the start.
+    pub fn loaded(&self) -> Option<(ObjectNo, Record)>
+        ensures { (past : BusPast) → LedTo past self.now → result ≡ past.loaded }
+    {
+        self.loaded
+    }
 
     /// Chooses and starts an object, where the controller is on and nothing is loaded.
     pub fn load<A: Access>(&mut self, access: &mut A, tries: Tries) -> LoadAnswer
@@ -58,7 +66,7 @@ impl Bus {
     {
         let is_on = self.is_on(0);
         if is_on {
-            match choose(access, tries) {
+            match self.choice.start(access, tries) {
                 Ok(Some((object, started))) => {
                     self.loaded = loaded(object, &started);
                     loaded_answer(object, &started)

@@ -1,5 +1,5 @@
 -- What one picture shows, and the choice among its objects.
-use Rattle.std.proofs.Common.{ℕ, suc, ◌≡◌, ◌≤◌, ◌<◌, ◌+◌, ◌^◌, ◌++◌, true, false, refl, subst, arith, inl, inr, ⊎_elim, Option, None, Result, Ok}
+use Rattle.std.proofs.Common.{ℕ, suc, ◌≡◌, ◌≤◌, ◌<◌, ◌+◌, ◌^◌, List, ◌++◌, true, false, refl, subst, arith, inl, inr, ⊎_elim, Option, None, Result, Ok}
 use Rattle.std.proofs.lemmas.Bool.{cases_lt}
 use Rattle.std.proofs.lemmas.Nat.Bits.{bit_at_above, bit_at-trailing_zeros}
 use Rattle.std.specs.Int.{trailing_zeros, w64}
@@ -9,11 +9,14 @@ use Rattle.ccan_object.specs.Profile.{objects_in}
 use Rattle.ccan_ram.specs.declared.change.Refused.{Refused}
 use Rattle.ccan_ram.specs.declared.flag.Flag.{Flag}
 use Rattle.ccan_ram.specs.declared.handler_registers.HandlerRegisters.{HandlerRegisters}
+use Rattle.ccan_ram.specs.declared.event.Event.{Event}
 use Rattle.ccan_ram.specs.Access.{Passes, Goes}
+use Rattle.ccan_ram.specs.Terms.{Terms}
 use Rattle.ccan_ram.specs.HandlerRegisters.{register_of}
 use Rattle.ccan_ram.specs.Picture.{AddsPicture}
 use Rattle.ccan_ram.proofs.Calls.{Goes-then, Goes-none, Goes-weaker}
 use Rattle.ccan_handler.specs.declared.scan.ScanRefused.{ScanRefused}
+use Rattle.ccan_handler.specs.Scan.{IsStarted}
 use Rattle.ccan_handler.specs.Moment.{IsFirstSet, AddsFlagsAtOnce, AddsInterruptAtOnce, Starts, Skips, StopsAtOne, AddsStart, AddsChoiceAmong, AddsChoiceAtOnce}
 
 pub flags_of_picture : {x y : Passes} (flag : Flag) (word : ℕ) (shown : HandlerRegisters) → AddsPicture x y shown
@@ -83,6 +86,11 @@ pub all_skipped : {x y : Passes} (shown : HandlerRegisters) (tries n : ℕ) → 
     → Goes x y (λ terms seen added. Skips terms shown tries n seen added) → AddsChoiceAmong x y shown tries (Ok None)
 all_skipped {x} shown tries n all so_far =
     Goes-weaker so_far (λ seen added here after p. subst (λ (k : ℕ). Skips x.terms shown tries k seen added) all p)
+
+-- a start that was made after others
+pub started_later : {x y : Passes} {what : Terms → List Event → List Event → Type 0} (chosen : ℕ × Record) → Goes x y what
+    → IsStarted y.terms 1 chosen → IsStarted x.terms 1 chosen
+started_later chosen goes started = subst (λ (t : Terms). IsStarted t 1 chosen) goes.same started
 
 pub chosen_at_once : {x y z : Passes} (shown : HandlerRegisters) (tries : ℕ) (answer : Result (Option (ℕ × Record)) ScanRefused)
     → AddsPicture x y shown → AddsChoiceAmong y z shown tries answer → AddsChoiceAtOnce x z tries answer

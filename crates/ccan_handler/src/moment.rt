@@ -1,8 +1,9 @@
 //! What is answered of one moment: from one picture of all objects.
-ghost use Rattle.std.specs.Prelude.{◌≡◌, ◌<◌, ◌^◌};
+ghost use Rattle.std.specs.Prelude.{◌≡◌, ◌<◌, ◌^◌, IfOk, IfSome};
 ghost use Rattle.ccan_object.specs.Profile.{Holds, objects_in};
 ghost use Rattle.ccan_handler.specs.Moment.{AddsChoiceAmong, AddsChoiceAtOnce, AddsFlagsAtOnce, AddsInterruptAtOnce};
 ghost use Rattle.ccan_handler.specs.Moment.{AddsStart, IsFirstSet, was_ready};
+ghost use Rattle.ccan_handler.specs.Scan.{IsStarted, StartsWhatIsReady};
 ghost use Rattle.ccan_handler.specs.Watch.{InterruptTells};
 
 use crate::objects::nth;
@@ -51,6 +52,7 @@ pub fn choose_at_once<A: Access>(
     tries: Tries,
 ) -> Result<Option<(ObjectNo, Record)>, ScanRefused>
     ensures adds { AddsChoiceAtOnce (A.passes access.old) (A.passes access.new) tries result }
+    ensures made { StartsWhatIsReady (A.passes access.old).terms 1 result }
 {
     let shown = access.look_all();
     choose_among(access, shown, tries)
@@ -63,6 +65,7 @@ fn choose_among<A: Access>(
     tries: Tries,
 ) -> Result<Option<(ObjectNo, Record)>, ScanRefused>
     ensures adds { AddsChoiceAmong (A.passes access.old) (A.passes access.new) shown tries result }
+    ensures made { StartsWhatIsReady (A.passes access.old).terms 1 result }
 {
     for place in 0..access.profile().objects() {
         let object = nth(place + 1);
@@ -84,6 +87,8 @@ fn start<A: Access>(
 ) -> Result<Option<Record>, Refused>
     requires held { Holds (A.passes access.old).terms.profile object }
     ensures adds { AddsStart (A.passes access.old) (A.passes access.new) shown object tries result }
+    ensures made { let terms = (A.passes access.old).terms in
+        IfOk result (λ found. IfSome found (λ after. IsStarted terms 1 (object, after))) }
 {
     if !was_ready(shown, object) {
         return Ok(None);

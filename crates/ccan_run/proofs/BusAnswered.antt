@@ -22,6 +22,9 @@ use Rattle.ccan_bus.specs.declared.answer.RoundAnswer.{RoundAnswer}
 use Rattle.ccan_bus.specs.declared.answer.RoundAnswer.TheVariants as round
 use Rattle.ccan_bus.specs.declared.round_line.RoundLine.{RoundLine}
 use Rattle.ccan_bus.specs.Past.{BusPast, hears_itself}
+use Rattle.ccan_bus.specs.declared.choice.Choice.{Choice}
+use Rattle.ccan_bus.specs.declared.choice.Choice.TheVariants.{InTurn, AtOnce}
+use Rattle.ccan_bus.specs.Choice.{Chooses}
 use Rattle.ccan_bus.specs.Load.{Loads}
 use Rattle.ccan_bus.specs.LoopBack.{LoopsBack}
 use Rattle.ccan_bus.specs.Round.{Round, Contends, Transfers, Continues, refusal_of_round}
@@ -85,11 +88,20 @@ module _ (terms : Terms) (bus : terms.port ≡ Bus) (tries : ℕ) where
       (newest_changed h.last t.tried t.looked t.whole object change after
       (made object change (t.looked ++ (h.passed ++ seen)) t.tried before after number t.attempt))
 
+  chosen : (choice : Choice) (object : ℕ) (seen added : List Event) (started : Record)
+      → Chooses choice terms tries seen added (Ok (Some (object, started))) → WasChanged object Start started added
+  chosen InTurn object seen added started (before, number, h) = scanned object 1 Start seen added before started number h
+  chosen AtOnce object seen added started h =
+      let s = h.choice in
+      newest_changed added h.tried h.looked h.whole object Start started
+      (newest_changed h.tried s.last s.skipped s.whole object Start started
+      (made object Start (s.skipped ++ (h.looked ++ seen)) s.last s.start.1 started s.start.2 s.start.3))
+
   -- ---- loads and rounds
 
   loads : (seen added : List Event) (past after : BusPast) (loading : LoadAnswer) → Loads terms tries seen added past after loading
       → BusShownBy terms.profile (answer.Load loading) added
-  loads seen added past after (load.Loaded object started) h = scanned object 1 Start seen added h.before started h.number h.scan.scan
+  loads seen added past after (load.Loaded object started) h = chosen past.choice object seen added started h.choice.chooses
   loads seen added past after (load.Held object) h = tt
   loads seen added past after load.Nothing h = tt
   loads seen added past after (load.Busy object) h = tt

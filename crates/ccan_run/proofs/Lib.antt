@@ -9,6 +9,7 @@ pub mod Printed
 pub mod NeverBusy
 pub mod LooksOnce
 pub mod ScansOnce
+pub mod ChoicesOnce
 pub mod LoadsOnce
 pub mod WinsOnce
 pub mod LoopsOnce
@@ -19,6 +20,7 @@ pub mod CommandWords
 pub mod OtherWords
 pub mod AtOnce
 pub mod ScansApart
+pub mod ChoicesApart
 pub mod RoundsApart
 pub mod LinesApart
 pub mod Apart

@@ -1,17 +1,17 @@
--- A load, where nobody else acts: what is loaded, whether the controller is on and its scan decide what it adds and answers.
-use Rattle.std.proofs.Common.{◌≡◌, ◌≤◌, ℕ, true, false, List, [], ◌++◌, inl, inr, Option, Some, None, refl, sym, ap, ◌∙◌, true≢false}
+-- A load, where nobody else acts: what is loaded, whether the controller is on and its choice decide what it adds and answers.
+use Rattle.std.proofs.Common.{◌≡◌, ◌≤◌, ℕ, true, false, List, [], ◌++◌, inl, inr, Option, Some, None, Ok, Err, refl, sym, ap, ◌∙◌, true≢false}
 use Rattle.ccan_object.specs.declared.record.Record.{Record}
-use Rattle.ccan_ram.specs.declared.change.Change.TheVariants.{Start}
 use Rattle.ccan_ram.specs.declared.change.Refused.TheVariants.{Busy, Spent}
 use Rattle.ccan_ram.specs.declared.event.Event.{Event}
 use Rattle.ccan_ram.specs.History.{IsLegal}
 use Rattle.ccan_ram.specs.Terms.{Terms}
-use Rattle.ccan_handler.specs.Scan.{Scan, ScanEnd, Nowhere, MadeAt, RefusedAt}
+use Rattle.ccan_handler.specs.Moment.{Chosen}
 use Rattle.ccan_bus.specs.declared.answer.LoadAnswer.{LoadAnswer}
 use Rattle.ccan_bus.specs.declared.answer.LoadAnswer.TheVariants as load
 use Rattle.ccan_bus.specs.Past.{BusPast, is_on}
+use Rattle.ccan_bus.specs.Choice.{Chooses}
 use Rattle.ccan_bus.specs.Load.{Loads, refusal_of_load}
-use Rattle.ccan_run.proofs.ScansOnce.{scans_once}
+use Rattle.ccan_run.proofs.ChoicesOnce.{choices_once}
 
 same_pair : (x y : ℕ × Record) → Some x ≡ Some y → x ≡ y
 same_pair x y h = cc
@@ -25,16 +25,16 @@ one_loaded past object object' started started' is is' =
 pub some_none : {A : Type 0} (o : Option A) (x : A) → o ≡ Some x → o ≡ None → ⊥
 some_none o x is none = let both : Some x ≡ None = sym is ∙ none in absurd cc
 
--- the answer of a load whose scan ends so, and the past that it leaves
-abbrev load_of : ScanEnd → LoadAnswer
-load_of Nowhere = load.Nothing
-load_of (MadeAt object before started number) = load.Loaded object started
-load_of (RefusedAt object why) = refusal_of_load object why
+-- the answer of a load whose choice comes to this, and the past that it leaves
+abbrev load_of : Chosen → LoadAnswer
+load_of (Ok None) = load.Nothing
+load_of (Ok (Some chosen)) = load.Loaded chosen.0 chosen.1
+load_of (Err refused) = refusal_of_load refused.at refused.why
 
-abbrev left_by : BusPast → ScanEnd → BusPast
-left_by past Nowhere = past
-left_by past (MadeAt object before started number) = record past { loaded = Some (object, started) }
-left_by past (RefusedAt object why) = past
+abbrev left_by : BusPast → Chosen → BusPast
+left_by past (Ok None) = past
+left_by past (Ok (Some chosen)) = record past { loaded = Some chosen }
+left_by past (Err refused) = past
 
 -- a load is one of three things
 data Case (terms : Terms) (tries : ℕ) (seen added : List Event) (past after : BusPast) (loading : LoadAnswer) : Type 0 where
@@ -42,18 +42,18 @@ data Case (terms : Terms) (tries : ℕ) (seen added : List Event) (past after : 
       → Case terms tries seen added past after loading
   off : past.loaded ≡ None → is_on past 0 ≡ false → loading ≡ load.Nothing → added ≡ [] → after ≡ past
       → Case terms tries seen added past after loading
-  scanned : (end : ScanEnd) → past.loaded ≡ None → is_on past 0 ≡ true → Scan terms Start 1 tries seen added end → loading ≡ load_of end
-      → after ≡ left_by past end → Case terms tries seen added past after loading
+  chose : (chosen : Chosen) → past.loaded ≡ None → is_on past 0 ≡ true → Chooses past.choice terms tries seen added chosen
+      → loading ≡ load_of chosen → after ≡ left_by past chosen → Case terms tries seen added past after loading
 
 module _ (terms : Terms) (tries : ℕ) (seen : List Event) (past : BusPast) where
   case_of : (added : List Event) (after : BusPast) (loading : LoadAnswer) → Loads terms tries seen added past after loading
       → Case terms tries seen added past after loading
-  case_of added after (load.Loaded object started) h = scanned (MadeAt object h.before started h.number) h.scan.empty h.scan.on h.scan.scan refl h.now_loaded
+  case_of added after (load.Loaded object started) h = chose (Ok (Some (object, started))) h.choice.empty h.choice.on h.choice.chooses refl h.now_loaded
   case_of added after (load.Held object) h = held object h.started h.held refl h.quiet h.same
   case_of added after load.Nothing (inl h) = off h.empty h.off refl h.quiet h.same
-  case_of added after load.Nothing (inr h) = scanned Nowhere h.scan.empty h.scan.on h.scan.scan refl h.same
-  case_of added after (load.Busy object) (told, now, h) = scanned (RefusedAt object (Busy told now)) h.scan.empty h.scan.on h.scan.scan refl h.same
-  case_of added after (load.Spent object) h = scanned (RefusedAt object Spent) h.scan.empty h.scan.on h.scan.scan refl h.same
+  case_of added after load.Nothing (inr h) = chose (Ok None) h.choice.empty h.choice.on h.choice.chooses refl h.same
+  case_of added after (load.Busy object) (told, now, h) = chose (Err (record { at = object; why = Busy told now })) h.choice.empty h.choice.on h.choice.chooses refl h.same
+  case_of added after (load.Spent object) h = chose (Err (record { at = object; why = Spent })) h.choice.empty h.choice.on h.choice.chooses refl h.same
 
   abbrev Same : List Event → List Event → BusPast → BusPast → LoadAnswer → LoadAnswer → Type 0
   Same added added' after after' loading loading' = (added ≡ added') × (after ≡ after') × (loading ≡ loading')
@@ -64,14 +64,14 @@ module _ (terms : Terms) (tries : ℕ) (seen : List Event) (past : BusPast) wher
     cases_once (held object started is told none same) (held object' started' is' told' none' same') =
         (none ∙ sym none', same ∙ sym same', told ∙ ap load.Held (one_loaded past object object' started started' is is').0 ∙ sym told')
     cases_once (held object started is told none same) (off is' _ _ _ _) = absurd (some_none past.loaded _ is is')
-    cases_once (held object started is told none same) (scanned _ is' _ _ _ _) = absurd (some_none past.loaded _ is is')
+    cases_once (held object started is told none same) (chose _ is' _ _ _ _) = absurd (some_none past.loaded _ is is')
     cases_once (off is _ _ _ _) (held object' started' is' _ _ _) = absurd (some_none past.loaded _ is' is)
     cases_once (off is _ told none same) (off is' _ told' none' same') = (none ∙ sym none', same ∙ sym same', told ∙ sym told')
-    cases_once (off is out _ _ _) (scanned _ is' on _ _ _) = absurd (true≢false (sym on ∙ out))
-    cases_once (scanned _ is _ _ _ _) (held object' started' is' _ _ _) = absurd (some_none past.loaded _ is' is)
-    cases_once (scanned _ is on _ _ _) (off is' out _ _ _) = absurd (true≢false (sym on ∙ out))
-    cases_once (scanned end is on scan told same) (scanned end' is' on' scan' told' same') =
-        let once = scans_once terms alone Start tries some 1 seen added added' legal legal' end end' scan scan' in
+    cases_once (off is out _ _ _) (chose _ is' on _ _ _) = absurd (true≢false (sym on ∙ out))
+    cases_once (chose _ is _ _ _ _) (held object' started' is' _ _ _) = absurd (some_none past.loaded _ is' is)
+    cases_once (chose _ is on _ _ _) (off is' out _ _ _) = absurd (true≢false (sym on ∙ out))
+    cases_once (chose chosen is on choice told same) (chose chosen' is' on' choice' told' same') =
+        let once = choices_once terms alone tries some past.choice seen added added' chosen chosen' legal legal' choice choice' in
         (once.0, same ∙ ap (left_by past) once.1 ∙ sym same', told ∙ ap load_of once.1 ∙ sym told')
 
     pub loads_once : Loads terms tries seen added past after loading → Loads terms tries seen added' past after' loading'

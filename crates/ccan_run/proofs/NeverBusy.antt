@@ -24,6 +24,9 @@ use Rattle.ccan_bus.specs.declared.answer.RoundAnswer.{RoundAnswer}
 use Rattle.ccan_bus.specs.declared.answer.RoundAnswer.TheVariants as round
 use Rattle.ccan_bus.specs.declared.round_line.RoundLine.{RoundLine}
 use Rattle.ccan_bus.specs.Past.{BusPast, hears_itself}
+use Rattle.ccan_bus.specs.declared.choice.Choice.{Choice}
+use Rattle.ccan_bus.specs.declared.choice.Choice.TheVariants.{InTurn, AtOnce}
+use Rattle.ccan_bus.specs.Choice.{Chooses}
 use Rattle.ccan_bus.specs.Load.{Loads}
 use Rattle.ccan_bus.specs.LoopBack.{IsLoopRefused, AtFinish, AtScan}
 use Rattle.ccan_bus.specs.Round.{Round, Transfers, Continues, IsRefused, RefusedFinish, RefusedScan, refusal_of_round}
@@ -54,6 +57,11 @@ module _ (terms : Terms) (alone : terms.alone ≡ true) (tries : ℕ) (some : 1 
   never_scanned : (change : Change) (object from : ℕ) (seen added : List Event) (told now : ℕ)
       → Scan terms change from tries seen added (RefusedAt object (refused.Busy told now)) → ⊥
   never_scanned change object from seen added told now scan = never object change _ _ told now scan.try.attempt
+
+  never_chosen : (choice : Choice) (object : ℕ) (seen added : List Event) (told now : ℕ)
+      → Chooses choice terms tries seen added (Err (record { at = object; why = refused.Busy told now })) → ⊥
+  never_chosen InTurn object seen added told now h = never_scanned Start object 1 seen added told now h
+  never_chosen AtOnce object seen added told now h = never object Start _ h.choice.last told now h.choice.start.1
 
   -- ---- a line of a host
 
@@ -90,7 +98,7 @@ module _ (terms : Terms) (alone : terms.alone ≡ true) (tries : ℕ) (some : 1 
   loads seen added past after (load.Loaded object started) h = tt
   loads seen added past after (load.Held object) h = tt
   loads seen added past after load.Nothing h = tt
-  loads seen added past after (load.Busy object) (told, now, h) = absurd (never_scanned Start object 1 seen added told now h.scan.scan)
+  loads seen added past after (load.Busy object) (told, now, h) = absurd (never_chosen past.choice object seen added told now h.choice.chooses)
   loads seen added past after (load.Spent object) h = tt
 
   refused_busy : (sends : RoundLine) (seen added : List Event) (past after : BusPast) (object told now : ℕ)

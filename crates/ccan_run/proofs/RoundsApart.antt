@@ -2,7 +2,7 @@
 use Rattle.std.proofs.Common.{◌≤◌, ℕ, Bool, true, false, List, ◌++◌, inl, inr, Option, Some, None, Result}
 use Rattle.ccan_object.specs.declared.record.Record.{Record}
 use Rattle.ccan_accept.specs.declared.frame.Frame.{Frame}
-use Rattle.ccan_ram.specs.declared.change.Change.TheVariants.{Start, Finish, Store}
+use Rattle.ccan_ram.specs.declared.change.Change.TheVariants.{Store, Finish}
 use Rattle.ccan_ram.specs.declared.change.Changed.{Changed}
 use Rattle.ccan_ram.specs.declared.change.Refused.{Refused}
 use Rattle.ccan_ram.specs.declared.event.Event.{Event}
@@ -10,6 +10,7 @@ use Rattle.ccan_ram.specs.History.{NobodyElse}
 use Rattle.ccan_ram.specs.Terms.{Terms}
 use Rattle.ccan_ram.specs.Laws.{as_one_thread}
 use Rattle.ccan_ram.proofs.Undisturbed.{attempts_undisturbed}
+use Rattle.ccan_handler.specs.Moment.{Chosen}
 use Rattle.ccan_handler.specs.Scan.{ScanEnd}
 use Rattle.ccan_bus.specs.declared.round_line.RoundLine.{RoundLine}
 use Rattle.ccan_bus.specs.declared.answer.LoadAnswer.{LoadAnswer}
@@ -17,9 +18,10 @@ use Rattle.ccan_bus.specs.declared.answer.LoadAnswer.TheVariants as load
 use Rattle.ccan_bus.specs.declared.answer.RoundAnswer.{RoundAnswer}
 use Rattle.ccan_bus.specs.declared.answer.RoundAnswer.TheVariants as answer
 use Rattle.ccan_bus.specs.Past.{BusPast, hears_itself}
-use Rattle.ccan_bus.specs.Load.{IsLoadScan, IsLoadRefused, Loads}
+use Rattle.ccan_bus.specs.Load.{IsLoadChoice, IsLoadRefused, Loads}
 use Rattle.ccan_bus.specs.LoopBack.{IsLoopFinish, IsLoop, IsLoopRefused, AtFinish, AtScan, LoopsBack}
 use Rattle.ccan_bus.specs.Round.{Round, Contends, Transfers, Continues, IsFinish, IsReceipt, IsRefused, RefusedFinish, RefusedScan, refusal_of_round}
+use Rattle.ccan_run.proofs.ChoicesApart.{choices_apart}
 use Rattle.ccan_run.proofs.ScansApart.{apart, scans_apart}
 
 module _ (terms : Terms) (tries : ℕ) (some : 1 ≤ tries) where
@@ -28,27 +30,25 @@ module _ (terms : Terms) (tries : ℕ) (some : 1 ≤ tries) where
 
   -- ---- a load
 
-  load_scans : (seen added : List Event) (past : BusPast) (end : ScanEnd) → NobodyElse terms.port added
-      → IsLoadScan terms tries seen added past end → IsLoadScan single tries seen added past end
-  load_scans seen added past end alone h =
-      record { empty = h.empty; on = h.on; scan = scans_apart terms Start tries some 1 seen added end alone h.scan }
+  load_choices : (seen added : List Event) (past : BusPast) (chosen : Chosen) → NobodyElse terms.port added
+      → IsLoadChoice terms tries seen added past chosen → IsLoadChoice single tries seen added past chosen
+  load_choices seen added past chosen alone h =
+      record { empty = h.empty; on = h.on; chooses = choices_apart terms tries some past.choice seen added chosen alone h.chooses }
 
   load_refused : (seen added : List Event) (past after : BusPast) (object : ℕ) (why : Refused) → NobodyElse terms.port added
       → IsLoadRefused terms tries seen added past after object why → IsLoadRefused single tries seen added past after object why
-  load_refused seen added past after object why alone h = record { scan = load_scans seen added past _ alone h.scan; same = h.same }
+  load_refused seen added past after object why alone h = record { choice = load_choices seen added past _ alone h.choice; same = h.same }
 
   pub loads_apart : (seen added : List Event) (past after : BusPast) (loading : LoadAnswer) → NobodyElse terms.port added
       → Loads terms tries seen added past after loading → Loads single tries seen added past after loading
   loads_apart seen added past after (load.Loaded object started) alone h = record {
-    before = h.before;
-    number = h.number;
-    scan = load_scans seen added past _ alone h.scan;
+    choice = load_choices seen added past _ alone h.choice;
     now_loaded = h.now_loaded;
   }
   loads_apart seen added past after (load.Held object) alone h = h
   loads_apart seen added past after load.Nothing alone (inl off) = inl off
   loads_apart seen added past after load.Nothing alone (inr h) =
-      inr (record { scan = load_scans seen added past _ alone h.scan; same = h.same })
+      inr (record { choice = load_choices seen added past _ alone h.choice; same = h.same })
   loads_apart seen added past after (load.Busy object) alone (told, now, h) =
       (told, now, load_refused seen added past after object _ alone h)
   loads_apart seen added past after (load.Spent object) alone h = load_refused seen added past after object _ alone h

@@ -5,3 +5,4 @@ mod bench;
 mod contention;
 mod loops;
 mod rounds;
+mod steps;

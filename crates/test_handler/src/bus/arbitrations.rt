@@ -4,6 +4,7 @@ use super::bench::{empty_frame, frame};
 use arrayvec::ArrayVec;
 use ccan_accept::Frame;
 use ccan_bus::{Fault, Outcome, RoundLine, arbitrate, arbitration_bits, laws};
+use test_expect::{holds, same};
 
 // The upper eleven bits of the frames below: 0x123. As the upper part of an extended identifier it is 0x48c0000.
 const UPPER: [bool; 11] = [
@@ -40,7 +41,6 @@ enum Kind {
 }
 
 use Kind::*;
-use test_expect::{holds, same};
 
 /// The frame of a kind.
 fn of_kind(kind: Kind) -> Frame {
@@ -125,18 +125,27 @@ fn takes_lines_with_each_node_once(rt: HostRuntime) {
 }
 
 #[test]
-fn laws_are_there(rt: HostRuntime) {
+fn laws_of_arbitration_are_there() {
     laws::data_beats_remote();
     laws::standard_beats_extended();
     laws::least_upper_part_wins();
     laws::at_most_one_sends();
     laws::one_sends_exactly_on_success();
     laws::off_nodes_have_no_event();
+}
+
+#[test]
+fn laws_of_loads_are_there() {
     laws::sends_what_was_loaded();
-    laws::loops_what_was_loaded();
     laws::nothing_is_loaded_afterwards();
     laws::refused_loads_leave_all();
+    laws::loads_are_of_one_moment();
+}
+
+#[test]
+fn laws_of_rounds_are_there() {
+    laws::rounds_are_their_steps();
+    laws::loops_what_was_loaded();
     laws::others_rest_in_loop_back();
     laws::lines_are_unheard_in_loop_back();
-    holds(&rt, true);
 }

@@ -6,7 +6,7 @@ ghost use Rattle.ccan_ram.specs.Port.{IsQuota};
 
 use arrayvec::ArrayVec;
 use ccan_accept::Frame;
-use ccan_bus::{Bus, Fault, LoadAnswer, RoundAnswer, RoundLine};
+use ccan_bus::{Bus, Decision, Fault, LoadAnswer, RoundAnswer, RoundEnd, RoundLine, RoundReport};
 use ccan_confine::NodeState;
 use ccan_handler::interrupt;
 use ccan_object::{Iface, ObjectNo, Profile, Record, Reg};
@@ -131,6 +131,31 @@ impl Bench {
         self.bus.round(&mut self.ram, line, a_hundred_tries())
     }
 
+    /// A round in which these nodes send, with what came of each of its steps. None: its line can't be made.
+    pub fn report(&mut self, sends: &[(u8, Frame)], fault: Fault) -> Option<RoundReport> {
+        let line = line_of(sends, fault)?;
+        self.ram.at(PortName::Bus);
+        Some(
+            self.bus
+                .report_round(&mut self.ram, &line, a_hundred_tries()),
+        )
+    }
+
+    /// The same by a call for each step, where the load isn't refused.
+    pub fn steps(&mut self, sends: &[(u8, Frame)], fault: Fault) -> Option<RoundReport> {
+        let line = line_of(sends, fault)?;
+        self.ram.at(PortName::Bus);
+        let loading = self.bus.load(&mut self.ram, a_hundred_tries());
+        let decision = self.bus.decide(&line);
+        let end = decision.complete(&mut self.ram, a_hundred_tries());
+        Some(report_of(loading, decision, end))
+    }
+
+    /// What waits to be sent.
+    pub fn loaded(&self) -> Option<(ObjectNo, Record)> {
+        self.bus.loaded()
+    }
+
     /// TEC, REC and the state of a node.
     pub fn counters(&self, node: u8) -> (u16, u8, NodeState) {
         let counters = self.bus.counters(node.min(self.bus.others()));
@@ -177,6 +202,14 @@ fn line_of(sends: &[(u8, Frame)], fault: Fault) -> Option<RoundLine> {
         let _full = send.try_push(*sender);
     }
     RoundLine::new(8, send, fault)
+}
+
+fn report_of(loading: LoadAnswer, decision: Decision, end: RoundEnd) -> RoundReport {
+    RoundReport {
+        loading,
+        decision: Some(decision),
+        end,
+    }
 }
 
 /// A hundred tries for each change.

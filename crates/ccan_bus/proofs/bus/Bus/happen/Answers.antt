@@ -21,4 +21,5 @@ returns-clause-goes_on c = λ each shared.
       noted_off = λ off. c.noted-self.ensures.off (c.is_on-is_on.ensures ∙ off);
       loaded = refl;
       loops_back = refl;
+      choice = refl;
     }

@@ -10,7 +10,7 @@ returns-clause-goes_on c =
     record {
       each = λ past led. (
         _,
-        LedTo-step past bus _ _ refl refl refl refl c.read.ensures.listed led,
+        LedTo-step past bus _ _ refl refl refl refl refl c.read.ensures.listed led,
         record {
           value =
               c.read.ensures.answers past.steps led.status ∙ ap (word_after past.steps)

@@ -1,4 +1,4 @@
-//! What comes of the frames of a round, before any memory step.
+//! What a round decides before any memory step: what comes of its frames.
 
 ghost use Rattle.std.specs.Prelude.{ℕ, ◌≡◌, ◌<◌, ◌≤◌, true, false, ◌∷◌, ◌≢◌, ◌==◌, if◌then◌else◌};
 ghost use Rattle.std.specs.List.{filter};
@@ -8,32 +8,17 @@ ghost use Rattle.ccan_confine.specs.Status.{AddsStep, Happened};
 ghost use Rattle.ccan_confine.specs.StatusEvent.{HasFaultCode};
 ghost use Rattle.ccan_bus.specs.Nodes.{IsSharedOut};
 ghost use Rattle.ccan_bus.specs.Contenders.{IsWonBy, contenders, own_frame};
-ghost use Rattle.ccan_bus.specs.Course.{RunsSo};
+ghost use Rattle.ccan_bus.specs.Decide.{Decides, DecidesBetween, IsDue, IsOf};
 
 use crate::arbitration::{Outcome, arbitrate};
 use crate::bus::Bus;
 use crate::contenders::Contenders;
+use crate::decision::Decision;
 use crate::nodes::{counted, is_off, only};
+use crate::own::own_of;
 use crate::round_line::RoundLine;
 use ccan_accept::{Frame, frame_of};
 use ccan_confine::{BusEvent, Counters, Status, StatusEvent};
-
-/// What comes of the frames of a round.
-#[derive(Clone, Copy, PartialEq, Eq, Debug)]
-pub(crate) enum Course {
-    Idle,
-    Collision,
-    Fault,
-    NoAck,
-    /// This node's frame was sent and acknowledged.
-    Success(u8, Frame),
-}
-
-fn success(winner: u8, frame: &Frame) -> Course
-    ensures { result ≡ Course.Success winner frame.now }
-{
-    Course::Success(winner, *frame)
-}
 
 /// The Status register's event where a frame is sent and acknowledged.
 fn transfer_of(winner: u8) -> StatusEvent
@@ -70,7 +55,7 @@ fn noted(mut status: Status, is_on: bool, event: StatusEvent, controller: &Count
 
 impl Bus {
     ghost use Rattle.ccan_bus.specs.Bus.{GoesOn, IsSameBus, is_on_now};
-    ghost use Rattle.ccan_bus.specs.Past.{happens};
+    ghost use Rattle.ccan_bus.specs.Past.{happens, hears_itself};
 
     /// Whether a node is on.
     pub(crate) fn is_on(&self, node: u8) -> bool
@@ -143,41 +128,62 @@ impl Bus {
         found
     }
 
+    /// What a frame that was sent well calls for.
+    fn due(&self, winner: u8, frame: Frame) -> Decision
+        ensures due { IsDue self.now winner frame result }
+        ensures held { IsOf self.now.profile result }
+    {
+        if winner == 0 {
+            match own_of(&self.loaded) {
+                Some(own) => Decision::Finish(own.object, frame),
+                // Node 0 sends what is loaded alone, so this doesn't come.
+                None => Decision::Idle,
+            }
+        } else if self.is_on(0) {
+            Decision::Receipt(winner, frame)
+        } else {
+            Decision::Passed(winner, frame)
+        }
+    }
+
     /// Lets a winner's frame end: with a fault, without an acknowledgement, or well.
-    fn conclude(&mut self, line: &RoundLine, winner: u8, frame: &Frame) -> Course
+    fn conclude(&mut self, line: &RoundLine, winner: u8, frame: Frame) -> Decision
         requires within { winner < 9 }
         requires won { IsWonBy (contenders (is_on_now self.old) self.old.loaded line.now.send.items)
-            winner frame.now }
+            winner frame }
         ensures same { IsSameBus self.old self.new }
+        ensures held { IsOf self.old.profile result }
         ensures goes_on { GoesOn self.old self.new
-            (λ past after. RunsSo line.now past after result) }
+            (λ past after. DecidesBetween line.now past after result) }
     {
         let senders = only(winner);
         if let Some(code) = line.fault().code() {
             let (sending, listening) = (BusEvent::SendFault, BusEvent::ReceiveFault);
             self.happen(&senders, sending, listening, StatusEvent::Fault(code));
-            return Course::Fault;
+            return Decision::Fault(winner, frame);
         }
         if self.another_is_on(winner) {
+            let due = self.due(winner, frame);
             let event = transfer_of(winner);
             self.happen(&senders, BusEvent::Sent, BusEvent::Received, event);
-            success(winner, frame)
+            due
         } else {
             let unheard = BusEvent::SendNoAck;
             self.happen(&senders, unheard, unheard, StatusEvent::Fault(3));
-            Course::NoAck
+            Decision::NoAck(winner, frame)
         }
     }
 
     /// Lets the frames contend.
-    pub(crate) fn run(&mut self, line: &RoundLine) -> Course
+    fn contend(&mut self, line: &RoundLine) -> Decision
         ensures same { IsSameBus self.old self.new }
+        ensures held { IsOf self.old.profile result }
         ensures goes_on { GoesOn self.old self.new
-            (λ past after. RunsSo line.now past after result) }
+            (λ past after. DecidesBetween line.now past after result) }
     {
         let contenders = self.contenders(line);
         if contenders.is_empty() {
-            return Course::Idle;
+            return Decision::Idle;
         }
         match arbitrate(contenders.frames()) {
             Outcome::Collision => {
@@ -185,12 +191,29 @@ impl Bus {
                 let code = collision_code(senders[0]);
                 let (sending, listening) = (BusEvent::SendFault, BusEvent::ReceiveFault);
                 self.happen(&senders, sending, listening, StatusEvent::Fault(code));
-                Course::Collision
+                Decision::Collision
             }
             Outcome::Winner(place) => {
                 let (winner, frame) = contenders.at(place);
-                self.conclude(line, winner, &frame)
+                self.conclude(line, winner, frame)
             }
+        }
+    }
+
+    /// What a round comes to before any memory step, once its load is made: the frames of all nodes that are on contend,
+    /// or, in loop back mode, the controller sends to itself. The nodes have their events, the Status register its own, and
+    /// nothing is loaded any more unless the round is idle.
+    pub fn decide(&mut self, line: &RoundLine) -> Decision
+        ensures same { IsSameBus self.old self.new }
+        ensures held { IsOf self.old.profile result }
+        ensures goes_on { GoesOn self.old self.new
+            (λ past after. Decides (hears_itself past) line.now past after result) }
+    {
+        let loops = self.loops_back && self.is_on(0);
+        if loops {
+            self.decide_back()
+        } else {
+            self.contend(line)
         }
     }
 }
