@@ -1,10 +1,12 @@
 use crate::found::found;
-use test_contended::calls::{choose, choose_at_once, choose_from, interrupt, receive, receive_from};
 use ccan_accept::Frame;
 use ccan_handler::ScanRefused;
 use ccan_object::{Iface, ObjectNo, Profile, Reg};
 use ccan_ram::{Access, Change, Changed, Refused, Tries};
 use std::test::Fail;
+use test_contended::calls::{
+    choose, choose_at_once, choose_from, interrupt, receive, receive_from,
+};
 use test_contended::{Contended, Transfer};
 use test_expect::{holds, same};
 
@@ -100,7 +102,11 @@ fn is_busy_after_all_tries_and_goes_on_where_it_stopped(rt: HostRuntime) -> Resu
     let received = one_byte()?;
     let at = ObjectNo::from_request(ram.profile(), 3);
     let why = Refused::Busy { tries: 2, now: 3 };
-    same(&rt, receive(&mut ram, &received, tries(2)?), Err(ScanRefused { at, why }));
+    same(
+        &rt,
+        receive(&mut ram, &received, tries(2)?),
+        Err(ScanRefused { at, why }),
+    );
     same(&rt, ram.used(), 0);
     let stored = found(receive_from(&mut ram, &received, 3, tries(2)?))?;
     same(&rt, stored.object, at);
@@ -156,7 +162,11 @@ fn starts_the_next_object_where_the_first_is_ready_no_more(rt: HostRuntime) -> R
         if most == 1 {
             let at = ObjectNo::from_request(Profile::One, 5);
             let why = Refused::Busy { tries: 1, now: 3 };
-            same(&rt, choose_at_once(&mut ram, tries(most)?), Err(ScanRefused { at, why }));
+            same(
+                &rt,
+                choose_at_once(&mut ram, tries(most)?),
+                Err(ScanRefused { at, why }),
+            );
         }
         let (found, started) = found(choose_at_once(&mut ram, tries(most)?))?;
         same(&rt, found.get(), 9);

@@ -1,5 +1,5 @@
-use test_contended::calls::{choose, flags, interrupt, until};
 use ccan_handler::{ScanRefused, laws};
+use test_contended::calls::{choose, flags, interrupt, until};
 
 mod moments;
 mod scans;

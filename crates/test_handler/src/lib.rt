@@ -5,8 +5,8 @@
 #[cfg(test)]
 mod bus;
 #[cfg(test)]
-mod found;
-#[cfg(test)]
 mod contended;
+#[cfg(test)]
+mod found;
 #[cfg(test)]
 mod handler;

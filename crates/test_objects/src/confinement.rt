@@ -265,7 +265,10 @@ fn states_print_in_order(rt: HostRuntime) -> Result<(), std::alloc::AllocError> 
         let printed = state.to_string(rt.alloc())?;
         same(&rt, printed.as_str(), text);
     }
-    holds(&rt, NodeState::Active < NodeState::Passive && NodeState::Passive < NodeState::Off);
+    holds(
+        &rt,
+        NodeState::Active < NodeState::Passive && NodeState::Passive < NodeState::Off,
+    );
     Ok(())
 }
 

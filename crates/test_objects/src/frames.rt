@@ -44,9 +44,21 @@ fn request(rt: &impl Abort) -> Frame {
 
 #[test]
 fn frames_have_ranges(rt: HostRuntime) {
-    same(&rt, Frame::new(2048, false, false, 16, WRITTEN), Err(FrameError::IdRange));
-    same(&rt, Frame::new(2047, false, false, 16, WRITTEN), Err(FrameError::DlcRange));
-    same(&rt, Frame::new(536870912, true, false, 0, WRITTEN), Err(FrameError::IdRange));
+    same(
+        &rt,
+        Frame::new(2048, false, false, 16, WRITTEN),
+        Err(FrameError::IdRange),
+    );
+    same(
+        &rt,
+        Frame::new(2047, false, false, 16, WRITTEN),
+        Err(FrameError::DlcRange),
+    );
+    same(
+        &rt,
+        Frame::new(536870912, true, false, 0, WRITTEN),
+        Err(FrameError::IdRange),
+    );
     let extended = Frame::new(536870911, true, false, 15, WRITTEN)
         .ok()
         .expect(&rt, "a frame");
@@ -209,14 +221,22 @@ fn stores_data_frames(rt: HostRuntime) {
     let object = record(&rt, 0x848c0000, 0, 0x8488, [0; 8]);
     let short = data(&rt, 0x123, 3, [1, 2, 3, 0, 0, 0, 0, 0]);
     holds(&rt, accepts(&object, &short));
-    same(&rt, shown(&stored(&object, &short)), (0x848c0000, 0, 0xe483, [1, 2, 3, 0, 0, 0, 0, 0]));
+    same(
+        &rt,
+        shown(&stored(&object, &short)),
+        (0x848c0000, 0, 0xe483, [1, 2, 3, 0, 0, 0, 0, 0]),
+    );
     let extended = record(&rt, 0xdfffffff, 0, 0x0080, WRITTEN);
     let long = Frame::new(0x1fffffff, true, false, 15, [1, 2, 3, 4, 5, 6, 7, 8])
         .ok()
         .expect(&rt, "a frame");
     holds(&rt, accepts(&extended, &long));
     let after = stored(&extended, &long);
-    same(&rt, shown(&after), (0xdfffffff, 0, 0x808f, [1, 2, 3, 4, 5, 6, 7, 8]));
+    same(
+        &rt,
+        shown(&after),
+        (0xdfffffff, 0, 0x808f, [1, 2, 3, 4, 5, 6, 7, 8]),
+    );
     same(&rt, frame_of(&Record { dir: true, ..after }), long);
 }
 
@@ -249,7 +269,11 @@ fn fills_a_fifo_buffer(rt: HostRuntime) {
         same(&rt, answer, Some((place, control, bytes)));
     }
     let [full, second, last] = objects;
-    same(&rt, shown(&full), (0x848c0000, 0, 0x8001, [1, 0, 0, 0, 0, 0, 0, 0]));
+    same(
+        &rt,
+        shown(&full),
+        (0x848c0000, 0, 0x8001, [1, 0, 0, 0, 0, 0, 0, 0]),
+    );
     // the host reads the first object, and clears NewDat
     let mut objects = [cleared(CommandMask::of(0x007f), &full), second, last];
     let bytes = [5, 0, 0, 0, 0, 0, 0, 0];
@@ -293,7 +317,11 @@ fn sends_once(rt: HostRuntime) {
     holds(&rt, !ready(&done));
     // a host writes new data between the start and the end
     let again = record(&rt, 0xa48c0000, 0, 0x8188, [0x99; 8]);
-    same(&rt, shown(&finished(&again)), (0xa48c0000, 0, 0x8188, [0x99; 8]));
+    same(
+        &rt,
+        shown(&finished(&again)),
+        (0xa48c0000, 0, 0x8188, [0x99; 8]),
+    );
     let receiving = record(&rt, 0x848c0000, 0, 0x0984, WRITTEN);
     same(&rt, frame_of(&receiving), request(&rt));
     same(&rt, finished(&receiving).control(), 0x2884);

@@ -58,7 +58,10 @@ fn transfer(registers: &mut Iface, object: &mut Record) -> Shown {
 fn packs_the_first_message(rt: HostRuntime) {
     let object = interface(&FIRST_MESSAGE).buffer();
     same(&rt, object.id, Identifier::of(0x123 << 18));
-    holds(&rt, object.valid && object.dir && object.eob && !object.xtd && !object.txrqst);
+    holds(
+        &rt,
+        object.valid && object.dir && object.eob && !object.xtd && !object.txrqst,
+    );
     same(&rt, object.dlc, DataLength::of(8));
     let words = [0x00000000a48c0000, 0x0000000000000088, 0x8877665544332211];
     same(&rt, pack(&object), words);
@@ -141,7 +144,11 @@ fn numbers_the_objects_of_a_profile(rt: HostRuntime) {
 fn writes_a_part_and_shows_the_whole(rt: HostRuntime) {
     let mut object = Record::zero();
     let mut registers = interface(&FIRST_MESSAGE);
-    same(&rt, transfer(&mut registers, &mut object), (0xa48c0000, 0, 0x0088, DATA));
+    same(
+        &rt,
+        transfer(&mut registers, &mut object),
+        (0xa48c0000, 0, 0x0088, DATA),
+    );
     // the data alone, with a transmission request, from registers that show something else
     let mut other = interface(&[
         (Reg::CMask, 0x0087),
@@ -201,7 +208,11 @@ fn reads_the_selected_bytes_alone(rt: HostRuntime) {
     let mut object = interface(&FIRST_MESSAGE).buffer();
     let mut registers = interface(&[(Reg::CMask, 0x0002), (Reg::DataB2, 0x1234)]);
     let first_half = [0x11, 0x22, 0x33, 0x44, 0, 0, 0x34, 0x12];
-    same(&rt, transfer(&mut registers, &mut object), (0, 0, 0, first_half));
+    same(
+        &rt,
+        transfer(&mut registers, &mut object),
+        (0, 0, 0, first_half),
+    );
     same(&rt, shown(&object), (0xa48c0000, 0, 0x0088, DATA));
 }
 

@@ -119,7 +119,10 @@ fn takes_lines_with_each_node_once(rt: HostRuntime) {
         same(&rt, line.is_some(), taken);
         if let Some(line) = line {
             same(&rt, line.sends().len(), 2);
-            holds(&rt, line.sends()[0].0 == senders[0] && line.fault() == Fault::Form);
+            holds(
+                &rt,
+                line.sends()[0].0 == senders[0] && line.fault() == Fault::Form,
+            );
         }
     }
 }

@@ -138,10 +138,19 @@ fn a_busy_load_leaves_all(rt: HostRuntime) {
     holds(&rt, load(&mut bus, &mut ram) == LoadAnswer::Busy(object(1)));
     holds(&rt, bus == before);
     let sends = [(1, empty_frame(0x100))];
-    holds(&rt, round(&mut bus, &mut ram, &sends) == RoundAnswer::Busy(object(1)));
+    holds(
+        &rt,
+        round(&mut bus, &mut ram, &sends) == RoundAnswer::Busy(object(1)),
+    );
     same(&rt, told(&mut bus), (0, 0, NodeState::Active, 0x0000));
-    holds(&rt, matches!(load(&mut bus, &mut ram), LoadAnswer::Loaded(_, _)));
-    holds(&rt, matches!(round(&mut bus, &mut ram, &[]), RoundAnswer::Sent(_, _)));
+    holds(
+        &rt,
+        matches!(load(&mut bus, &mut ram), LoadAnswer::Loaded(_, _)),
+    );
+    holds(
+        &rt,
+        matches!(round(&mut bus, &mut ram, &[]), RoundAnswer::Sent(_, _)),
+    );
 }
 
 #[test]
@@ -154,9 +163,15 @@ fn a_busy_finish_leaves_the_success(rt: HostRuntime) {
     let mut ram = Contended::new(Profile::One, 64, &theirs);
     holds(&rt, ram.go_on());
     let mut bus = bus_of(&ram);
-    holds(&rt, round(&mut bus, &mut ram, &[]) == RoundAnswer::Busy(object(1)));
+    holds(
+        &rt,
+        round(&mut bus, &mut ram, &[]) == RoundAnswer::Busy(object(1)),
+    );
     same(&rt, told(&mut bus), (0, 0, NodeState::Active, 0x0008));
-    holds(&rt, matches!(round(&mut bus, &mut ram, &[]), RoundAnswer::Sent(_, _)));
+    holds(
+        &rt,
+        matches!(round(&mut bus, &mut ram, &[]), RoundAnswer::Sent(_, _)),
+    );
 }
 
 #[test]
@@ -169,10 +184,16 @@ fn a_busy_scan_leaves_the_success(rt: HostRuntime) {
     holds(&rt, ram.go_on());
     let mut bus = bus_of(&ram);
     let sends = [(1, frame(0x123, false, false, 1, [1, 0, 0, 0, 0, 0, 0, 0]))];
-    holds(&rt, round(&mut bus, &mut ram, &sends) == RoundAnswer::Busy(object(2)));
+    holds(
+        &rt,
+        round(&mut bus, &mut ram, &sends) == RoundAnswer::Busy(object(2)),
+    );
     same(&rt, told(&mut bus), (0, 0, NodeState::Active, 0x0010));
-    holds(&rt, matches!(
+    holds(
+        &rt,
+        matches!(
             round(&mut bus, &mut ram, &sends),
             RoundAnswer::Received(Some(_))
-        ));
+        ),
+    );
 }

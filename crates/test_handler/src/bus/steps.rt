@@ -74,7 +74,10 @@ fn tells_which_step_was_refused(rt: HostRuntime) {
     let spent = RoundAnswer::Spent(object(1));
     let finish = Some((Some(sent), spent, Some(MemoryStep::Finish)));
     holds(&rt, told(&mut bench, &[]) == finish);
-    holds(&rt, told(&mut bench, &[]) == Some((None, spent, Some(MemoryStep::Start))));
+    holds(
+        &rt,
+        told(&mut bench, &[]) == Some((None, spent, Some(MemoryStep::Start))),
+    );
     same(&rt, bench.loaded(), None);
 }
 
@@ -85,11 +88,15 @@ fn tells_a_store_that_was_refused(rt: HostRuntime) {
     let heard = frame(0x123, false, false, 0, [0; 8]);
     let decided = Decision::Receipt(1, heard);
     let stored = told(&mut bench, &[(1, heard)]);
-    same(&rt, stored, Some((
-                Some(decided),
-                RoundAnswer::Received(Some((object(2), bench.record(2)))),
-                None
-            )));
+    same(
+        &rt,
+        stored,
+        Some((
+            Some(decided),
+            RoundAnswer::Received(Some((object(2), bench.record(2)))),
+            None,
+        )),
+    );
     let refused = Some((
         Some(decided),
         RoundAnswer::Spent(object(2)),
@@ -106,7 +113,10 @@ fn sends_to_itself_in_loop_back_mode(rt: HostRuntime) {
     let decided = Decision::LoopBack(object(1), own());
     same(&rt, decision_of(report), Some(decided));
     same(&rt, decided.winner(), Some((0, own())));
-    holds(&rt, told(&mut bench, &[]) == Some((Some(Decision::Idle), RoundAnswer::Idle, None)));
+    holds(
+        &rt,
+        told(&mut bench, &[]) == Some((Some(Decision::Idle), RoundAnswer::Idle, None)),
+    );
 }
 
 #[test]

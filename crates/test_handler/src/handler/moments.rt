@@ -2,11 +2,11 @@
 
 use super::{CONTROL, FIRST, MESSAGE, fields, tries, write};
 use crate::found::found;
-use test_contended::calls::{choose_at_once, flags_at_once, interrupt_at_once};
 use ccan_handler::{ScanRefused, laws};
 use ccan_object::{ObjectNo, Profile, Reg};
 use ccan_ram::{Access, Array, Flag, PortName, Refused};
 use std::test::Fail;
+use test_contended::calls::{choose_at_once, flags_at_once, interrupt_at_once};
 use test_expect::same;
 
 #[test]
@@ -55,7 +55,11 @@ fn starts_the_first_object_that_was_ready(rt: HostRuntime) -> Result<(), Fail> {
     same(&rt, fields(&after), (0xa48c0000, 0, 0x0188, FIRST));
     let at = ObjectNo::from_request(ram.profile(), 0x0000);
     let why = Refused::Spent;
-    same(&rt, choose_at_once(&mut ram, tries(1)?), Err(ScanRefused { at, why }));
+    same(
+        &rt,
+        choose_at_once(&mut ram, tries(1)?),
+        Err(ScanRefused { at, why }),
+    );
     Ok(())
 }
 

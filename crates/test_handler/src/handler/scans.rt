@@ -1,11 +1,11 @@
 use super::{CONTROL, FIRST, MESSAGE, RECEIVER, change, fields, tries, write};
 use crate::found::found;
-use test_contended::calls::{choose, choose_from, receive, receive_from};
 use ccan_accept::Frame;
 use ccan_handler::ScanRefused;
 use ccan_object::{ObjectNo, Profile, Reg};
 use ccan_ram::{Array, Change, PortName, Refused};
 use std::test::Fail;
+use test_contended::calls::{choose, choose_from, receive, receive_from};
 use test_expect::same;
 
 /// A standard data frame 0x123 with so many of these bytes.
@@ -32,8 +32,16 @@ fn receives_where_the_filter_accepts(rt: HostRuntime) -> Result<(), Fail> {
     let stored = found(receive(&mut ram, &received, tries(4)?))?;
     same(&rt, stored.object.get(), 2);
     same(&rt, stored.before, before);
-    same(&rt, fields(&stored.after), (0x848c0000, 0, 0xe483, [1, 2, 3, 0, 0, 0, 0, 0]));
-    same(&rt, receive_from(&mut ram, &received, 0x0003, tries(4)?), Ok(None));
+    same(
+        &rt,
+        fields(&stored.after),
+        (0x848c0000, 0, 0xe483, [1, 2, 3, 0, 0, 0, 0, 0]),
+    );
+    same(
+        &rt,
+        receive_from(&mut ram, &received, 0x0003, tries(4)?),
+        Ok(None),
+    );
     Ok(())
 }
 
@@ -162,10 +170,14 @@ fn chooses_until_the_quota_is_spent(rt: HostRuntime) -> Result<(), Fail> {
     });
     same(&rt, choose(&mut ram, tries(4)?), refused);
     let at = ObjectNo::from_request(Profile::One, 0x0005);
-    same(&rt, choose_from(&mut ram, 0x0004, tries(4)?), Err(ScanRefused {
+    same(
+        &rt,
+        choose_from(&mut ram, 0x0004, tries(4)?),
+        Err(ScanRefused {
             at,
             why: Refused::Spent,
-        }));
+        }),
+    );
     same(&rt, choose_from(&mut ram, 0x0006, tries(4)?), Ok(None));
     Ok(())
 }

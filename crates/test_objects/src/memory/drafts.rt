@@ -15,9 +15,17 @@ fn a_draft_shows_what_its_look_found(rt: HostRuntime) {
 #[test]
 fn errors_have_a_text(rt: HostRuntime) -> Result<(), Fail> {
     let lost = CommitError::Lost { now: 3 };
-    same(&rt, format!(in rt.alloc(); "{lost}")?.as_str(), "lost to a change that contends");
+    same(
+        &rt,
+        format!(in rt.alloc(); "{lost}")?.as_str(),
+        "lost to a change that contends",
+    );
     let spent = format!(in rt.alloc(); "{}", CommitError::Spent)?;
-    same(&rt, spent.as_str(), "the port has made as many changes as it may");
+    same(
+        &rt,
+        spent.as_str(),
+        "the port has made as many changes as it may",
+    );
     let range = format!(in rt.alloc(); "{}", OpenError::QuotaRange)?;
     same(&rt, range.as_str(), "the quota is out of range");
     let memory = format!(in rt.alloc(); "{}", OpenError::Memory)?;

@@ -51,8 +51,15 @@ fn marks_a_lost_message(rt: HostRuntime) -> Result<(), Fail> {
     let received = frame(3, [1, 2, 3, 0, 0, 0, 0, 0])?;
     let (object, after) = receive(&mut ram, received).ok_or("not stored")?;
     same(&rt, object, 2);
-    same(&rt, fields(&after), (0x848c0000, 0, 0xe483, [1, 2, 3, 0, 0, 0, 0, 0]));
-    holds(&rt, Flag::MsgLst.of(&after) && Flag::NewDat.of(&after) && Flag::IntPnd.of(&after));
+    same(
+        &rt,
+        fields(&after),
+        (0x848c0000, 0, 0xe483, [1, 2, 3, 0, 0, 0, 0, 0]),
+    );
+    holds(
+        &rt,
+        Flag::MsgLst.of(&after) && Flag::NewDat.of(&after) && Flag::IntPnd.of(&after),
+    );
     holds(&rt, Flag::MsgVal.of(&after) && !Flag::TxRqst.of(&after));
     Ok(())
 }
@@ -72,17 +79,29 @@ fn fills_a_buffer_and_writes_its_last_object_over(rt: HostRuntime) -> Result<(),
         let received = frame(1, [byte, 0, 0, 0, 0, 0, 0, 0])?;
         let (place, after) = receive(&mut ram, received).ok_or("not stored")?;
         same(&rt, place, object);
-        same(&rt, fields(&after), (0x848c0000, 0, control, [byte, 0, 0, 0, 0, 0, 0, 0]));
+        same(
+            &rt,
+            fields(&after),
+            (0x848c0000, 0, control, [byte, 0, 0, 0, 0, 0, 0, 0]),
+        );
     }
     let mut registers = Iface::new();
     registers.set(Reg::CMask, 0x007f);
     ram.at(PortName::If1);
     same(&rt, transfer(&mut ram, &mut registers, 0x0003), Some(4));
-    same(&rt, fields(&registers.buffer()), (0x848c0000, 0, 0x8001, [1, 0, 0, 0, 0, 0, 0, 0]));
+    same(
+        &rt,
+        fields(&registers.buffer()),
+        (0x848c0000, 0, 0x8001, [1, 0, 0, 0, 0, 0, 0, 0]),
+    );
     let received = frame(1, [5, 0, 0, 0, 0, 0, 0, 0])?;
     let (place, after) = receive(&mut ram, received).ok_or("not stored")?;
     same(&rt, place, 3);
-    same(&rt, fields(&after), (0x848c0000, 0, 0x8001, [5, 0, 0, 0, 0, 0, 0, 0]));
+    same(
+        &rt,
+        fields(&after),
+        (0x848c0000, 0, 0x8001, [5, 0, 0, 0, 0, 0, 0, 0]),
+    );
     Ok(())
 }
 

@@ -17,16 +17,32 @@ fn writes_a_message_and_then_a_part_of_it(rt: HostRuntime) {
     let mut ram = Array::new(Profile::One, 64);
     let mut registers = first_message(0x0088);
     same(&rt, transfer(&mut ram, &mut registers, 0x0001), Some(1));
-    same(&rt, fields(&registers.buffer()), (0xa48c0000, 0, 0x0088, FIRST));
+    same(
+        &rt,
+        fields(&registers.buffer()),
+        (0xa48c0000, 0, 0x0088, FIRST),
+    );
     let object = ObjectNo::from_request(ram.profile(), 1);
-    same(&rt, fields(&ram.record_of(object)), (0xa48c0000, 0, 0x0088, FIRST));
+    same(
+        &rt,
+        fields(&ram.record_of(object)),
+        (0xa48c0000, 0, 0x0088, FIRST),
+    );
     registers.set(Reg::CMask, 0x0087);
     for register in [Reg::DataA1, Reg::DataA2, Reg::DataB1, Reg::DataB2] {
         registers.set(register, 0x9999);
     }
     same(&rt, transfer(&mut ram, &mut registers, 0x0001), Some(2));
-    same(&rt, fields(&registers.buffer()), (0xa48c0000, 0, 0x0188, [0x99; 8]));
-    same(&rt, fields(&look(&mut ram, 0x0001)), (0xa48c0000, 0, 0x0188, [0x99; 8]));
+    same(
+        &rt,
+        fields(&registers.buffer()),
+        (0xa48c0000, 0, 0x0188, [0x99; 8]),
+    );
+    same(
+        &rt,
+        fields(&look(&mut ram, 0x0001)),
+        (0xa48c0000, 0, 0x0188, [0x99; 8]),
+    );
 }
 
 #[test]
@@ -57,7 +73,11 @@ fn reads_back_with_clearing(rt: HostRuntime) {
 #[test]
 fn reads_a_part_at_the_other_interface(rt: HostRuntime) {
     let mut ram = Array::new(Profile::One, 64);
-    same(&rt, transfer(&mut ram, &mut first_message(0x0088), 0x0001), Some(1));
+    same(
+        &rt,
+        transfer(&mut ram, &mut first_message(0x0088), 0x0001),
+        Some(1),
+    );
     ram.at(PortName::If2);
     let mut second = Iface::new();
     second.set(Reg::CMask, 0x0002);
@@ -72,12 +92,24 @@ fn spends_a_quota_of_one(rt: HostRuntime) {
     let mut registers = first_message(0x0088);
     same(&rt, transfer(&mut ram, &mut registers, 0x0001), Some(1));
     let clear = Change::Clear(CommandMask::of(0x0008));
-    same(&rt, try_change(&mut ram, 0x0001, &clear), Err(Refused::Spent));
+    same(
+        &rt,
+        try_change(&mut ram, 0x0001, &clear),
+        Err(Refused::Spent),
+    );
     registers.set(Reg::CMask, 0x0073);
     same(&rt, transfer(&mut ram, &mut registers, 0x0001), Some(0));
-    same(&rt, fields(&registers.buffer()), (0xa48c0000, 0, 0x0088, FIRST));
+    same(
+        &rt,
+        fields(&registers.buffer()),
+        (0xa48c0000, 0, 0x0088, FIRST),
+    );
     ram.at(PortName::If2);
-    same(&rt, transfer(&mut ram, &mut first_message(0x0088), 0x0002), Some(65537));
+    same(
+        &rt,
+        transfer(&mut ram, &mut first_message(0x0088), 0x0002),
+        Some(65537),
+    );
 }
 
 #[test]
@@ -90,9 +122,21 @@ fn numbers_the_changes_of_each_port(rt: HostRuntime) {
         (PortName::Bus, 131073),
     ] {
         ram.at(port);
-        same(&rt, number(try_change(&mut ram, 0x0005, &clear)), Some(first));
-        same(&rt, number(try_change(&mut ram, 0x0005, &clear)), Some(first + 1));
-        same(&rt, try_change(&mut ram, 0x0005, &clear), Err(Refused::Spent));
+        same(
+            &rt,
+            number(try_change(&mut ram, 0x0005, &clear)),
+            Some(first),
+        );
+        same(
+            &rt,
+            number(try_change(&mut ram, 0x0005, &clear)),
+            Some(first + 1),
+        );
+        same(
+            &rt,
+            try_change(&mut ram, 0x0005, &clear),
+            Err(Refused::Spent),
+        );
     }
 }
 
@@ -104,8 +148,16 @@ fn spends_the_greatest_quota(rt: HostRuntime) {
     for _ in 1..4096 {
         holds(&rt, try_change(&mut ram, 0x0001, &clear).is_ok());
     }
-    same(&rt, number(try_change(&mut ram, 0x0001, &clear)), Some(135168));
-    same(&rt, try_change(&mut ram, 0x0001, &clear), Err(Refused::Spent));
+    same(
+        &rt,
+        number(try_change(&mut ram, 0x0001, &clear)),
+        Some(135168),
+    );
+    same(
+        &rt,
+        try_change(&mut ram, 0x0001, &clear),
+        Err(Refused::Spent),
+    );
     same(&rt, look(&mut ram, 0x0001), Record::zero());
 }
 
@@ -114,7 +166,11 @@ fn has_as_many_objects_as_its_profile(rt: HostRuntime) -> Result<(), Fail> {
     for (profile, last) in [(Profile::One, 32), (Profile::Two, 64)] {
         let mut ram = Array::new(profile, 64);
         same(&rt, ram.profile(), profile);
-        same(&rt, transfer(&mut ram, &mut first_message(0x0088), 0x0000), Some(1));
+        same(
+            &rt,
+            transfer(&mut ram, &mut first_message(0x0088), 0x0000),
+            Some(1),
+        );
         for number in 1..=last {
             let object = ObjectNo::new(number).ok_or("no such object")?;
             holds(&rt, ram.profile().holds(object));
@@ -138,7 +194,10 @@ fn tells_which_changes_fit_and_what_they_make(rt: HostRuntime) {
     let registers = first_message(0x0088);
     let write = Change::Write(registers.command(), registers.buffer());
     let empty = Record::zero();
-    holds(&rt, write.fits(&empty) && Change::Finish.fits(&empty) && !Change::Start.fits(&empty));
+    holds(
+        &rt,
+        write.fits(&empty) && Change::Finish.fits(&empty) && !Change::Start.fits(&empty),
+    );
     let written = write.applied(&empty);
     same(&rt, fields(&written), (0xa48c0000, 0, 0x0088, FIRST));
     same(&rt, Change::Finish.applied(&written), written);
@@ -147,10 +206,18 @@ fn tells_which_changes_fit_and_what_they_make(rt: HostRuntime) {
 #[test]
 fn shows_a_record_that_does_not_fit(rt: HostRuntime) {
     let mut ram = Array::new(Profile::One, 64);
-    same(&rt, transfer(&mut ram, &mut first_message(0x0088), 0x0001), Some(1));
+    same(
+        &rt,
+        transfer(&mut ram, &mut first_message(0x0088), 0x0001),
+        Some(1),
+    );
     ram.at(PortName::Bus);
     let shown = look(&mut ram, 0x0001);
-    same(&rt, try_change(&mut ram, 0x0001, &Change::Start), Ok(Changed::NotNow(shown)));
+    same(
+        &rt,
+        try_change(&mut ram, 0x0001, &Change::Start),
+        Ok(Changed::NotNow(shown)),
+    );
 }
 
 #[test]

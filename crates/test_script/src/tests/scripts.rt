@@ -82,7 +82,10 @@ fn reads_host_lines(rt: HostRuntime) -> Result<(), Fail> {
     same(&rt, *flag, Flag::MsgLst);
     same(&rt, *turns, 1_000_000);
     holds(&rt, matches!(script.if2.get(1), Some(HostLine::Interrupt)));
-    holds(&rt, matches!(script.if2.get(2), Some(HostLine::Flags(Flag::MsgVal))));
+    holds(
+        &rt,
+        matches!(script.if2.get(2), Some(HostLine::Flags(Flag::MsgVal))),
+    );
     Ok(())
 }
 
@@ -103,15 +106,21 @@ fn reads_bus_lines(rt: HostRuntime) {
     holds(&rt, matches!(bus.first(), Some(BusLine::Load)));
     holds(&rt, matches!(bus.get(1), Some(BusLine::Status)));
     let control = bus.get(2);
-    holds(&rt, matches!(
+    holds(
+        &rt,
+        matches!(
             control,
             Some(BusLine::Control {
                 sie: true,
                 eie: false
             })
-        ));
+        ),
+    );
     holds(&rt, matches!(bus.get(3), Some(BusLine::Interrupt)));
-    holds(&rt, matches!(bus.get(4), Some(BusLine::Flags(Flag::TxRqst))));
+    holds(
+        &rt,
+        matches!(bus.get(4), Some(BusLine::Flags(Flag::TxRqst))),
+    );
     holds(&rt, matches!(bus.get(5), Some(BusLine::Counters(2))));
     holds(&rt, matches!(bus.get(6), Some(BusLine::Init)));
     holds(&rt, matches!(bus.get(7), Some(BusLine::Recessive(10_000))));
@@ -146,11 +155,19 @@ fn reads_rounds(rt: HostRuntime) -> Result<(), Fail> {
     same(&rt, two.fault(), Fault::Crc);
     same(&rt, two.sends().len(), 2);
     let (node, frame) = *two.sends().get(0).ok_or("no frame")?;
-    same(&rt, (node, frame.id(), frame.xtd(), frame.rtr()), (2, 0x1fff_ffff, true, false));
+    same(
+        &rt,
+        (node, frame.id(), frame.xtd(), frame.rtr()),
+        (2, 0x1fff_ffff, true, false),
+    );
     same(&rt, frame.dlc().get(), 15);
     same(&rt, frame.bytes(), [1, 2, 3, 4, 5, 6, 7, 8]);
     let (node, frame) = *two.sends().get(1).ok_or("no frame")?;
-    same(&rt, (node, frame.id(), frame.xtd(), frame.rtr()), (1, 0x123, false, true));
+    same(
+        &rt,
+        (node, frame.id(), frame.xtd(), frame.rtr()),
+        (1, 0x123, false, true),
+    );
     same(&rt, frame.dlc().get(), 4);
     same(&rt, frame.bytes(), [0; 8]);
     let Some(BusLine::Round(short)) = bus.get(2) else {

@@ -236,7 +236,11 @@ fn prints_the_bus_itself(rt: HostRuntime) {
 fn prints_what_is_left(rt: HostRuntime) -> Result<(), Fail> {
     let one = object_no(&rt, 1);
     let line = print_final(one, &message()).ok_or("no line")?;
-    same(&rt, line.as_str(), "final 01 a48c0000 00000000 0088 1122334455667788\n");
+    same(
+        &rt,
+        line.as_str(),
+        "final 01 a48c0000 00000000 0088 1122334455667788\n",
+    );
     holds(&rt, print_final(one, &Record::zero()).is_none());
     let extended = Record {
         valid: true,
@@ -248,6 +252,10 @@ fn prints_what_is_left(rt: HostRuntime) -> Result<(), Fail> {
         ..Record::zero()
     };
     let line = print_final(object_no(&rt, 7), &extended).ok_or("no line")?;
-    same(&rt, line.as_str(), "final 07 dabcdef0 40000000 8000 fe00000000000001\n");
+    same(
+        &rt,
+        line.as_str(),
+        "final 07 dabcdef0 40000000 8000 fe00000000000001\n",
+    );
     Ok(())
 }

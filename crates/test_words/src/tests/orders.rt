@@ -26,7 +26,11 @@ fn start_of_an_invalid_object<R: SharedRam + Drop>(rt: &impl Abort, alloc: std::
     let invalid = change_of(&[(Reg::CMask, 0x00a0), (Reg::Arb2, 0x048c)]);
     let third = if1.change(5, &invalid, tries(1));
     same(rt, number(&third), Some(3));
-    same(rt, bus.commit(&Change::Start), Some(Err(CommitError::Lost { now: 3 })));
+    same(
+        rt,
+        bus.commit(&Change::Start),
+        Some(Err(CommitError::Lost { now: 3 })),
+    );
     let not_now = bus.change(5, &Change::Start, tries(1));
     holds(rt, matches!(&not_now, Ok(Changed::NotNow(_))));
     same(rt, (if1.used(), bus.used()), (3, 0));
@@ -246,7 +250,11 @@ fn scan_is_resumed<R: SharedRam + Drop>(rt: &impl Abort, alloc: std::alloc::Glob
     };
     same(rt, stored.object, three);
     same(rt, shown(&stored.before), (0x848c0000, 0, 0x0088, [0; 8]));
-    same(rt, shown(&stored.after), (0x848c0000, 0, 0x8081, [1, 0, 0, 0, 0, 0, 0, 0]));
+    same(
+        rt,
+        shown(&stored.after),
+        (0x848c0000, 0, 0x8081, [1, 0, 0, 0, 0, 0, 0, 0]),
+    );
     let draft = calls::prepare(&ram, &mut if1, three);
     same(rt, draft.number(), 131073);
 }
@@ -269,13 +277,25 @@ fn three_ports_at_one_object<R: SharedRam + Drop>(rt: &impl Abort, alloc: std::a
     let _drafts = (if1.prepare(4), if2.prepare(4), bus.prepare(4));
     same(rt, committed(if1.commit(&message(0x0088))), Some(1));
     let clear = change_of(&[(Reg::CMask, 0x000c)]);
-    same(rt, if2.commit(&clear), Some(Err(CommitError::Lost { now: 1 })));
+    same(
+        rt,
+        if2.commit(&clear),
+        Some(Err(CommitError::Lost { now: 1 })),
+    );
     let _again = if2.prepare(4);
     same(rt, committed(if2.commit(&clear)), Some(65537));
-    same(rt, bus.commit(&Change::Finish), Some(Err(CommitError::Lost { now: 65537 })));
+    same(
+        rt,
+        bus.commit(&Change::Finish),
+        Some(Err(CommitError::Lost { now: 65537 })),
+    );
     let (held, _number) = bus.prepare(4);
     same(rt, shown(&held), P);
-    same(rt, bus.commit(&Change::Start), Some(Ok(Changed::NotNow(held))));
+    same(
+        rt,
+        bus.commit(&Change::Start),
+        Some(Ok(Changed::NotNow(held))),
+    );
     let _again = bus.prepare(4);
     same(rt, committed(bus.commit(&Change::Finish)), Some(131073));
     same(rt, (if1.used(), if2.used(), bus.used()), (1, 1, 1));
@@ -329,7 +349,11 @@ fn same_record_again<R: SharedRam + Drop>(rt: &impl Abort, alloc: std::alloc::Gl
         let _made = if1.change(4, &change, tries(1));
     }
     same(rt, held, if1.look(4));
-    same(rt, if2.commit(&control(0x0001)), Some(Err(CommitError::Lost { now: 3 })));
+    same(
+        rt,
+        if2.commit(&control(0x0001)),
+        Some(Err(CommitError::Lost { now: 3 })),
+    );
 }
 
 #[test]

@@ -56,7 +56,11 @@ fn registers_show_the_flags_of_all_objects(rt: HostRuntime) {
     };
     same(&rt, written_objects::<WordRam>(&rt, rt.alloc()), registers);
     same(&rt, written_objects::<RootRam>(&rt, rt.alloc()), registers);
-    same(&rt, written_objects::<EndlessRam>(&rt, rt.alloc()), registers);
+    same(
+        &rt,
+        written_objects::<EndlessRam>(&rt, rt.alloc()),
+        registers,
+    );
 }
 
 // How many pairs of looks are torn goes by the schedule, so nothing is asked of them.

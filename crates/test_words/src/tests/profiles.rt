@@ -26,12 +26,16 @@ fn write_last_object<R: SharedRam>(
     same(rt, calls::look(&ram, &mut if1, one), Record::zero());
     same(rt, calls::look(&ram, &mut if1, other), Record::zero());
     let after = calls::look(&ram, &mut if1, last);
-    same(rt, shown(&after), (
+    same(
+        rt,
+        shown(&after),
+        (
             0xa48c0000,
             0,
             0x0088,
-            [0x11, 0x22, 0x33, 0x44, 0x55, 0x66, 0x77, 0x88]
-        ));
+            [0x11, 0x22, 0x33, 0x44, 0x55, 0x66, 0x77, 0x88],
+        ),
+    );
     let end = ram.close(if1, if2, bus);
     same(rt, end.profile, profile);
     for (place, object) in end.records.iter().enumerate() {
@@ -77,8 +81,24 @@ fn request_zero_names_the_last_object(rt: HostRuntime) {
 
 #[test]
 fn the_last_object_can_be_pending(rt: HostRuntime) {
-    same(&rt, pending_of_last_object::<WordRam>(&rt, rt.alloc(), Profile::Two), (0x40, 0x8000000000000000));
-    same(&rt, pending_of_last_object::<RootRam>(&rt, rt.alloc(), Profile::Two), (0x40, 0x8000000000000000));
-    same(&rt, pending_of_last_object::<WordRam>(&rt, rt.alloc(), Profile::One), (0x20, 0x80000000));
-    same(&rt, pending_of_last_object::<RootRam>(&rt, rt.alloc(), Profile::One), (0x20, 0x80000000));
+    same(
+        &rt,
+        pending_of_last_object::<WordRam>(&rt, rt.alloc(), Profile::Two),
+        (0x40, 0x8000000000000000),
+    );
+    same(
+        &rt,
+        pending_of_last_object::<RootRam>(&rt, rt.alloc(), Profile::Two),
+        (0x40, 0x8000000000000000),
+    );
+    same(
+        &rt,
+        pending_of_last_object::<WordRam>(&rt, rt.alloc(), Profile::One),
+        (0x20, 0x80000000),
+    );
+    same(
+        &rt,
+        pending_of_last_object::<RootRam>(&rt, rt.alloc(), Profile::One),
+        (0x20, 0x80000000),
+    );
 }
