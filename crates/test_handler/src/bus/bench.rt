@@ -151,6 +151,40 @@ impl Bench {
         Some(report_of(loading, decision, end))
     }
 
+    /// What is decided in such a round, by a call for each step.
+    pub fn decides(&mut self, sends: &[(u8, Frame)], fault: Fault) -> Option<Decision> {
+        let line = line_of(sends, fault)?;
+        self.ram.at(PortName::Bus);
+        let _loading = self.bus.load(&mut self.ram, a_hundred_tries());
+        let decision = self.bus.decide(&line);
+        let _end = decision.complete(&mut self.ram, a_hundred_tries());
+        Some(decision)
+    }
+
+    /// Whether a round without a fault comes to this.
+    pub fn comes_to(
+        &mut self,
+        sends: &[(u8, Frame)],
+        loading: LoadAnswer,
+        decision: Option<Decision>,
+        end: RoundEnd,
+    ) -> bool {
+        let report = self.report(sends, Fault::Quiet);
+        let expected = Some(RoundReport {
+            loading,
+            decision,
+            end,
+        });
+        report == expected
+    }
+
+    /// Whether a round here and its steps there come to the same.
+    pub fn is_parted(&mut self, parted: &mut Bench, sends: &[(u8, Frame)], fault: Fault) -> bool {
+        let whole = self.report(sends, fault);
+        let steps = parted.steps(sends, fault);
+        whole == steps
+    }
+
     /// What waits to be sent.
     pub fn loaded(&self) -> Option<(ObjectNo, Record)> {
         self.bus.loaded()

@@ -5,7 +5,7 @@ ghost use Rattle.ccan_ram.specs.Port.{IsQuota};
 
 use super::bench::{BYTES, Bench, MESSAGE, RECEIVER, empty_frame, frame, object};
 use ccan_accept::Frame;
-use ccan_bus::{Decision, Fault, MemoryStep, RoundAnswer, RoundReport};
+use ccan_bus::{Decision, Fault, LoadAnswer, MemoryStep, RoundAnswer, RoundEnd};
 use ccan_object::Reg;
 use test_expect::{holds, same};
 
@@ -24,11 +24,6 @@ fn bench(nodes: u8, quota: u64) -> Bench
     bench
 }
 
-/// What was decided in a round.
-fn decision_of(report: Option<RoundReport>) -> Option<Decision> {
-    report?.decision
-}
-
 #[test]
 fn decides_by_the_frames(rt: HostRuntime) {
     let lower = empty_frame(0x100);
@@ -43,40 +38,47 @@ fn decides_by_the_frames(rt: HostRuntime) {
     ];
     for (theirs, fault, decided) in rows {
         let mut whole = bench(1, 64);
-        let report = whole.report(&[(1, theirs)], fault);
-        same(&rt, decision_of(report), Some(decided));
+        holds(&rt, whole.decides(&[(1, theirs)], fault) == Some(decided));
+        let mut again = bench(1, 64);
         let mut parted = bench(1, 64);
-        holds(&rt, parted.steps(&[(1, theirs)], fault) == report);
-        same(&rt, parted.counters(0), whole.counters(0));
+        holds(&rt, again.is_parted(&mut parted, &[(1, theirs)], fault));
+        same(&rt, parted.counters(0), again.counters(0));
     }
 }
 
 #[test]
 fn nobody_acknowledges_the_only_node(rt: HostRuntime) {
     let mut alone = bench(0, 64);
-    let report = alone.report(&[], Fault::Quiet);
-    same(&rt, decision_of(report), Some(Decision::NoAck(0, own())));
+    holds(
+        &rt,
+        alone.decides(&[], Fault::Quiet) == Some(Decision::NoAck(0, own())),
+    );
 }
 
-/// What came of a round without a fault: what was decided, its answer, and the step that was refused.
-fn told(
-    bench: &mut Bench,
-    sends: &[(u8, Frame)],
-) -> Option<(Option<Decision>, RoundAnswer, Option<MemoryStep>)> {
-    let report = bench.report(sends, Fault::Quiet)?;
-    Some((report.decision, report.end.answer, report.end.refused))
+/// The end of a round.
+fn end(answer: RoundAnswer, refused: Option<MemoryStep>) -> RoundEnd {
+    RoundEnd { answer, refused }
+}
+
+/// The end of a round where this step is refused at the object that a request names, as the quota is spent.
+fn spent(request: u16, step: MemoryStep) -> RoundEnd {
+    end(RoundAnswer::Spent(object(request)), Some(step))
 }
 
 #[test]
 fn tells_which_step_was_refused(rt: HostRuntime) {
     let mut bench = bench(1, 1);
-    let sent = Decision::Finish(object(1), own());
-    let spent = RoundAnswer::Spent(object(1));
-    let finish = Some((Some(sent), spent, Some(MemoryStep::Finish)));
-    holds(&rt, told(&mut bench, &[]) == finish);
+    let _loaded = bench.load();
+    let held = LoadAnswer::Held(object(1));
+    let sent = Some(Decision::Finish(object(1), own()));
     holds(
         &rt,
-        told(&mut bench, &[]) == Some((None, spent, Some(MemoryStep::Start))),
+        bench.comes_to(&[], held, sent, spent(1, MemoryStep::Finish)),
+    );
+    let refused = LoadAnswer::Spent(object(1));
+    holds(
+        &rt,
+        bench.comes_to(&[], refused, None, spent(1, MemoryStep::Start)),
     );
     same(&rt, bench.loaded(), None);
 }
@@ -86,36 +88,29 @@ fn tells_a_store_that_was_refused(rt: HostRuntime) {
     let mut bench = Bench::new(1, 1);
     let _made = bench.transfer(0x0002, &RECEIVER, &[(Reg::Ctrl, 0x0088)]);
     let heard = frame(0x123, false, false, 0, [0; 8]);
-    let decided = Decision::Receipt(1, heard);
-    let stored = told(&mut bench, &[(1, heard)]);
-    same(
+    let _stored = bench.round(&[(1, heard)], Fault::Quiet);
+    let decided = Some(Decision::Receipt(1, heard));
+    let refused = spent(2, MemoryStep::Store);
+    holds(
         &rt,
-        stored,
-        Some((
-            Some(decided),
-            RoundAnswer::Received(Some((object(2), bench.record(2)))),
-            None,
-        )),
+        bench.comes_to(&[(1, heard)], LoadAnswer::Nothing, decided, refused),
     );
-    let refused = Some((
-        Some(decided),
-        RoundAnswer::Spent(object(2)),
-        Some(MemoryStep::Store),
-    ));
-    holds(&rt, told(&mut bench, &[(1, heard)]) == refused);
 }
 
 #[test]
 fn sends_to_itself_in_loop_back_mode(rt: HostRuntime) {
     let mut bench = bench(1, 64);
     bench.loop_back(true);
-    let report = bench.steps(&[(1, empty_frame(0x100))], Fault::Crc);
     let decided = Decision::LoopBack(object(1), own());
-    same(&rt, decision_of(report), Some(decided));
-    same(&rt, decided.winner(), Some((0, own())));
     holds(
         &rt,
-        told(&mut bench, &[]) == Some((Some(Decision::Idle), RoundAnswer::Idle, None)),
+        bench.decides(&[(1, empty_frame(0x100))], Fault::Crc) == Some(decided),
+    );
+    same(&rt, decided.winner(), Some((0, own())));
+    let idle = end(RoundAnswer::Idle, None);
+    holds(
+        &rt,
+        bench.comes_to(&[], LoadAnswer::Nothing, Some(Decision::Idle), idle),
     );
 }
 
@@ -126,6 +121,10 @@ fn passes_a_frame_while_the_controller_is_off(rt: HostRuntime) {
         let _fault = bench.round(&[], Fault::Crc);
     }
     let heard = empty_frame(0x100);
-    let passed = Some((Some(Decision::Passed(1, heard)), RoundAnswer::Passed, None));
-    holds(&rt, told(&mut bench, &[(1, heard)]) == passed);
+    let decided = Some(Decision::Passed(1, heard));
+    let passed = end(RoundAnswer::Passed, None);
+    holds(
+        &rt,
+        bench.comes_to(&[(1, heard)], LoadAnswer::Nothing, decided, passed),
+    );
 }
