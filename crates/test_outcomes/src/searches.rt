@@ -12,7 +12,7 @@ fn finds_all_states(rt: HostRuntime) -> Result<(), Fail> {
     };
     assert_eq!(rt; reached.states.len(), 10);
     for digit in 0..10u64 {
-        assert!(rt; reached.states.contains(digit), "no {digit}");
+        assert!(rt; reached.states.contains(&digit), "no {digit}");
     }
     Ok(())
 }
@@ -30,7 +30,7 @@ fn answers_a_shortest_way(rt: HostRuntime) -> Result<(), Fail> {
     let Some(reached) = found else {
         return Err(Fail::new("more than ten states"));
     };
-    let Some(index) = reached.states.get_index_of(9) else {
+    let Some(index) = reached.states.get_index_of(&9) else {
         return Err(Fail::new("no 9"));
     };
     let way = way(&Residues, rt.alloc(), &reached, index)?;
