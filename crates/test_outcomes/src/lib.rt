@@ -2,8 +2,8 @@
 //! machine.
 #![tactic(auto)]
 
-pub mod residues;
 #[cfg(test)]
 mod races;
+pub mod residues;
 #[cfg(test)]
 mod searches;

@@ -1,6 +1,6 @@
 //! The outcomes of scripts in which two hosts race. The outcomes are worked by hand from the rules; the numbers of states
 //! are those that another program found, which was written for that in another language.
-use ccan_outcomes::{Outcomes, OutcomesError, all_outcomes};
+use ccan_outcomes::{Outcomes, OutcomesError, all_outcomes, laws, same, way_to};
 use ccan_ram::PortName;
 use ccan_run::read_input;
 use ccan_script::print_line;
@@ -8,7 +8,8 @@ use std::alloc::Global;
 use std::test::Fail;
 
 /// Two hosts write object 1 and then read it twice, the second time without clearing anything.
-const THREE_EACH: &str = r#"{"if1":[{"op":"transfer","request":"0001","set":{"cmask":"00b7","arb2":"a480","ctrl":"0082","dataa1":"0000"}},{"op":"transfer","request":"0001","set":{"cmask":"007f"}},{"op":"transfer","request":"0001","set":{"cmask":"0073"}}],"if2":[{"op":"transfer","request":"0001","set":{"cmask":"00b7","arb2":"a488","ctrl":"0082","dataa1":"8888"}},{"op":"transfer","request":"0001","set":{"cmask":"007f"}},{"op":"transfer","request":"0001","set":{"cmask":"0073"}}]}"#;
+const THREE_EACH: &str =
+    r#"{"if1":[{"op":"transfer","request":"0001","set":{"cmask":"00b7","arb2":"a480","ctrl":"0082","dataa1":"0000"}},{"op":"transfer","request":"0001","set":{"cmask":"007f"}},{"op":"transfer","request":"0001","set":{"cmask":"0073"}}],"if2":[{"op":"transfer","request":"0001","set":{"cmask":"00b7","arb2":"a488","ctrl":"0082","dataa1":"8888"}},{"op":"transfer","request":"0001","set":{"cmask":"007f"}},{"op":"transfer","request":"0001","set":{"cmask":"0073"}}]}"#;
 
 /// The outcomes of a script, which are to have so many states at most.
 fn outcomes_of(alloc: Global, text: &str, most: usize) -> Result<Option<Outcomes>, Fail> {
@@ -33,9 +34,22 @@ fn texts(alloc: Global, outcomes: &Outcomes) -> Result<Vec<String>, Fail> {
 }
 
 #[test]
+fn laws_hold() {
+    laws::ports_stand_as_they_came();
+    laws::steps_keep_standing();
+    laws::others_keep_standing();
+    laws::outcomes_are_reached();
+    laws::steps_are_own();
+    laws::own_are_found();
+    same::equal_records_are_the_same();
+    same::equal_answers_are_the_same();
+}
+
+#[test]
 fn lists_both_ends_of_a_race(rt: HostRuntime) -> Result<(), Fail> {
     // Each host writes the data of object 1 once. The later write stands at the end.
-    let script = r#"{"if1":[{"op":"transfer","request":"0001","set":{"cmask":"0082","dataa1":"1111"}}],"if2":[{"op":"transfer","request":"0001","set":{"cmask":"0082","dataa1":"2222"}}]}"#;
+    let script =
+        r#"{"if1":[{"op":"transfer","request":"0001","set":{"cmask":"0082","dataa1":"1111"}}],"if2":[{"op":"transfer","request":"0001","set":{"cmask":"0082","dataa1":"2222"}}]}"#;
     let Some(outcomes) = outcomes_of(rt.alloc(), script, 1000)? else {
         return Err(Fail::new("more states than that"));
     };
@@ -54,7 +68,8 @@ fn lists_both_ends_of_a_race(rt: HostRuntime) -> Result<(), Fail> {
 fn lists_a_try_that_is_lost(rt: HostRuntime) -> Result<(), Fail> {
     // With one try a host whose look another's change follows may give up: both write, in one order or the other, or one
     // of them is told that the object is busy.
-    let script = r#"{"tries":1,"if1":[{"op":"transfer","request":"0001","set":{"cmask":"0080"}}],"if2":[{"op":"transfer","request":"0001","set":{"cmask":"0080"}}]}"#;
+    let script =
+        r#"{"tries":1,"if1":[{"op":"transfer","request":"0001","set":{"cmask":"0080"}}],"if2":[{"op":"transfer","request":"0001","set":{"cmask":"0080"}}]}"#;
     let Some(outcomes) = outcomes_of(rt.alloc(), script, 1000)? else {
         return Err(Fail::new("more states than that"));
     };
@@ -69,6 +84,23 @@ fn lists_a_try_that_is_lost(rt: HostRuntime) -> Result<(), Fail> {
     ] {
         let want = format!(in rt.alloc(); "{first}{second}")?;
         assert!(rt; texts.contains(&want), "no {want}");
+    }
+    Ok(())
+}
+
+#[test]
+fn answers_a_way_to_each_outcome(rt: HostRuntime) -> Result<(), Fail> {
+    // A look and a change of each host lead to an end, so four steps after the start.
+    let text =
+        r#"{"if1":[{"op":"transfer","request":"0001","set":{"cmask":"0082","dataa1":"1111"}}],"if2":[{"op":"transfer","request":"0001","set":{"cmask":"0082","dataa1":"2222"}}]}"#;
+    let script = read_input(rt.alloc(), &mut text.as_bytes())?;
+    let Some(outcomes) = all_outcomes(rt.alloc(), &script, 1000)? else {
+        return Err(Fail::new("more states than that"));
+    };
+    for place in 0..outcomes.listing.endings.len() {
+        let way = way_to(rt.alloc(), &script, &outcomes, place)?;
+        assert_eq!(rt; way.len(), 5);
+        assert!(rt; way.iter().next() == Some(&0));
     }
     Ok(())
 }
@@ -96,7 +128,11 @@ fn refuses_other_lines(rt: HostRuntime) -> Result<(), Fail> {
     ] {
         let script = read_input(rt.alloc(), &mut text.as_bytes())?;
         let refused = all_outcomes(rt.alloc(), &script, 10).err();
-        assert_eq!(rt; refused, Some(OutcomesError::NoTransfer { port, line }), "at {text}");
+        assert_eq!(rt;
+            refused,
+            Some(OutcomesError::NoTransfer { port, line }),
+            "at {text}"
+        );
     }
     Ok(())
 }
