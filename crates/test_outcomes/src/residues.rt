@@ -1,0 +1,22 @@
+//! A machine with ten states.
+use ccan_search::Machine;
+use std::alloc::{AllocError, Global};
+
+/// The digits 0 to 9. One move leads from a digit to the last digit of its double, or to that of the sum with three.
+pub struct Residues;
+
+impl Machine for Residues {
+    ghost use Rattle.std.specs.Prelude.{◌+◌, ◌*◌, ◌%◌, ◌∷◌, [], Contains};
+    ghost use Rattle.std.proofs.lemmas.Bool.{eqb-true};
+
+    type State = u64;
+
+    ghost leads = { λ _ from to. Contains (((from % 10) * 2) % 10 ∷ ((from % 10) + 3) % 10 ∷ []) to };
+
+    fn next(&self, alloc: Global, from: &u64) -> Result<Vec<u64>, AllocError> {
+        let digit = *from % 10;
+        Ok(vec![in alloc; digit * 2 % 10, (digit + 3) % 10]?)
+    }
+
+    ghost same = { eqb-true };
+}
