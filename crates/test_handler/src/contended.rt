@@ -1,3 +1,4 @@
+use crate::expect::{holds, same};
 use crate::found::found;
 use ccan_accept::Frame;
 use ccan_handler::ScanRefused;
@@ -8,7 +9,6 @@ use test_contended::calls::{
     choose, choose_at_once, choose_from, interrupt, receive, receive_from,
 };
 use test_contended::{Contended, Transfer};
-use test_expect::{holds, same};
 
 /// The data of a first message.
 const FIRST: [u8; 8] = [0x11, 0x22, 0x33, 0x44, 0x55, 0x66, 0x77, 0x88];

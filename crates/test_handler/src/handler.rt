@@ -4,10 +4,10 @@ use test_contended::calls::{choose, flags, interrupt, until};
 mod moments;
 mod scans;
 
+use crate::expect::{holds, same};
 use ccan_object::{Iface, ObjectNo, Profile, Record, Reg};
 use ccan_ram::{Access, Array, Change, Changed, Flag, PortName, Refused, Tries};
 use std::test::Fail;
-use test_expect::{holds, same};
 
 /// The data of a first message.
 const FIRST: [u8; 8] = [0x11, 0x22, 0x33, 0x44, 0x55, 0x66, 0x77, 0x88];

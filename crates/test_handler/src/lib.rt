@@ -7,6 +7,8 @@ mod bus;
 #[cfg(test)]
 mod contended;
 #[cfg(test)]
+mod expect;
+#[cfg(test)]
 mod found;
 #[cfg(test)]
 mod handler;

@@ -1,7 +1,7 @@
 //! Worked examples, with numbers from the rules and not from the program.
 
+use crate::expect::{holds, same};
 use ccan_confine::{BusEvent, Counters, NodeState, Status, StatusEvent, laws};
-use test_expect::{holds, same};
 
 /// The counters after so many equal events.
 fn repeated(counters: Counters, event: BusEvent, times: u16) -> Counters {

@@ -1,10 +1,10 @@
 //! Worked examples of frames: acceptance, storing, and what is sent.
 
+use crate::expect::{holds, same};
 use ccan_accept::*;
 use ccan_object::{CommandMask, Record, cleared, unpack};
 use std::alloc::AllocError;
 use std::process::Abort;
-use test_expect::{holds, same};
 
 /// The bytes that a driver writes into an object.
 const WRITTEN: [u8; 8] = [0x11, 0x22, 0x33, 0x44, 0x55, 0x66, 0x77, 0x88];

@@ -5,6 +5,8 @@
 #[cfg(test)]
 mod confinement;
 #[cfg(test)]
+mod expect;
+#[cfg(test)]
 mod frames;
 #[cfg(test)]
 mod memory;

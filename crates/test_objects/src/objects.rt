@@ -1,10 +1,10 @@
 //! Worked examples of objects: their records, the registers that show them, and transfers.
 
+use crate::expect::{holds, same};
 use ccan_object::{
     CommandMask, DataLength, Group, Identifier, Iface, MOST_OBJECTS, ObjectNo, Profile, Record,
     Reg, cleared, laws, merged, pack, unpack,
 };
-use test_expect::{holds, same};
 
 /// What a record shows: Arbitration 2 and 1, Mask 2 and 1, Message Control, and the data.
 type Shown = (u32, u32, u16, [u8; 8]);

@@ -5,6 +5,8 @@
 #[cfg(test)]
 mod callers;
 #[cfg(test)]
+mod expect;
+#[cfg(test)]
 mod gates;
 #[cfg(test)]
 mod refusing;

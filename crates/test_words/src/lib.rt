@@ -9,6 +9,8 @@ mod contended;
 #[cfg(test)]
 mod drafts;
 #[cfg(test)]
+mod expect;
+#[cfg(test)]
 mod pictures;
 #[cfg(test)]
 mod rivals;

@@ -1,10 +1,10 @@
 //! Bit lists and arbitrations, with expected values from the standard, and the lines that rounds take.
 
 use super::bench::{empty_frame, frame};
+use crate::expect::{holds, same};
 use arrayvec::ArrayVec;
 use ccan_accept::Frame;
 use ccan_bus::{Fault, Outcome, RoundLine, arbitrate, arbitration_bits, laws};
-use test_expect::{holds, same};
 
 // The upper eleven bits of the frames below: 0x123. As the upper part of an extended identifier it is 0x48c0000.
 const UPPER: [bool; 11] = [

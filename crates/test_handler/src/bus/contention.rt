@@ -3,6 +3,7 @@
 ghost use Rattle.std.specs.Prelude.{◌≡◌};
 
 use super::bench::{MESSAGE, RECEIVER, empty_frame, frame, object, set};
+use crate::expect::{holds, same};
 use arrayvec::ArrayVec;
 use ccan_accept::Frame;
 use ccan_bus::{Bus, Choice, Fault, LoadAnswer, RoundAnswer, RoundLine};
@@ -10,7 +11,6 @@ use ccan_confine::NodeState;
 use ccan_object::{Iface, Profile, Reg};
 use ccan_ram::{Access, Tries};
 use test_contended::{Contended, Transfer};
-use test_expect::{holds, same};
 
 /// A bus with one other node, for this memory.
 fn bus_of<A: Access>(ram: &A) -> Bus

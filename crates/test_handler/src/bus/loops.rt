@@ -3,10 +3,10 @@
 ghost use Rattle.ccan_ram.specs.Port.{IsQuota};
 
 use super::bench::{BYTES, Bench, MESSAGE, RECEIVER, empty_frame, fields, object};
+use crate::expect::{holds, same};
 use ccan_bus::{Fault, RoundAnswer};
 use ccan_confine::NodeState;
 use ccan_object::Reg;
-use test_expect::{holds, same};
 
 /// A controller alone in loop back mode, with a message that waits at object 1 and a receiver of it at object 2.
 fn own_receiver(quota: u64) -> Bench

@@ -1,10 +1,10 @@
 //! Worked rounds, with numbers from outside.
 
 use super::bench::{BYTES, Bench, MESSAGE, RECEIVER, empty_frame, fields, frame, object};
+use crate::expect::{holds, same};
 use ccan_bus::{Fault, LoadAnswer, RoundAnswer};
 use ccan_confine::NodeState;
 use ccan_object::Reg;
-use test_expect::{holds, same};
 
 // The settings of one more write to the message that was started: control 8188, and data that are all 99.
 const NEW_DATA: [(Reg, u16); 6] = [

@@ -4,10 +4,10 @@ ghost use Rattle.std.specs.Prelude.{◌≤◌};
 ghost use Rattle.ccan_ram.specs.Port.{IsQuota};
 
 use super::bench::{BYTES, Bench, MESSAGE, RECEIVER, empty_frame, frame, object};
+use crate::expect::{holds, same};
 use ccan_accept::Frame;
 use ccan_bus::{Decision, Fault, LoadAnswer, MemoryStep, RoundAnswer, RoundEnd};
 use ccan_object::Reg;
-use test_expect::{holds, same};
 
 /// The frame of the message.
 fn own() -> Frame {

@@ -1,13 +1,13 @@
 //! Flags, interrupt value and choice of one moment, over a plain memory.
 
 use super::{CONTROL, FIRST, MESSAGE, fields, tries, write};
+use crate::expect::same;
 use crate::found::found;
 use ccan_handler::{ScanRefused, laws};
 use ccan_object::{ObjectNo, Profile, Reg};
 use ccan_ram::{Access, Array, Flag, PortName, Refused};
 use std::test::Fail;
 use test_contended::calls::{choose_at_once, flags_at_once, interrupt_at_once};
-use test_expect::same;
 
 #[test]
 fn reads_the_registers_of_one_moment(rt: HostRuntime) -> Result<(), Fail> {

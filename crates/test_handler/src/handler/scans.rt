@@ -1,4 +1,5 @@
 use super::{CONTROL, FIRST, MESSAGE, RECEIVER, change, fields, tries, write};
+use crate::expect::same;
 use crate::found::found;
 use ccan_accept::Frame;
 use ccan_handler::ScanRefused;
@@ -6,7 +7,6 @@ use ccan_object::{ObjectNo, Profile, Reg};
 use ccan_ram::{Array, Change, PortName, Refused};
 use std::test::Fail;
 use test_contended::calls::{choose, choose_from, receive, receive_from};
-use test_expect::same;
 
 /// A standard data frame 0x123 with so many of these bytes.
 fn frame(length: u8, bytes: [u8; 8]) -> Result<Frame, Fail> {

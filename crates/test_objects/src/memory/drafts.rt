@@ -1,7 +1,7 @@
+use crate::expect::same;
 use ccan_object::{ObjectNo, Profile, Record};
 use ccan_ram::{CommitError, Draft, OpenError};
 use std::test::Fail;
-use test_expect::same;
 
 #[test]
 fn a_draft_shows_what_its_look_found(rt: HostRuntime) {

@@ -1,9 +1,9 @@
 use super::{FIRST, MESSAGE, RECEIVER, fields, look, set, transfer, try_change};
+use crate::expect::{holds, same};
 use ccan_accept::Frame;
 use ccan_object::{Iface, Profile, Record, Reg};
 use ccan_ram::{Array, Change, Changed, Flag, PortName};
 use std::test::Fail;
-use test_expect::{holds, same};
 
 /// Sets registers and writes the object that the request names, as IF1.
 fn write(ram: &mut Array, request: u16, settings: [&[(Reg, u16)]; 2]) -> Result<(), Fail> {

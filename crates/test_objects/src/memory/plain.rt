@@ -1,8 +1,8 @@
 use super::{FIRST, MESSAGE, fields, four_tries, look, number, set, transfer, try_change};
+use crate::expect::{holds, same};
 use ccan_object::{CommandMask, Iface, ObjectNo, Profile, Record, Reg};
 use ccan_ram::{Access, Array, Change, Changed, PortName, Refused, Tries};
 use std::test::Fail;
-use test_expect::{holds, same};
 
 /// Registers that nobody has set, but for a first message and its Message Control.
 fn first_message(control: u16) -> Iface {

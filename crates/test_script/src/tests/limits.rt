@@ -1,9 +1,9 @@
 use super::refusals::{range, refusal, shape};
+use crate::expect::same;
 use ccan_ram::PortName;
 use ccan_script::*;
 use std::alloc::{AllocError, Global};
 use std::test::Fail;
-use test_expect::same;
 
 /// The bytes of a script that are cut, spoiled or nested too deep.
 #[test]

@@ -1,3 +1,4 @@
+use crate::expect::{holds, same};
 use ccan_bus::Fault;
 use ccan_object::{ObjectNo, Profile, Reg};
 use ccan_ram::{Flag, PortName};
@@ -5,7 +6,6 @@ use ccan_script::*;
 use std::alloc::Global;
 use std::process::Abort;
 use std::test::Fail;
-use test_expect::{holds, same};
 
 /// A write of 0x123 with eight bytes.
 pub(crate) const WRITE: &str = r#"{"if1":[{"op":"transfer","request":"0001","set":{

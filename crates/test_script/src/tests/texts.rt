@@ -1,4 +1,5 @@
 use super::scripts::object_no;
+use crate::expect::{holds, same};
 use ccan_bus::{LoadAnswer, RoundAnswer};
 use ccan_confine::NodeState;
 use ccan_object::{Identifier, Profile, Record};
@@ -6,7 +7,6 @@ use ccan_ram::{Flag, PortName};
 use ccan_script::*;
 use std::process::Abort;
 use std::test::Fail;
-use test_expect::{holds, same};
 
 /// What a line of a port says.
 fn says(rt: &impl Abort, port: PortName, answer: LineAnswer, want: &str) {

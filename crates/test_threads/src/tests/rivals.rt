@@ -1,8 +1,8 @@
 //! Two hosts and the bus at work on one object for a thousand lines each. The hosts count up, each in a part of its own, and
 //! the bus sends the object and is asked for it. What each saw tells whether a change was lost or done twice.
 use super::*;
+use crate::expect::{holds, same};
 use std::fmt::Write as _;
-use test_expect::{holds, same};
 
 /// How many lines each port has. IF1 has one more, which prepares the object.
 const LINES: u16 = 1_000;

@@ -1,6 +1,6 @@
 //! Scripts in threads. No text here comes from the program.
 use super::*;
-use test_expect::{holds, same};
+use crate::expect::{holds, same};
 
 /// Each host sets NewDat in an object of its own, and waits for that of the other.
 const WAIT_FOR_EACH_OTHER: &[u8] = br#"{"if1":[

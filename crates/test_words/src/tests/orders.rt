@@ -2,7 +2,7 @@
 ghost use Rattle.std.specs.Prelude.{◌≡◌};
 
 use super::*;
-use test_expect::{holds, same};
+use crate::expect::{holds, same};
 
 const P: (u32, u32, u16, [u8; 8]) = (
     0xa48c0000,

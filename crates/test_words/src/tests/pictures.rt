@@ -2,9 +2,9 @@
 ghost use Rattle.std.specs.Prelude.{◌≡◌};
 
 use super::*;
+use crate::expect::same;
 use crate::pictures::{Pair, torn_beside};
 use std::thread::Threads;
-use test_expect::same;
 
 /// Two objects, as far apart as the smaller profile has them.
 fn ends() -> Pair

@@ -1,6 +1,6 @@
 //! Memories of 32 and of 64 objects.
 use super::*;
-use test_expect::same;
+use crate::expect::same;
 
 /// A write at the object that a request of 0 names, and what the memory then shows, there and at two other requests,
 /// and leaves.

@@ -1,9 +1,9 @@
 //! Ports in threads of their own.
 use super::*;
+use crate::expect::same;
 use crate::rivals::{Plan, three_at_work};
 use ccan_ram::Final;
 use std::thread::Threads;
-use test_expect::same;
 
 /// What three ports see who work on the objects of these requests, and what they leave.
 fn worked<R: SharedRam + Sync, T: Abort + Threads + Sync>(
