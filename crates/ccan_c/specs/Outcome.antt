@@ -1,5 +1,5 @@
 -- How C sees what came of a round. Source: this project's own, over the definitions of a round's steps.
-use Rattle.std.specs.Prelude.{ℕ, ◌≡◌, Option, Some, None, replicate}
+use Rattle.std.specs.Prelude.{ℕ, Option, Some, None, replicate}
 use Rattle.ccan_object.specs.declared.record.Record.{Record}
 use Rattle.ccan_object.specs.Record.{zero_record}
 use Rattle.ccan_accept.specs.declared.frame.Frame.{Frame}

@@ -26,6 +26,7 @@ mod held;
 mod host;
 mod host_handle;
 mod host_lines;
+pub mod laws;
 mod looks;
 mod meeting;
 mod numbers;

@@ -22,7 +22,6 @@ use crate::shown_record::ShownRecord;
 use crate::version::ccan_version;
 use ccan_object::Record;
 use ccan_script::LineAnswer;
-use std::alloc::Global;
 use std::process::Abort;
 
 /// A record of which no bit is set.
@@ -223,7 +222,8 @@ fn a_frame_is_stored_and_one_is_sent(rt: HostRuntime) {
     assert_eq!(rt; outcome.finished.control, 0x2881);
 }
 
-/// What comes of a round with these frames and this fault.
+/// What comes of a round with these frames and this fault. No step of it is refused: that takes another port at the same
+/// object meanwhile, which one thread can't have.
 fn played(bus: &mut BusHandle, offers: &[Offer], fault: u32) -> ShownOutcome {
     let mut outcome = no_outcome();
     if ccan_round(bus, offers, fault, &mut outcome) != 0 {
@@ -232,13 +232,10 @@ fn played(bus: &mut BusHandle, offers: &[Offer], fault: u32) -> ShownOutcome {
     outcome
 }
 
-/// Opens a chip with so many other nodes, whose object 2 sends the frame 0x100 with one byte.
-fn opened_to_send(alloc: Global, chip: &mut Chip, nodes: u32) -> bool {
-    if ccan_open(alloc, chip, 1, nodes, 100) != 0 {
-        return false;
-    }
-    set(&mut chip.if1, &[(0, 0x00f3), (4, 0xa400), (5, 0x0981), (6, 0x0077)]);
-    ccan_request(&mut chip.if1, 2) == 0
+/// Asks for the frame 0x100 with one byte to be sent, in object 2.
+fn asks_to_send(host: &mut HostHandle) -> u32 {
+    set(host, &[(0, 0x00f3), (4, 0xa400), (5, 0x0981), (6, 0x0077)]);
+    ccan_request(host, 2)
 }
 
 /// The load of the controller's next frame.
@@ -252,7 +249,8 @@ fn loads(bus: &mut BusHandle) -> u32 {
 fn a_round_tells_that_the_controllers_frame_was_on_the_bus(rt: HostRuntime) {
     let alloc = rt.alloc();
     let mut chip = Chip::closed(alloc);
-    assert!(rt; opened_to_send(alloc, &mut chip, 1));
+    assert_eq!(rt; ccan_open(alloc, &mut chip, 1, 1, 100), 0);
+    assert_eq!(rt; asks_to_send(&mut chip.if1), 0);
     // Spoiled, and loaded by the round itself.
     let spoiled = played(&mut chip.bus, &[offer(1)], 1);
     assert_eq!(rt; spoiled.kind, 6);
@@ -276,7 +274,8 @@ fn a_round_tells_that_the_controllers_frame_was_on_the_bus(rt: HostRuntime) {
 fn a_round_tells_which_frame_nobody_acknowledged(rt: HostRuntime) {
     let alloc = rt.alloc();
     let mut chip = Chip::closed(alloc);
-    assert!(rt; opened_to_send(alloc, &mut chip, 0));
+    assert_eq!(rt; ccan_open(alloc, &mut chip, 1, 0, 100), 0);
+    assert_eq!(rt; asks_to_send(&mut chip.if1), 0);
     let unheard = played(&mut chip.bus, &[], 0);
     assert_eq!(rt; unheard.kind, 5);
     assert_eq!(rt; unheard.loaded, 2);
@@ -367,4 +366,5 @@ fn the_version_is_that_of_the_header(rt: HostRuntime) {
 #[test]
 fn laws_hold() {
     crate::handle::handles_may_cross();
+    crate::laws::lines_keep_the_choice();
 }

@@ -6,7 +6,8 @@ use Rattle.ccan_c.proofs.held.Held.run_round.Goals as goal
 pub returns : goal.returns
 returns c =
     let run = c.report_round.ensures.goes_on in
-    let line = rounds_run c.args.round.now c.args.self.now.tries c.args.self.now.bus c.report_round.new.self c.report_round.result run in
+    let old = c.args.self.now in
+    let line = rounds_run c.args.round.now old.tries old.bus c.report_round.new.self c.report_round.result run in
     record {
       line_is = record {
         tries = refl;
