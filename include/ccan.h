@@ -10,12 +10,15 @@
  *  - There is one history of the message RAM from ccan_open to ccan_end, in which the steps of each port stand in the order of
  *    the calls on its handle. ccan_request where it is done, ccan_flags, ccan_interrupt, ccan_peek, ccan_bus_flags and
  *    ccan_bus_interrupt answer what a memory of one thread answers at one place of it. ccan_until, ccan_load and ccan_round
- *    make several steps, each at a place of its own, and other ports' steps may stand between. ccan_end gives the records that
- *    the whole history leaves.
+ *    make several steps, each at a place of its own, and other ports' steps may stand between. What ccan_load and ccan_round
+ *    choose to send is chosen at one place, as on the part: the first object that is ready there, or, where its start finds it
+ *    ready no more, the next one that was. ccan_end gives the records that the whole history leaves.
  *  - ccan_request, ccan_until, ccan_load, ccan_round, ccan_status, ccan_counters, ccan_control, ccan_init, ccan_recessive and
  *    ccan_loop_back stand for the line of that name in a script of the program `ccan`: the same steps, the same answer, and the
- *    same registers or the same bus. The four calls on flags and interrupt value are of one moment, as on the part; a
- *    script's lines of these names look at one object after another.
+ *    same registers or the same bus. But the bus of a chip chooses what it sends at one moment, and the four calls on flags and
+ *    interrupt value are of one moment, as on the part; a script's lines of these names look at one object after another.
+ *  - ccan_round also tells what came of its steps: whether it loaded an object itself, whose frame was on the bus and which one,
+ *    and which step of the message RAM was refused.
  *  - It answers the numbers below, in just the cases that are said at each call. Where a call is refused, that is for each
  *    number but CCAN_DONE, CCAN_BUSY, CCAN_SPENT and CCAN_SHARED, handle and output stay as they were.
  * Read off the sources: that a call takes no lock, but for those of malloc, realloc and free in ccan_open and ccan_end.
@@ -223,9 +226,10 @@ typedef struct {
 } ccan_loaded;
 CCAN_HOLDS(sizeof(ccan_loaded) == 28 && offsetof(ccan_loaded, object) == 4 && offsetof(ccan_loaded, held) == 8);
 
-/* The controller chooses the object to send, and starts it, where it is on and has none. It looks at one object after
- * another. CCAN_BUSY and CCAN_SPENT go with the kinds of that name: `object` wasn't started; after CCAN_BUSY the call may be
- * made again. */
+/* The controller chooses the object to send, and starts it, where it is on and has none. It chooses in one moment: of the
+ * objects that are valid and requested then it starts the lowest; where a host has changed that one since, so that it is ready
+ * no more, the next one. CCAN_BUSY and CCAN_SPENT go with the kinds of that name: `object` wasn't started; after CCAN_BUSY the
+ * call may be made again. */
 CCAN_CODE ccan_load(ccan_bus *bus, ccan_loaded *out);
 
 /* What another node sends. A switch is 0 for no, and each other number is yes. */
@@ -256,25 +260,53 @@ enum ccan_round_kind {
     CCAN_ROUND_BUSY, CCAN_ROUND_SPENT /* a change of `object` was given up; all else stands, see ccan_round */
 };
 
+/* The step of the message RAM that was refused. With CCAN_STEP_LOAD no frame was on the bus; with the two below it one was. */
+enum ccan_step {
+    CCAN_STEP_NONE,
+    CCAN_STEP_LOAD,   /* the start of the object to be sent */
+    CCAN_STEP_FINISH, /* the finish of the object that was sent */
+    CCAN_STEP_STORE   /* the store of the frame that was received; in loop back mode its object was finished */
+};
+
+/* The node of no frame. */
+enum { CCAN_NO_NODE = 255 };
+
+/* A frame that was on the bus. A switch is 0 for no, and 1 for yes. */
+typedef struct {
+    uint32_t id;      /* of 11 bits, or of 29 where it is extended */
+    uint8_t xtd;      /* switch: an extended identifier */
+    uint8_t rtr;      /* switch: a remote frame */
+    uint8_t dlc;      /* the data length code, 0 to 15; from 8 on it means eight bytes */
+    uint8_t bytes[8]; /* the data, byte 0 first; zero past its end */
+} ccan_frame;
+CCAN_HOLDS(sizeof(ccan_frame) == 16 && offsetof(ccan_frame, xtd) == 4 && offsetof(ccan_frame, rtr) == 5);
+CCAN_HOLDS(offsetof(ccan_frame, dlc) == 6 && offsetof(ccan_frame, bytes) == 7);
+
 typedef struct {
     uint32_t kind;             /* an enum ccan_round_kind */
     uint32_t object;           /* the object that was sent, or at which a step was given up; else 0 */
     ccan_record finished;      /* its record after the finish, where it was finished; else zero */
     uint32_t stored;           /* the object that stored the frame, 0 where none did */
     ccan_record stored_record; /* its record after the store; else zero */
+    uint32_t loaded;           /* the object that this round loaded itself; 0 where an earlier load did, or none is loaded */
+    uint32_t refused;          /* an enum ccan_step: with CCAN_ROUND_BUSY and CCAN_ROUND_SPENT the step that was refused */
+    uint32_t winner;           /* the node whose frame was on the bus, 0 the controller. CCAN_NO_NODE where no single frame was:
+                                  with CCAN_IDLE, CCAN_COLLISION and CCAN_STEP_LOAD */
+    ccan_frame frame;          /* that frame, as it was on the bus; zero where no single frame was */
 } ccan_outcome;
-CCAN_HOLDS(sizeof(ccan_outcome) == 52 && offsetof(ccan_outcome, object) == 4 && offsetof(ccan_outcome, finished) == 8);
+CCAN_HOLDS(sizeof(ccan_outcome) == 80 && offsetof(ccan_outcome, object) == 4 && offsetof(ccan_outcome, finished) == 8);
 CCAN_HOLDS(offsetof(ccan_outcome, stored) == 28 && offsetof(ccan_outcome, stored_record) == 32);
+CCAN_HOLDS(offsetof(ccan_outcome, loaded) == 52 && offsetof(ccan_outcome, refused) == 56);
+CCAN_HOLDS(offsetof(ccan_outcome, winner) == 60 && offsetof(ccan_outcome, frame) == 64);
 
 /* Plays a round: loads as ccan_load does; then the frames of all nodes that are on contend, and `fault` spoils the winner's
  * where it isn't CCAN_QUIET. The lowest identifier wins, by its first 11 bits and then by the 18 others; with the same first
  * 11 bits a standard frame beats an extended one, and with the same identifier a data frame beats a remote frame. `offers`
  * are `count` frames, not null even for 0. The first of CCAN_FRAMES_RANGE, CCAN_FRAME_RANGE, CCAN_FAULT_RANGE and
  * CCAN_SENDERS that applies; else CCAN_BUSY and CCAN_SPENT go with the kinds of that name, and `out` is written.
- * With CCAN_BUSY and CCAN_SPENT a change of `object` was given up, and is not made later. If that was the start of what is to
- * be sent, no frame was on the bus. Else the frame was: the error counters and the Status register have it, but the object
- * that was sent is not finished, or no object stored the frame. A second call plays a second round. A program that wants to
- * tell the two apart calls ccan_load right before: after CCAN_LOAD_LOADED and CCAN_LOAD_HELD the round has nothing to start. */
+ * With CCAN_BUSY and CCAN_SPENT a change of `object` was given up, and is not made later; `refused` says which. With
+ * CCAN_STEP_LOAD no frame was on the bus. Else `frame` was: the error counters and the Status register have it, but the object
+ * that was sent is not finished, or no object stored the frame. A second call plays a second round. */
 CCAN_CODE ccan_round(ccan_bus *bus, const ccan_offer *offers, size_t count, uint32_t fault, ccan_outcome *out);
 
 /* The Status register: BOff 7, EWarn 6, EPass 5, RxOk 4, TxOk 3, the last error code in bits 2 to 0. The status interrupt is

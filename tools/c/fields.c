@@ -48,6 +48,11 @@ static int is_written(const ccan_record *record, uint32_t arbitration, uint16_t 
     return record->masks == 0xd5671234u && record->arbitration == arbitration && record->control == control;
 }
 
+static int is_frame(const ccan_frame *frame, uint32_t id, uint8_t xtd, uint8_t rtr, uint8_t dlc, const uint8_t *bytes)
+{
+    return frame->id == id && frame->xtd == xtd && frame->rtr == rtr && frame->dlc == dlc && !memcmp(frame->bytes, bytes, 8);
+}
+
 /* Object 3 sends the extended identifier, and object 5 takes whatever has the first bits of 0x123. */
 static void rounds(void)
 {
@@ -55,6 +60,7 @@ static void rounds(void)
     GUARDED(ccan_outcome) outcome;
     GUARDED(ccan_counts) counts;
     ccan_offer offer = { .id = 0x123, .node = 2, .dlc = 3, .bytes = { 0x11, 0x22, 0x33, 0x44 } };
+    static const uint8_t theirs[8] = { 0x11, 0x22, 0x33 }, ours[8] = { 1, 2, 3, 4, 5, 6, 7, 8 }, none[8];
     FILL(loaded);
     FILL(outcome);
     FILL(counts);
@@ -65,14 +71,21 @@ static void rounds(void)
     EXPECT(outcome.out.kind == CCAN_RECEIVED && outcome.out.object == 0 && outcome.out.stored == 5);
     EXPECT(outcome.out.stored_record.control == 0xa483 && outcome.out.stored_record.bytes[2] == 0x33);
     EXPECT(outcome.out.stored_record.arbitration == 0x848c0000u && outcome.out.finished.arbitration == 0);
+    EXPECT(outcome.out.loaded == 0 && outcome.out.refused == CCAN_STEP_NONE && outcome.out.winner == 2);
+    EXPECT(is_frame(&outcome.out.frame, 0x123, 0, 0, 3, theirs));
     EXPECT(ccan_round(&chip.bus, &offer, 0, CCAN_QUIET, &outcome.out) == CCAN_DONE && INTACT(outcome));
     EXPECT(outcome.out.kind == CCAN_SENT && outcome.out.object == 3 && outcome.out.stored == 0);
     EXPECT(is_written(&outcome.out.finished, 0xe48c89abu, 0x0088) && outcome.out.stored_record.arbitration == 0);
+    EXPECT(outcome.out.loaded == 3 && outcome.out.refused == CCAN_STEP_NONE && outcome.out.winner == 0);
+    EXPECT(is_frame(&outcome.out.frame, 0x048c89abu, 1, 0, 8, ours));
+    EXPECT(ccan_round(&chip.bus, &offer, 0, CCAN_QUIET, &outcome.out) == CCAN_DONE && outcome.out.kind == CCAN_IDLE);
+    EXPECT(outcome.out.loaded == 0 && outcome.out.winner == CCAN_NO_NODE && is_frame(&outcome.out.frame, 0, 0, 0, 0, none));
     /* the other fields of an offer: an extended remote frame asks for object 3 and is stored nowhere */
     offer.id = 0x048c89abu;
     offer.xtd = 1;
     offer.rtr = 1;
     EXPECT(ccan_round(&chip.bus, &offer, 1, CCAN_CRC, &outcome.out) == CCAN_DONE && outcome.out.kind == CCAN_FAULT);
+    EXPECT(outcome.out.winner == 2 && is_frame(&outcome.out.frame, 0x048c89abu, 1, 1, 3, none));
     EXPECT(ccan_counters(&chip.bus, 0, &counts.out) == CCAN_DONE && INTACT(counts));
     EXPECT(counts.out.tec == 0 && counts.out.rec == 1 && counts.out.state == CCAN_ACTIVE);
     EXPECT(ccan_counters(&chip.bus, 2, &counts.out) == CCAN_DONE && INTACT(counts));

@@ -1,17 +1,15 @@
 -- How C sees the answers to lines. Source: this project's own.
-use Rattle.std.specs.Prelude.{ℕ, Option, Some, None}
+use Rattle.std.specs.Prelude.{ℕ}
 use Rattle.ccan_object.specs.declared.record.Record.{Record}
 use Rattle.ccan_object.specs.Record.{zero_record}
 use Rattle.ccan_bus.specs.declared.answer.LoadAnswer.{LoadAnswer}
 use Rattle.ccan_bus.specs.declared.answer.LoadAnswer.TheVariants as load
-use Rattle.ccan_bus.specs.declared.answer.RoundAnswer.{RoundAnswer}
 use Rattle.ccan_bus.specs.declared.answer.RoundAnswer.TheVariants as round
 use Rattle.ccan_confine.specs.declared.node_state.NodeState.{NodeState}
 use Rattle.ccan_confine.specs.declared.node_state.NodeState.TheVariants.{Active, Passive, Off}
 use Rattle.ccan_script.specs.declared.line_answer.LineAnswer.{LineAnswer}
 use Rattle.ccan_script.specs.declared.line_answer.LineAnswer.TheVariants as answer
 use Rattle.ccan_c.specs.declared.shown_load.ShownLoad.{ShownLoad}
-use Rattle.ccan_c.specs.declared.shown_outcome.ShownOutcome.{ShownOutcome}
 use Rattle.ccan_c.specs.declared.shown_counters.ShownCounters.{ShownCounters}
 use Rattle.ccan_c.specs.Codes.{done, busy, spent}
 use Rattle.ccan_c.specs.Record.{c_record}
@@ -42,45 +40,6 @@ c_load (load.Spent object) = c_load_with 4 object zero_record
 abbrev pub load_shown : LineAnswer → ShownLoad
 load_shown (answer.Load loading) = c_load loading
 load_shown reply = c_load load.Nothing
-
--- ---- rounds
-
--- the object that stored a frame, 0 where there is none
-abbrev pub stored_object : Option (ℕ × Record) → ℕ
-stored_object None = 0
-stored_object (Some stored) = stored.0
-
-abbrev pub stored_record : Option (ℕ × Record) → Record
-stored_record None = zero_record
-stored_record (Some stored) = stored.1
-
-abbrev pub c_round_with : ℕ → ℕ → Record → Option (ℕ × Record) → ShownOutcome
-c_round_with kind object found stored =
-    record {
-      kind = kind;
-      object = object;
-      finished = c_record found;
-      stored = stored_object stored;
-      stored_record = c_record (stored_record stored);
-    }
-
--- what came of a round: which kind of answer, the object that was sent or at which a step was given up, its record where
--- it was finished, and the object that stored the frame, with its record
-abbrev pub c_round : RoundAnswer → ShownOutcome
-c_round round.Idle = c_round_with 0 0 zero_record None
-c_round (round.Sent object finished) = c_round_with 1 object finished None
-c_round (round.Received stored) = c_round_with 2 0 zero_record stored
-c_round round.Passed = c_round_with 3 0 zero_record None
-c_round round.Collision = c_round_with 4 0 zero_record None
-c_round round.NoAck = c_round_with 5 0 zero_record None
-c_round round.Fault = c_round_with 6 0 zero_record None
-c_round (round.Looped object finished stored) = c_round_with 7 object finished stored
-c_round (round.Busy object) = c_round_with 8 object zero_record None
-c_round (round.Spent object) = c_round_with 9 object zero_record None
-
-abbrev pub round_shown : LineAnswer → ShownOutcome
-round_shown (answer.Round ended) = c_round ended
-round_shown reply = c_round round.Idle
 
 -- ---- other lines of the bus
 

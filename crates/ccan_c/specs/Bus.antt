@@ -1,7 +1,9 @@
 -- What the calls on the bus's handle stand for: the lines of the bus in a script, and looks of one moment. Source: this
 -- project's own.
-use Rattle.std.specs.Prelude.{ℕ, ◌≡◌, ◌↔◌, ◌==◌, Bool, IsTrue, not, Option, Some, MatchBool, nat_le}
+use Rattle.std.specs.Prelude.{ℕ, ◌≡◌, ◌↔◌, ◌==◌, Bool, IsTrue, not, List, Option, Some, MatchBool, nat_le}
+use Rattle.ccan_ram.specs.declared.event.Event.{Event}
 use Rattle.ccan_ram.specs.Access.{Goes}
+use Rattle.ccan_ram.specs.Terms.{Terms}
 use Rattle.ccan_bus.specs.declared.bus.Bus.{Bus}
 use Rattle.ccan_bus.specs.Bus.{LedTo}
 use Rattle.ccan_bus.specs.Past.{BusPast}
@@ -50,6 +52,12 @@ Answers line shown held after result out =
 abbrev pub Does : BusLine → Held → Option Held → ℕ → Type 0
 Does line held after result =
     (reply : LineAnswer) × IsOpenAs (RunsBus line reply held) after × (result ≡ code_of reply)
+
+-- a line keeps how the bus chooses what it sends next
+abbrev pub LinesKeepTheChoice : Type 0
+LinesKeepTheChoice =
+    (terms : Terms) (tries : ℕ) (line : BusLine) (past after : BusPast) (seen added : List Event) (reply : LineAnswer)
+    → BusLineMeans terms tries line past seen added reply after → after.choice ≡ past.choice
 
 -- ---- numbers of C
 

@@ -16,13 +16,14 @@ pass_of held = held.access.port
 abbrev pub passes : Held → Passes
 passes held = passes_of same_object (pass_of held)
 
--- a handle as it opens: it stands for this port, its registers read 0, and nothing happened to its bus
+-- a handle as it opens: it stands for this port, its registers read 0, and nothing happened to its bus, which chooses what
+-- it sends at one moment
 pub record IsOpening (pass : Pass) (nodes tries : ℕ) (held : Held) : Type 0 where
   pub port_is : pass_of held ≡ pass
   pub tries_are : held.tries ≡ tries
   pub nodes_are : held.nodes ≡ nodes
   pub registers_are : held.registers ≡ zero_registers
-  pub bus_is : LedTo (past.opened nodes) held.bus
+  pub bus_is : LedTo (past.opened_at_once nodes) held.bus
 
 -- all else that the handle stands for is as it was
 pub record IsKept (old new : Held) : Type 0 where

@@ -13,4 +13,5 @@ pub mod Looks
 pub mod Host
 pub mod Lending
 pub mod Bus
+pub mod Outcome
 pub mod Round

@@ -19,7 +19,7 @@ use crate::shown_counters::ShownCounters;
 use crate::shown_load::ShownLoad;
 use crate::shown_outcome::ShownOutcome;
 use crate::shown_words::{state_shown, word_shown};
-use ccan_script::{BusLine, MAX_FRAMES};
+use ccan_script::{BusLine, LineAnswer, MAX_FRAMES};
 
 /// The controller chooses an object to send, and starts it.
 #[unsafe(no_mangle)]
@@ -189,9 +189,9 @@ pub extern "C" fn ccan_round(
         return FAULT_RANGE;
     };
     match bus.handle.seal.as_mut().play(sends, fault) {
-        Some(answer) => {
-            *out = ShownOutcome::of(&answer);
-            code_of(&answer)
+        Some(report) => {
+            *out = ShownOutcome::of(&report);
+            code_of(&LineAnswer::Round(report.end.answer))
         }
         None => SENDERS,
     }

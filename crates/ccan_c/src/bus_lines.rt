@@ -2,7 +2,7 @@
 use crate::bus_handle::BusHandle;
 use crate::held::Held;
 use crate::offer::Sends;
-use ccan_bus::{Fault, RoundLine};
+use ccan_bus::{Fault, RoundLine, RoundReport};
 use ccan_run::Side;
 use ccan_script::{BusLine, LineAnswer};
 
@@ -13,6 +13,7 @@ impl Held {
     ghost use Rattle.ccan_bus.specs.RoundLine.{AreSenders};
     ghost use Rattle.ccan_script.specs.BusLine.{BusFits};
     ghost use Rattle.ccan_c.specs.Bus.{RunsBus};
+    ghost use Rattle.ccan_c.specs.Round.{RunsRound};
 
     /// Runs a line of the bus.
     pub(crate) fn run_bus(&mut self, line: &BusLine) -> LineAnswer
@@ -35,16 +36,23 @@ impl Held {
         Some(self.run_bus(&BusLine::Counters(node as u8)))
     }
 
+    /// Runs the line of a round, and tells what came of its steps.
+    fn run_round(&mut self, round: &RoundLine) -> RoundReport
+        ensures { RunsRound round.now result self.old self.new }
+    {
+        self.bus.report_round(&mut self.access, round, self.tries)
+    }
+
     /// Plays a round. None where a sender is none of the other nodes, or sends twice.
-    pub(crate) fn play(&mut self, sends: Sends, fault: Fault) -> Option<LineAnswer>
+    pub(crate) fn play(&mut self, sends: Sends, fault: Fault) -> Option<RoundReport>
         ensures none { IfNone result ((AreSenders self.old.nodes sends.items → ⊥)
             × (self.new ≡ self.old)) }
-        ensures some { IfSome result (λ answer. AreSenders self.old.nodes sends.items
+        ensures some { IfSome result (λ report. AreSenders self.old.nodes sends.items
             × ((round : RoundLine) × (round.send.items ≡ sends.items) × (round.fault ≡ fault)
-            × RunsBus (BusLine.Round round) answer self.old self.new)) }
+            × RunsRound round report self.old self.new)) }
     {
         let round = RoundLine::new(self.nodes, sends, fault)?;
-        Some(self.run_bus(&BusLine::Round(round)))
+        Some(self.run_round(&round))
     }
 }
 

@@ -38,7 +38,7 @@ fn hold(
         tries: settings.tries,
         registers: Iface::new(),
         nodes: settings.nodes,
-        bus: Bus::new(settings.profile, settings.nodes),
+        bus: Bus::choosing_at_once(settings.profile, settings.nodes),
     };
     match Box::new(alloc, held) {
         Ok(held) => Some(Handle::open(held)),
@@ -63,8 +63,8 @@ fn opened(alloc: Global, settings: &Settings) -> Option<Chip>
     Some(Chip::of(if1, if2, bus))
 }
 
-/// Opens a chip, each port of which may make as many changes as the memory numbers. What the place held is closed where it
-/// answers 0.
+/// Opens a chip, each port of which may make as many changes as the memory numbers. Its bus chooses what it sends at one
+/// moment, as the part does. What the place held is closed where it answers 0.
 #[unsafe(no_mangle)]
 pub extern "C" fn ccan_open(
     alloc: Global,

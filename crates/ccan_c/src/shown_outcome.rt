@@ -1,11 +1,16 @@
-ghost use Rattle.std.specs.Prelude.{◌≡◌, None};
-ghost use Rattle.ccan_object.specs.Record.{zero_record};
-ghost use Rattle.ccan_c.specs.Answer.{c_round, c_round_with, round_shown, stored_object, stored_record};
+ghost use Rattle.std.specs.Prelude.{◌≡◌};
+ghost use Rattle.ccan_c.specs.Outcome.{c_outcome, finished_of, kind_of, loaded_by, node_shown};
+ghost use Rattle.ccan_c.specs.Outcome.{object_of, step_number, stored_object, stored_of};
+ghost use Rattle.ccan_c.specs.Outcome.{stored_record, winner_in};
 
+use crate::shown_frame::ShownFrame;
 use crate::shown_record::ShownRecord;
-use ccan_bus::RoundAnswer;
+use ccan_accept::Frame;
+use ccan_bus::{Decision, LoadAnswer, MemoryStep, RoundAnswer, RoundReport};
 use ccan_object::{ObjectNo, Record};
-use ccan_script::LineAnswer;
+
+/// The number that stands for no node.
+pub(crate) const NO_NODE: u32 = 255;
 
 /// What came of a round.
 #[repr(C)]
@@ -21,6 +26,67 @@ pub struct ShownOutcome {
     pub stored: u32,
     /// Its record after the store, zero where there is none.
     pub stored_record: ShownRecord,
+    /// The object that this round itself loaded, 0 where an earlier load did or none was loaded.
+    pub loaded: u32,
+    /// The step of the memory that was refused: 0 none, 1 the start of the load, 2 the finish, 3 the store.
+    pub refused: u32,
+    /// The node whose frame was on the bus, 0 the controller; `NO_NODE` where no single frame was.
+    pub winner: u32,
+    /// That frame, zero where no single frame was.
+    pub frame: ShownFrame,
+}
+
+/// Which kind of answer it is.
+fn kind_of(reply: &RoundAnswer) -> u32
+    ensures { result ≡ kind_of reply.now }
+{
+    match reply {
+        RoundAnswer::Idle => 0,
+        RoundAnswer::Sent(_, _) => 1,
+        RoundAnswer::Received(_) => 2,
+        RoundAnswer::Passed => 3,
+        RoundAnswer::Collision => 4,
+        RoundAnswer::NoAck => 5,
+        RoundAnswer::Fault => 6,
+        RoundAnswer::Looped(_, _, _) => 7,
+        RoundAnswer::Busy(_) => 8,
+        RoundAnswer::Spent(_) => 9,
+    }
+}
+
+/// The object that was sent, or at which a step was given up.
+fn object_of(reply: &RoundAnswer) -> u32
+    ensures { result ≡ object_of reply.now }
+{
+    match reply {
+        RoundAnswer::Sent(object, _) => u32::from(object.get()),
+        RoundAnswer::Looped(object, _, _) => u32::from(object.get()),
+        RoundAnswer::Busy(object) => u32::from(object.get()),
+        RoundAnswer::Spent(object) => u32::from(object.get()),
+        _ => 0,
+    }
+}
+
+/// Its record after the finish.
+fn finished_of(reply: &RoundAnswer) -> Record
+    ensures { result ≡ finished_of reply.now }
+{
+    match reply {
+        RoundAnswer::Sent(_, finished) => *finished,
+        RoundAnswer::Looped(_, finished, _) => *finished,
+        _ => Record::zero(),
+    }
+}
+
+/// The object that stored the frame, with its record.
+fn stored_of(reply: &RoundAnswer) -> Option<(ObjectNo, Record)>
+    ensures { result ≡ stored_of reply.now }
+{
+    match reply {
+        RoundAnswer::Received(stored) => *stored,
+        RoundAnswer::Looped(_, _, stored) => *stored,
+        _ => None,
+    }
 }
 
 /// The object that stored a frame, 0 where there is none.
@@ -43,61 +109,66 @@ fn stored_record(stored: &Option<(ObjectNo, Record)>) -> Record
     }
 }
 
+/// The object that a round itself loaded.
+fn loaded_by(loading: &LoadAnswer) -> u32
+    ensures { result ≡ loaded_by loading.now }
+{
+    match loading {
+        LoadAnswer::Loaded(object, _) => u32::from(object.get()),
+        _ => 0,
+    }
+}
+
+/// The step that was refused.
+pub(crate) fn step_number(refused: Option<MemoryStep>) -> u32
+    ensures { result ≡ step_number refused }
+{
+    match refused {
+        None => 0,
+        Some(MemoryStep::Start) => 1,
+        Some(MemoryStep::Finish) => 2,
+        Some(MemoryStep::Store) => 3,
+    }
+}
+
+/// The node and the frame that won the bus.
+fn winner_in(decision: &Option<Decision>) -> Option<(u8, Frame)>
+    ensures { result ≡ winner_in decision.now }
+{
+    match decision {
+        Some(decided) => decided.winner(),
+        None => None,
+    }
+}
+
+/// The node whose frame was on the bus.
+fn node_shown(winner: &Option<(u8, Frame)>) -> u32
+    ensures { result ≡ node_shown winner.now }
+{
+    match winner {
+        Some((node, _)) => u32::from(*node),
+        None => NO_NODE,
+    }
+}
+
 impl ShownOutcome {
-    /// An answer of this kind.
-    fn with(
-        kind: u32,
-        object: u32,
-        found: &Record,
-        stored: &Option<(ObjectNo, Record)>,
-    ) -> ShownOutcome
-        ensures { result ≡ c_round_with kind object found.now stored.now }
+    /// What came of a round as C sees it.
+    pub(crate) fn of(report: &RoundReport) -> ShownOutcome
+        ensures { result ≡ c_outcome report.now }
     {
+        let reply = report.end.answer;
+        let stored = stored_of(&reply);
+        let winner = winner_in(&report.decision);
         ShownOutcome {
-            kind,
-            object,
-            finished: ShownRecord::of(found),
-            stored: stored_object(stored),
-            stored_record: ShownRecord::of(&stored_record(stored)),
-        }
-    }
-
-    /// An answer of this kind with no record.
-    fn plain(kind: u32, object: u32) -> ShownOutcome
-        ensures { result ≡ c_round_with kind object zero_record None }
-    {
-        ShownOutcome::with(kind, object, &Record::zero(), &None)
-    }
-
-    /// What came of a round.
-    fn of_round(ended: &RoundAnswer) -> ShownOutcome
-        ensures { result ≡ c_round ended.now }
-    {
-        match ended {
-            RoundAnswer::Idle => ShownOutcome::plain(0, 0),
-            RoundAnswer::Sent(object, finished) => {
-                ShownOutcome::with(1, u32::from(object.get()), finished, &None)
-            }
-            RoundAnswer::Received(stored) => ShownOutcome::with(2, 0, &Record::zero(), stored),
-            RoundAnswer::Passed => ShownOutcome::plain(3, 0),
-            RoundAnswer::Collision => ShownOutcome::plain(4, 0),
-            RoundAnswer::NoAck => ShownOutcome::plain(5, 0),
-            RoundAnswer::Fault => ShownOutcome::plain(6, 0),
-            RoundAnswer::Looped(object, finished, stored) => {
-                ShownOutcome::with(7, u32::from(object.get()), finished, stored)
-            }
-            RoundAnswer::Busy(object) => ShownOutcome::plain(8, u32::from(object.get())),
-            RoundAnswer::Spent(object) => ShownOutcome::plain(9, u32::from(object.get())),
-        }
-    }
-
-    /// The answer to a round.
-    pub(crate) fn of(answer: &LineAnswer) -> ShownOutcome
-        ensures { result ≡ round_shown answer.now }
-    {
-        match answer {
-            LineAnswer::Round(ended) => ShownOutcome::of_round(ended),
-            _ => ShownOutcome::of_round(&RoundAnswer::Idle),
+            kind: kind_of(&reply),
+            object: object_of(&reply),
+            finished: ShownRecord::of(&finished_of(&reply)),
+            stored: stored_object(&stored),
+            stored_record: ShownRecord::of(&stored_record(&stored)),
+            loaded: loaded_by(&report.loading),
+            refused: step_number(report.end.refused),
+            winner: node_shown(&winner),
+            frame: ShownFrame::of(&winner),
         }
     }
 }

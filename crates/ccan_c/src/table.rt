@@ -8,11 +8,12 @@ use crate::numbers::{flag_numbered, register_numbered};
 use crate::offer::{Offer, fault_numbered};
 use crate::shown_counters::{ShownCounters, state_number};
 use crate::shown_final::ShownFinal;
+use crate::shown_frame::ShownFrame;
 use crate::shown_load::ShownLoad;
-use crate::shown_outcome::ShownOutcome;
+use crate::shown_outcome::{NO_NODE, ShownOutcome, step_number};
 use crate::shown_record::ShownRecord;
 use crate::version::ccan_version;
-use ccan_bus::{Fault, LoadAnswer, RoundAnswer};
+use ccan_bus::{Fault, LoadAnswer, MemoryStep, RoundAnswer, RoundEnd, RoundReport};
 use ccan_confine::NodeState;
 use ccan_object::{Profile, Record, Reg};
 use ccan_ram::Flag;
@@ -131,7 +132,15 @@ fn loads(rt: HostRuntime) {
 
 /// The kind of a round.
 fn round(came: RoundAnswer) -> u32 {
-    ShownOutcome::of(&LineAnswer::Round(came)).kind
+    let report = RoundReport {
+        loading: LoadAnswer::Nothing,
+        decision: None,
+        end: RoundEnd {
+            answer: came,
+            refused: None,
+        },
+    };
+    ShownOutcome::of(&report).kind
 }
 
 #[test]
@@ -150,6 +159,15 @@ fn rounds(rt: HostRuntime) {
 }
 
 #[test]
+fn steps_of_rounds(rt: HostRuntime) {
+    assert_eq!(rt; step_number(None), 0); // CCAN_STEP_NONE
+    assert_eq!(rt; step_number(Some(MemoryStep::Start)), 1); // CCAN_STEP_LOAD
+    assert_eq!(rt; step_number(Some(MemoryStep::Finish)), 2); // CCAN_STEP_FINISH
+    assert_eq!(rt; step_number(Some(MemoryStep::Store)), 3); // CCAN_STEP_STORE
+    assert_eq!(rt; NO_NODE, 255); // CCAN_NO_NODE
+}
+
+#[test]
 fn sizes(rt: HostRuntime) {
     assert_eq!(rt; size_of::<HostHandle>(), 16); // sizeof(ccan_host)
     assert_eq!(rt; size_of::<BusHandle>(), 16); // sizeof(ccan_bus)
@@ -158,6 +176,7 @@ fn sizes(rt: HostRuntime) {
     assert_eq!(rt; size_of::<ShownFinal>(), 1284); // sizeof(ccan_final)
     assert_eq!(rt; size_of::<ShownLoad>(), 28); // sizeof(ccan_loaded)
     assert_eq!(rt; size_of::<Offer>(), 16); // sizeof(ccan_offer)
-    assert_eq!(rt; size_of::<ShownOutcome>(), 52); // sizeof(ccan_outcome)
+    assert_eq!(rt; size_of::<ShownFrame>(), 16); // sizeof(ccan_frame)
+    assert_eq!(rt; size_of::<ShownOutcome>(), 80); // sizeof(ccan_outcome)
     assert_eq!(rt; size_of::<ShownCounters>(), 12); // sizeof(ccan_counts)
 }

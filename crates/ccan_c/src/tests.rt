@@ -3,6 +3,7 @@ use crate::bus::{
     ccan_bus_flags, ccan_bus_interrupt, ccan_control, ccan_counters, ccan_init, ccan_load,
     ccan_loop_back, ccan_recessive, ccan_round, ccan_status,
 };
+use crate::bus_handle::BusHandle;
 use crate::chip::Chip;
 use crate::ending::ccan_end;
 use crate::host::{
@@ -14,11 +15,13 @@ use crate::offer::Offer;
 use crate::opening::{ccan_is_open, ccan_open};
 use crate::shown_counters::ShownCounters;
 use crate::shown_final::ShownFinal;
+use crate::shown_frame::ShownFrame;
 use crate::shown_load::ShownLoad;
 use crate::shown_outcome::ShownOutcome;
 use crate::shown_record::ShownRecord;
 use crate::version::ccan_version;
 use ccan_object::Record;
+use ccan_script::LineAnswer;
 use std::process::Abort;
 
 /// A record of which no bit is set.
@@ -174,6 +177,10 @@ fn no_outcome() -> ShownOutcome {
         finished: no_record(),
         stored: 0,
         stored_record: no_record(),
+        loaded: 77,
+        refused: 77,
+        winner: 77,
+        frame: ShownFrame::of(&None),
     }
 }
 
@@ -213,6 +220,107 @@ fn a_frame_is_stored_and_one_is_sent(rt: HostRuntime) {
     assert_eq!(rt; outcome.kind, 1);
     assert_eq!(rt; outcome.object, 2);
     assert_eq!(rt; outcome.finished.control, 0x2881);
+}
+
+/// What comes of a round with these frames and this fault. No step of it is refused: that takes another port at the same
+/// object meanwhile, which one thread can't have.
+fn played(bus: &mut BusHandle, offers: &[Offer], fault: u32) -> ShownOutcome {
+    let mut outcome = no_outcome();
+    if ccan_round(bus, offers, fault, &mut outcome) != 0 {
+        return no_outcome();
+    }
+    outcome
+}
+
+/// Asks for the frame 0x100 with one byte to be sent, in object 2.
+fn asks_to_send(host: &mut HostHandle) -> u32 {
+    set(host, &[(0, 0x00f3), (4, 0xa400), (5, 0x0981), (6, 0x0077)]);
+    ccan_request(host, 2)
+}
+
+/// The load of the controller's next frame.
+fn loads(bus: &mut BusHandle) -> u32 {
+    let mut loaded = ShownLoad::of(&LineAnswer::Init);
+    ccan_load(bus, &mut loaded);
+    loaded.object
+}
+
+#[test]
+fn a_round_tells_that_the_controllers_frame_was_on_the_bus(rt: HostRuntime) {
+    let alloc = rt.alloc();
+    let mut chip = Chip::closed(alloc);
+    assert_eq!(rt; ccan_open(alloc, &mut chip, 1, 1, 100), 0);
+    assert_eq!(rt; asks_to_send(&mut chip.if1), 0);
+    // Spoiled, and loaded by the round itself.
+    let spoiled = played(&mut chip.bus, &[offer(1)], 1);
+    assert_eq!(rt; spoiled.kind, 6);
+    assert_eq!(rt; spoiled.loaded, 2);
+    assert_eq!(rt; spoiled.refused, 0);
+    assert_eq!(rt; spoiled.winner, 0);
+    assert_eq!(rt; spoiled.frame.id, 0x100);
+    assert_eq!(rt; spoiled.frame.dlc, 1);
+    assert_eq!(rt; spoiled.frame.bytes, [0x77, 0, 0, 0, 0, 0, 0, 0]);
+    // Sent, and loaded by an earlier load.
+    assert_eq!(rt; loads(&mut chip.bus), 2);
+    let sent = played(&mut chip.bus, &[], 0);
+    assert_eq!(rt; sent.kind, 1);
+    assert_eq!(rt; sent.loaded, 0);
+    assert_eq!(rt; sent.refused, 0);
+    assert_eq!(rt; sent.winner, 0);
+    assert_eq!(rt; sent.frame.id, 0x100);
+}
+
+#[test]
+fn a_round_tells_which_frame_nobody_acknowledged(rt: HostRuntime) {
+    let alloc = rt.alloc();
+    let mut chip = Chip::closed(alloc);
+    assert_eq!(rt; ccan_open(alloc, &mut chip, 1, 0, 100), 0);
+    assert_eq!(rt; asks_to_send(&mut chip.if1), 0);
+    let unheard = played(&mut chip.bus, &[], 0);
+    assert_eq!(rt; unheard.kind, 5);
+    assert_eq!(rt; unheard.loaded, 2);
+    assert_eq!(rt; unheard.refused, 0);
+    assert_eq!(rt; unheard.winner, 0);
+    assert_eq!(rt; unheard.frame.id, 0x100);
+}
+
+#[test]
+fn a_round_tells_which_nodes_frame_was_on_the_bus(rt: HostRuntime) {
+    let alloc = rt.alloc();
+    let mut chip = Chip::closed(alloc);
+    assert_eq!(rt; ccan_open(alloc, &mut chip, 1, 2, 100), 0);
+    let idle = played(&mut chip.bus, &[], 0);
+    assert_eq!(rt; idle.kind, 0);
+    assert_eq!(rt; idle.loaded, 0);
+    assert_eq!(rt; idle.refused, 0);
+    assert_eq!(rt; idle.winner, 255);
+    assert_eq!(rt; idle.frame.id, 0);
+    let mut remote = offer(2);
+    remote.xtd = 7;
+    remote.rtr = 7;
+    // The same first eleven bits: the standard frame goes on.
+    remote.id = 0x123 << 18;
+    let received = played(&mut chip.bus, &[remote, offer(1)], 0);
+    assert_eq!(rt; received.kind, 2);
+    assert_eq!(rt; received.loaded, 0);
+    assert_eq!(rt; received.refused, 0);
+    assert_eq!(rt; received.winner, 1);
+    assert_eq!(rt; received.frame.id, 0x123);
+    assert_eq!(rt; received.frame.xtd, 0);
+    assert_eq!(rt; received.frame.rtr, 0);
+    assert_eq!(rt; received.frame.dlc, 2);
+    assert_eq!(rt; received.frame.bytes, [0x11, 0x22, 0, 0, 0, 0, 0, 0]);
+    let asked = played(&mut chip.bus, &[remote], 0);
+    assert_eq!(rt; asked.winner, 2);
+    assert_eq!(rt; asked.frame.id, 0x48c0000);
+    assert_eq!(rt; asked.frame.xtd, 1);
+    assert_eq!(rt; asked.frame.rtr, 1);
+    assert_eq!(rt; asked.frame.dlc, 2);
+    assert_eq!(rt; asked.frame.bytes, [0; 8]);
+    let collided = played(&mut chip.bus, &[offer(1), offer(2)], 0);
+    assert_eq!(rt; collided.kind, 4);
+    assert_eq!(rt; collided.winner, 255);
+    assert_eq!(rt; collided.frame.id, 0);
 }
 
 #[test]
@@ -258,4 +366,5 @@ fn the_version_is_that_of_the_header(rt: HostRuntime) {
 #[test]
 fn laws_hold() {
     crate::handle::handles_may_cross();
+    crate::laws::lines_keep_the_choice();
 }

@@ -21,7 +21,7 @@ returns-in-Some-play-clause-call c =
       some.1.0,
       record { sends = some.1.1 ∙ read.1; fault_is = some.1.2 },
       subst (λ (xs : List (ℕ × Frame)). AreSenders moved.nodes xs) read.1 some.0,
-      (c.in-Some-play.answer, (c.play.new.self, refl, some.1.3), c.code_of.ensures, c.of.ensures),
+      (c.in-Some-play.report, (c.play.new.self, refl, some.1.3), c.code_of.ensures, c.of.ensures),
     ) in
     on_open _ _ _ _ _ c.as_mut.ensures.value
     (on_true _ _ _ (few_frames _ c.if-offers-gt-MAX_FRAMES.false) (on_true _ _ _ read.0 (on_known _ fault _ _ c.in-Some-fault_numbered.ensures played)))

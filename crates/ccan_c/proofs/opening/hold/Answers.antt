@@ -1,6 +1,6 @@
 use Rattle.std.proofs.Common.{◌∙◌, ap, sym, subst}
 use Rattle.ccan_bus.specs.Bus.{LedTo}
-use Rattle.ccan_bus.specs.Past.{opened}
+use Rattle.ccan_bus.specs.Past.{opened_at_once}
 use Rattle.ccan_c.specs.declared.held.Held.{Held}
 use Rattle.ccan_c.proofs.opening.hold.Goals as goal
 
@@ -14,6 +14,6 @@ returns-in-Ok-new c =
         tries_are = ap (λ (h : Held). h.tries) same;
         nodes_are = ap (λ (h : Held). h.nodes) same;
         registers_are = ap (λ (h : Held). h.registers) same ∙ c.new.ensures;
-        bus_is = subst (λ (h : Held). LedTo (opened c.args.settings.now.nodes) h.bus) (sym same) c.new-2.ensures.opened;
+        bus_is = subst (λ (h : Held). LedTo (opened_at_once c.args.settings.now.nodes) h.bus) (sym same) c.choosing_at_once.ensures.opened;
       },
     )

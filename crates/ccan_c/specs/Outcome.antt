@@ -1,0 +1,122 @@
+-- How C sees what came of a round. Source: this project's own, over the definitions of a round's steps.
+use Rattle.std.specs.Prelude.{ℕ, Option, Some, None, replicate}
+use Rattle.ccan_object.specs.declared.record.Record.{Record}
+use Rattle.ccan_object.specs.Record.{zero_record}
+use Rattle.ccan_accept.specs.declared.frame.Frame.{Frame}
+use Rattle.ccan_bus.specs.declared.answer.LoadAnswer.{LoadAnswer}
+use Rattle.ccan_bus.specs.declared.answer.LoadAnswer.TheVariants as load
+use Rattle.ccan_bus.specs.declared.answer.RoundAnswer.{RoundAnswer}
+use Rattle.ccan_bus.specs.declared.answer.RoundAnswer.TheVariants as round
+use Rattle.ccan_bus.specs.declared.decision.Decision.{Decision}
+use Rattle.ccan_bus.specs.declared.memory_step.MemoryStep.{MemoryStep}
+use Rattle.ccan_bus.specs.declared.memory_step.MemoryStep.TheVariants.{Start, Finish, Store}
+use Rattle.ccan_bus.specs.declared.round_report.RoundReport.{RoundReport}
+use Rattle.ccan_bus.specs.Decision.{winner_of}
+use Rattle.ccan_c.specs.declared.shown_frame.ShownFrame.{ShownFrame}
+use Rattle.ccan_c.specs.declared.shown_outcome.ShownOutcome.{ShownOutcome}
+use Rattle.ccan_c.specs.Host.{number_of}
+use Rattle.ccan_c.specs.Record.{c_record}
+
+-- ---- the end of the round
+
+-- the object that stored a frame, 0 where there is none
+abbrev pub stored_object : Option (ℕ × Record) → ℕ
+stored_object None = 0
+stored_object (Some stored) = stored.0
+
+abbrev pub stored_record : Option (ℕ × Record) → Record
+stored_record None = zero_record
+stored_record (Some stored) = stored.1
+
+-- which kind of answer it is, the object that was sent or at which a step was given up, and its record where it was finished
+abbrev pub kind_of : RoundAnswer → ℕ
+kind_of round.Idle = 0
+kind_of (round.Sent object finished) = 1
+kind_of (round.Received stored) = 2
+kind_of round.Passed = 3
+kind_of round.Collision = 4
+kind_of round.NoAck = 5
+kind_of round.Fault = 6
+kind_of (round.Looped object finished stored) = 7
+kind_of (round.Busy object) = 8
+kind_of (round.Spent object) = 9
+
+abbrev pub object_of : RoundAnswer → ℕ
+object_of (round.Sent object finished) = object
+object_of (round.Looped object finished stored) = object
+object_of (round.Busy object) = object
+object_of (round.Spent object) = object
+object_of reply = 0
+
+abbrev pub finished_of : RoundAnswer → Record
+finished_of (round.Sent object finished) = finished
+finished_of (round.Looped object finished stored) = finished
+finished_of reply = zero_record
+
+-- the object that stored the frame, with its record
+abbrev pub stored_of : RoundAnswer → Option (ℕ × Record)
+stored_of (round.Received stored) = stored
+stored_of (round.Looped object finished stored) = stored
+stored_of reply = None
+
+-- ---- its steps
+
+-- the object that this round itself loaded, 0 where it loaded none
+abbrev pub loaded_by : LoadAnswer → ℕ
+loaded_by (load.Loaded object started) = object
+loaded_by loading = 0
+
+-- the step that was refused: the start of the load, the finish or the store
+abbrev pub step_number : Option MemoryStep → ℕ
+step_number None = 0
+step_number (Some Start) = 1
+step_number (Some Finish) = 2
+step_number (Some Store) = 3
+
+-- ---- the frame that was on the bus
+
+-- the node and the frame that won the bus; there is none where the load was refused
+abbrev pub winner_in : Option Decision → Option (ℕ × Frame)
+winner_in None = None
+winner_in (Some decided) = winner_of decided
+
+-- the number that stands for no node
+abbrev pub no_node : ℕ
+no_node = 255
+
+abbrev pub node_shown : Option (ℕ × Frame) → ℕ
+node_shown None = no_node
+node_shown (Some won) = won.0
+
+-- a frame, whose switches are 1 where they are on
+abbrev pub c_frame : Frame → ShownFrame
+c_frame frame =
+    record {
+      id = frame.id;
+      xtd = number_of frame.xtd;
+      rtr = number_of frame.rtr;
+      dlc = frame.dlc;
+      bytes = frame.bytes;
+    }
+
+abbrev pub frame_shown : Option (ℕ × Frame) → ShownFrame
+frame_shown None = record { id = 0; xtd = 0; rtr = 0; dlc = 0; bytes = replicate 8 0 }
+frame_shown (Some won) = c_frame won.1
+
+-- ---- the whole
+
+abbrev pub c_outcome : RoundReport → ShownOutcome
+c_outcome report =
+    let reply = report.end.answer in
+    let won = winner_in report.decision in
+    record {
+      kind = kind_of reply;
+      object = object_of reply;
+      finished = c_record (finished_of reply);
+      stored = stored_object (stored_of reply);
+      stored_record = c_record (stored_record (stored_of reply));
+      loaded = loaded_by report.loading;
+      refused = step_number report.end.refused;
+      winner = node_shown won;
+      frame = frame_shown won;
+    }

@@ -1,0 +1,51 @@
+ghost use Rattle.std.specs.Prelude.{◌≡◌};
+ghost use Rattle.ccan_c.specs.Outcome.{c_frame, frame_shown};
+
+use ccan_accept::Frame;
+
+/// A frame that was on the bus.
+#[repr(C)]
+#[derive(Clone, Copy, PartialEq, Eq, Debug)]
+pub struct ShownFrame {
+    /// The identifier, of 11 bits, or of 29 where it is extended.
+    pub id: u32,
+    /// Whether the identifier is extended: 0 is no, 1 is yes.
+    pub xtd: u8,
+    /// Whether it is a remote frame, in the same way.
+    pub rtr: u8,
+    /// The data length code, 0 to 15.
+    pub dlc: u8,
+    /// The data, byte 0 first, and 0 past its end.
+    pub bytes: [u8; 8],
+}
+
+impl ShownFrame {
+    /// A frame as C sees it.
+    fn of_frame(frame: &Frame) -> ShownFrame
+        ensures { result ≡ c_frame frame.now }
+    {
+        ShownFrame {
+            id: frame.id(),
+            xtd: u8::from(frame.xtd()),
+            rtr: u8::from(frame.rtr()),
+            dlc: frame.dlc().get(),
+            bytes: frame.bytes(),
+        }
+    }
+
+    /// The frame that was on the bus, zero where no single one was.
+    pub(crate) fn of(winner: &Option<(u8, Frame)>) -> ShownFrame
+        ensures { result ≡ frame_shown winner.now }
+    {
+        match winner {
+            Some((_, frame)) => ShownFrame::of_frame(frame),
+            None => ShownFrame {
+                id: 0,
+                xtd: 0,
+                rtr: 0,
+                dlc: 0,
+                bytes: [0; 8],
+            },
+        }
+    }
+}
