@@ -31,6 +31,7 @@ fn ended_as(alloc: Global, answer: &LineAnswer) -> Result<String, AllocError> {
         LineAnswer::Read(object, _) => format!(in alloc; "read {:02}", object.get()),
         LineAnswer::Busy(object) => format!(in alloc; "busy {:02}", object.get()),
         LineAnswer::Spent(object) => format!(in alloc; "spent {:02}", object.get()),
+        // Transfers alone are listed, and they have no other answers; no contract says so of a state's answers.
         _ => Ok(String::new(alloc)),
     }
 }
@@ -40,6 +41,7 @@ fn did(alloc: Global, new: &Seat) -> Result<String, AllocError> {
     match new.stage {
         Stage::Between => match new.answers.as_slice().last() {
             Some(answer) => ended_as(alloc, answer),
+            // A host that has just moved and is between lines has an answer; the prover doesn't know that it moved.
             None => Ok(String::new(alloc)),
         },
         Stage::Tried {

@@ -46,6 +46,7 @@ fn command<'a>(alloc: Global) -> Result<Command<'a>, AllocError> {
 /// The question that the words of the command line ask. The first of them is the program's name.
 pub fn question_asked<'a, S: AsStr>(alloc: Global, words: &'a [S]) -> Result<Question<'a>, Error> {
     let matches = command(alloc)?.try_get_matches_from(words)?;
+    // The command wants a subcommand and has only this one, so the other case doesn't come; it is not proved here.
     let Some(asked) = matches.subcommand_matches("outcomes") else {
         return Ok(Question {
             most: DEFAULT_MOST,

@@ -82,6 +82,7 @@ fn add_history(
     for index in &way {
         let now = states.get(*index);
         if let (Some(old), Some(new)) = (before, now) {
+            // There are fewer steps than states, so nothing saturates; it saves a proof of that.
             number = number.saturating_add(1);
             text.push_str(step_line(alloc, number, old, new)?.as_str())?;
         }
