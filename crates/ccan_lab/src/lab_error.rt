@@ -1,0 +1,86 @@
+use ccan_outcomes::OutcomesError;
+use ccan_ram::PortName;
+use ccan_run::RunError;
+use std::alloc::AllocError;
+use thiserror::Error;
+
+/// Why a question has no answer. It prints as the line that the program writes on standard error.
+#[derive(Clone, Copy, PartialEq, Eq, PartialOrd, Ord, Hash, Debug, Error)]
+pub enum LabError {
+    /// The words of the command line can't be had.
+    #[error("ccan-lab: command line")]
+    Words,
+    /// The file could not be opened.
+    #[error("ccan-lab: file could not be opened")]
+    Open,
+    /// The input could not be read, or is no script. It prints as `ccan` tells it.
+    #[error(transparent)]
+    Input(RunError),
+    /// The line of this port and this index, from 0, is no transfer.
+    #[error("ccan-lab: outcomes: {port} {line}: only transfers can be listed yet")]
+    NoTransfer { port: PortName, line: usize },
+    /// The hosts can come to more states than this.
+    #[error("ccan-lab: outcomes: more than {0} states")]
+    More(usize),
+    /// Memory ran out.
+    #[error("ccan-lab: out of memory")]
+    Memory,
+    /// A write failed.
+    #[error("ccan-lab: output could not be written")]
+    Write,
+}
+
+impl LabError {
+    ghost use Rattle.std.specs.Prelude.{◌≡◌};
+    ghost use Rattle.ccan_lab.specs.LabError.{exit_status};
+
+    /// The exit status of the program.
+    pub fn status(&self) -> u8
+        ensures { result ≡ exit_status self.now }
+    {
+        match self {
+            LabError::Input(fault) => fault.status(),
+            LabError::NoTransfer { .. } => 1,
+            LabError::Words => 2,
+            LabError::Memory => 3,
+            LabError::Open | LabError::Write => 4,
+            LabError::More(_) => 5,
+        }
+    }
+}
+
+impl From<AllocError> for LabError {
+    ghost use Rattle.std.specs.Prelude.{◌≡◌};
+    ghost use Rattle.ccan_lab.specs.declared.lab_error.LabError.TheVariants.{Memory};
+
+    ghost from_gives = { λ _ e. e ≡ Memory };
+
+    fn from(_refused: AllocError) -> LabError {
+        LabError::Memory
+    }
+}
+
+impl From<RunError> for LabError {
+    ghost use Rattle.std.specs.Prelude.{◌≡◌};
+    ghost use Rattle.ccan_lab.specs.declared.lab_error.LabError.TheVariants.{Input};
+
+    ghost from_gives = { λ from e. e ≡ Input from };
+
+    fn from(fault: RunError) -> LabError {
+        LabError::Input(fault)
+    }
+}
+
+impl From<OutcomesError> for LabError {
+    ghost use Rattle.std.specs.Prelude.{◌≡◌};
+    ghost use Rattle.ccan_lab.specs.LabError.{error_from};
+
+    ghost from_gives = { λ from e. e ≡ error_from from };
+
+    fn from(fault: OutcomesError) -> LabError {
+        match fault {
+            OutcomesError::NoTransfer { port, line } => LabError::NoTransfer { port, line },
+            OutcomesError::Memory => LabError::Memory,
+        }
+    }
+}
