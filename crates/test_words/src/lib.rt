@@ -15,8 +15,6 @@ mod pictures;
 #[cfg(test)]
 mod rivals;
 #[cfg(test)]
-mod seat;
-#[cfg(test)]
 mod tests;
 
 #[cfg(test)]

@@ -4,7 +4,6 @@ use super::*;
 use crate::calls;
 use crate::drafts::{commit_beside, prepare_beside};
 use crate::rivals::{Seen, Task, work};
-use crate::seat::Seat;
 
 mod orders;
 mod pictures;

@@ -5,6 +5,7 @@ use crate::expect::{holds, same};
 use arrayvec::ArrayVec;
 use ccan_accept::Frame;
 use ccan_bus::{Fault, Outcome, RoundLine, arbitrate, arbitration_bits, laws};
+use std::process::Abort;
 
 // The upper eleven bits of the frames below: 0x123. As the upper part of an extended identifier it is 0x48c0000.
 const UPPER: [bool; 11] = [
@@ -15,13 +16,13 @@ const UPPER: [bool; 11] = [
 fn sends_the_bits_in_order(rt: HostRuntime) {
     for (rtr, lower) in [(false, [false, false]), (true, [true, false])] {
         let bits = arbitration_bits(&frame(0x123, false, rtr, 0, [0; 8]));
-        same(&rt, bits.len(), 13);
+        assert_eq!(rt; bits.len(), 13);
         holds(&rt, &bits.as_slice()[..11] == UPPER.as_slice());
         holds(&rt, &bits.as_slice()[11..] == lower.as_slice());
     }
     for rtr in [false, true] {
         let bits = arbitration_bits(&frame(0x48c0001, true, rtr, 0, [0; 8]));
-        same(&rt, bits.len(), 32);
+        assert_eq!(rt; bits.len(), 32);
         holds(&rt, &bits.as_slice()[..11] == UPPER.as_slice());
         holds(&rt, bits.as_slice()[11] && bits.as_slice()[12]);
         holds(&rt, &bits.as_slice()[13..30] == [false; 17].as_slice());
@@ -55,12 +56,14 @@ fn of_kind(kind: Kind) -> Frame {
 }
 
 /// What comes of frames of these kinds.
-fn outcome(kinds: &[Kind]) -> Outcome {
+fn outcome(rt: &impl Abort, kinds: &[Kind]) -> Outcome {
     let mut frames: ArrayVec<Frame, 8> = ArrayVec::new();
     for kind in kinds {
         let _full = frames.try_push(of_kind(*kind));
     }
-    arbitrate(frames.as_slice())
+    let frames = frames.as_slice();
+    assert!(rt; frames.len() >= 1);
+    arbitrate(frames)
 }
 
 #[test]
@@ -76,7 +79,7 @@ fn arbitrates_across_the_four_kinds(rt: HostRuntime) {
         ([NextData, ExtendedRemote], 1),
         ([StandardData, BeforeRemote], 1),
     ] {
-        holds(&rt, outcome(&kinds) == Outcome::Winner(winner));
+        holds(&rt, outcome(&rt, &kinds) == Outcome::Winner(winner));
     }
 }
 
@@ -84,17 +87,20 @@ fn arbitrates_across_the_four_kinds(rt: HostRuntime) {
 fn arbitrates_among_any_number(rt: HostRuntime) {
     let four = [ExtendedRemote, ExtendedData, StandardRemote, StandardData];
     for last in 0..4usize {
-        holds(&rt, outcome(&four[..last + 1]) == Outcome::Winner(last));
+        holds(
+            &rt,
+            outcome(&rt, &four[..last + 1]) == Outcome::Winner(last),
+        );
     }
     let three = [ExtendedData, BeforeRemote, ExtendedData];
-    holds(&rt, outcome(&three) == Outcome::Winner(1));
+    holds(&rt, outcome(&rt, &three) == Outcome::Winner(1));
 }
 
 #[test]
 fn frames_with_the_same_bits_collide(rt: HostRuntime) {
     let three = [ExtendedData, StandardData, StandardData];
-    holds(&rt, outcome(&three[1..]) == Outcome::Collision);
-    holds(&rt, outcome(&three) == Outcome::Collision);
+    holds(&rt, outcome(&rt, &three[1..]) == Outcome::Collision);
+    holds(&rt, outcome(&rt, &three) == Outcome::Collision);
     let longer = frame(0x123, false, false, 8, [1; 8]);
     let one = of_kind(StandardData);
     holds(&rt, arbitrate(&[longer, one]) == Outcome::Collision);
@@ -118,7 +124,7 @@ fn takes_lines_with_each_node_once(rt: HostRuntime) {
         let line = RoundLine::new(nodes, send, Fault::Form);
         same(&rt, line.is_some(), taken);
         if let Some(line) = line {
-            same(&rt, line.sends().len(), 2);
+            assert_eq!(rt; line.sends().len(), 2);
             holds(
                 &rt,
                 line.sends()[0].0 == senders[0] && line.fault() == Fault::Form,

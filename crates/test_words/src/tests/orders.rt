@@ -13,39 +13,37 @@ const P: (u32, u32, u16, [u8; 8]) = (
 
 /// A start of an object that was made invalid after the look is lost, and the scan goes on to the next that is ready.
 fn start_of_an_invalid_object<R: SharedRam + Drop>(rt: &impl Abort, alloc: std::alloc::Global) {
-    let Ok((ram, if1, _if2, bus)) = R::open_ram(alloc, Profile::One, 64) else {
+    let Ok((ram, mut if1, if2, mut bus)) = R::open_ram(alloc, Profile::One, 64) else {
         panic!(rt; "no memory")
     };
-    let mut if1 = Seat::new(&ram, if1);
-    let mut bus = Seat::new(&ram, bus);
-    for (request, want) in [(5, 1), (9, 2)] {
-        let made = if1.change(request, &message(0x0188), tries(1));
-        same(rt, number(&made), Some(want));
-    }
-    let _found = bus.prepare(5);
+    let five = ObjectNo::from_request(ram.profile(), 5);
+    let nine = ObjectNo::from_request(ram.profile(), 9);
+    let first = calls::change(&ram, &mut if1, five, &message(0x0188), tries(1));
+    same(rt, number(&first), Some(1));
+    let second = calls::change(&ram, &mut if1, nine, &message(0x0188), tries(1));
+    same(rt, number(&second), Some(2));
+    let draft = calls::prepare(&ram, &mut bus, five);
     let invalid = change_of(&[(Reg::CMask, 0x00a0), (Reg::Arb2, 0x048c)]);
-    let third = if1.change(5, &invalid, tries(1));
+    let third = calls::change(&ram, &mut if1, five, &invalid, tries(1));
     same(rt, number(&third), Some(3));
-    same(
-        rt,
-        bus.commit(&Change::Start),
-        Some(Err(CommitError::Lost { now: 3 })),
-    );
-    let not_now = bus.change(5, &Change::Start, tries(1));
+    let lost = calls::commit(&ram, &mut bus, draft, &Change::Start);
+    same(rt, lost, Err(CommitError::Lost { now: 3 }));
+    let mut handler = On::new(&ram, bus);
+    let not_now = handler.change(five, &Change::Start, tries(1));
     holds(rt, matches!(&not_now, Ok(Changed::NotNow(_))));
-    same(rt, (if1.used(), bus.used()), (3, 0));
-    starts_nine(rt, bus);
-    same(rt, if1.prepare(9).1, 131073);
-}
-
-/// The next object that is ready is 9.
-fn starts_nine<R: SharedRam>(rt: &impl Abort, bus: Seat<'_, R>) {
-    let nine = bus.object(9);
-    let Ok(Some((chosen, started))) = choose(&mut bus.into_access(), tries(1)) else {
+    let Ok(Some((chosen, started))) = choose(&mut handler, tries(1)) else {
         panic!(rt; "nothing was started")
     };
     same(rt, chosen, nine);
     same(rt, shown(&started), (P.0, P.1, 0x0188, P.3));
+    let bus = handler.into_port();
+    same(
+        rt,
+        (ram.used(&if1), ram.used(&if2), ram.used(&bus)),
+        (3, 0, 1),
+    );
+    let draft = calls::prepare(&ram, &mut if1, nine);
+    same(rt, draft.number(), 131073);
 }
 
 /// What comes of a commit of IF1 at object 4 after a change of IF2 at another object or the same, and what a change
@@ -55,18 +53,16 @@ fn commit_after<R: SharedRam + Drop>(
     alloc: std::alloc::Global,
     request: u16,
 ) -> (Result<Changed, CommitError>, Record) {
-    let Ok((ram, if1, if2, _bus)) = R::open_ram(alloc, Profile::One, 64) else {
+    let Ok((ram, mut if1, mut if2, _bus)) = R::open_ram(alloc, Profile::One, 64) else {
         panic!(rt; "no memory")
     };
-    let mut if1 = Seat::new(&ram, if1);
-    let mut if2 = Seat::new(&ram, if2);
-    let _found = if1.prepare(4);
-    let theirs = if2.change(request, &data(0x9999), tries(1));
+    let four = ObjectNo::from_request(ram.profile(), 4);
+    let other = ObjectNo::from_request(ram.profile(), request);
+    let draft = calls::prepare(&ram, &mut if1, four);
+    let theirs = calls::change(&ram, &mut if2, other, &data(0x9999), tries(1));
     same(rt, number(&theirs), Some(65537));
-    let Some(committed) = if1.commit(&control(0x0088)) else {
-        panic!(rt; "nothing was begun")
-    };
-    let changed = if1.change(4, &control(0x0088), tries(1));
+    let committed = calls::commit(&ram, &mut if1, draft, &control(0x0088));
+    let changed = calls::change(&ram, &mut if1, four, &control(0x0088), tries(1));
     let Some((after, _)) = done(&changed) else {
         panic!(rt; "the change was not made")
     };
@@ -80,29 +76,26 @@ fn a_start_of_an_invalid_object_is_lost(rt: HostRuntime) {
     start_of_an_invalid_object::<EndlessRam>(&rt, rt.alloc());
 }
 
-/// A change of another port at the same object costs a commit, and one elsewhere doesn't.
-fn contends_at_the_same_object<R: SharedRam + Drop>(rt: &impl Abort, alloc: std::alloc::Global) {
-    let (lost, both) = commit_after::<R>(rt, alloc, 4);
-    same(rt, lost, Err(CommitError::Lost { now: 65537 }));
-    same(rt, shown(&both), (0, 0, 0x0088, [0x99; 8]));
-    let (other, mine) = commit_after::<R>(rt, alloc, 6);
-    same(rt, number(&other), Some(1));
-    same(rt, shown(&mine), (0, 0, 0x0088, [0; 8]));
-}
-
 #[test]
-fn changes_contend_at_the_same_object(rt: HostRuntime) {
-    contends_at_the_same_object::<WordRam>(&rt, rt.alloc());
-    contends_at_the_same_object::<EndlessRam>(&rt, rt.alloc());
-}
-
-#[test]
-fn changes_contend_at_any_object_behind_one_word(rt: HostRuntime) {
-    for (request, bytes) in [(4, [0x99; 8]), (6, [0; 8])] {
-        let (lost, after) = commit_after::<RootRam>(&rt, rt.alloc(), request);
-        same(&rt, lost, Err(CommitError::Lost { now: 65537 }));
-        same(&rt, shown(&after), (0, 0, 0x0088, bytes));
-    }
+fn changes_contend_by_the_layout(rt: HostRuntime) {
+    let (lost, both) = commit_after::<WordRam>(&rt, rt.alloc(), 4);
+    same(&rt, lost, Err(CommitError::Lost { now: 65537 }));
+    same(&rt, shown(&both), (0, 0, 0x0088, [0x99; 8]));
+    let (other, mine) = commit_after::<WordRam>(&rt, rt.alloc(), 6);
+    same(&rt, number(&other), Some(1));
+    same(&rt, shown(&mine), (0, 0, 0x0088, [0; 8]));
+    let (lost, both) = commit_after::<EndlessRam>(&rt, rt.alloc(), 4);
+    same(&rt, lost, Err(CommitError::Lost { now: 65537 }));
+    same(&rt, shown(&both), (0, 0, 0x0088, [0x99; 8]));
+    let (other, mine) = commit_after::<EndlessRam>(&rt, rt.alloc(), 6);
+    same(&rt, number(&other), Some(1));
+    same(&rt, shown(&mine), (0, 0, 0x0088, [0; 8]));
+    let (lost, both) = commit_after::<RootRam>(&rt, rt.alloc(), 4);
+    same(&rt, lost, Err(CommitError::Lost { now: 65537 }));
+    same(&rt, shown(&both), (0, 0, 0x0088, [0x99; 8]));
+    let (other, mine) = commit_after::<RootRam>(&rt, rt.alloc(), 6);
+    same(&rt, other, Err(CommitError::Lost { now: 65537 }));
+    same(&rt, shown(&mine), (0, 0, 0x0088, [0; 8]));
 }
 
 /// Whether a memory is opened with this quota. None: it is refused for another reason than the quota.
@@ -142,27 +135,17 @@ fn a_memory_without_an_end_has_a_great_quota(rt: HostRuntime) {
 
 /// What another port sees of a write.
 fn write_is_seen<R: SharedRam + Drop>(rt: &impl Abort, alloc: std::alloc::Global) {
-    let Ok((ram, if1, if2, _bus)) = R::open_ram(alloc, Profile::One, 64) else {
-        panic!(rt; "no memory")
-    };
-    let mut if1 = Seat::new(&ram, if1);
-    let mut if2 = Seat::new(&ram, if2);
-    same(rt, if1.look(1), Record::zero());
-    let written = if2.change(1, &message(0x0088), tries(1));
-    same(rt, number(&written), Some(65537));
-    let (held, number) = if1.prepare(1);
-    same(rt, shown(&held), P);
-    same(rt, number, 65537);
-    same(rt, shown(&if2.look(1)), P);
-}
-
-/// What a port that met another one sees of its write.
-fn write_is_met<R: SharedRam + Drop>(rt: &impl Abort, alloc: std::alloc::Global) {
     let Ok((ram, mut if1, mut if2, _bus)) = R::open_ram(alloc, Profile::One, 64) else {
         panic!(rt; "no memory")
     };
     let one = ObjectNo::from_request(ram.profile(), 1);
-    let _written = calls::change(&ram, &mut if2, one, &message(0x0088), tries(1));
+    same(rt, calls::look(&ram, &mut if1, one), Record::zero());
+    let written = calls::change(&ram, &mut if2, one, &message(0x0088), tries(1));
+    same(rt, number(&written), Some(65537));
+    let draft = calls::prepare(&ram, &mut if1, one);
+    same(rt, shown(&draft.held()), P);
+    same(rt, (draft.object(), draft.number()), (one, 65537));
+    same(rt, shown(&calls::look(&ram, &mut if2, one)), P);
     ram.meet(&mut if1, &mut if2);
     same(rt, shown(&calls::look(&ram, &mut if1, one)), P);
 }
@@ -172,13 +155,6 @@ fn a_write_is_seen_by_others(rt: HostRuntime) {
     write_is_seen::<WordRam>(&rt, rt.alloc());
     write_is_seen::<RootRam>(&rt, rt.alloc());
     write_is_seen::<EndlessRam>(&rt, rt.alloc());
-}
-
-#[test]
-fn a_write_is_seen_after_a_meeting(rt: HostRuntime) {
-    write_is_met::<WordRam>(&rt, rt.alloc());
-    write_is_met::<RootRam>(&rt, rt.alloc());
-    write_is_met::<EndlessRam>(&rt, rt.alloc());
 }
 
 /// A port makes its quota of changes, the last with this number, and then no more.
@@ -191,16 +167,22 @@ fn spent_after<R: SharedRam + Drop>(
     let Ok((ram, _if1, _if2, bus)) = R::open_ram(alloc, Profile::One, quota) else {
         panic!(rt; "no memory")
     };
-    let mut bus = Seat::new(&ram, bus);
+    let one = ObjectNo::from_request(ram.profile(), 1);
     let clear = change_of(&[(Reg::CMask, 0x000c)]);
     let mut last = None;
+    let mut handler = On::new(&ram, bus);
     for _ in 0..quota {
-        last = number(&bus.change(1, &clear, tries(1)));
+        last = number(&handler.change(one, &clear, tries(1)));
     }
     same(rt, last, Some(greatest));
-    same(rt, bus.change(1, &clear, tries(1)), Err(Refused::Spent));
-    same(rt, bus.look(1), Record::zero());
-    same(rt, bus.used(), quota);
+    same(
+        rt,
+        handler.change(one, &clear, tries(1)),
+        Err(Refused::Spent),
+    );
+    same(rt, handler.look(one), Record::zero());
+    let bus = handler.into_port();
+    same(rt, ram.used(&bus), quota);
 }
 
 #[test]
@@ -266,67 +248,47 @@ fn a_refused_scan_is_resumed(rt: HostRuntime) {
     scan_is_resumed::<EndlessRam>(&rt, rt.alloc());
 }
 
-/// Drafts of three ports at one object, and what comes of each.
+/// Drafts of three ports at one object, one of them twice, and what comes of each.
 fn three_ports_at_one_object<R: SharedRam + Drop>(rt: &impl Abort, alloc: std::alloc::Global) {
-    let Ok((ram, if1, if2, bus)) = R::open_ram(alloc, Profile::One, 64) else {
-        panic!(rt; "no memory")
-    };
-    let mut if1 = Seat::new(&ram, if1);
-    let mut if2 = Seat::new(&ram, if2);
-    let mut bus = Seat::new(&ram, bus);
-    let _drafts = (if1.prepare(4), if2.prepare(4), bus.prepare(4));
-    same(rt, committed(if1.commit(&message(0x0088))), Some(1));
-    let clear = change_of(&[(Reg::CMask, 0x000c)]);
-    same(
-        rt,
-        if2.commit(&clear),
-        Some(Err(CommitError::Lost { now: 1 })),
-    );
-    let _again = if2.prepare(4);
-    same(rt, committed(if2.commit(&clear)), Some(65537));
-    same(
-        rt,
-        bus.commit(&Change::Finish),
-        Some(Err(CommitError::Lost { now: 65537 })),
-    );
-    let (held, _number) = bus.prepare(4);
-    same(rt, shown(&held), P);
-    same(
-        rt,
-        bus.commit(&Change::Start),
-        Some(Ok(Changed::NotNow(held))),
-    );
-    let _again = bus.prepare(4);
-    same(rt, committed(bus.commit(&Change::Finish)), Some(131073));
-    same(rt, (if1.used(), if2.used(), bus.used()), (1, 1, 1));
-    same(rt, shown(&if1.look(4)), P);
-}
-
-/// The number of a change that was begun and made.
-fn committed(answer: Option<Result<Changed, CommitError>>) -> Option<u64> {
-    number(&answer?)
-}
-
-/// Two drafts of one port at one object, of which the other host's change costs the first, while the second is still begun.
-fn two_drafts_of_a_port<R: SharedRam + Drop>(rt: &impl Abort, alloc: std::alloc::Global) {
-    let Ok((ram, mut if1, _if2, mut bus)) = R::open_ram(alloc, Profile::One, 64) else {
+    let Ok((ram, mut if1, mut if2, mut bus)) = R::open_ram(alloc, Profile::One, 64) else {
         panic!(rt; "no memory")
     };
     let four = ObjectNo::from_request(ram.profile(), 4);
+    let own = calls::prepare(&ram, &mut if1, four);
+    let other = calls::prepare(&ram, &mut if2, four);
     let first = calls::prepare(&ram, &mut bus, four);
     let second = prepare_beside(&ram, &mut bus, four, &first);
-    let _written = calls::change(&ram, &mut if1, four, &message(0x0088), tries(1));
-    let lost = commit_beside(&ram, &mut bus, first, &Change::Finish, &second);
+    let written = calls::commit(&ram, &mut if1, own, &message(0x0088));
+    same(rt, number(&written), Some(1));
+    let clear = change_of(&[(Reg::CMask, 0x000c)]);
+    let lost = calls::commit(&ram, &mut if2, other, &clear);
     same(rt, lost, Err(CommitError::Lost { now: 1 }));
+    let again = calls::prepare(&ram, &mut if2, four);
+    let cleared = calls::commit(&ram, &mut if2, again, &clear);
+    holds(
+        rt,
+        matches!(&cleared, Ok(Changed::Done { before, after, number: 65537 }) if after == before),
+    );
+    let lost = commit_beside(&ram, &mut bus, first, &Change::Finish, &second);
+    same(rt, lost, Err(CommitError::Lost { now: 65537 }));
     let not_now = calls::commit(&ram, &mut bus, second, &Change::Start);
     same(rt, not_now, Ok(Changed::NotNow(Record::zero())));
-}
-
-#[test]
-fn a_port_makes_two_drafts(rt: HostRuntime) {
-    two_drafts_of_a_port::<WordRam>(&rt, rt.alloc());
-    two_drafts_of_a_port::<RootRam>(&rt, rt.alloc());
-    two_drafts_of_a_port::<EndlessRam>(&rt, rt.alloc());
+    let third = calls::prepare(&ram, &mut bus, four);
+    let not_now = calls::commit(&ram, &mut bus, third, &Change::Start);
+    holds(
+        rt,
+        matches!(&not_now, Ok(Changed::NotNow(object)) if shown(object) == P),
+    );
+    let fourth = calls::prepare(&ram, &mut bus, four);
+    let finished = calls::commit(&ram, &mut bus, fourth, &Change::Finish);
+    same(rt, number(&finished), Some(131073));
+    same(
+        rt,
+        (ram.used(&if1), ram.used(&if2), ram.used(&bus)),
+        (1, 1, 1),
+    );
+    let last = calls::look(&ram, &mut if1, four);
+    same(rt, shown(&last), P);
 }
 
 #[test]
@@ -338,22 +300,20 @@ fn three_ports_share_one_object(rt: HostRuntime) {
 
 /// The same record again is not the same version: a draft that was made before is lost.
 fn same_record_again<R: SharedRam + Drop>(rt: &impl Abort, alloc: std::alloc::Global) {
-    let Ok((ram, if1, if2, _bus)) = R::open_ram(alloc, Profile::One, 64) else {
+    let Ok((ram, mut if1, mut if2, _bus)) = R::open_ram(alloc, Profile::One, 64) else {
         panic!(rt; "no memory")
     };
-    let mut if1 = Seat::new(&ram, if1);
-    let mut if2 = Seat::new(&ram, if2);
-    let _first = if1.change(4, &message(0x0088), tries(1));
-    let (held, _number) = if2.prepare(4);
-    for change in [data(0x9999), message(0x0088)] {
-        let _made = if1.change(4, &change, tries(1));
-    }
-    same(rt, held, if1.look(4));
-    same(
-        rt,
-        if2.commit(&control(0x0001)),
-        Some(Err(CommitError::Lost { now: 3 })),
-    );
+    let four = ObjectNo::from_request(ram.profile(), 4);
+    let first = calls::change(&ram, &mut if1, four, &message(0x0088), tries(1));
+    same(rt, number(&first), Some(1));
+    let draft = calls::prepare(&ram, &mut if2, four);
+    let second = calls::change(&ram, &mut if1, four, &data(0x9999), tries(1));
+    same(rt, number(&second), Some(2));
+    let third = calls::change(&ram, &mut if1, four, &message(0x0088), tries(1));
+    same(rt, number(&third), Some(3));
+    same(rt, draft.held(), calls::look(&ram, &mut if1, four));
+    let lost = calls::commit(&ram, &mut if2, draft, &control(0x0001));
+    same(rt, lost, Err(CommitError::Lost { now: 3 }));
 }
 
 #[test]
