@@ -5,8 +5,6 @@
 #[cfg(test)]
 mod callers;
 #[cfg(test)]
-mod expect;
-#[cfg(test)]
 mod gates;
 #[cfg(test)]
 mod refusing;

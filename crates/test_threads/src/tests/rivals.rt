@@ -1,7 +1,6 @@
 //! Two hosts and the bus at work on one object for a thousand lines each. The hosts count up, each in a part of its own, and
 //! the bus sends the object and is asked for it. What each saw tells whether a change was lost or done twice.
 use super::*;
-use crate::expect::{holds, same};
 use std::fmt::Write as _;
 
 /// How many lines each port has. IF1 has one more, which prepares the object.
@@ -102,12 +101,12 @@ fn no_change_of_three_rivals_is_lost(rt: HostRuntime) -> Result<(), Fail> {
         &script,
         &FreeGate,
     )?;
-    holds(&rt, counts_in_turn(&outcome.if1, true));
-    holds(&rt, counts_in_turn(&outcome.if2, false));
-    same(&rt, outcome.bus.len(), usize::from(LINES) + 1);
+    assert!(rt; counts_in_turn(&outcome.if1, true));
+    assert!(rt; counts_in_turn(&outcome.if2, false));
+    assert!(rt; outcome.bus.len() == usize::from(LINES) + 1);
     let last = outcome.last;
     let counts = counts_in(&last.records[0]);
-    same(&rt, counts, (u32::from(LINES), u32::from(LINES)));
-    holds(&rt, never_falls(&outcome.bus));
+    assert_eq!(rt; counts, (u32::from(LINES), u32::from(LINES)));
+    assert!(rt; never_falls(&outcome.bus));
     Ok(())
 }

@@ -1,6 +1,5 @@
 //! Scripts in threads. No text here comes from the program.
 use super::*;
-use crate::expect::{holds, same};
 
 /// Each host sets NewDat in an object of its own, and waits for that of the other.
 const WAIT_FOR_EACH_OTHER: &[u8] = br#"{"if1":[
@@ -78,7 +77,7 @@ fn hosts_wait_for_each_other<R: SharedRam + Sync + Drop, T: Threads + Wait + Abo
     let want = "if1 write 01 00000000 00000000 8000 0000000000000000\nif1 until 02 newdat yes\n\
 if2 write 02 00000000 00000000 8000 0000000000000000\nif2 until 01 newdat yes\n\
 final 01 00000000 00000000 8000 0000000000000000\nfinal 02 00000000 00000000 8000 0000000000000000\n";
-    holds(rt, printed(alloc, &outcome)?.as_slice() == want.as_bytes());
+    assert!(rt; printed(alloc, &outcome)?.as_slice() == want.as_bytes());
     Ok(())
 }
 
@@ -108,7 +107,7 @@ fn a_gate_holds_the_first_port_in_order(rt: HostRuntime) -> Result<(), Fail> {
         port: PortName::If1,
         line: 1,
     };
-    same(&rt, held, Some(first));
+    assert_eq!(rt; held, Some(first));
     let second = HeldFrom {
         port: Some(PortName::If2),
         line: 1,
@@ -123,7 +122,7 @@ fn a_gate_holds_the_first_port_in_order(rt: HostRuntime) -> Result<(), Fail> {
         port: PortName::If2,
         line: 1,
     };
-    same(&rt, held, Some(other));
+    assert_eq!(rt; held, Some(other));
     Ok(())
 }
 
@@ -135,7 +134,7 @@ fn a_memory_that_is_refused_is_want_of_memory(rt: HostRuntime) -> Result<(), Fai
         WRITE,
         &FreeGate,
     )?.err();
-    same(&rt, refused, Some(RunError::Memory));
+    assert_eq!(rt; refused, Some(RunError::Memory));
     Ok(())
 }
 
@@ -147,7 +146,7 @@ fn a_quota_past_the_form_is_refused(rt: HostRuntime) -> Result<(), Fail> {
         br#"{"quota":65}"#,
         &FreeGate,
     )?.err();
-    same(&rt, refused, Some(RunError::Quota));
+    assert_eq!(rt; refused, Some(RunError::Quota));
     assert!(rt;
         run_gated::<RootRam, FreeGate, HostRuntime>(
             &rt,
@@ -233,10 +232,10 @@ fn first_lines<G: Gate>(
 fn a_port_runs_as_far_as_its_gate_lets_it(rt: HostRuntime) -> Result<(), Fail> {
     let script = read_script(rt.alloc(), SPENT)?;
     let (stopped, text) = first_lines(rt.alloc(), &script, &FreeGate)?;
-    same(&rt, stopped, None);
+    assert_eq!(rt; stopped, None);
     let all = "if1 write 01 a48c0000 00000000 0088 1122334455667788\nif1 spent 01\n\
 if1 read 01 a48c0000 00000000 0088 1122334455667788\n";
-    same(&rt, text.as_str(), all);
+    assert_eq!(rt; text.as_str(), all);
     let (stopped, text) = first_lines(
         rt.alloc(),
         &script,
@@ -245,8 +244,8 @@ if1 read 01 a48c0000 00000000 0088 1122334455667788\n";
             line: 1,
         },
     )?;
-    same(&rt, stopped, Some(1));
+    assert_eq!(rt; stopped, Some(1));
     let one = "if1 write 01 a48c0000 00000000 0088 1122334455667788\n";
-    same(&rt, text.as_str(), one);
+    assert_eq!(rt; text.as_str(), one);
     Ok(())
 }
