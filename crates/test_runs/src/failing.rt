@@ -139,7 +139,9 @@ fn fails_to_write_anywhere(
     step: usize,
     apart: usize,
     fault: Fault,
-) {
+)
+    requires { 1 ≤ apart }
+{
     for room in (0..row.1.len()).step_by(apart) {
         fails_to_write(rt, alloc, row, step, room, fault);
     }
