@@ -12,7 +12,7 @@ run:
 	@tools/run "$$SCRIPT"
 
 try:
-	@tools/try "$$SCRIPT"
+	@tools/run "$$SCRIPT" unproved
 
 prove:
 	@tools/build
@@ -28,17 +28,17 @@ bench:
 
 sweep:
 	@tools/build
-	tools/refuse_memory crates/ccan/out/ccan examples/spent_quota.json examples/spent_quota.json.stdout
-	tools/refuse_memory crates/ccan/out/ccan examples/spent_quota.json examples/spent_quota.json.stdout threads
-	tools/refuse_memory crates/ccan/out/ccan examples/spent_quota.json /dev/null walk
+	tools/refuse_memory crates/ccan/out/ccan script examples/spent_quota.json examples/spent_quota.json.stdout
+	tools/refuse_memory crates/ccan/out/ccan script examples/spent_quota.json examples/spent_quota.json.stdout threads
+	tools/refuse_memory crates/ccan/out/ccan script examples/spent_quota.json /dev/null walk
 	@tools/build test_speed
-	tools/refuse_opening crates/test_speed/out/test_speed
+	tools/refuse_memory crates/test_speed/out/test_speed opening
 
 hostile:
 	@tools/build
 	tools/fail_streams crates/ccan/out/ccan examples/first_write.json
 	tools/spoil_scripts crates/ccan/out/ccan examples/*.json
-	tools/check_refusals crates/ccan/out/ccan
+	tools/check_faulty_scripts crates/ccan/out/ccan
 
 soak:
 	@tools/build
@@ -51,8 +51,7 @@ c-wrong:
 	@tools/c_wrong
 
 schema:
-	tools/check_schema
-	tools/check_guide
+	tools/check_documents
 
 clean:
 	rm -rf out crates/*/out

@@ -1,4 +1,4 @@
-"""Scripts in order and faulty ones, each with what the program says of it, for tools/check_schema and tools/check_refusals."""
+"""Scripts in order and faulty ones, each with what the program says of it, for tools/check_documents and tools/check_faulty_scripts."""
 
 import json
 
