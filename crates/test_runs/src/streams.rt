@@ -225,12 +225,22 @@ fn tells_each_fault_of_a_script(rt: HostRuntime) -> Result<(), Fail> {
 }
 
 #[test]
-fn tells_each_fault_of_a_stream(rt: HostRuntime) -> Result<(), Fail> {
+fn tells_each_fault_of_a_run(rt: HostRuntime) -> Result<(), Fail> {
     for (fault, want, status) in [
         (RunError::Read, "ccan: input could not be read", 4),
         (RunError::TooLong, "ccan: input too long", 1),
         (RunError::Memory, "ccan: out of memory", 3),
         (RunError::Write, "ccan: output could not be written", 4),
+        (RunError::Quota, "ccan: quota out of range", 1),
+        (RunError::Spawn, "ccan: threads could not be started", 4),
+        (
+            RunError::Held {
+                port: PortName::If2,
+                line: 31,
+            },
+            "ccan: held, if2 31",
+            4,
+        ),
     ] {
         shows(&rt, rt.alloc(), &fault, want)?;
         assert_eq!(rt; fault.status(), status, "at {want}");

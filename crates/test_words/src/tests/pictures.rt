@@ -3,7 +3,7 @@ ghost use Rattle.std.specs.Prelude.{◌≡◌};
 
 use super::*;
 use crate::expect::same;
-use crate::pictures::{Pair, torn_beside};
+use crate::pictures::{Pair, torn_beside, torn_between};
 use std::thread::Threads;
 
 /// Two objects, as far apart as the smaller profile has them.
@@ -45,6 +45,14 @@ fn torn_of<R: SharedRam + Sync + Drop, T: Abort + Threads + Sync>(
     torn_beside(rt, &ram, if1, if2, bus, ends(), turns, tries(1000))
 }
 
+/// Whether looks and a picture of a new memory are torn, where a host comes between two looks.
+fn torn_at_once<R: SharedRam + Drop>(rt: &impl Abort, alloc: std::alloc::Global) -> (u32, u32) {
+    let Ok((ram, if1, _if2, bus)) = R::open_ram(alloc, Profile::One, 64) else {
+        panic!(rt; "no memory")
+    };
+    torn_between(&ram, if1, bus, ends(), tries(1))
+}
+
 #[test]
 fn registers_show_the_flags_of_all_objects(rt: HostRuntime) {
     let registers = ccan_ram::HandlerRegisters {
@@ -63,7 +71,15 @@ fn registers_show_the_flags_of_all_objects(rt: HostRuntime) {
     );
 }
 
-// How many pairs of looks are torn goes by the schedule, so nothing is asked of them.
+// What is counted as torn is seen where looks are torn for certain: a host comes between the two.
+#[test]
+fn looks_with_a_host_between_are_torn(rt: HostRuntime) {
+    same(&rt, torn_at_once::<WordRam>(&rt, rt.alloc()), (1, 0));
+    same(&rt, torn_at_once::<RootRam>(&rt, rt.alloc()), (1, 0));
+    same(&rt, torn_at_once::<EndlessRam>(&rt, rt.alloc()), (1, 0));
+}
+
+// In threads the schedule says how many pairs of looks are torn, so nothing is asked of them.
 #[test]
 fn no_picture_is_torn(rt: HostRuntime) {
     for _ in 0..20u8 {
