@@ -1,3 +1,5 @@
+-- Each turn of the loop adds turns that were lost, with a change of another port in each; the turn that is not lost adds the
+-- picture.
 use Rattle.std.proofs.Common.{refl, subst, ◌∙◌, arith}
 use Rattle.ccan_object.specs.declared.profile.Profile.{Profile}
 use Rattle.ccan_endless.specs.Picture.{ShowsAll}

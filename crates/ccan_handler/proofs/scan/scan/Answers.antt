@@ -1,3 +1,4 @@
+-- The loop has passed over the objects before its number; a visit ends the scan at one, or passes over one more.
 use Rattle.std.proofs.Common.{arith, ap, ◌∙◌}
 use Rattle.ccan_object.specs.Profile.{objects_in}
 use Rattle.ccan_ram.proofs.Calls.{Goes-then}

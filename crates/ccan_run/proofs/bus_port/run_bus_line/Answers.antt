@@ -1,3 +1,4 @@
+-- One return for each kind of line: what the bus promises of its call is what the line means.
 use Rattle.std.proofs.Common.{refl, ap, ◌∙◌}
 use Rattle.ccan_ram.proofs.Calls.{Goes-none, Goes-weaker}
 use Rattle.ccan_run.specs.BusPort.{state_shown}

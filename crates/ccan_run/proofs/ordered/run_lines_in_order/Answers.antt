@@ -1,3 +1,5 @@
+-- The loop has run the lines that the order names so far, in one history of all three ports; each turn adds a line of one
+-- port, which has met the others.
 use Rattle.std.proofs.Common.{◌≤◌, drop, get_or, refl, arith, ◌∙◌, sym, ap}
 use Rattle.std.proofs.lemmas.List.{drop_all}
 use Rattle.ccan_ram.specs.declared.port.PortName.TheVariants.{If1, If2, Bus}

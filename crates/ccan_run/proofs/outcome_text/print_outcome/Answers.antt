@@ -1,3 +1,5 @@
+-- The text is four parts. After each, what went out and what waits are the parts so far; a failed write leaves a part of the
+-- whole.
 use Rattle.std.proofs.Common.{◌++◌, ◌∙◌, [], refl, append_assoc, append-nil}
 use Rattle.std.proofs.lemmas.Result.{err_from_is_err_and, on_err_weaker, on_ok_weaker}
 use Rattle.ccan_ram.specs.declared.port.PortName.TheVariants.{If1, If2, Bus}

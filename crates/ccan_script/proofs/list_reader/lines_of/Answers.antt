@@ -1,3 +1,5 @@
+-- The loop has read the lines before its index, all of them good; so the first bad line is the first fault of the list, and
+-- where none was bad the lines are the list's.
 use Rattle.std.proofs.Common.{◌≡◌, ◌∙◌, ◌≤◌, List, Some, ap, sym, subst, option_map, length, arith, get_or, below_more}
 use Rattle.std.proofs.lemmas.List.Elements.{All-push}
 use Rattle.serde_json.specs.Find.{as_array}

@@ -1,3 +1,5 @@
+-- One return for each case of the definition: no order is given, its names are bad, its counts are not those of the lists, or
+-- it is in order.
 use Rattle.std.proofs.Common.{◌≡◌, ◌∙◌, Some, ap, sym, option_map}
 use Rattle.std.proofs.lemmas.Result.{err_from_is_err_and}
 use Rattle.serde_json.specs.View.{view}

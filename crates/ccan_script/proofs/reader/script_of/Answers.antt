@@ -1,3 +1,5 @@
+-- Each return is one case of the definition of a script: where a check failed, all before it had passed, and its fault is the
+-- first; where all passed, what was read is the script.
 use Rattle.std.proofs.Common.{◌∙◌, ap, length, refl, sym}
 use Rattle.serde_json.specs.View.{view}
 use Rattle.ccan_ram.specs.declared.port.PortName.TheVariants as port

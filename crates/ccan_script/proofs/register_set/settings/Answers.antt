@@ -1,3 +1,5 @@
+-- The entries are those that the loop has taken and those that are left: a bad one is found behind good ones only, and at
+-- the end those taken are all.
 use Rattle.std.proofs.Common.{◌≡◌, ◌∙◌, [], ◌∷◌, ◌++◌, ap, sym, subst, Some, is_some}
 use Rattle.std.proofs.Common.{arith, append_assoc, length-append, string_cmp}
 use Rattle.std.specs.List.Sorted.{IsStrictlySortedBy}

@@ -1,3 +1,4 @@
+-- Each return is one case of the definition of a round: where a check failed, all before it had passed.
 use Rattle.std.proofs.Common.{◌≡◌, ◌∙◌, true, ap, sym, refl, true≢false}
 use Rattle.std.proofs.lemmas.Result.{err_from_is_err_and}
 use Rattle.serde_json.specs.View.{view}

@@ -1,3 +1,4 @@
+-- In a closed table the word of an object names the last version of the history, whose words are those of its record.
 use Rattle.std.proofs.Common.{ℕ, get_or, sym, ap, ◌∙◌, arith}
 use Rattle.std.specs.Slots.{slots_items}
 use Rattle.ccan_words.proofs.LastWords.{end_number, end_none, end_some}

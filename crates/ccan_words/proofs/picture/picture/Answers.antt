@@ -1,3 +1,5 @@
+-- Each turn of the loop adds turns that were lost, with a change of another port in each; the turn that is not lost adds the
+-- picture.
 use Rattle.std.proofs.Common.{◌++◌, ◌≤◌, sym, refl, subst, ◌∙◌, arith}
 use Rattle.ccan_words.specs.Plays.{Knows}
 use Rattle.ccan_words.specs.Picture.{Added}

@@ -1,3 +1,4 @@
+-- The registers show the objects before the loop's place; each turn adds the flags of one more.
 use Rattle.std.proofs.Common.{◌≡◌, ◌+◌, ◌<◌, ℕ, get_or, sym, ◌∙◌, ap, subst, refl, arith}
 use Rattle.ccan_object.specs.Profile.{objects_in}
 use Rattle.ccan_object.specs.Record.{zero_record}

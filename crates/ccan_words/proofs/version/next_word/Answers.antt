@@ -1,3 +1,5 @@
+-- A word of the next version is one of the record's, where the object's place in the layout says so, and else the old
+-- version's word of that place.
 use Rattle.std.proofs.Common.{◌-◌, refl, inl, inr, arith}
 use Rattle.ccan_words.proofs.Making.{next_inside, next_blank, next_kept}
 use Rattle.ccan_words.specs.Layout.{IsBeside}

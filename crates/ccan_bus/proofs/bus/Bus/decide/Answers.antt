@@ -1,3 +1,5 @@
+-- In loop back mode and on, the decision is the controller's own; else it is that of the frames that contend. Each return is
+-- one case of the definition.
 use Rattle.std.proofs.Common.{sym, ◌≡◌, ◌&&◌, true, false, ◌∙◌}
 use Rattle.ccan_bus.specs.Bus.{is_on_now}
 use Rattle.ccan_bus.proofs.AfterLoads.{decides_back, decides_between, and_true, and_false, and_first, and_second}

@@ -1,3 +1,5 @@
+-- The registers show the flags of the objects before the loop's place; each turn adds those of one more, and at the end a
+-- look at each object is added to the history, all at one place.
 use Rattle.std.proofs.Common.{◌≡◌, ◌∙◌, ap, get_or, sym, subst, arith}
 use Rattle.std.proofs.lemmas.List.{get_or_read_under}
 use Rattle.ccan_object.specs.Profile.{objects_in}

@@ -1,3 +1,5 @@
+-- The loop has lost as many tries as it has turns behind it; each turn is a prepare and a commit, which ends the attempt or
+-- adds one lost try.
 use Rattle.std.proofs.Common.{◌∙◌, ap, subst, arith}
 use Rattle.ccan_ram.specs.SharedRam.{Memory, CanSee}
 use Rattle.ccan_ram.proofs.Attempts.{lost_more, unspent, committed, told}

@@ -1,3 +1,5 @@
+-- A version is made for what is due, published by one exchange, and what that play told the seat is what the contract says of
+-- the port.
 use Rattle.std.proofs.Common.{◌≡◌, ap, sym, subst, ◌∙◌, arith, Ok}
 use Rattle.ccan_object.specs.declared.profile.Profile.{Profile}
 use Rattle.ccan_ram.specs.declared.change.Changed.{Changed}
