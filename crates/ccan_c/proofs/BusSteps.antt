@@ -1,8 +1,7 @@
 -- The calls on the bus's handle: what their contracts say is what they stand for in the history.
-use Rattle.std.proofs.Common.{◌≡◌, ◌⊎◌, inl, inr, ℕ, Bool, List, [], Some, length, map, nat_le, refl, sym, subst}
+use Rattle.std.proofs.Common.{inl, inr, ℕ, List, Some, length, nat_le, refl, sym, subst}
 use Rattle.std.specs.declared.option.Option.{Option}
 use Rattle.std.specs.List.{list_all}
-use Rattle.ccan_ram.specs.declared.event.Event.{Event}
 use Rattle.ccan_ram.specs.SharedRam.{CanSee}
 use Rattle.ccan_bus.specs.declared.bus.Bus.{Bus}
 use Rattle.ccan_bus.specs.declared.round_line.Fault.{Fault}
@@ -15,7 +14,7 @@ use Rattle.ccan_script.specs.Limits.{most_frames, most_groups}
 use Rattle.ccan_c.specs.declared.held.Held.{Held}
 use Rattle.ccan_c.specs.declared.offer.Offer.{Offer}
 use Rattle.ccan_c.specs.declared.shown_outcome.ShownOutcome.{ShownOutcome}
-use Rattle.ccan_c.specs.Answer.{code_of, counters_shown, load_shown, state_shown, word_shown}
+use Rattle.ccan_c.specs.Answer.{counters_shown, load_shown, state_shown, word_shown}
 use Rattle.ccan_c.specs.Bus.{Answers, Does, is_on}
 use Rattle.ccan_c.specs.BusCall.{BusCall, BusCallDoes, BusCallMeans, LineTold, LineDone, RoundTried}
 use Rattle.ccan_c.specs.BusCall.{load, status, control, init, loop_back, recessive, interrupt, flags, counters, round}

@@ -1,16 +1,14 @@
 -- The calls on the handle of a host: what their contracts say is what they stand for in the history.
-use Rattle.std.proofs.Common.{◌≡◌, ℕ, List, [], Some, refl, sym, ap, subst}
+use Rattle.std.proofs.Common.{◌≡◌, ℕ, [], Some, refl, sym, ap, subst}
 use Rattle.std.specs.declared.option.Option.{Option}
 use Rattle.ccan_object.specs.declared.register.Reg.{Reg}
-use Rattle.ccan_object.specs.Interface.{Registers, set_register, shown}
-use Rattle.ccan_ram.specs.declared.event.Event.{Event}
-use Rattle.ccan_ram.specs.declared.flag.Flag.{Flag}
+use Rattle.ccan_object.specs.Interface.{Registers, set_register}
 use Rattle.ccan_ram.specs.SharedRam.{Pass, CanSee}
 use Rattle.ccan_script.specs.Limits.{most_turns}
 use Rattle.ccan_c.specs.declared.held.Held.{Held}
 use Rattle.ccan_c.specs.declared.shared_port.SharedPort.{SharedPort}
 use Rattle.ccan_c.specs.Codes.{done, flag_range, object_range, register_range, turns_range}
-use Rattle.ccan_c.specs.Held.{IsOpenAs, pass_of}
+use Rattle.ccan_c.specs.Held.{pass_of}
 use Rattle.ccan_c.specs.Host.{SetsRegister, flag_numbered, is_object, register_numbered}
 use Rattle.ccan_c.specs.HostCall.{HostCall, HostCallDoes, HostCallMeans, get, set, request, flags, interrupt, peek, until}
 use Rattle.ccan_c.specs.Settings.{is_from_one_to}

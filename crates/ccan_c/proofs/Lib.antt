@@ -8,3 +8,5 @@ pub mod Steps
 pub mod HostSteps
 pub mod BusSteps
 pub mod ThreadsFit
+pub mod CallsApart
+pub mod TurnsInOrder

@@ -4,7 +4,6 @@ use Rattle.std.specs.declared.option.Option.{Option}
 use Rattle.ccan_object.specs.declared.profile.Profile.{Profile}
 use Rattle.ccan_object.specs.Interface.{Registers}
 use Rattle.ccan_object.specs.Profile.{objects_in}
-use Rattle.ccan_ram.specs.declared.ending.Final.{Final}
 use Rattle.ccan_ram.specs.declared.event.Event.{Event}
 use Rattle.ccan_ram.specs.declared.port.PortName.{PortName}
 use Rattle.ccan_ram.specs.declared.port.PortName.TheVariants.{If1, If2, Bus}
@@ -21,12 +20,12 @@ use Rattle.ccan_c.specs.declared.held.Held.{Held}
 use Rattle.ccan_c.specs.declared.shown_final.ShownFinal.{ShownFinal}
 use Rattle.ccan_c.specs.Bus.{held_on}
 use Rattle.ccan_c.specs.BusCall.{BusCall, BusCallDoes, BusCallMeans}
-use Rattle.ccan_c.specs.Chip.{Opens, EndsWith}
+use Rattle.ccan_c.specs.Chip.{EndsWith}
 use Rattle.ccan_c.specs.Held.{pass_of, IsKept, IsOpening}
 use Rattle.ccan_c.specs.Host.{held_by}
 use Rattle.ccan_c.specs.HostCall.{HostCall, HostCallDoes, HostCallMeans}
 use Rattle.ccan_c.specs.Meeting.{HasMet, MeetHeld}
-use Rattle.ccan_c.specs.Record.{c_record, IsFinal}
+use Rattle.ccan_c.specs.Record.{c_record}
 use Rattle.ccan_c.specs.Step.{Place, CallsMean, Leads}
 use Rattle.ccan_c.specs.Threads.{Part, at_once, meeting, PartDoes, PartsDo, Places, opening, PartMeans, PartsMean, MeetsAll}
 use Rattle.ccan_c.specs.Threads.{IsPartOf, FitOneHistory, CallsFitOneHistory}

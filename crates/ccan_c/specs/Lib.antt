@@ -19,3 +19,4 @@ pub mod Step
 pub mod HostCall
 pub mod BusCall
 pub mod Threads
+pub mod OneThread

@@ -1,6 +1,6 @@
 -- The calls of three threads on an open chip, each with a handle of its own, and meetings of the three between them. Source:
 -- this project's own.
-use Rattle.std.specs.Prelude.{ℕ, ◌≡◌, Bool, List, [], ◌∷◌, map}
+use Rattle.std.specs.Prelude.{ℕ, ◌≡◌, List, [], ◌∷◌, map}
 use Rattle.ccan_object.specs.declared.profile.Profile.{Profile}
 use Rattle.ccan_object.specs.Interface.{Registers, zero_registers}
 use Rattle.ccan_object.specs.Profile.{objects_in}

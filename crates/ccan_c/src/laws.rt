@@ -1,5 +1,6 @@
 //! Laws of the library. The functions do nothing: their contracts are the laws.
 ghost use Rattle.ccan_c.specs.Bus.{LinesKeepTheChoice};
+ghost use Rattle.ccan_c.specs.OneThread.{TurnsRunInOrder};
 ghost use Rattle.ccan_c.specs.Threads.{CallsFitOneHistory};
 
 /// A line of the bus keeps how the bus chooses what it sends: that of a chip always does so at one moment.
@@ -13,4 +14,10 @@ pub fn lines_keep_the_choice()
 /// leaves.
 pub fn calls_fit_one_history()
     ensures { CallsFitOneHistory }
+{}
+
+/// One thread that calls `ccan_meet` before it goes on to another handle gets what a memory of one thread answers to its
+/// calls in their order, and the records that it leaves.
+pub fn turns_run_in_order()
+    ensures { TurnsRunInOrder }
 {}
