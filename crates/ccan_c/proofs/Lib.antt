@@ -4,3 +4,9 @@ pub mod Lines
 pub mod Calls
 pub mod KeepsChoice
 pub mod Meetings
+pub mod Steps
+pub mod HostSteps
+pub mod BusSteps
+pub mod ThreadsFit
+pub mod CallsApart
+pub mod TurnsInOrder

@@ -15,3 +15,8 @@ pub mod Lending
 pub mod Bus
 pub mod Outcome
 pub mod Round
+pub mod Step
+pub mod HostCall
+pub mod BusCall
+pub mod Threads
+pub mod OneThread
