@@ -14,6 +14,7 @@ fn looks_of(seat: &Seat) -> u32
     match seat.stage {
         Stage::Between => 0,
         Stage::Tried { lost, .. } => u32::from(lost) + 1,
+        Stage::Asking { looks, .. } => looks,
     }
 }
 
@@ -31,7 +32,10 @@ fn ended_as(alloc: Global, answer: &LineAnswer) -> Result<String, AllocError> {
         LineAnswer::Read(object, _) => format!(in alloc; "read {:02}", object.get()),
         LineAnswer::Busy(object) => format!(in alloc; "busy {:02}", object.get()),
         LineAnswer::Spent(object) => format!(in alloc; "spent {:02}", object.get()),
-        // Transfers alone are listed, and they have no other answers; no contract says so of a state's answers.
+        LineAnswer::Until(object, _, _) => format!(in alloc; "until {:02}", object.get()),
+        LineAnswer::Interrupt(_) => format!(in alloc; "interrupt"),
+        LineAnswer::Flags(_, _, _) => format!(in alloc; "flags"),
+        // Host lines alone are listed, and they have no other answers; no contract says so of a state's answers.
         _ => Ok(String::new(alloc)),
     }
 }
@@ -50,6 +54,7 @@ fn did(alloc: Global, new: &Seat) -> Result<String, AllocError> {
             ..
         } => format!(in alloc; "look {:02}", object.get()),
         Stage::Tried { object, .. } => format!(in alloc; "try lost, look {:02}", object.get()),
+        Stage::Asking { object, .. } => format!(in alloc; "look {:02}", object.get()),
     }
 }
 

@@ -16,9 +16,9 @@ pub enum LabError {
     /// The input could not be read, or is no script. It prints as `ccan` tells it.
     #[error(transparent)]
     Input(RunError),
-    /// The line of this port and this index, from 0, is no transfer.
-    #[error("ccan-lab: outcomes: {port} {line}: only transfers can be listed yet")]
-    NoTransfer { port: PortName, line: usize },
+    /// The line of this port and this index, from 0, is no host line.
+    #[error("ccan-lab: outcomes: {port} {line}: only host lines can be listed yet")]
+    NoHostLine { port: PortName, line: usize },
     /// The hosts can come to more states than this.
     #[error("ccan-lab: outcomes: more than {0} states")]
     More(usize),
@@ -40,7 +40,7 @@ impl LabError {
     {
         match self {
             LabError::Input(fault) => fault.status(),
-            LabError::NoTransfer { .. } => 1,
+            LabError::NoHostLine { .. } => 1,
             LabError::Words => 2,
             LabError::Memory => 3,
             LabError::Open | LabError::Write => 4,
@@ -79,7 +79,7 @@ impl From<OutcomesError> for LabError {
 
     fn from(fault: OutcomesError) -> LabError {
         match fault {
-            OutcomesError::NoTransfer { port, line } => LabError::NoTransfer { port, line },
+            OutcomesError::NoHostLine { port, line } => LabError::NoHostLine { port, line },
             OutcomesError::Memory => LabError::Memory,
         }
     }

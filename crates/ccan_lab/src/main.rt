@@ -1,6 +1,6 @@
 //! Answers questions about scripts, by what is proved of the model.
 //!
-//! `ccan-lab outcomes` lists every outcome that a script of transfers can have when its two hosts run at once, each with a
+//! `ccan-lab outcomes` lists every outcome that a script of host lines can have when its two hosts run at once, each with a
 //! history that leads to it.
 //!
 //! A fault is told on standard error, and the exit status: 1 where the script is refused, 2 where the words of the command

@@ -115,22 +115,108 @@ fn finds_as_many_states_as_another_program(rt: HostRuntime) -> Result<(), Fail> 
     Ok(())
 }
 
+/// The answers of IF1 in each outcome of a script, which is to have so many states at most: one outcome after another, in the
+/// order of their texts.
+fn answers_of_if1(alloc: Global, text: &str, most: usize) -> Result<String, Fail> {
+    let Some(outcomes) = outcomes_of(alloc, text, most)? else {
+        return Err(Fail::new("more states than that"));
+    };
+    let mut texts = Vec::new(alloc);
+    for ending in outcomes.listing.endings.as_slice() {
+        let mut text = String::new(alloc);
+        for answer in ending.if1.as_slice() {
+            text.push_str(print_line(PortName::If1, answer).as_str())?;
+        }
+        texts.push(text)?;
+    }
+    texts.sort()?;
+    let mut all = String::new(alloc);
+    for text in &texts {
+        all.push_str(text.as_str())?;
+    }
+    Ok(all)
+}
+
 #[test]
-fn refuses_other_lines(rt: HostRuntime) -> Result<(), Fail> {
-    for (text, port, line) in [
-        (
-            r#"{"if1":[{"op":"transfer","request":"0001"},{"op":"interrupt"}],"if2":[{"op":"interrupt"}]}"#,
-            PortName::If1,
-            1,
-        ),
-        (r#"{"if2":[{"op":"interrupt"}]}"#, PortName::If2, 0),
-        (r#"{"bus":[{"op":"status"}]}"#, PortName::Bus, 0),
+fn lists_words_of_flags_that_no_moment_had(rt: HostRuntime) -> Result<(), Fail> {
+    // IF2 sets NewDat of object 1, then of object 32, clears that of 32, and then that of 1, while IF1 looks at 1, at 2, and so
+    // on up to 32. Nothing is shown where both looks come before all, 1 alone where both come between the first write and the
+    // second, and both where the look at 1 comes there and that at 32 between the second and the third. And 32 alone is shown,
+    // as at no moment, where the look at 1 comes before the first write and that at 32 between the second and the third.
+    let script =
+        r#"{"if1":[{"op":"flags","flag":"newdat"}],"if2":[{"op":"transfer","request":"0001","set":{"cmask":"0090","ctrl":"8000"}},{"op":"transfer","request":"0020"},{"op":"transfer","request":"0020","set":{"ctrl":"0000"}},{"op":"transfer","request":"0001"}]}"#;
+    let texts = answers_of_if1(rt.alloc(), script, 2000)?;
+    let want = "if1 flags newdat 00000000\n\
+        if1 flags newdat 00000001\n\
+        if1 flags newdat 80000000\n\
+        if1 flags newdat 80000001\n";
+    assert_eq!(rt; texts.as_str(), want);
+    Ok(())
+}
+
+#[test]
+fn lists_no_word_of_flags_that_comes_too_late(rt: HostRuntime) -> Result<(), Fail> {
+    // IF2 sets NewDat of object 32 first and then that of object 1. Where the look at 1 shows it, 32 has it already, and the
+    // look at 32 comes later: so 1 alone can't be shown. The other three words can.
+    let script =
+        r#"{"if1":[{"op":"flags","flag":"newdat"}],"if2":[{"op":"transfer","request":"0020","set":{"cmask":"0090","ctrl":"8000"}},{"op":"transfer","request":"0001"}]}"#;
+    let texts = answers_of_if1(rt.alloc(), script, 2000)?;
+    let want = "if1 flags newdat 00000000\n\
+        if1 flags newdat 80000000\n\
+        if1 flags newdat 80000001\n";
+    assert_eq!(rt; texts.as_str(), want);
+    Ok(())
+}
+
+#[test]
+fn lists_a_wait_that_succeeds_and_one_that_gives_up(rt: HostRuntime) -> Result<(), Fail> {
+    // IF1 looks at object 1 twice at most, and IF2 sets its NewDat. Before that IF1 has made no look, one, or both, while IF2
+    // is before its look or behind it: six states. Behind the write IF1 has made no look, one, has given up, or has seen the
+    // flag: four more.
+    let text =
+        r#"{"if1":[{"op":"until","object":1,"flag":"newdat","turns":2}],"if2":[{"op":"transfer","request":"0001","set":{"cmask":"0090","ctrl":"8000"}}]}"#;
+    let Some(outcomes) = outcomes_of(rt.alloc(), text, 10)? else {
+        return Err(Fail::new("more states than that"));
+    };
+    assert_eq!(rt; outcomes.reached.states.len(), 10);
+    let texts = answers_of_if1(rt.alloc(), text, 10)?;
+    let want = "if1 until 01 newdat no\n\
+        if1 until 01 newdat yes\n";
+    assert_eq!(rt; texts.as_str(), want);
+    Ok(())
+}
+
+#[test]
+fn lists_the_interrupt_values_of_a_race(rt: HostRuntime) -> Result<(), Fail> {
+    // IF2 sets IntPnd of object 2, and then of object 1. IF1 looks at object 2 once, and then asks for the interrupt value. Where
+    // the look shows the flag, the value can't be 0, since object 2 keeps it; it is 1 where object 1 is set before the look
+    // at it, and 2 else. Where the look doesn't show it, 0 can come too: all looks come before the first write.
+    let script =
+        r#"{"if1":[{"op":"until","object":2,"flag":"intpnd","turns":1},{"op":"interrupt"}],"if2":[{"op":"transfer","request":"0002","set":{"cmask":"0090","ctrl":"2000"}},{"op":"transfer","request":"0001"}]}"#;
+    let texts = answers_of_if1(rt.alloc(), script, 2000)?;
+    let want = "if1 until 02 intpnd no\nif1 interrupt 0000\n\
+        if1 until 02 intpnd no\nif1 interrupt 0001\n\
+        if1 until 02 intpnd no\nif1 interrupt 0002\n\
+        if1 until 02 intpnd yes\nif1 interrupt 0001\n\
+        if1 until 02 intpnd yes\nif1 interrupt 0002\n";
+    assert_eq!(rt; texts.as_str(), want);
+    Ok(())
+}
+
+#[test]
+fn refuses_lines_of_the_bus(rt: HostRuntime) -> Result<(), Fail> {
+    for text in [
+        r#"{"bus":[{"op":"status"}]}"#,
+        r#"{"if1":[{"op":"interrupt"}],"bus":[{"op":"status"},{"op":"round"}]}"#,
     ] {
         let script = read_input(rt.alloc(), &mut text.as_bytes())?;
         let refused = all_outcomes(rt.alloc(), &script, 10).err();
         assert_eq!(rt;
             refused,
-            Some(OutcomesError::NoTransfer { port, line }),
+            Some(OutcomesError::NoHostLine {
+                port: PortName::Bus,
+                line: 0
+            }),
             "at {text}"
         );
     }
