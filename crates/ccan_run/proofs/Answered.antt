@@ -8,14 +8,13 @@ use Rattle.ccan_ram.specs.declared.event.Event.{Event}
 use Rattle.ccan_ram.specs.History.{events_of}
 use Rattle.ccan_ram.proofs.Histories.{events_of-append}
 use Rattle.ccan_ram.specs.SharedRam.{Memory, terms_of}
-use Rattle.ccan_bus.specs.Past.{opened}
 use Rattle.ccan_script.specs.declared.line_answer.LineAnswer.{LineAnswer}
 use Rattle.ccan_script.specs.Script.{ScriptFields}
 use Rattle.ccan_run.specs.Threads.{HasPart}
 use Rattle.ccan_run.specs.Answered.{HostInOrder, BusInOrder}
 use Rattle.ccan_run.specs.Laws.{AnswersHaveEvents}
 use Rattle.ccan_run.proofs.HostAnswered.{host_lines}
-use Rattle.ccan_run.proofs.BusAnswered.{bus_lines}
+use Rattle.ccan_run.proofs.BusAnswered.{opened_lines}
 
 none_before : (xs ys : List Event) → xs ++ ys ≡ ys → xs ≡ []
 none_before [] ys h = refl
@@ -43,23 +42,22 @@ module _ (contends : ℕ → ℕ → Bool) (memory : Memory) (script : ScriptFie
       part.answered.0 part.answered.1 part.begins.0 none in
       subst (λ (es : List Event). HostInOrder memory.profile If2 script.if2 zero_registers answers es) (sym part.begins.1) all
 
-  of_bus : HasPart contends memory script history Bus answers → BusInOrder memory.profile script.bus answers history
+  of_bus : HasPart contends memory script history Bus answers → BusInOrder memory.profile script.bus answers [] history
   of_bus part =
       let none = none_after contends memory script history Bus answers part in
-      let all = bus_lines (terms_of contends memory Bus) refl script.tries script.bus (opened script.nodes) [] part.seen answers
+      let all = opened_lines (terms_of contends memory Bus) refl script.tries script.bus script.nodes part.seen answers
       part.answered.0 part.answered.1 part.begins.0 none in
-      subst (λ (es : List Event). BusInOrder memory.profile script.bus answers es) (sym part.begins.1) all
+      subst (λ (es : List Event). BusInOrder memory.profile script.bus answers [] es) (sym part.begins.1) all
 
 pub answers_have_events : AnswersHaveEvents
 answers_have_events contends script outcome run =
     record {
-      history = run.history;
       legal = run.legal;
       if1 = subst (λ (p : Profile). HostInOrder p If1 script.if1 zero_registers outcome.if1.items run.history)
           run.memory_is.profile_is (of_if1 contends run.memory script run.history outcome.if1.items run.if1);
       if2 = subst (λ (p : Profile). HostInOrder p If2 script.if2 zero_registers outcome.if2.items run.history)
           run.memory_is.profile_is (of_if2 contends run.memory script run.history outcome.if2.items run.if2);
-      bus = subst (λ (p : Profile). BusInOrder p script.bus outcome.bus.items run.history)
+      bus = subst (λ (p : Profile). BusInOrder p script.bus outcome.bus.items [] run.history)
           run.memory_is.profile_is (of_bus contends run.memory script run.history outcome.bus.items run.bus);
       left = run.left;
     }

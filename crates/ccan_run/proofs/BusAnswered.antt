@@ -1,41 +1,51 @@
--- What the answers of the bus tell, as steps of the history.
-use Rattle.std.proofs.Common.{◌≡◌, ℕ, Bool, true, false, List, [], ◌∷◌, ◌++◌, inl, inr, Some, None, Ok}
+-- What the answers of the bus tell, as steps of the history, and what the bus changes in them. What is loaded was started.
+use Rattle.std.proofs.Common.{◌≡◌, ℕ, Bool, true, false, List, [], ◌∷◌, ◌++◌, inl, inr, Option, Some, None, Ok, Err}
 use Rattle.std.proofs.Common.{refl, sym, ap, subst, ◌∙◌, append_assoc}
+use Rattle.std.specs.Prelude.{All, Contains}
 use Rattle.std.proofs.lemmas.List.{append-nil}
+use Rattle.std.proofs.lemmas.List.Elements.{All-append, All-cons, All-contains_itself, All-filter, All-get_or, All-nil, All-weaker}
 use Rattle.ccan_object.specs.declared.record.Record.{Record}
+use Rattle.ccan_accept.specs.declared.frame.Frame.{Frame}
+use Rattle.ccan_accept.specs.Send.{frame_of}
 use Rattle.ccan_ram.specs.declared.port.PortName.{PortName}
 use Rattle.ccan_ram.specs.declared.port.PortName.TheVariants.{Bus}
 use Rattle.ccan_ram.specs.declared.change.Change.{Change}
 use Rattle.ccan_ram.specs.declared.change.Change.TheVariants.{Start, Store, Finish}
 use Rattle.ccan_ram.specs.declared.change.Changed.TheVariants.{Done}
+use Rattle.ccan_ram.specs.declared.change.Refused.TheVariants as refused
 use Rattle.ccan_ram.specs.declared.event.Event.{Event}
 use Rattle.ccan_ram.specs.declared.event.Operation.TheVariants.{Make}
 use Rattle.ccan_ram.specs.declared.flag.Flag.{Flag}
-use Rattle.ccan_ram.specs.History.{events_of}
+use Rattle.ccan_ram.specs.History.{changes_by, events_of}
 use Rattle.ccan_ram.specs.Terms.{Terms}
 use Rattle.ccan_ram.specs.Attempt.{Attempt}
 use Rattle.ccan_handler.specs.Watch.{Interrupts, ReadsFlags}
-use Rattle.ccan_handler.specs.Scan.{Scan, MadeAt}
+use Rattle.ccan_handler.specs.Scan.{Scan, Nowhere, MadeAt, RefusedAt}
+use Rattle.ccan_handler.proofs.Own.{bounds_law}
 use Rattle.ccan_bus.specs.declared.answer.LoadAnswer.{LoadAnswer}
 use Rattle.ccan_bus.specs.declared.answer.LoadAnswer.TheVariants as load
 use Rattle.ccan_bus.specs.declared.answer.RoundAnswer.{RoundAnswer}
 use Rattle.ccan_bus.specs.declared.answer.RoundAnswer.TheVariants as round
 use Rattle.ccan_bus.specs.declared.round_line.RoundLine.{RoundLine}
-use Rattle.ccan_bus.specs.Past.{BusPast, hears_itself}
+use Rattle.ccan_bus.specs.Past.{BusPast, hears_itself, is_on, opened}
+use Rattle.ccan_bus.specs.Contenders.{IsWonBy, contenders, own_frame}
 use Rattle.ccan_bus.specs.declared.choice.Choice.{Choice}
 use Rattle.ccan_bus.specs.declared.choice.Choice.TheVariants.{InTurn, AtOnce}
 use Rattle.ccan_bus.specs.Choice.{Chooses}
 use Rattle.ccan_bus.specs.Load.{Loads}
-use Rattle.ccan_bus.specs.LoopBack.{LoopsBack}
-use Rattle.ccan_bus.specs.Round.{Round, Contends, Transfers, Continues, refusal_of_round}
+use Rattle.ccan_bus.specs.LoopBack.{AtFinish, AtScan, LoopsBack}
+use Rattle.ccan_bus.specs.Round.{Round, RefusedFinish, RefusedScan, Contends, Transfers, Continues, refusal_of_round}
+use Rattle.ccan_bus.proofs.AfterRounds.{nothing_after}
 use Rattle.ccan_script.specs.declared.bus_line.BusLine.{BusLine}
 use Rattle.ccan_script.specs.declared.bus_line.BusLine.TheVariants as line
 use Rattle.ccan_script.specs.declared.line_answer.LineAnswer.{LineAnswer}
 use Rattle.ccan_script.specs.declared.line_answer.LineAnswer.TheVariants as answer
 use Rattle.ccan_run.specs.Lines.{LinesMean}
 use Rattle.ccan_run.specs.BusPort.{BusLineMeans}
-use Rattle.ccan_run.specs.Answered.{HasStep, NamesPending, WordWasShown, WasChanged, WasStored, RoundShownBy}
-use Rattle.ccan_run.specs.Answered.{BusShownBy, IsBusReplyTo, BusInOrder}
+use Rattle.ccan_run.specs.Answered.{HasStep, NamesPending, WordWasShown, WasChanged, WasSent, WasStored, RoundShownBy}
+use Rattle.ccan_run.specs.Answered.{BusShownBy, IsBusReplyTo, IsBusPart, BusInOrder, BusMakes, RoundMakes, IsAtMost, changes_in}
+use Rattle.ccan_run.proofs.HostChanges.{changes_by-attempt, changes_by-interrupt, changes_by-flags}
+use Rattle.ccan_run.proofs.BusChanges.{changes_in-none, changes_in-one, changes_in-append, changes_by-choice}
 use Rattle.ccan_run.proofs.StepsShown.{in_newest, in_earlier, done_at, interrupt_shown, word_shown}
 
 -- ---- what stands in a part of the history stands in it
@@ -54,22 +64,71 @@ module _ (added newest earlier : List Event) (whole : added ≡ newest ++ earlie
   earlier_changed object change left (before, step) =
       (before, in_earlier (event_of object change before left) added newest earlier whole step)
 
-  newest_stored : (found : ℕ × Record) → WasStored found newest → WasStored found added
-  newest_stored found (frame, made) = (frame, newest_changed found.0 (Store frame) found.1 made)
+  newest_sent : (seen : List Event) (object : ℕ) (started left : Record) → WasSent object started left (earlier ++ seen) newest
+      → WasSent object started left seen added
+  newest_sent seen object started left sent =
+      let all : newest ++ (earlier ++ seen) ≡ added ++ seen =
+      sym (append_assoc newest earlier seen) ∙ ap (λ (es : List Event). es ++ seen) (sym whole) in
+      record {
+        start = subst (λ (es : List Event). WasChanged object Start started es) all sent.start;
+        finish = newest_changed object Finish left sent.finish;
+      }
 
-  newest_shows : (ended : RoundAnswer) → RoundShownBy ended newest → RoundShownBy ended added
-  newest_shows (round.Sent object left) h = newest_changed object Finish left h
-  newest_shows (round.Received None) h = tt
-  newest_shows (round.Received (Some found)) h = newest_stored found h
-  newest_shows (round.Looped object left None) h = newest_changed object Finish left h
-  newest_shows (round.Looped object left (Some found)) h = (newest_changed object Finish left h.0, newest_stored found h.1)
-  newest_shows round.Idle h = tt
-  newest_shows round.Passed h = tt
-  newest_shows round.Collision h = tt
-  newest_shows round.NoAck h = tt
-  newest_shows round.Fault h = tt
-  newest_shows (round.Busy object) h = tt
-  newest_shows (round.Spent object) h = tt
+  newest_shows : (sends : List (ℕ × Frame)) (seen : List Event) (ended : RoundAnswer)
+      → RoundShownBy sends ended (earlier ++ seen) newest → RoundShownBy sends ended seen added
+  newest_shows sends seen (round.Sent object left) (started, h) = (started, newest_sent seen object started left h)
+  newest_shows sends seen (round.Received None) h = tt
+  newest_shows sends seen (round.Received (Some found)) (sent, among, h) =
+      (sent, among, newest_changed found.0 (Store sent.1) found.1 h)
+  newest_shows sends seen (round.Looped object left None) (started, h) = (started, newest_sent seen object started left h)
+  newest_shows sends seen (round.Looped object left (Some found)) (started, h, stored) =
+      (started, newest_sent seen object started left h, newest_changed found.0 (Store (frame_of started)) found.1 stored)
+  newest_shows sends seen round.Idle h = tt
+  newest_shows sends seen round.Passed h = tt
+  newest_shows sends seen round.Collision h = tt
+  newest_shows sends seen round.NoAck h = tt
+  newest_shows sends seen round.Fault h = tt
+  newest_shows sends seen (round.Busy object) h = tt
+  newest_shows sends seen (round.Spent object) h = tt
+
+  two_parts : (later first : List (ℕ × Change)) → changes_in Bus newest ≡ later → changes_in Bus earlier ≡ first
+      → changes_in Bus added ≡ later ++ first
+  two_parts later first is_later is_first =
+      ap (changes_in Bus) whole ∙ (changes_in-append Bus newest earlier
+      ∙ (ap (λ (l : List (ℕ × Change)). l ++ changes_in Bus earlier) is_later ∙ ap (λ (l : List (ℕ × Change)). later ++ l) is_first))
+
+-- ---- what is loaded, and what others send
+
+-- what is loaded was started, and stands in the history as it was then
+abbrev Carries : BusPast → List Event → Type 0
+Carries past seen = (loaded : ℕ × Record) → past.loaded ≡ Some loaded → WasChanged loaded.0 Start loaded.1 seen
+
+carries_nothing : (past : BusPast) (seen : List Event) → past.loaded ≡ None → Carries past seen
+carries_nothing past seen none loaded is = absurd (let e = sym none ∙ is in cc)
+
+carries_same : (past after : BusPast) (seen added : List Event) → after.loaded ≡ past.loaded → Carries past seen
+    → Carries after (added ++ seen)
+carries_same past after seen added same carries loaded is =
+    earlier_changed (added ++ seen) added seen refl loaded.0 Start loaded.1 (carries loaded (sym same ∙ is))
+
+-- whoever wins but the controller sends a frame of the line
+abbrev IsOfLine : List (ℕ × Frame) → ℕ × Frame → Type 0
+IsOfLine sends sent = (sent.0 ≡ 0 → ⊥) → Contains sends sent
+
+own_excluded : (loaded : Option (ℕ × Record)) (sends : List (ℕ × Frame)) → All (IsOfLine sends) (own_frame loaded)
+own_excluded None sends = All-nil (IsOfLine sends)
+own_excluded (Some started) sends =
+    All-cons (IsOfLine sends) (0, frame_of started.1) [] (λ other. absurd (other refl)) (All-nil (IsOfLine sends))
+
+sent_by_line : (on : ℕ → Bool) (loaded : Option (ℕ × Record)) (sends : List (ℕ × Frame)) (winner : ℕ) (frame : Frame)
+    → IsWonBy (contenders on loaded sends) winner frame → (winner ≡ 0 → ⊥) → Contains sends (winner, frame)
+unfolding contenders
+sent_by_line on loaded sends winner frame won another =
+    let line = All-weaker (Contains sends) (IsOfLine sends) (λ sent among other. among) sends (All-contains_itself sends) in
+    let all = All-append (IsOfLine sends) (own_frame loaded) sends (own_excluded loaded sends) line in
+    let kept = All-filter (λ (c : ℕ × Frame). on c.0) (IsOfLine sends) (own_frame loaded ++ sends) all in
+    let at = All-get_or (IsOfLine sends) (contenders on loaded sends) won.place (winner, frame) won.within kept in
+    subst (λ (c : ℕ × Frame). IsOfLine sends c) (sym won.sent) at another
 
 module _ (terms : Terms) (bus : terms.port ≡ Bus) (tries : ℕ) where
   made : (object : ℕ) (change : Change) (seen added : List Event) (before after : Record) (number : ℕ)
@@ -97,99 +156,353 @@ module _ (terms : Terms) (bus : terms.port ≡ Bus) (tries : ℕ) where
       (newest_changed h.tried s.last s.skipped s.whole object Start started
       (made object Start (s.skipped ++ (h.looked ++ seen)) s.last s.start.1 started s.start.2 s.start.3))
 
+  -- ---- changes
+
+  none : (added : List Event) → changes_by terms.port added ≡ 0 → changes_in Bus added ≡ []
+  none added is = changes_in-none Bus added (subst (λ (port : PortName). changes_by port added ≡ 0) bus is)
+
+  one : (object : ℕ) (change : Change) (left : Record) (added : List Event) → changes_by terms.port added ≡ 1
+      → WasChanged object change left added → changes_in Bus added ≡ (object, change) ∷ []
+  one object change left added is (before, step) =
+      changes_in-one Bus object change before left added (subst (λ (port : PortName). changes_by port added ≡ 1) bus is) step
+
+  one_made : (object : ℕ) (change : Change) (seen added : List Event) (before after : Record) (number : ℕ)
+      → Attempt terms object change tries seen added (Ok (Done before after number)) → changes_in Bus added ≡ (object, change) ∷ []
+  one_made object change seen added before after number h =
+      one object change after added (changes_by-attempt terms object change tries seen added (Ok (Done before after number)) h)
+      (made object change seen added before after number h)
+
+  one_scanned : (object : ℕ) (change : Change) (seen added : List Event) (before after : Record) (number : ℕ)
+      → Scan terms change 1 tries seen added (MadeAt object before after number) → changes_in Bus added ≡ (object, change) ∷ []
+  one_scanned object change seen added before after number h =
+      one object change after added (bounds_law terms change tries 1 seen added (MadeAt object before after number) h).1
+      (scanned object 1 change seen added before after number h)
+
+  none_found : (change : Change) (seen added : List Event) → Scan terms change 1 tries seen added Nowhere → changes_in Bus added ≡ []
+  none_found change seen added h = none added (bounds_law terms change tries 1 seen added Nowhere h).1
+
   -- ---- loads and rounds
 
   loads : (seen added : List Event) (past after : BusPast) (loading : LoadAnswer) → Loads terms tries seen added past after loading
-      → BusShownBy terms.profile (answer.Load loading) added
+      → BusShownBy terms.profile line.Load (answer.Load loading) seen added
   loads seen added past after (load.Loaded object started) h = chosen past.choice object seen added started h.choice.chooses
   loads seen added past after (load.Held object) h = tt
   loads seen added past after load.Nothing h = tt
   loads seen added past after (load.Busy object) h = tt
   loads seen added past after (load.Spent object) h = tt
 
-  contends : (sends : RoundLine) (seen added : List Event) (past after : BusPast) (ended : RoundAnswer)
-      → Contends terms sends tries seen added past after ended → RoundShownBy ended added
-  contends sends seen added past after (round.Sent object finished) h =
-      made object Finish seen added h.before finished h.number h.finish.finish
-  contends sends seen added past after (round.Received None) h = tt
-  contends sends seen added past after (round.Received (Some found)) (before, number, h) =
-      (h.frame, scanned found.0 1 (Store h.frame) seen added before found.1 number h.scan)
-  contends sends seen added past after (round.Looped object left found) h = absurd h
-  contends sends seen added past after round.Idle h = tt
-  contends sends seen added past after round.Passed h = tt
-  contends sends seen added past after round.Collision h = tt
-  contends sends seen added past after round.NoAck h = tt
-  contends sends seen added past after round.Fault h = tt
-  contends sends seen added past after (round.Busy object) h = tt
-  contends sends seen added past after (round.Spent object) h = tt
+  load_makes : (seen added : List Event) (past after : BusPast) (loading : LoadAnswer) → Loads terms tries seen added past after loading
+      → BusMakes (answer.Load loading) (changes_in Bus added)
+  load_makes seen added past after (load.Loaded object started) h =
+      one object Start started added (changes_by-choice terms past.choice tries seen added _ h.choice.chooses)
+      (chosen past.choice object seen added started h.choice.chooses)
+  load_makes seen added past after (load.Held object) h = ap (changes_in Bus) h.quiet
+  load_makes seen added past after load.Nothing (inl h) = ap (changes_in Bus) h.quiet
+  load_makes seen added past after load.Nothing (inr h) =
+      none added (changes_by-choice terms past.choice tries seen added _ h.choice.chooses)
+  load_makes seen added past after (load.Busy object) (told, now, h) =
+      none added (changes_by-choice terms past.choice tries seen added _ h.choice.chooses)
+  load_makes seen added past after (load.Spent object) h =
+      none added (changes_by-choice terms past.choice tries seen added _ h.choice.chooses)
 
-  loops : (seen added : List Event) (past after : BusPast) (ended : RoundAnswer)
-      → LoopsBack terms tries seen added past after ended → RoundShownBy ended added
-  loops seen added past after (round.Looped object left None) h =
-      earlier_changed added h.last h.first h.whole object Finish left
-      (made object Finish seen h.first h.before left h.number h.finish.finish)
-  loops seen added past after (round.Looped object left (Some found)) (before, number, h) = (
-    earlier_changed added h.last h.first h.whole object Finish left
-        (made object Finish seen h.first h.before left h.number h.finish.finish),
-    newest_stored added h.last h.first h.whole found
-        (h.frame, scanned found.0 1 (Store h.frame) (h.first ++ seen) h.last before found.1 number h.scan),
+  load_starts : (seen added : List Event) (past after : BusPast) (loading : LoadAnswer) → Loads terms tries seen added past after loading
+      → IsAtMost Start (changes_in Bus added)
+  load_starts seen added past after (load.Loaded object started) h =
+      inr (object, load_makes seen added past after (load.Loaded object started) h)
+  load_starts seen added past after (load.Held object) h = inl (load_makes seen added past after (load.Held object) h)
+  load_starts seen added past after load.Nothing h = inl (load_makes seen added past after load.Nothing h)
+  load_starts seen added past after (load.Busy object) h = inl (load_makes seen added past after (load.Busy object) h)
+  load_starts seen added past after (load.Spent object) h = inl (load_makes seen added past after (load.Spent object) h)
+
+  load_carries : (seen added : List Event) (past after : BusPast) (loading : LoadAnswer) → Loads terms tries seen added past after loading
+      → Carries past seen → Carries after (added ++ seen)
+  load_carries seen added past after (load.Loaded object started) h carries loaded is =
+      let same : (object, started) ≡ loaded = let e = sym (ap (λ (p : BusPast). p.loaded) h.now_loaded) ∙ is in cc in
+      subst (λ (l : ℕ × Record). WasChanged l.0 Start l.1 (added ++ seen)) same
+      (newest_changed (added ++ seen) added seen refl object Start started
+      (chosen past.choice object seen added started h.choice.chooses))
+  load_carries seen added past after (load.Held object) h carries loaded is =
+      carries_same past after seen added (ap (λ (p : BusPast). p.loaded) h.same) carries loaded is
+  load_carries seen added past after load.Nothing (inl h) carries loaded is =
+      carries_same past after seen added (ap (λ (p : BusPast). p.loaded) h.same) carries loaded is
+  load_carries seen added past after load.Nothing (inr h) carries loaded is =
+      carries_same past after seen added (ap (λ (p : BusPast). p.loaded) h.same) carries loaded is
+  load_carries seen added past after (load.Busy object) (told, now, h) carries loaded is =
+      carries_same past after seen added (ap (λ (p : BusPast). p.loaded) h.same) carries loaded is
+  load_carries seen added past after (load.Spent object) h carries loaded is =
+      carries_same past after seen added (ap (λ (p : BusPast). p.loaded) h.same) carries loaded is
+
+  -- what is finished was loaded, and so started
+  sent : (seen added : List Event) (past : BusPast) (object : ℕ) (started before left : Record) (number : ℕ) → Carries past seen
+      → past.loaded ≡ Some (object, started) → Attempt terms object Finish tries seen added (Ok (Done before left number))
+      → WasSent object started left seen added
+  sent seen added past object started before left number carries is finish =
+      record {
+        start = earlier_changed (added ++ seen) added seen refl object Start started (carries (object, started) is);
+        finish = made object Finish seen added before left number finish;
+      }
+
+  contends : (sends : RoundLine) (seen added : List Event) (past after : BusPast) (ended : RoundAnswer) → Carries past seen
+      → Contends terms sends tries seen added past after ended → RoundShownBy sends.send.items ended seen added
+  contends sends seen added past after (round.Sent object finished) carries h =
+      let f = h.finish in
+      (f.started, sent seen added past object f.started h.before finished h.number carries f.sent f.finish)
+  contends sends seen added past after (round.Received None) carries h = tt
+  contends sends seen added past after (round.Received (Some found)) carries (before, number, h) = (
+    (h.winner, h.frame),
+    sent_by_line (is_on past) past.loaded sends.send.items h.winner h.frame h.success.won h.another,
+    scanned found.0 1 (Store h.frame) seen added before found.1 number h.scan,
   )
-  loops seen added past after (round.Sent object left) h = absurd h
-  loops seen added past after (round.Received found) h = absurd h
-  loops seen added past after round.Idle h = tt
-  loops seen added past after round.Passed h = tt
-  loops seen added past after round.Collision h = tt
-  loops seen added past after round.NoAck h = tt
-  loops seen added past after round.Fault h = tt
-  loops seen added past after (round.Busy object) h = tt
-  loops seen added past after (round.Spent object) h = tt
+  contends sends seen added past after (round.Looped object left found) carries h = absurd h
+  contends sends seen added past after round.Idle carries h = tt
+  contends sends seen added past after round.Passed carries h = tt
+  contends sends seen added past after round.Collision carries h = tt
+  contends sends seen added past after round.NoAck carries h = tt
+  contends sends seen added past after round.Fault carries h = tt
+  contends sends seen added past after (round.Busy object) carries h = tt
+  contends sends seen added past after (round.Spent object) carries h = tt
+
+  contend_makes : (sends : RoundLine) (seen added : List Event) (past after : BusPast) (ended : RoundAnswer)
+      → Contends terms sends tries seen added past after ended → RoundMakes ended (changes_in Bus added)
+  contend_makes sends seen added past after (round.Sent object finished) h =
+      one_made object Finish seen added h.before finished h.number h.finish.finish
+  contend_makes sends seen added past after (round.Received None) h = none_found (Store h.frame) seen added h.scan
+  contend_makes sends seen added past after (round.Received (Some found)) (before, number, h) =
+      (h.frame, one_scanned found.0 (Store h.frame) seen added before found.1 number h.scan)
+  contend_makes sends seen added past after (round.Looped object left found) h = absurd h
+  contend_makes sends seen added past after round.Idle h = ap (changes_in Bus) h.quiet
+  contend_makes sends seen added past after round.Passed h = ap (changes_in Bus) h.quiet
+  contend_makes sends seen added past after round.Collision h = ap (changes_in Bus) h.quiet
+  contend_makes sends seen added past after round.NoAck h = ap (changes_in Bus) h.quiet
+  contend_makes sends seen added past after round.Fault h = ap (changes_in Bus) h.quiet
+  contend_makes sends seen added past after (round.Busy object) (told, now, RefusedFinish h) =
+      inl (none added (changes_by-attempt terms object Finish tries seen added (Err (refused.Busy told now)) h.finish))
+  contend_makes sends seen added past after (round.Busy object) (told, now, RefusedScan h) =
+      inl (none added (bounds_law terms (Store h.frame) tries 1 seen added (RefusedAt object (refused.Busy told now)) h.scan).1)
+  contend_makes sends seen added past after (round.Spent object) (RefusedFinish h) =
+      inl (none added (changes_by-attempt terms object Finish tries seen added (Err refused.Spent) h.finish))
+  contend_makes sends seen added past after (round.Spent object) (RefusedScan h) =
+      inl (none added (bounds_law terms (Store h.frame) tries 1 seen added (RefusedAt object refused.Spent) h.scan).1)
+
+  -- what is sent in loop back mode, and then a scan
+  looped_sent : (seen added last first : List Event) (past : BusPast) (object : ℕ) (started before left : Record) (number : ℕ)
+      → added ≡ last ++ first → Carries past seen → past.loaded ≡ Some (object, started)
+      → Attempt terms object Finish tries seen first (Ok (Done before left number))
+      → WasSent object started left seen added
+  looped_sent seen added last first past object started before left number whole carries is finish =
+      record {
+        start = earlier_changed (added ++ seen) added seen refl object Start started (carries (object, started) is);
+        finish = earlier_changed added last first whole object Finish left
+            (made object Finish seen first before left number finish);
+      }
+
+  loops : (sends : List (ℕ × Frame)) (seen added : List Event) (past after : BusPast) (ended : RoundAnswer) → Carries past seen
+      → LoopsBack terms tries seen added past after ended → RoundShownBy sends ended seen added
+  loops sends seen added past after (round.Looped object left None) carries h =
+      let f = h.finish in (
+        f.started,
+        looped_sent seen added h.last h.first past object f.started h.before left h.number h.whole carries f.loaded f.finish,
+      )
+  loops sends seen added past after (round.Looped object left (Some found)) carries (before, number, h) =
+      let f = h.finish in
+      let stored : WasChanged found.0 (Store h.frame) found.1 added =
+      newest_changed added h.last h.first h.whole found.0 (Store h.frame) found.1
+      (scanned found.0 1 (Store h.frame) (h.first ++ seen) h.last before found.1 number h.scan) in (
+        f.started,
+        looped_sent seen added h.last h.first past object f.started h.before left h.number h.whole carries f.loaded f.finish,
+        subst (λ (frame : Frame). WasStored frame found added) f.frame_is stored,
+      )
+  loops sends seen added past after (round.Sent object left) carries h = absurd h
+  loops sends seen added past after (round.Received found) carries h = absurd h
+  loops sends seen added past after round.Idle carries h = tt
+  loops sends seen added past after round.Passed carries h = tt
+  loops sends seen added past after round.Collision carries h = tt
+  loops sends seen added past after round.NoAck carries h = tt
+  loops sends seen added past after round.Fault carries h = tt
+  loops sends seen added past after (round.Busy object) carries h = tt
+  loops sends seen added past after (round.Spent object) carries h = tt
+
+  loop_makes : (seen added : List Event) (past after : BusPast) (ended : RoundAnswer)
+      → LoopsBack terms tries seen added past after ended → RoundMakes ended (changes_in Bus added)
+  loop_makes seen added past after (round.Looped object left None) h =
+      two_parts added h.last h.first h.whole [] ((object, Finish) ∷ [])
+      (none_found (Store h.frame) (h.first ++ seen) h.last h.scan)
+      (one_made object Finish seen h.first h.before left h.number h.finish.finish)
+  loop_makes seen added past after (round.Looped object left (Some found)) (before, number, h) = (
+    h.frame,
+    two_parts added h.last h.first h.whole ((found.0, Store h.frame) ∷ []) ((object, Finish) ∷ [])
+        (one_scanned found.0 (Store h.frame) (h.first ++ seen) h.last before found.1 number h.scan)
+        (one_made object Finish seen h.first h.before left h.number h.finish.finish),
+  )
+  loop_makes seen added past after (round.Sent object left) h = absurd h
+  loop_makes seen added past after (round.Received found) h = absurd h
+  loop_makes seen added past after round.Idle h = ap (changes_in Bus) h.quiet
+  loop_makes seen added past after round.Passed h = absurd h
+  loop_makes seen added past after round.Collision h = absurd h
+  loop_makes seen added past after round.NoAck h = absurd h
+  loop_makes seen added past after round.Fault h = absurd h
+  loop_makes seen added past after (round.Busy at) (told, now, AtFinish frame h) =
+      inl (none added (changes_by-attempt terms at Finish tries seen added (Err (refused.Busy told now)) h.finish))
+  loop_makes seen added past after (round.Busy at) (told, now, AtScan object finished h) = inr (
+    object,
+    two_parts added h.last h.first h.whole [] ((object, Finish) ∷ [])
+        (none h.last (bounds_law terms (Store h.frame) tries 1 (h.first ++ seen) h.last (RefusedAt at (refused.Busy told now)) h.scan).1)
+        (one_made object Finish seen h.first h.before finished h.number h.finish.finish),
+  )
+  loop_makes seen added past after (round.Spent at) (AtFinish frame h) =
+      inl (none added (changes_by-attempt terms at Finish tries seen added (Err refused.Spent) h.finish))
+  loop_makes seen added past after (round.Spent at) (AtScan object finished h) = inr (
+    object,
+    two_parts added h.last h.first h.whole [] ((object, Finish) ∷ [])
+        (none h.last (bounds_law terms (Store h.frame) tries 1 (h.first ++ seen) h.last (RefusedAt at refused.Spent) h.scan).1)
+        (one_made object Finish seen h.first h.before finished h.number h.finish.finish),
+  )
+
+  -- what follows a load: what it shows, and what it changes
+  abbrev Follows : RoundLine → List Event → List Event → RoundAnswer → Type 0
+  Follows sends seen added ended = RoundShownBy sends.send.items ended seen added × RoundMakes ended (changes_in Bus added)
 
   transfers : (back : Bool) (sends : RoundLine) (seen added : List Event) (past after : BusPast) (ended : RoundAnswer)
-      → Transfers back terms sends tries seen added past after ended → RoundShownBy ended added
-  transfers true sends seen added past after ended h = loops seen added past after ended h
-  transfers false sends seen added past after ended h = contends sends seen added past after ended h
+      → Carries past seen → Transfers back terms sends tries seen added past after ended → Follows sends seen added ended
+  transfers true sends seen added past after ended carries h =
+      (loops sends.send.items seen added past after ended carries h, loop_makes seen added past after ended h)
+  transfers false sends seen added past after ended carries h =
+      (contends sends seen added past after ended carries h, contend_makes sends seen added past after ended h)
 
   continues : (loading : LoadAnswer) (sends : RoundLine) (seen added : List Event) (past after : BusPast) (ended : RoundAnswer)
-      → Continues (refusal_of_round loading) terms sends tries seen added past after ended → RoundShownBy ended added
-  continues (load.Loaded object started) sends seen added past after ended h =
-      transfers (hears_itself past) sends seen added past after ended h
-  continues (load.Held object) sends seen added past after ended h =
-      transfers (hears_itself past) sends seen added past after ended h
-  continues load.Nothing sends seen added past after ended h = transfers (hears_itself past) sends seen added past after ended h
-  continues (load.Busy object) sends seen added past after ended h = rw h.told tt
-  continues (load.Spent object) sends seen added past after ended h = rw h.told tt
+      → Carries past seen → Continues (refusal_of_round loading) terms sends tries seen added past after ended
+      → Follows sends seen added ended
+  continues (load.Loaded object started) sends seen added past after ended carries h =
+      transfers (hears_itself past) sends seen added past after ended carries h
+  continues (load.Held object) sends seen added past after ended carries h =
+      transfers (hears_itself past) sends seen added past after ended carries h
+  continues load.Nothing sends seen added past after ended carries h =
+      transfers (hears_itself past) sends seen added past after ended carries h
+  continues (load.Busy object) sends seen added past after ended carries h = rw h.told (tt, inl (ap (changes_in Bus) h.quiet))
+  continues (load.Spent object) sends seen added past after ended carries h = rw h.told (tt, inl (ap (changes_in Bus) h.quiet))
 
-  rounds : (sends : RoundLine) (seen added : List Event) (past after : BusPast) (ended : RoundAnswer)
-      → Round terms sends tries seen added past after ended → RoundShownBy ended added
-  rounds sends seen added past after ended h =
-      newest_shows added h.last h.first h.whole ended
-      (continues h.loading sends (h.first ++ seen) h.last h.between after ended h.continues)
+  rounds : (sends : RoundLine) (seen added : List Event) (past after : BusPast) (ended : RoundAnswer) → Carries past seen
+      → Round terms sends tries seen added past after ended
+      → IsBusPart terms.profile (line.Round sends) (answer.Round ended) seen added
+  rounds sends seen added past after ended carries h =
+      let loaded = load_carries seen h.first past h.between h.loading h.loads carries in
+      let follows = continues h.loading sends (h.first ++ seen) h.last h.between after ended loaded h.continues in
+      record {
+        shown = newest_shows added h.last h.first h.whole sends.send.items seen ended follows.0;
+        changes = (
+          changes_in Bus h.last,
+          changes_in Bus h.first,
+          ap (changes_in Bus) h.whole ∙ changes_in-append Bus h.last h.first,
+          load_starts seen h.first past h.between h.loading h.loads,
+          follows.1,
+        );
+      }
 
-  -- ---- a line
+  -- a round that is idle leaves what is loaded, and others leave nothing loaded
+  idle_transfer : (back : Bool) (sends : RoundLine) (seen added : List Event) (past after : BusPast)
+      → Transfers back terms sends tries seen added past after round.Idle → after ≡ past
+  idle_transfer true sends seen added past after h = h.same
+  idle_transfer false sends seen added past after h = h.same
 
-  interrupts : (pending : Bool) (value : ℕ) (added : List Event) → Interrupts terms pending added value
-      → BusShownBy terms.profile (answer.Interrupt value) added
-  interrupts true value added h = inl h.0
-  interrupts false value added h =
-      inr (subst (λ (port : PortName). NamesPending port terms.profile value added) bus (interrupt_shown terms value added h))
+  idle_same : (loading : LoadAnswer) (sends : RoundLine) (seen added : List Event) (past after : BusPast)
+      → Continues (refusal_of_round loading) terms sends tries seen added past after round.Idle → after ≡ past
+  idle_same (load.Loaded object started) sends seen added past after h =
+      idle_transfer (hears_itself past) sends seen added past after h
+  idle_same (load.Held object) sends seen added past after h = idle_transfer (hears_itself past) sends seen added past after h
+  idle_same load.Nothing sends seen added past after h = idle_transfer (hears_itself past) sends seen added past after h
+  idle_same (load.Busy object) sends seen added past after h = h.same
+  idle_same (load.Spent object) sends seen added past after h = h.same
 
-  flags : (flag : Flag) (word : ℕ) (added : List Event) → ReadsFlags terms flag added word
-      → BusShownBy terms.profile (answer.Flags flag word terms.profile) added
-  flags flag word added h =
-      subst (λ (port : PortName). WordWasShown port terms.profile flag word added) bus (word_shown terms flag word added h)
+  module _ (sends : RoundLine) (seen added : List Event) (past after : BusPast) where
+    abbrev Keeps : RoundAnswer → Type 0
+    Keeps ended = Round terms sends tries seen added past after ended → Carries past seen → Carries after (added ++ seen)
+
+    not_idle : (ended : RoundAnswer) → (ended ≡ round.Idle → ⊥) → Keeps ended
+    not_idle ended other h carries =
+        carries_nothing after (added ++ seen) (nothing_after terms sends tries seen added past after ended h other)
+
+    round_carries : (ended : RoundAnswer) → Keeps ended
+    round_carries round.Idle h carries =
+        let same = idle_same h.loading sends (h.first ++ seen) h.last h.between after h.continues in
+        let there = carries_same h.between after (h.first ++ seen) h.last (ap (λ (p : BusPast). p.loaded) same)
+        (load_carries seen h.first past h.between h.loading h.loads carries) in
+        let all : h.last ++ (h.first ++ seen) ≡ added ++ seen =
+        sym (append_assoc h.last h.first seen) ∙ ap (λ (es : List Event). es ++ seen) (sym h.whole) in
+        subst (λ (es : List Event). Carries after es) all there
+    round_carries (round.Sent object left) h carries = not_idle (round.Sent object left) (λ e. cc) h carries
+    round_carries (round.Received found) h carries = not_idle (round.Received found) (λ e. cc) h carries
+    round_carries (round.Looped object left found) h carries = not_idle (round.Looped object left found) (λ e. cc) h carries
+    round_carries round.Passed h carries = not_idle round.Passed (λ e. cc) h carries
+    round_carries round.Collision h carries = not_idle round.Collision (λ e. cc) h carries
+    round_carries round.NoAck h carries = not_idle round.NoAck (λ e. cc) h carries
+    round_carries round.Fault h carries = not_idle round.Fault (λ e. cc) h carries
+    round_carries (round.Busy object) h carries = not_idle (round.Busy object) (λ e. cc) h carries
+    round_carries (round.Spent object) h carries = not_idle (round.Spent object) (λ e. cc) h carries
+
+  -- ---- the other lines
+
+  interrupts : (pending : Bool) (value : ℕ) (seen added : List Event) → Interrupts terms pending added value
+      → IsBusPart terms.profile line.Interrupt (answer.Interrupt value) seen added
+  interrupts true value seen added h = record { shown = inl h.0; changes = ap (changes_in Bus) h.1 }
+  interrupts false value seen added h =
+      record {
+        shown =
+            inr (subst (λ (port : PortName). NamesPending port terms.profile value added) bus (interrupt_shown terms value added h));
+        changes = none added (changes_by-interrupt terms value added h);
+      }
+
+  flags : (flag : Flag) (word : ℕ) (seen added : List Event) → ReadsFlags terms flag added word
+      → IsBusPart terms.profile (line.Flags flag) (answer.Flags flag word terms.profile) seen added
+  flags flag word seen added h =
+      record {
+        shown = subst (λ (port : PortName). WordWasShown port terms.profile flag word added) bus (word_shown terms flag word added h);
+        changes = none added (changes_by-flags terms flag added word h);
+      }
 
   bus_line : (line : BusLine) (past : BusPast) (seen added : List Event) (reply : LineAnswer) (after : BusPast)
-      → BusLineMeans terms tries line past seen added reply after → BusShownBy terms.profile reply added
-  bus_line line.Load past seen added reply after (loading, is, h) = rw is (loads seen added past after loading h)
-  bus_line (line.Round sends) past seen added reply after (ended, is, h) = rw is (rounds sends seen added past after ended h)
-  bus_line line.Status past seen added reply after h = rw h.1 tt
-  bus_line (line.Control sie eie) past seen added reply after h = rw h.answer_is tt
-  bus_line line.Interrupt past seen added reply after h = rw h.answer_is (interrupts h.pending h.value added h.reads)
-  bus_line (line.Flags flag) past seen added reply after h = rw h.answer_is (flags flag h.word added h.reads)
-  bus_line (line.Counters node) past seen added reply after h = rw h.answer_is tt
-  bus_line line.Init past seen added reply after h = rw h.answer_is tt
-  bus_line (line.Recessive groups) past seen added reply after h = rw h.answer_is tt
-  bus_line (line.LoopBack on) past seen added reply after h = rw h.answer_is tt
+      → Carries past seen → BusLineMeans terms tries line past seen added reply after
+      → IsBusPart terms.profile line reply seen added
+  bus_line line.Load past seen added reply after carries (loading, is, h) =
+      rw is (record { shown = loads seen added past after loading h; changes = load_makes seen added past after loading h })
+  bus_line (line.Round sends) past seen added reply after carries (ended, is, h) =
+      rw is (rounds sends seen added past after ended carries h)
+  bus_line line.Status past seen added reply after carries (word, is, quiet, h) =
+      rw is (record { shown = tt; changes = ap (changes_in Bus) quiet })
+  bus_line (line.Control sie eie) past seen added reply after carries h =
+      rw h.answer_is (record { shown = tt; changes = ap (changes_in Bus) h.quiet })
+  bus_line line.Interrupt past seen added reply after carries h =
+      rw h.answer_is (interrupts h.pending h.value seen added h.reads)
+  bus_line (line.Flags flag) past seen added reply after carries h = rw h.answer_is (flags flag h.word seen added h.reads)
+  bus_line (line.Counters node) past seen added reply after carries h =
+      rw h.answer_is (record { shown = tt; changes = ap (changes_in Bus) h.quiet })
+  bus_line line.Init past seen added reply after carries h =
+      rw h.answer_is (record { shown = tt; changes = ap (changes_in Bus) h.quiet })
+  bus_line (line.Recessive groups) past seen added reply after carries h =
+      rw h.answer_is (record { shown = tt; changes = ap (changes_in Bus) h.quiet })
+  bus_line (line.LoopBack on) past seen added reply after carries h =
+      rw h.answer_is (record { shown = tt; changes = ap (changes_in Bus) h.quiet })
+
+  line_carries : (line : BusLine) (past : BusPast) (seen added : List Event) (reply : LineAnswer) (after : BusPast)
+      → BusLineMeans terms tries line past seen added reply after → Carries past seen → Carries after (added ++ seen)
+  line_carries line.Load past seen added reply after (loading, is, h) carries = load_carries seen added past after loading h carries
+  line_carries (line.Round sends) past seen added reply after (ended, is, h) carries =
+      round_carries sends seen added past after ended h carries
+  line_carries line.Status past seen added reply after (word, is, quiet, h) carries =
+      carries_same past after seen added (ap (λ (p : BusPast). p.loaded) h.read) carries
+  line_carries (line.Control sie eie) past seen added reply after h carries =
+      carries_same past after seen added (ap (λ (p : BusPast). p.loaded) h.past_is) carries
+  line_carries line.Interrupt past seen added reply after h carries =
+      carries_same past after seen added (ap (λ (p : BusPast). p.loaded) h.past_is) carries
+  line_carries (line.Flags flag) past seen added reply after h carries =
+      carries_same past after seen added (ap (λ (p : BusPast). p.loaded) h.past_is) carries
+  line_carries (line.Counters node) past seen added reply after h carries =
+      carries_same past after seen added (ap (λ (p : BusPast). p.loaded) h.past_is) carries
+  line_carries line.Init past seen added reply after h carries =
+      carries_same past after seen added (ap (λ (p : BusPast). p.loaded) h.past_is) carries
+  line_carries (line.Recessive groups) past seen added reply after h carries =
+      carries_same past after seen added (ap (λ (p : BusPast). p.loaded) h.past_is) carries
+  line_carries (line.LoopBack on) past seen added reply after h carries =
+      carries_same past after seen added (ap (λ (p : BusPast). p.loaded) h.past_is) carries
 
   -- ---- what a line is answered
 
@@ -207,19 +520,28 @@ module _ (terms : Terms) (bus : terms.port ≡ Bus) (tries : ℕ) where
   replies_to (line.LoopBack on) past seen added reply after means = rw means.answer_is refl
 
   -- the lines of the bus, whatever comes after them
-  pub bus_lines : (lines : List BusLine) (past : BusPast) (seen added : List Event) (answers : List LineAnswer) (left : BusPast)
-      → LinesMean (BusLineMeans terms tries) lines past seen added answers left → (more : List Event)
-      → events_of Bus more ≡ [] → BusInOrder terms.profile lines answers (more ++ added)
-  bus_lines [] past seen added answers left (none, empty, same) more foreign =
+  bus_lines : (lines : List BusLine) (past : BusPast) (seen added : List Event) (answers : List LineAnswer) (left : BusPast)
+      → Carries past seen → LinesMean (BusLineMeans terms tries) lines past seen added answers left → (more : List Event)
+      → events_of Bus more ≡ [] → BusInOrder terms.profile lines answers seen (more ++ added)
+  bus_lines [] past seen added answers left carries (none, empty, same) more foreign =
       let last : events_of Bus (more ++ added) ≡ [] = rw none (ap (events_of Bus) (append-nil more) ∙ foreign) in
-      subst (λ (l : List LineAnswer). BusInOrder terms.profile [] l (more ++ added)) (sym empty) last
-  bus_lines (line ∷ lines) past seen added answers left (later, first, reply, replies, between, whole, all, means, rest) more foreign =
-      let there : BusInOrder terms.profile (line ∷ lines) (reply ∷ replies) (more ++ added) = (
+      subst (λ (l : List LineAnswer). BusInOrder terms.profile [] l seen (more ++ added)) (sym empty) last
+  bus_lines (line ∷ lines) past seen added answers left carries (later, first, reply, replies, between, whole, all, means, rest) more
+      foreign =
+      let kept = line_carries line past seen first reply between means carries in
+      let there : BusInOrder terms.profile (line ∷ lines) (reply ∷ replies) seen (more ++ added) = (
         more ++ later,
         first,
         ap (λ (es : List Event). more ++ es) whole ∙ sym (append_assoc more later first),
         replies_to line past seen first reply between means,
-        bus_line line past seen first reply between means,
-        bus_lines lines between (first ++ seen) later replies left rest more foreign,
+        bus_line line past seen first reply between carries means,
+        bus_lines lines between (first ++ seen) later replies left kept rest more foreign,
       ) in
-      subst (λ (l : List LineAnswer). BusInOrder terms.profile (line ∷ lines) l (more ++ added)) (sym all) there
+      subst (λ (l : List LineAnswer). BusInOrder terms.profile (line ∷ lines) l seen (more ++ added)) (sym all) there
+
+  -- from a bus as it opens
+  pub opened_lines : (lines : List BusLine) (nodes : ℕ) (added : List Event) (answers : List LineAnswer) (left : BusPast)
+      → LinesMean (BusLineMeans terms tries) lines (opened nodes) [] added answers left → (more : List Event)
+      → events_of Bus more ≡ [] → BusInOrder terms.profile lines answers [] (more ++ added)
+  opened_lines lines nodes added answers left means more foreign =
+      bus_lines lines (opened nodes) [] added answers left (carries_nothing (opened nodes) [] refl) means more foreign

@@ -27,5 +27,6 @@ pub mod Apart
 pub mod HostChanges
 pub mod StepsShown
 pub mod HostAnswered
+pub mod BusChanges
 pub mod BusAnswered
 pub mod Answered

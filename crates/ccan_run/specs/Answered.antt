@@ -14,6 +14,7 @@ use Rattle.ccan_object.specs.Interface.{Registers, zero_registers}
 use Rattle.ccan_object.specs.Number.{requested}
 use Rattle.ccan_object.specs.Profile.{Holds}
 use Rattle.ccan_accept.specs.declared.frame.Frame.{Frame}
+use Rattle.ccan_accept.specs.Send.{frame_of}
 use Rattle.ccan_ram.specs.declared.port.PortName.{PortName}
 use Rattle.ccan_ram.specs.declared.port.PortName.TheVariants.{If1, If2, Bus}
 use Rattle.ccan_ram.specs.declared.change.Change.{Change}
@@ -24,6 +25,7 @@ use Rattle.ccan_ram.specs.declared.event.Operation.TheVariants.{Look, Make}
 use Rattle.ccan_ram.specs.declared.flag.Flag.{Flag}
 use Rattle.ccan_ram.specs.declared.flag.Flag.TheVariants.{IntPnd}
 use Rattle.ccan_ram.specs.Flags.{flag_of}
+use Rattle.ccan_ram.specs.Port.{same_port}
 use Rattle.ccan_ram.specs.History.{IsLegal, changes_by, events_of}
 use Rattle.ccan_ram.specs.Ending.{final_records}
 use Rattle.ccan_bus.specs.declared.answer.LoadAnswer.TheVariants as load
@@ -170,27 +172,82 @@ HostInOrder profile port lines registers replies history = ⊥
 abbrev pub WasChanged : ℕ → Change → Record → List Event → Type 0
 WasChanged object change left events = (before : Record) × HasStep Bus object (Make change) before left events
 
--- a store of some frame, which left this record
-abbrev pub WasStored : ℕ × Record → List Event → Type 0
-WasStored found events = (frame : Frame) × WasChanged found.0 (change.Store frame) found.1 events
+-- the bus had started the object with this record, in these steps or in those before them, and finished it in these
+pub record WasSent (object : ℕ) (started left : Record) (before events : List Event) : Type 0 where
+  pub start : WasChanged object change.Start started (events ++ before)
+  pub finish : WasChanged object change.Finish left events
 
--- these steps show what came of a round. A round also starts what it loads, and one that is refused in loop back mode
--- may have finished what it sent: no answer tells these changes
-abbrev pub RoundShownBy : RoundAnswer → List Event → Type 0
-RoundShownBy (round.Sent object left) events = WasChanged object change.Finish left events
-RoundShownBy (round.Received (Some found)) events = WasStored found events
-RoundShownBy (round.Looped object left None) events = WasChanged object change.Finish left events
-RoundShownBy (round.Looped object left (Some found)) events =
-    WasChanged object change.Finish left events × WasStored found events
-RoundShownBy ended events = Unit {0}
+-- a store of this frame, which left this record
+abbrev pub WasStored : Frame → ℕ × Record → List Event → Type 0
+WasStored frame found events = WasChanged found.0 (change.Store frame) found.1 events
+
+-- the frames that a line gives to other nodes, each with its node
+abbrev pub sent_in : BusLine → List (ℕ × Frame)
+sent_in (bus.Round sends) = sends.send.items
+sent_in line = []
+
+-- these steps, after those before them, show what came of a round in which other nodes sent these frames. What is stored is
+-- one of them, or in loop back mode the frame of the record with which the object that was sent was started
+abbrev pub RoundShownBy : List (ℕ × Frame) → RoundAnswer → List Event → List Event → Type 0
+RoundShownBy sends (round.Sent object left) before events = (started : Record) × WasSent object started left before events
+RoundShownBy sends (round.Received (Some found)) before events =
+    (sent : ℕ × Frame) × Contains sends sent × WasStored sent.1 found events
+RoundShownBy sends (round.Looped object left None) before events =
+    (started : Record) × WasSent object started left before events
+RoundShownBy sends (round.Looped object left (Some found)) before events =
+    (started : Record) × WasSent object started left before events × WasStored (frame_of started) found events
+RoundShownBy sends ended before events = Unit {0}
 
 -- these steps show the answer to a line of the bus. Its interrupt value can also be that of the status interrupt
-abbrev pub BusShownBy : Profile → LineAnswer → List Event → Type 0
-BusShownBy profile (answer.Load (load.Loaded object left)) events = WasChanged object change.Start left events
-BusShownBy profile (answer.Round ended) events = RoundShownBy ended events
-BusShownBy profile (answer.Interrupt value) events = (value ≡ 0x8000) ⊎ NamesPending Bus profile value events
-BusShownBy profile (answer.Flags flag word objects) events = WordWasShown Bus objects flag word events
-BusShownBy profile reply events = Unit {0}
+abbrev pub BusShownBy : Profile → BusLine → LineAnswer → List Event → List Event → Type 0
+BusShownBy profile line (answer.Load (load.Loaded object left)) before events = WasChanged object change.Start left events
+BusShownBy profile line (answer.Round ended) before events = RoundShownBy (sent_in line) ended before events
+BusShownBy profile line (answer.Interrupt value) before events = (value ≡ 0x8000) ⊎ NamesPending Bus profile value events
+BusShownBy profile line (answer.Flags flag word objects) before events = WordWasShown Bus objects flag word events
+BusShownBy profile line reply before events = Unit {0}
+
+-- the change of a step, with its object, in front of those before it
+abbrev pub with_change : Operation → ℕ → List (ℕ × Change) → List (ℕ × Change)
+with_change Look object earlier = earlier
+with_change (Make change) object earlier = (object, change) ∷ earlier
+
+-- the changes of a port, each with its object, the newest first
+abbrev pub changes_in : PortName → List Event → List (ℕ × Change)
+changes_in port [] = []
+changes_in port (event ∷ earlier) =
+    if same_port event.port port then with_change event.operation event.object (changes_in port earlier)
+    else changes_in port earlier
+
+-- no change, or this one of some object
+abbrev pub IsAtMost : Change → List (ℕ × Change) → Type 0
+IsAtMost change made = (made ≡ []) ⊎ ((object : ℕ) × (made ≡ (object, change) ∷ []))
+
+-- these are the changes by which a round comes to its end. One that is refused in loop back mode may have finished what it
+-- sent
+abbrev pub RoundMakes : RoundAnswer → List (ℕ × Change) → Type 0
+RoundMakes (round.Sent object left) made = made ≡ (object, change.Finish) ∷ []
+RoundMakes (round.Received (Some found)) made = (frame : Frame) × (made ≡ (found.0, change.Store frame) ∷ [])
+RoundMakes (round.Looped object left None) made = made ≡ (object, change.Finish) ∷ []
+RoundMakes (round.Looped object left (Some found)) made =
+    (frame : Frame) × (made ≡ (found.0, change.Store frame) ∷ (object, change.Finish) ∷ [])
+RoundMakes (round.Busy object) made = IsAtMost change.Finish made
+RoundMakes (round.Spent object) made = IsAtMost change.Finish made
+RoundMakes ended made = made ≡ []
+
+-- these are the changes that a line with this answer makes: a load the start of what it loaded, a round first the start of
+-- what it loads, if it loads something, and other lines none
+abbrev pub BusMakes : LineAnswer → List (ℕ × Change) → Type 0
+BusMakes (answer.Load (load.Loaded object left)) made = made ≡ (object, change.Start) ∷ []
+BusMakes (answer.Round ended) made =
+    (last : List (ℕ × Change)) × (first : List (ℕ × Change)) × (made ≡ last ++ first)
+    × IsAtMost change.Start first × RoundMakes ended last
+BusMakes reply made = made ≡ []
+
+-- a part of the history in which this line of the bus was run: its steps show the answer, and the bus made no other
+-- changes in it than the line's
+pub record IsBusPart (profile : Profile) (line : BusLine) (reply : LineAnswer) (before events : List Event) : Type 0 where
+  pub shown : BusShownBy profile line reply before events
+  pub changes : BusMakes reply (changes_in Bus events)
 
 -- the answer is of the line's kind, and of what the line names or sets: the flag, the node, the enables, loop back mode
 abbrev pub IsBusReplyTo : Profile → BusLine → LineAnswer → Type 0
@@ -208,21 +265,21 @@ IsBusReplyTo profile line reply = ⊥
 
 -- each line of the bus has an answer and a part of the history, after those of the lines before it, and the bus has no
 -- step after the part of its last line
-abbrev pub BusInOrder : Profile → List BusLine → List LineAnswer → List Event → Type 0
-BusInOrder profile [] [] history = events_of Bus history ≡ []
-BusInOrder profile (line ∷ lines) (reply ∷ replies) history =
+abbrev pub BusInOrder : Profile → List BusLine → List LineAnswer → List Event → List Event → Type 0
+BusInOrder profile [] [] before history = events_of Bus history ≡ []
+BusInOrder profile (line ∷ lines) (reply ∷ replies) before history =
     (later : List Event) × (first : List Event) × (history ≡ later ++ first)
-    × IsBusReplyTo profile line reply × BusShownBy profile reply first × BusInOrder profile lines replies later
-BusInOrder profile lines replies history = ⊥
+    × IsBusReplyTo profile line reply × IsBusPart profile line reply before first
+    × BusInOrder profile lines replies (first ++ before) later
+BusInOrder profile lines replies before history = ⊥
 
 -- ---- a run
 
--- one legal history stands behind the outcome: it shows each answer of each port by steps of that answer's own, in the
+-- the history stands behind the outcome: it is legal, shows each answer of each port by steps of that answer's own, in the
 -- port's order, and leaves the objects as they are at the end
-pub record IsAnswered (script : ScriptFields) (outcome : Outcome) : Type 0 where
-  pub history : List Event
+pub record IsAnsweredBy (script : ScriptFields) (outcome : Outcome) (history : List Event) : Type 0 where
   pub legal : IsLegal script.profile history
   pub if1 : HostInOrder script.profile If1 script.if1 zero_registers outcome.if1.items history
   pub if2 : HostInOrder script.profile If2 script.if2 zero_registers outcome.if2.items history
-  pub bus : BusInOrder script.profile script.bus outcome.bus.items history
+  pub bus : BusInOrder script.profile script.bus outcome.bus.items [] history
   pub left : outcome.last.records ≡ final_records script.profile history

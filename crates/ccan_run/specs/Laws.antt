@@ -12,7 +12,7 @@ use Rattle.ccan_script.specs.Script.{ScriptFields}
 use Rattle.ccan_run.specs.declared.outcome.Outcome.{Outcome}
 use Rattle.ccan_run.specs.Ordered.{LinesRun, HasText, finals_text}
 use Rattle.ccan_run.specs.Threads.{RunsAtOnce}
-use Rattle.ccan_run.specs.Answered.{IsAnswered}
+use Rattle.ccan_run.specs.Answered.{IsAnsweredBy}
 use Rattle.ccan_run.specs.Outcome.{last_lines}
 
 abbrev pub IsNotBusy : LineAnswer → Type 0
@@ -31,11 +31,12 @@ HasNoBusyLine =
     (script : ScriptFields) (history : List Event) (answers : List (PortName × LineAnswer))
     → 1 ≤ script.tries → LinesRun script history answers → All (λ reply. IsNotBusy reply.1) answers
 
--- whatever a run without an order comes to, one legal history shows each of its answers by steps of that answer's own
+-- whatever a run without an order comes to, the history by which it is one shows each of its answers by steps of that
+-- answer's own. Any history will do by which it is one
 abbrev pub AnswersHaveEvents : Type 0
 AnswersHaveEvents =
     (contends : ℕ → ℕ → Bool) (script : ScriptFields) (outcome : Outcome)
-    → RunsAtOnce contends script outcome → IsAnswered script outcome
+    (run : RunsAtOnce contends script outcome) → IsAnsweredBy script outcome run.history
 
 -- the lines of the objects that a shared memory had as it was closed are those of an ordered run of the same history
 abbrev pub LastLinesAreFinals : Type 0

@@ -12,14 +12,19 @@ pub fn no_line_is_busy()
     ensures { HasNoBusyLine }
 {}
 
-/// Behind what a run without an order comes to stands one legal history. Each line of each port has an answer of the
-/// line's kind, and each answer a part of the history for its own, in the port's order, whose steps show what the answer
-/// tells: the write that was made, the record that a read found, the flag that a look showed, the object that was
-/// started, finished or stored; for the number of an object as interrupt value, a look at it that showed IntPnd, and
-/// of each lower object one that did not; for 0, such a look at every object. Where a wait for a flag ended without it,
-/// the host looked at the object once for each turn of the line, did nothing else, and no look showed the flag. A host
-/// made no change that its answers don't tell, no port has a step after its last line, and the objects at the end are
-/// those that the history leaves.
+/// The history by which an outcome is that of a run without an order, whichever it is, shows the answers. Each line of each
+/// port has an answer of the line's kind, and each answer a part of the history for its own, in the port's order, whose
+/// steps show what the answer tells: the write that was made, the record that a read found, the flag that a look showed,
+/// the object that was started, finished or stored; for the number of an object as interrupt value, a look at it that
+/// showed IntPnd, and of each lower object one that did not; for 0, such a look at every object. Where a wait for a flag
+/// ended without it, the host looked at the object once for each turn of the line, did nothing else, and no look showed
+/// the flag.
+///
+/// A frame that was stored is one that the round's line gave to another node, or in loop back mode that of the record with
+/// which the object that was sent was started. What was sent was started in the same part or before it. In a part no other
+/// changes of its port stand than the line's: a host's are those that its answer tells; the bus's are the start of what was
+/// loaded, and then what the round came to, or none. No port has a step after its last line, and the objects at the end
+/// are those that the history leaves.
 pub fn answers_have_events()
     ensures { AnswersHaveEvents }
 {}
