@@ -25,7 +25,7 @@ at_one_moment terms tries object started seen added past after at_once l =
 pub unloaded : (past after : BusPast) (event : ℕ → BusEvent) (noted : StatusEvent) → after ≡ happens event noted past → after.loaded ≡ None
 unloaded past after event noted is = ap (λ (p : BusPast). p.loaded) is
 
-own_unloaded : (past after : BusPast) → after ≡ sends_to_itself past → after.loaded ≡ None
+pub own_unloaded : (past after : BusPast) → after ≡ sends_to_itself past → after.loaded ≡ None
 own_unloaded past after is = ap (λ (p : BusPast). p.loaded) is
 
 module _ (terms : Terms) (line : RoundLine) (tries : ℕ) (seen added : List Event) (past after : BusPast) where

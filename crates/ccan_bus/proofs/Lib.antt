@@ -17,3 +17,4 @@ pub mod AfterRounds
 pub mod LoopLaws
 pub mod LoadLaws
 pub mod ArbitrationLaws
+pub mod OffLaws

@@ -1,32 +1,43 @@
 -- Laws of arbitration and of rounds, in the words of CAN Specification 2.0, part B ("Arbitration", "Arbitration Field",
 -- "Fault Confinement"); those of loads and of loop back mode are this project's own. They hold of every memory that meets
 -- `Access`.
-use Rattle.std.specs.Prelude.{ℕ, ◌≡◌, ◌≢◌, ◌<◌, ◌≤◌, ◌+◌, ◌/◌, ◌^◌, ◌⊎◌, ◌↔◌, Bool, true, false, IsTrue, List, ◌∷◌, ◌++◌, Option, Some, None, slice_get, if◌then◌else◌}
+use Rattle.std.specs.Prelude.{ℕ, ◌≡◌, ◌≢◌, ◌<◌, ◌≤◌, ◌+◌, ◌/◌, ◌^◌, ◌⊎◌, ◌↔◌, Bool, true, false, IsTrue, List, ◌∷◌, ◌++◌, Option, Some, None, Ok, slice_get, if◌then◌else◌}
+use Rattle.std.specs.List.{All}
 use Rattle.ccan_object.specs.declared.record.Record.{Record}
 use Rattle.ccan_accept.specs.declared.frame.Frame.{Frame}
 use Rattle.ccan_accept.specs.Frame.{IsFrame}
 use Rattle.ccan_accept.specs.Send.{frame_of}
-use Rattle.ccan_ram.specs.declared.change.Change.TheVariants.{Start, Store}
+use Rattle.ccan_ram.specs.declared.change.Change.TheVariants.{Start, Store, Finish}
+use Rattle.ccan_ram.specs.declared.change.Changed.TheVariants.{Done}
 use Rattle.ccan_ram.specs.declared.event.Event.{Event}
 use Rattle.ccan_ram.specs.Change.{fits}
 use Rattle.ccan_ram.specs.History.{record_at}
 use Rattle.ccan_ram.specs.Terms.{Terms}
+use Rattle.ccan_ram.specs.Attempt.{Attempt}
 use Rattle.ccan_handler.specs.Moment.{AtOneMoment, IsWithdrawn}
-use Rattle.ccan_handler.specs.Scan.{Scan, ScanEnd}
+use Rattle.ccan_handler.specs.Scan.{Scan, Nowhere, MadeAt}
 use Rattle.ccan_confine.specs.declared.bus_event.BusEvent.{BusEvent}
 use Rattle.ccan_confine.specs.declared.bus_event.BusEvent.TheVariants.{Sent}
 use Rattle.ccan_confine.specs.Counters.{Bus}
+use Rattle.ccan_confine.specs.Status.{StatusStep}
 use Rattle.ccan_bus.specs.declared.arbitration.Outcome.TheVariants.{Winner}
 use Rattle.ccan_bus.specs.declared.round_line.RoundLine.{RoundLine}
+use Rattle.ccan_bus.specs.declared.answer.LoadAnswer.{LoadAnswer}
 use Rattle.ccan_bus.specs.declared.answer.LoadAnswer.TheVariants as load
 use Rattle.ccan_bus.specs.declared.answer.RoundAnswer.{RoundAnswer}
 use Rattle.ccan_bus.specs.declared.answer.RoundAnswer.TheVariants as answer
+use Rattle.ccan_bus.specs.declared.choice.Choice.{Choice}
 use Rattle.ccan_bus.specs.declared.choice.Choice.TheVariants.{AtOnce}
+use Rattle.ccan_bus.specs.declared.decision.Decision.{Decision}
+use Rattle.ccan_bus.specs.declared.decision.Decision.TheVariants as decision
+use Rattle.ccan_bus.specs.declared.round_report.RoundReport.{RoundReport}
 use Rattle.ccan_bus.specs.Arbitration.{arbitration_bits, precedes, Arbitrates}
-use Rattle.ccan_bus.specs.Past.{BusPast, is_on, hears_itself}
+use Rattle.ccan_bus.specs.Past.{BusPast, is_on, hears_itself, opened_with, clears_init, recovers}
 use Rattle.ccan_bus.specs.Contenders.{IsWonBy, contenders_of}
 use Rattle.ccan_bus.specs.Load.{Loads}
 use Rattle.ccan_bus.specs.Round.{Round, refusal_of_round}
+use Rattle.ccan_bus.specs.Decide.{Decides}
+use Rattle.ccan_bus.specs.RoundReport.{RunsSteps}
 
 -- ---- arbitration
 
@@ -105,7 +116,7 @@ OffNodesHaveNoEvent =
     → Round terms line tries seen added past after reply
     → (node : ℕ) → is_on past node ≡ false → after.events node ≡ past.events node
 
--- what was loaded is what a later round sends, whatever was written in between
+-- what was loaded is what a later round sends that is answered Sent, whatever was written in between
 abbrev pub SendsWhatWasLoaded : Type 0
 SendsWhatWasLoaded =
     (terms : Terms) (line : RoundLine) (tries : ℕ) (earlier loading seen added : List Event)
@@ -114,20 +125,59 @@ SendsWhatWasLoaded =
     → Round terms line tries seen added past after (answer.Sent place finished)
     → (place ≡ object) × IsWonBy (contenders_of past line) 0 (frame_of started)
 
--- the events begin with a scan for an object that accepts this frame, the newest first
-abbrev pub EndsInScanFor : Terms → ℕ → Frame → List Event → List Event → Type 0
-EndsInScanFor terms tries frame seen added =
-    (first : List Event) × (last : List Event) × (added ≡ last ++ first)
-    × (end : ScanEnd) × Scan terms (Store frame) 1 tries (first ++ seen) last end
+-- what the controller sends among these is this frame
+abbrev pub OwnFramesAre : Frame → List (ℕ × Frame) → Type 0
+OwnFramesAre own contenders = All (λ (c : ℕ × Frame). c.0 ≡ 0 → c.1 ≡ own) contenders
 
--- and what a later round in loop back mode sends and receives
+-- where the controller's frame won the bus, it is this one, of this object: it was sent well, in loop back mode too, or a
+-- fault spoiled it, or nobody acknowledged it
+abbrev pub IsOfTheLoad : ℕ → Frame → Decision → Type 0
+IsOfTheLoad object own (decision.Finish place frame) = (place ≡ object) × (frame ≡ own)
+IsOfTheLoad object own (decision.LoopBack place frame) = (place ≡ object) × (frame ≡ own)
+IsOfTheLoad object own (decision.Fault winner frame) = winner ≡ 0 → frame ≡ own
+IsOfTheLoad object own (decision.NoAck winner frame) = winner ≡ 0 → frame ≡ own
+IsOfTheLoad object own (decision.Receipt winner frame) = winner ≢ 0
+IsOfTheLoad object own (decision.Passed winner frame) = winner ≡ 0 → frame ≡ own
+IsOfTheLoad object own decision.Collision = Unit {0}
+IsOfTheLoad object own decision.Idle = Unit {0}
+
+-- whatever a later round comes to, collisions and refused memory steps too: what the controller sends in it is what was
+-- loaded
+abbrev pub EachRoundSendsWhatWasLoaded : Type 0
+EachRoundSendsWhatWasLoaded =
+    (terms : Terms) (line : RoundLine) (tries : ℕ) (earlier loading seen added : List Event)
+    (before loaded past after : BusPast) (object : ℕ) (started : Record) (report : RoundReport)
+    → Loads terms tries earlier loading before loaded (load.Loaded object started) → past.loaded ≡ loaded.loaded
+    → RunsSteps terms line tries seen added past after report
+    → OwnFramesAre (frame_of started) (contenders_of past line)
+    × ((decided : Decision) → report.decision ≡ Some decided → IsOfTheLoad object (frame_of started) decided)
+
+-- a scan for an object that accepts this frame ends as it is told: at the object that stored it, or nowhere
+abbrev pub ScansAsTold : Terms → ℕ → Frame → List Event → List Event → Option (ℕ × Record) → Type 0
+ScansAsTold terms tries frame seen added None = Scan terms (Store frame) 1 tries seen added Nowhere
+ScansAsTold terms tries frame seen added (Some found) =
+    (before : Record) × (number : ℕ) × Scan terms (Store frame) 1 tries seen added (MadeAt found.0 before found.1 number)
+
+-- all that is added is the finish of an object, and then such a scan
+pub record IsFinishAndScan (terms : Terms) (tries object : ℕ) (finished : Record) (frame : Frame) (seen added : List Event)
+    (found : Option (ℕ × Record)) : Type 0 where
+  pub first : List Event
+  pub last : List Event
+  pub whole : added ≡ last ++ first
+  pub before : Record
+  pub number : ℕ
+  pub finish : Attempt terms object Finish tries seen first (Ok (Done before finished number))
+  pub scan : ScansAsTold terms tries frame (first ++ seen) last found
+
+-- and what a later round in loop back mode sends and receives: all its events are the finish of what was loaded and the scan
+-- for that frame, which ends as the round answers
 abbrev pub LoopsWhatWasLoaded : Type 0
 LoopsWhatWasLoaded =
     (terms : Terms) (line : RoundLine) (tries : ℕ) (earlier loading seen added : List Event)
     (before loaded past after : BusPast) (object place : ℕ) (started finished : Record) (found : Option (ℕ × Record))
     → Loads terms tries earlier loading before loaded (load.Loaded object started) → past.loaded ≡ loaded.loaded
     → Round terms line tries seen added past after (answer.Looped place finished found)
-    → (place ≡ object) × EndsInScanFor terms tries (frame_of started) seen added
+    → (place ≡ object) × IsFinishAndScan terms tries object finished (frame_of started) seen added found
 
 -- what is loaded by a choice at one moment was ready then, and no object before it was, but for those that are no more
 abbrev pub LoadsAreOfOneMoment : Type 0
@@ -163,3 +213,24 @@ LinesAreUnheardInLoopBack =
     (terms : Terms) (line other : RoundLine) (tries : ℕ) (seen added : List Event) (past after : BusPast) (reply : RoundAnswer)
     → hears_itself past ≡ true
     → Round terms line tries seen added past after reply → Round terms other tries seen added past after reply
+
+-- ---- a controller that is off
+
+-- where the controller is off, nothing is loaded
+abbrev pub RestsOff : BusPast → Type 0
+RestsOff past = is_on past 0 ≡ false → past.loaded ≡ None
+
+-- it is so as a bus opens, and each call leaves it so: a load, a round, the decision of a round, the clearing of Init,
+-- recessive groups; and what changes the Status register or the mode alone
+pub record OffControllersHoldNothing : Type 0 where
+  pub opened : (choice : Choice) (others : ℕ) → RestsOff (opened_with choice others)
+  pub loads : (terms : Terms) (tries : ℕ) (seen added : List Event) (past after : BusPast) (told : LoadAnswer)
+      → Loads terms tries seen added past after told → RestsOff past → RestsOff after
+  pub rounds : (terms : Terms) (line : RoundLine) (tries : ℕ) (seen added : List Event) (past after : BusPast) (reply : RoundAnswer)
+      → Round terms line tries seen added past after reply → RestsOff past → RestsOff after
+  pub decides : (line : RoundLine) (past after : BusPast) (decided : Decision)
+      → Decides (hears_itself past) line past after decided → RestsOff past → RestsOff after
+  pub clears : (past : BusPast) → RestsOff past → RestsOff (clears_init past)
+  pub recovers : (groups : ℕ) (past : BusPast) → RestsOff past → RestsOff (recovers groups past)
+  pub notes : (steps : List StatusStep) (past : BusPast) → RestsOff past → RestsOff (record past { steps = steps })
+  pub sets : (loops : Bool) (past : BusPast) → RestsOff past → RestsOff (record past { loops_back = loops })

@@ -2,6 +2,7 @@
 
 ghost use Rattle.ccan_bus.specs.Laws.{AtMostOneSends, DataBeatsRemote, LeastUpperPartWins, LinesAreUnheardInLoopBack};
 ghost use Rattle.ccan_bus.specs.Laws.{LoadsAreOfOneMoment, LoopsWhatWasLoaded, NothingIsLoadedAfterwards, OffNodesHaveNoEvent};
+ghost use Rattle.ccan_bus.specs.Laws.{EachRoundSendsWhatWasLoaded, OffControllersHoldNothing};
 ghost use Rattle.ccan_bus.specs.Laws.{OneSendsExactlyOnSuccess, OthersRestInLoopBack, RefusedLoadsLeaveAll};
 ghost use Rattle.ccan_bus.specs.Laws.{SendsWhatWasLoaded, StandardBeatsExtended};
 ghost use Rattle.ccan_bus.specs.RoundReport.{RoundsAreTheirSteps};
@@ -41,12 +42,19 @@ pub fn off_nodes_have_no_event()
     ensures { OffNodesHaveNoEvent }
 {}
 
-/// A round sends what was loaded, whatever hosts wrote in between.
+/// A round that is answered Sent has sent what was loaded, whatever hosts wrote in between.
 pub fn sends_what_was_loaded()
     ensures { SendsWhatWasLoaded }
 {}
 
-/// A round in loop back mode sends and receives what was loaded, whatever hosts wrote in between.
+/// Whatever a round comes to, what the controller sends in it is what was loaded: be it sent well, spoiled, not acknowledged,
+/// lost to another frame or in a collision.
+pub fn each_round_sends_what_was_loaded()
+    ensures { EachRoundSendsWhatWasLoaded }
+{}
+
+/// A round in loop back mode sends and receives what was loaded, whatever hosts wrote in between, and answers as its scan
+/// for that frame ends.
 pub fn loops_what_was_loaded()
     ensures { LoopsWhatWasLoaded }
 {}
@@ -74,4 +82,9 @@ pub fn others_rest_in_loop_back()
 /// In loop back mode with the controller on it doesn't matter what other nodes would send, or which fault is named.
 pub fn lines_are_unheard_in_loop_back()
     ensures { LinesAreUnheardInLoopBack }
+{}
+
+/// A controller that is off has nothing loaded: so a bus opens, and each call leaves it so.
+pub fn off_controllers_hold_nothing()
+    ensures { OffControllersHoldNothing }
 {}

@@ -1,13 +1,16 @@
 -- Laws of the error counters and of the Status register, in the words of CAN Specification 2.0, "Fault Confinement", of
 -- ISO 11898-1 and of the C_CAN User's Manual 1.2, "Status Register". They hold of every list of events.
-use Rattle.std.specs.Prelude.{ℕ, ◌≡◌, ◌+◌, ◌<◌, ◌≤◌, Bool, true, false, ◌⊎◌, List, ◌∷◌, ◌++◌, Contains}
+use Rattle.std.specs.Prelude.{ℕ, ◌≡◌, ◌+◌, ◌<◌, ◌≤◌, ◌↔◌, Bool, true, false, ◌⊎◌, List, ◌∷◌, ◌++◌, Contains}
 use Rattle.std.specs.List.{list_any}
 use Rattle.ccan_confine.specs.declared.bus_event.BusEvent.{BusEvent}
 use Rattle.ccan_confine.specs.declared.bus_event.BusEvent.TheVariants.{SendFault}
 use Rattle.ccan_confine.specs.Counters.{Levels, NodeEvent, Bus, Groups, ClearInit, no_errors, is_off, off_limit}
 use Rattle.ccan_confine.specs.Counters.{send_fault_step, most_rec, groups_to_return, groups_in, clears_init, levels_after_all}
 use Rattle.ccan_confine.specs.Counters.{is_recovering_after, counts_of}
-use Rattle.ccan_confine.specs.Status.{StatusStep, Happened, Enabled, WasRead, IsPending}
+use Rattle.ccan_confine.specs.Counters.{reaches}
+use Rattle.ccan_confine.specs.declared.status_event.StatusEvent.{StatusEvent}
+use Rattle.ccan_confine.specs.StatusEvent.{is_transfer_or_error}
+use Rattle.ccan_confine.specs.Status.{StatusStep, Happened, Enabled, WasRead, IsCause, IsPending, warning_limit, boff_of, ewarn_of}
 
 -- no counter leaves its range, and the transmit error counter of a node that is on is below that of bus off
 pub record AreBounded (levels : Levels) : Type 0 where
@@ -107,3 +110,17 @@ ReadsClear =
 abbrev pub EnablingMakesNothingPending : Type 0
 EnablingMakesNothingPending =
     (sie eie : Bool) (steps : List StatusStep) → IsPending (Enabled sie eie ∷ steps) → IsPending steps
+
+-- after an event it is pending exactly where it was before, or where the event is a cause: with SIE the end of a transfer
+-- or a bus error, with EIE a change of BOff or EWarn
+abbrev pub CausesMakePending : Type 0
+CausesMakePending =
+    (event : StatusEvent) (levels : Levels) (steps : List StatusStep)
+    → IsPending (Happened event levels ∷ steps) ↔ (IsPending steps ⊎ IsCause event levels steps)
+
+-- so an event that ends no transfer, is no bus error and leaves BOff and EWarn makes nothing pending, whatever EPass does
+abbrev pub PassiveMakesNothingPending : Type 0
+PassiveMakesNothingPending =
+    (event : StatusEvent) (levels : Levels) (steps : List StatusStep)
+    → is_transfer_or_error event ≡ false → is_off levels ≡ boff_of steps → reaches warning_limit levels ≡ ewarn_of steps
+    → IsPending (Happened event levels ∷ steps) → IsPending steps

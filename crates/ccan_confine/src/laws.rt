@@ -1,7 +1,8 @@
 //! Laws of the error counters and of the Status register, each proved of every list of events. The functions do
 //! nothing: their contracts are the laws.
 
-ghost use Rattle.ccan_confine.specs.Laws.{BackWithTheGroups, BackWithTheGroupsAfterInit, CountersAreBounded};
+ghost use Rattle.ccan_confine.specs.Laws.{BackWithTheGroups, BackWithTheGroupsAfterInit, CausesMakePending};
+ghost use Rattle.ccan_confine.specs.Laws.{CountersAreBounded, PassiveMakesNothingPending};
 ghost use Rattle.ccan_confine.specs.Laws.{EnablingMakesNothingPending, GroupsCountOnlyWhileRecovering, NotBackBeforeInit};
 ghost use Rattle.ccan_confine.specs.Laws.{NotBackBeforeTheGroups, NotBackBeforeTheGroupsAfterInit, OffNodesKeepTheirCounters};
 ghost use Rattle.ccan_confine.specs.Laws.{OnWithoutSendFaults, OnlySendFaultsLeadOff, OnlyTheFirstClearingCounts, ReadsClear};
@@ -70,4 +71,15 @@ pub fn reads_clear()
 /// Writing SIE and EIE by itself makes nothing pending.
 pub fn enabling_makes_nothing_pending()
     ensures { EnablingMakesNothingPending }
+{}
+
+/// After an event it is pending exactly where it was before, or where the event is a cause: with SIE the end of a transfer
+/// or a bus error, with EIE a change of BOff or EWarn.
+pub fn causes_make_pending()
+    ensures { CausesMakePending }
+{}
+
+/// An event that ends no transfer, is no bus error and leaves BOff and EWarn makes nothing pending, whatever EPass does.
+pub fn passive_makes_nothing_pending()
+    ensures { PassiveMakesNothingPending }
 {}

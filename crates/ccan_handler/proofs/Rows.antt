@@ -1,10 +1,11 @@
 -- The port's own events where it looks, one look after another.
-use Rattle.std.proofs.Common.{ℕ, suc, ◌≡◌, ◌≤◌, ◌<◌, ◌+◌, ◌-◌, true, false, List, [], ◌∷◌, ◌++◌, length, refl, sym, ap, ◌∙◌, inl, inr, ◌⊎◌, arith}
+use Rattle.std.proofs.Common.{ℕ, suc, ◌≡◌, ◌≤◌, ◌<◌, ◌+◌, ◌-◌, true, false, List, [], ◌∷◌, ◌++◌, length, refl, sym, ap, subst, ◌∙◌, inl, inr, ◌⊎◌, arith}
 use Rattle.std.specs.List.{All, list_any}
 use Rattle.std.proofs.lemmas.Bool.{cases_lt, or_parts}
 use Rattle.std.proofs.lemmas.List.Elements.{All-nil, All-cons}
 use Rattle.ccan_object.specs.declared.record.Record.{Record}
 use Rattle.ccan_object.specs.Bits.{bit}
+use Rattle.ccan_object.specs.Profile.{objects_in}
 use Rattle.ccan_ram.specs.declared.event.Event.{Event}
 use Rattle.ccan_ram.specs.declared.flag.Flag.{Flag}
 use Rattle.ccan_ram.specs.Flags.{flag_of}
@@ -15,7 +16,7 @@ use Rattle.ccan_ram.specs.Attempt.{look_at}
 use Rattle.ccan_ram.proofs.Registers.{word_below, top_bit, low_bit}
 use Rattle.ccan_ram.proofs.Histories.{events_of-append, events_of-EndsIn, changes_by-append, changes_by-foreign}
 use Rattle.ccan_handler.specs.Watch.{Looks, in_turn}
-use Rattle.ccan_handler.specs.Laws.{IsLookWithout, WaitingAnswersYesAtItsLastLook, WaitingAnswersNoAfterAllTurns, InterruptsAreBounded, FlagsTakeOneLookEach, EachFlagIsShown}
+use Rattle.ccan_handler.specs.Laws.{IsLookWithout, WaitingAnswersYesAtItsLastLook, WaitingAnswersNoAfterAllTurns, LooksInTurn, InterruptsAreBounded, FlagsTakeOneLookEach, EachFlagIsShown}
 use Rattle.ccan_handler.proofs.Own.{its_own}
 
 -- one look for each record
@@ -72,21 +73,43 @@ no_law terms object turns flag added none =
     let all = own terms place none.shown added none.looks in
     (ap length all ∙ (as_many terms place none.shown ∙ none.counted), rw all (without terms object flag none.shown none.none))
 
+-- looks in turn are one at each object
+one_each : (terms : Terms) (shown : List Record) → LooksInTurn terms (length shown) (own_looks terms in_turn shown)
+one_each terms [] = refl
+one_each terms (last ∷ before) =
+    let next : length before + 1 ≡ suc (length before) = omega arith in
+    let event = λ (k : ℕ). look_at terms.port k last in
+    (last, own_looks terms in_turn before, ap (λ k. event k ∷ own_looks terms in_turn before) next, one_each terms before)
+
+in_turn_to : (terms : Terms) (n : ℕ) (shown : List Record) (added : List Event) → Looks terms in_turn shown added → length shown ≡ n
+    → LooksInTurn terms n (events_of terms.port added)
+in_turn_to terms n shown added looks counted =
+    subst (λ k. LooksInTurn terms k (events_of terms.port added)) counted
+    (subst (LooksInTurn terms (length shown)) (sym (own terms in_turn shown added looks)) (one_each terms shown))
+
 pub interrupt_law : InterruptsAreBounded
-interrupt_law terms true value added (is, none) = rw none (omega arith, refl)
+interrupt_law terms true value added (is, none) = rw none (omega arith, refl, refl)
 interrupt_law terms false value added (inl (is, none)) =
-    let all = ap length (own terms in_turn none.shown added none.looks) ∙ as_many terms in_turn none.shown in
-    (omega (arith, all, none.counted), no_change terms in_turn none.shown added none.looks)
+    let all = ap length (own terms in_turn none.shown added none.looks) ∙ as_many terms in_turn none.shown in (
+      omega (arith, all, none.counted),
+      no_change terms in_turn none.shown added none.looks,
+      rw is (in_turn_to terms (objects_in terms.profile) none.shown added none.looks none.counted),
+    )
 interrupt_law terms false value added (inr (count, within, is, first)) =
     let shown = first.last ∷ first.before in
     let all = ap length (own terms in_turn shown added first.looks) ∙ as_many terms in_turn shown in
-    (omega (arith, all, first.counted, within), no_change terms in_turn shown added first.looks)
+    let found : value ≡ suc count = omega (arith, is) in (
+      omega (arith, all, first.counted, within),
+      no_change terms in_turn shown added first.looks,
+      rw found (in_turn_to terms (suc count) shown added first.looks (ap suc first.counted)),
+    )
 
 pub flags_law : FlagsTakeOneLookEach
 flags_law terms flag word added reads = (
   ap length (own terms in_turn reads.shown added reads.looks)
       ∙ (as_many terms in_turn reads.shown ∙ reads.counted),
   no_change terms in_turn reads.shown added reads.looks,
+  in_turn_to terms (objects_in terms.profile) reads.shown added reads.looks reads.counted,
 )
 
 -- ---- the bits of a flag word

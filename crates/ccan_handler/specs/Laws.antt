@@ -1,9 +1,10 @@
 -- Laws of the handler's calls, over their definitions alone: so they hold of every memory that meets `Access`. Source:
 -- after the C_CAN User's Manual 1.2, section 4.2 (the message handler scans from object 1) and section 3.4 (Message
 -- Handler Registers); this project's own.
-use Rattle.std.specs.Prelude.{ℕ, ◌≡◌, ◌≤◌, ◌<◌, ◌+◌, ◌-◌, ◌*◌, Bool, true, false, List, [], ◌∷◌, ◌++◌, length, Ok, Some, if◌then◌else◌}
+use Rattle.std.specs.Prelude.{ℕ, zero, suc, ◌≡◌, ◌≤◌, ◌<◌, ◌+◌, ◌-◌, ◌*◌, Bool, true, false, List, [], ◌∷◌, ◌++◌, length, Ok, Some, if◌then◌else◌}
 use Rattle.std.specs.List.{All}
 use Rattle.ccan_object.specs.declared.record.Record.{Record}
+use Rattle.ccan_object.specs.declared.profile.Profile.{Profile}
 use Rattle.ccan_object.specs.Bits.{bit}
 use Rattle.ccan_object.specs.Profile.{objects_in}
 use Rattle.ccan_accept.specs.Send.{started}
@@ -141,19 +142,35 @@ WaitingAnswersNoAfterAllTurns =
     → Watches terms object flag turns added false
     → (length (events_of terms.port added) ≡ turns) × All (IsLookWithout terms object flag) (events_of terms.port added)
 
--- the interrupt value takes at most one look for each object, and no change
+-- one look of the port at each of the objects 1 to n, in this order, and nothing else; the newest first
+abbrev pub LooksInTurn : Terms → ℕ → List Event → Type 0
+LooksInTurn terms zero own = own ≡ []
+LooksInTurn terms (suc n) own =
+    (shown : Record) × (earlier : List Event) × (own ≡ look_at terms.port (suc n) shown ∷ earlier)
+    × LooksInTurn terms n earlier
+
+-- up to which object an interrupt value was looked for: none for the status interrupt, else the one found, or the last
+abbrev pub looked_up_to : Profile → Bool → ℕ → ℕ
+looked_up_to profile true value = 0
+looked_up_to profile false zero = objects_in profile
+looked_up_to profile false (suc n) = suc n
+
+-- the interrupt value takes one look at each object up to the one found, in turn: so at most one for each object of the
+-- memory, and no change
 abbrev pub InterruptsAreBounded : Type 0
 InterruptsAreBounded =
     (terms : Terms) (pending : Bool) (value : ℕ) (added : List Event)
     → Interrupts terms pending added value
     → (length (events_of terms.port added) ≤ objects_in terms.profile) × (changes_by terms.port added ≡ 0)
+    × LooksInTurn terms (looked_up_to terms.profile pending value) (events_of terms.port added)
 
--- the flag word takes one look at each object, and no change
+-- the flag word takes one look at each object, in turn, and no change
 abbrev pub FlagsTakeOneLookEach : Type 0
 FlagsTakeOneLookEach =
     (terms : Terms) (flag : Flag) (word : ℕ) (added : List Event)
     → ReadsFlags terms flag added word
     → (length (events_of terms.port added) ≡ objects_in terms.profile) × (changes_by terms.port added ≡ 0)
+    × LooksInTurn terms (objects_in terms.profile) (events_of terms.port added)
 
 -- bit k - 1 of the flag word is the flag that the look at object k shows
 abbrev pub EachFlagIsShown : Type 0

@@ -47,12 +47,13 @@ pub fn waiting_answers_no_after_all_turns()
     ensures { WaitingAnswersNoAfterAllTurns }
 {}
 
-/// `interrupt` takes at most one look for each object.
+/// `interrupt` takes one look at each object up to the one found, in turn, at each object where it finds none, and none for
+/// the status interrupt.
 pub fn interrupts_are_bounded()
     ensures { InterruptsAreBounded }
 {}
 
-/// `flags` takes exactly one look at each object.
+/// `flags` takes exactly one look at each object, in turn.
 pub fn flags_take_one_look_each()
     ensures { FlagsTakeOneLookEach }
 {}

@@ -15,13 +15,17 @@ use Rattle.ccan_ram.specs.declared.handler_registers.HandlerRegisters.{HandlerRe
 use Rattle.ccan_ram.specs.Change.{fits}
 use Rattle.ccan_ram.specs.Terms.{Terms, one_thread_terms}
 use Rattle.ccan_ram.specs.Attempt.{look_at, change_at, EndsIn, IsLook, LostTries, HasRoom, Attempt}
-use Rattle.ccan_ram.specs.Access.{Passes, Goes}
+use Rattle.ccan_ram.specs.Access.{Passes, Goes, AddsLook}
 use Rattle.ccan_ram.specs.Array.{SameSeen}
 use Rattle.ccan_object.specs.Profile.{objects_in}
 use Rattle.ccan_ram.specs.Picture.{pictured, IsPicture, AddsPicture}
 use Rattle.ccan_ram.proofs.Pictures.{pictured_changes, alone_added, alone_shown, plain_picture}
+use Rattle.ccan_ram.proofs.Calls.{Goes-weaker}
 use Rattle.ccan_ram.proofs.Histories.{nobody}
-use Rattle.test_contended.specs.Contended.{contended_terms, contended, Counted, TheyAct, AddsTheirs, Exchanges, changes_of, number_of}
+use Rattle.ccan_object.specs.Command.{is_write}
+use Rattle.test_contended.specs.declared.transfer.Transfer.{Transfer}
+use Rattle.test_contended.specs.Transfer.{change_of}
+use Rattle.test_contended.specs.Contended.{contended_terms, contended, Counted, TheyAct, AddsTheirs, AddsLookAlone, Exchanges, changes_of, number_of, Host, host, gone_on, IsNext}
 
 -- ---- calls of a plain memory
 
@@ -65,8 +69,7 @@ module _ (profile : Profile) (quota made used : ℕ) where
   -- a look
   pub looks : {x y : Passes} (object : ℕ) (shown : Record) → x.terms ≡ one_thread_terms profile Bus quota
       → Goes x y (λ terms seen added. IsLook terms object shown added)
-      → Goes (contended profile quota x made used) (contended profile quota y made used)
-      (λ terms seen added. IsLook terms object shown added)
+      → AddsLookAlone (contended profile quota x made used) (contended profile quota y made used) object shown
   looks {x} {y} object shown is look =
       record {
         same = refl;
@@ -77,13 +80,21 @@ module _ (profile : Profile) (quota made used : ℕ) where
             let here = subst (λ (es : List Event). y.has_seen (es ++ seen)) all a.1 in (
               look_at Bus object shown ∷ [],
               after_look {y = y} x object shown seen h here,
-              ([], nobody (contended_terms profile quota), refl),
+              refl,
             );
       }
 
+  -- which is one look
+  pub as_look : {x y : Passes} (object : ℕ) (shown : Record)
+      → AddsLookAlone (contended profile quota x made used) (contended profile quota y made used) object shown
+      → AddsLook (contended profile quota x made used) (contended profile quota y made used) object shown
+  as_look object shown alone =
+      Goes-weaker alone (λ seen added here after is. ([], nobody (contended_terms profile quota), is))
+
   -- a picture
   pub pictures : {x y : Passes} (shown : HandlerRegisters) → x.terms ≡ one_thread_terms profile Bus quota → AddsPicture x y shown
-      → AddsPicture (contended profile quota x made used) (contended profile quota y made used) shown
+      → Goes (contended profile quota x made used) (contended profile quota y made used)
+      (λ terms seen added. IsPicture terms shown seen added × (added ≡ pictured terms.port (objects_in terms.profile) seen))
   pictures {x} {y} shown is picture =
       record {
         same = refl;
@@ -99,8 +110,11 @@ module _ (profile : Profile) (quota made used : ℕ) where
                 theirs = pictured_changes Bus If1 n seen seen ∙ h.theirs;
                 own = pictured_changes Bus Bus n seen seen ∙ h.own;
               },
-              plain_picture (contended_terms profile quota) shown seen
-                  (alone_shown (one_thread_terms profile Bus quota) refl shown seen a.0 p),
+              (
+                plain_picture (contended_terms profile quota) shown seen
+                    (alone_shown (one_thread_terms profile Bus quota) refl shown seen a.0 p),
+                refl,
+              ),
             );
       }
 
@@ -141,24 +155,27 @@ transfer_fits true command buffer r = refl
 transfer_fits false command buffer r = refl
 
 -- a transfer of the other host
-pub they_act : {x y z w : Passes} (object : ℕ) (change : Change) (tries : ℕ) (outcome : Result Changed Refused) → 1 ≤ tries
-    → Goes y z (λ terms seen added. Attempt terms object change tries seen added outcome) → ((r : Record) → fits change r ≡ true)
+pub they_act : {x y z w : Passes} (transfer : Transfer) (tries : ℕ) (outcome : Result Changed Refused) → 1 ≤ tries
+    → Goes y z (λ terms seen added. Attempt terms transfer.object (change_of transfer) tries seen added outcome)
     → y.terms ≡ one_thread_terms x.terms.profile If1 x.terms.quota → SameSeen x y → SameSeen z w
     → (made used : ℕ) → made < x.terms.quota
     → Goes (contended x.terms.profile x.terms.quota x made used) (contended x.terms.profile x.terms.quota w (made + 1) used)
-    (λ terms seen added. TheyAct object (number_of outcome) terms seen added)
-they_act {x} {y} {z} {w} object change tries outcome some attempt always if1 begins ends made used room =
+    (λ terms seen added. TheyAct transfer (number_of outcome) terms seen added)
+they_act {x} {y} {z} {w} transfer tries outcome some attempt if1 begins ends made used room =
     record {
       same = refl;
       each = λ seen h.
           let a = attempt.each seen ((begins seen).0 h.seen_below) in
           let theirs = one_thread_terms x.terms.profile If1 x.terms.quota in
-          let e = one_try theirs refl object change tries seen a.0 outcome some (omega (arith, h.theirs))
-          (subst (λ t. Attempt t object change tries seen a.0 outcome) if1 a.2) in
+          let e = one_try theirs refl transfer.object (change_of transfer) tries seen a.0 outcome some (omega (arith, h.theirs))
+          (subst (λ t. Attempt t transfer.object (change_of transfer) tries seen a.0 outcome) if1 a.2) in
           (a.0, counted outcome seen a.0 h ((ends (a.0 ++ seen)).0 a.1) e, acts outcome seen a.0 e);
     } where
+      always : (r : Record) → fits (change_of transfer) r ≡ true
+      always r = transfer_fits (is_write transfer.command) transfer.command transfer.buffer r
+
       counted : (outcome : Result Changed Refused) (seen added : List Event) → Counted x made used seen → w.has_seen (added ++ seen)
-          → Exchanges (one_thread_terms x.terms.profile If1 x.terms.quota) object change outcome seen added
+          → Exchanges (one_thread_terms x.terms.profile If1 x.terms.quota) transfer.object (change_of transfer) outcome seen added
           → Counted w (made + 1) used (added ++ seen)
       counted (Ok (Done before after number)) seen added h here e =
           rw e.0 (record { seen_below = rw e.0 at here; theirs = omega (arith, h.theirs); own = h.own })
@@ -166,11 +183,13 @@ they_act {x} {y} {z} {w} object change tries outcome some attempt always if1 beg
       counted (Err why) seen added h here e = absurd e
 
       acts : (outcome : Result Changed Refused) (seen added : List Event)
-          → Exchanges (one_thread_terms x.terms.profile If1 x.terms.quota) object change outcome seen added
-          → TheyAct object (number_of outcome) (contended_terms x.terms.profile x.terms.quota) seen added
+          → Exchanges (one_thread_terms x.terms.profile If1 x.terms.quota) transfer.object (change_of transfer) outcome seen added
+          → TheyAct transfer (number_of outcome) (contended_terms x.terms.profile x.terms.quota) seen added
       acts (Ok (Done before after number)) seen added e =
-          let itself : (object == object) ≡ true = eq-eqb object object refl in
+          let itself : (transfer.object == transfer.object) ≡ true = eq-eqb transfer.object transfer.object refl in
           rw e.0 (record {
+            found = before;
+            made = refl;
             foreign = record { not_own = refl; none_alone = λ alone. absurd cc };
             contended = rw itself refl;
             last = rw itself e.3;
@@ -192,14 +211,29 @@ pub bus_same : (terms : Terms) (profile profile' : Profile) (quota quota' : ℕ)
     → terms ≡ one_thread_terms profile' Bus quota' → terms ≡ one_thread_terms profile Bus quota
 bus_same terms profile profile' quota quota' same_profile same_quota is = is ∙ rw (same_profile, same_quota) refl
 
-pub acts_for : (old new : Passes) (profile : Profile) (quota made used object number : ℕ) → old.terms ≡ one_thread_terms profile Bus quota
-    → AddsTheirs old new object number → made < quota
+pub acts_for : (old new : Passes) (profile : Profile) (quota made used : ℕ) (transfer : Transfer) (number : ℕ) → old.terms ≡ one_thread_terms profile Bus quota
+    → AddsTheirs old new transfer number → made < quota
     → Goes (contended profile quota old made used) (contended profile quota new (made + 1) used)
-    (λ terms seen added. TheyAct object number terms seen added)
-acts_for old new profile quota made used object number bus acts room =
+    (λ terms seen added. TheyAct transfer number terms seen added)
+acts_for old new profile quota made used transfer number bus acts room =
     let same_profile : old.terms.profile ≡ profile = ap (λ (t : Terms). t.profile) bus in
     let same_quota : old.terms.quota ≡ quota = ap (λ (t : Terms). t.quota) bus in
-    let what : Terms → List Event → List Event → Type 0 = λ terms seen added. TheyAct object number terms seen added in
+    let what : Terms → List Event → List Event → Type 0 = λ terms seen added. TheyAct transfer number terms seen added in
     subst (λ (p : Profile). Goes (contended p quota old made used) (contended p quota new (made + 1) used) what) same_profile
     (subst (λ (q : ℕ). Goes (contended old.terms.profile q old made used) (contended old.terms.profile q new (made + 1) used) what)
     same_quota (acts made used (omega (arith, same_quota, room))))
+
+-- ---- the other host, before and after so many transfers
+
+pub host_same : (profile profile' : Profile) (quota quota' : ℕ) (list list' : List Transfer) (made made' n : ℕ)
+    → profile' ≡ profile → quota' ≡ quota → list' ≡ list → made' ≡ made + n
+    → host profile' quota' list' made' ≡ gone_on (host profile quota list made) n
+host_same profile profile' quota quota' list list' made made' n same_profile same_quota same_list went =
+    rw (same_profile, same_quota, same_list, went) refl
+
+-- there is one next transfer
+pub one_next : (theirs : Host) (a b : Transfer) → IsNext theirs a → IsNext theirs b → a ≡ b
+one_next theirs a b is_a is_b =
+    let x = is_a.stands in
+    let y = is_b.stands in
+    cc

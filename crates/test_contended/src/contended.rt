@@ -1,11 +1,15 @@
 ghost use Rattle.std.specs.Prelude.{◌≡◌, ◌≤◌, ◌<◌, ◌+◌, ◌↔◌, [], IfSome, IsSome, IsTrue, if◌then◌else◌};
-ghost use Rattle.ccan_object.specs.Profile.{Holds};
+ghost use Rattle.ccan_object.specs.Profile.{Holds, objects_in};
+ghost use Rattle.ccan_ram.specs.Access.{AddsAttempt, AddsLook};
+ghost use Rattle.ccan_ram.specs.Answer.{FewTries, Tells};
+ghost use Rattle.ccan_ram.specs.HandlerRegisters.{AreBelow};
+ghost use Rattle.ccan_ram.specs.Picture.{AddsPicture};
 ghost use Rattle.ccan_ram.specs.Port.{IsQuota};
 ghost use Rattle.ccan_ram.specs.Terms.{one_thread_terms};
 ghost use Rattle.ccan_ram.specs.declared.port.PortName.TheVariants.{Bus};
-ghost use Rattle.ccan_ram.specs.Answer.{FewTries, Tells};
-ghost use Rattle.test_contended.specs.Contended.{AddsExchange, AddsOthers, AddsTheirs, HasMade, HasNext, IsForBus};
-ghost use Rattle.test_contended.specs.Contended.{changes_of, contended_terms, number_of};
+ghost use Rattle.test_contended.specs.Contended.{AddsCourse, AddsExchange, AddsLookAlone, AddsNext, AddsOthers};
+ghost use Rattle.test_contended.specs.Contended.{AddsPictureAlone, AddsTheirs, HasMade, HasNext, IsForBus, IsNext};
+ghost use Rattle.test_contended.specs.Contended.{changes_of, contended_terms, host, number_of};
 
 use crate::transfer::Transfer;
 use ccan_object::{ObjectNo, Profile, Record};
@@ -13,10 +17,10 @@ use ccan_ram::{Access, Array, Change, Changed, HandlerRegisters, PortName, Refus
 
 /// The bus port of a plain memory, during whose calls the host at IF1 goes through a list of transfers.
 ///
-/// In each try of a change, IF1's next transfer comes between the look and the exchange. At the same object it costs
-/// the try. At another one it comes just before the look instead, which nobody can tell apart. A look by itself brings
-/// none about. The list ends early at a transfer for which IF1 has no quota left, or at an object that the memory
-/// doesn't have.
+/// In each try of a change, IF1 makes its next transfer. One at the same object comes after a look at a record that
+/// fits, and costs the try. Where the record doesn't fit, no exchange is to come, and IF1 keeps the transfer for later. One
+/// at another object comes just before the look, and the try is not lost. A look by itself brings none about. The list ends
+/// early at a transfer for which IF1 has no quota left, or at an object that the memory doesn't have.
 #[derive(Drop)]
 pub struct Contended<'a> {
     ram: Array,
@@ -40,11 +44,27 @@ impl<'a> Access for Contended<'a> {
         self.profile
     }
 
-    fn look(&mut self, object: ObjectNo) -> Record {
+    fn look(&mut self, object: ObjectNo) -> Record
+        requires held { Holds self.old.profile object }
+        ensures looks { AddsLook (⟦<Contended<'a> as Access>⟧.passes self.old)
+            (⟦<Contended<'a> as Access>⟧.passes self.new) object result }
+        ensures alone { AddsLookAlone (⟦<Contended<'a> as Access>⟧.passes self.old)
+            (⟦<Contended<'a> as Access>⟧.passes self.new) object result }
+        ensures made { self.new.made ≡ self.old.made }
+        ensures list { self.new.theirs.now ≡ self.old.theirs.now }
+    {
         self.ram.look(object)
     }
 
-    fn look_all(&mut self) -> HandlerRegisters {
+    fn look_all(&mut self) -> HandlerRegisters
+        ensures pictures { AddsPicture (⟦<Contended<'a> as Access>⟧.passes self.old)
+            (⟦<Contended<'a> as Access>⟧.passes self.new) result }
+        ensures within { AreBelow (objects_in self.old.profile) result }
+        ensures alone { AddsPictureAlone (⟦<Contended<'a> as Access>⟧.passes self.old)
+            (⟦<Contended<'a> as Access>⟧.passes self.new) }
+        ensures made { self.new.made ≡ self.old.made }
+        ensures list { self.new.theirs.now ≡ self.old.theirs.now }
+    {
         self.ram.look_all()
     }
 
@@ -53,7 +73,18 @@ impl<'a> Access for Contended<'a> {
         object: ObjectNo,
         change: &Change,
         tries: Tries,
-    ) -> Result<Changed, Refused> {
+    ) -> Result<Changed, Refused>
+        requires held { Holds self.old.profile object }
+        ensures attempts { AddsAttempt (⟦<Contended<'a> as Access>⟧.passes self.old)
+            (⟦<Contended<'a> as Access>⟧.passes self.new) object change.now tries result }
+        ensures tells { Tells change.now tries result }
+        ensures few { FewTries self.old.quota tries result }
+        ensures course { let theirs = host self.old.profile self.old.quota self.old.theirs.now self.old.made in
+            AddsCourse (⟦<Contended<'a> as Access>⟧.passes self.old)
+            (⟦<Contended<'a> as Access>⟧.passes self.new)
+            theirs object change.now tries result self.new.made }
+        ensures list { self.new.theirs.now ≡ self.old.theirs.now }
+    {
         if self.used == self.quota {
             return Err(Refused::Spent);
         }
@@ -122,7 +153,11 @@ impl<'a> Contended<'a> {
         ensures others { let before = ⟦<Contended<'a> as Access>⟧.passes self.old in
             AddsOthers before (⟦<Contended<'a> as Access>⟧.passes self.new) }
         ensures told { IsTrue result
-            ↔ HasNext self.old.profile self.old.quota self.old.made self.old.theirs.now }
+            ↔ HasNext (host self.old.profile self.old.quota self.old.theirs.now self.old.made) }
+        ensures acts { let theirs = host self.old.profile self.old.quota self.old.theirs.now self.old.made in
+            AddsNext (⟦<Contended<'a> as Access>⟧.passes self.old)
+            (⟦<Contended<'a> as Access>⟧.passes self.new) theirs result }
+        ensures list { self.new.theirs.now ≡ self.old.theirs.now }
         ensures made { self.new.made ≡ (if result then self.old.made + 1 else self.old.made) }
     {
         match self.next() {
@@ -138,9 +173,9 @@ impl<'a> Contended<'a> {
     /// The transfer that IF1 makes next.
     fn next(&self) -> Option<Transfer>
         ensures known { IsSome result
-            ↔ HasNext self.now.profile self.now.quota self.now.made self.now.theirs.now }
-        ensures room { IfSome result (λ theirs. self.now.made < self.now.quota) }
-        ensures held { IfSome result (λ theirs. Holds self.now.profile theirs.object) }
+            ↔ HasNext (host self.now.profile self.now.quota self.now.theirs.now self.now.made) }
+        ensures next { let theirs = host self.now.profile self.now.quota self.now.theirs.now self.now.made in
+            IfSome result (IsNext theirs) }
     {
         let theirs = *self.theirs.get(self.made)?;
         if (self.made as u64) < self.quota && self.profile.holds(theirs.object) {
@@ -159,6 +194,8 @@ impl<'a> Contended<'a> {
     ) -> Result<Changed, Refused>
         requires room { self.old.used < self.old.quota }
         requires held { Holds self.old.profile object }
+        ensures list { self.new.theirs.now ≡ self.old.theirs.now }
+        ensures made { self.new.made ≡ self.old.made }
         ensures exchanges { let before = ⟦<Contended<'a> as Access>⟧.passes self.old in
             let after = ⟦<Contended<'a> as Access>⟧.passes self.new in
             AddsExchange before after object change.now result }
@@ -179,7 +216,7 @@ fn interfere(ram: &mut Array, theirs: Transfer) -> u64
     ensures terms { let before = ⟦<Array as Access>⟧.passes ram.old in
         (⟦<Array as Access>⟧.passes ram.new).terms ≡ before.terms }
     ensures acts { let before = ⟦<Array as Access>⟧.passes ram.old in
-        AddsTheirs before (⟦<Array as Access>⟧.passes ram.new) theirs.object result }
+        AddsTheirs before (⟦<Array as Access>⟧.passes ram.new) theirs result }
 {
     let change = theirs.change();
     let one_try = Tries::new(1).unwrap();

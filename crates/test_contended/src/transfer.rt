@@ -13,15 +13,12 @@ pub struct Transfer {
 }
 
 impl Transfer {
-    ghost use Rattle.std.specs.Prelude.{◌≡◌, if◌then◌else◌};
-    ghost use Rattle.ccan_object.specs.Command.{is_write};
-    ghost use Rattle.ccan_ram.specs.declared.change.Change.{Change};
-    ghost use Rattle.ccan_ram.specs.declared.change.Change.TheVariants.{Clear, Write};
+    ghost use Rattle.std.specs.Prelude.{◌≡◌};
+    ghost use Rattle.test_contended.specs.Transfer.{change_of};
 
     /// The change that it makes: a write of the buffer, or a read that clears what the command says.
     pub fn change(&self) -> Change
-        ensures { result
-            ≡ (if is_write self.now.command then Write self.now.command self.now.buffer else Clear self.now.command) }
+        ensures { result ≡ change_of self.now }
     {
         if self.command.is_write() {
             Change::Write(self.command, self.buffer)
