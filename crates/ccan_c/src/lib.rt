@@ -21,6 +21,10 @@ mod bus_lines;
 mod chip;
 mod code;
 mod ending;
+#[cfg(test)]
+mod expect;
+#[cfg(test)]
+mod from_c;
 mod handle;
 mod held;
 mod host;

@@ -1,8 +1,9 @@
 //! The numbers and sizes of `include/ccan.h`, as the library has them. `tools/c_table` reads the lines of this file that end
-//! in a name, and holds the header to them, so each is one line of the form `assert_eq!(rt; LIBRARY, NUMBER); // NAME`.
+//! in a name, and holds the header to them, so each is one line of the form `same(&rt, LIBRARY, NUMBER); // NAME`.
 use crate::bus_handle::BusHandle;
 use crate::chip::Chip;
 use crate::code;
+use crate::expect::same;
 use crate::host_handle::HostHandle;
 use crate::numbers::{flag_numbered, register_numbered};
 use crate::offer::{Offer, fault_numbered};
@@ -19,34 +20,33 @@ use ccan_object::{Profile, Record, Reg};
 use ccan_ram::Flag;
 use ccan_script::LineAnswer;
 use std::mem::size_of;
-use std::process::Abort;
 
 #[test]
 fn codes_of_opening(rt: HostRuntime) {
-    assert_eq!(rt; ccan_version(), 200); // CCAN_VERSION
-    assert_eq!(rt; code::DONE, 0); // CCAN_DONE
-    assert_eq!(rt; code::CLOSED, 1); // CCAN_CLOSED
-    assert_eq!(rt; code::BUSY, 2); // CCAN_BUSY
-    assert_eq!(rt; code::SPENT, 3); // CCAN_SPENT
-    assert_eq!(rt; code::NO_MEMORY, 4); // CCAN_NO_MEMORY
-    assert_eq!(rt; code::SHARED, 5); // CCAN_SHARED
-    assert_eq!(rt; code::PROFILE_RANGE, 6); // CCAN_PROFILE_RANGE
-    assert_eq!(rt; code::NODES_RANGE, 7); // CCAN_NODES_RANGE
-    assert_eq!(rt; code::TRIES_RANGE, 9); // CCAN_TRIES_RANGE
+    same(&rt, ccan_version(), 200); // CCAN_VERSION
+    same(&rt, code::DONE, 0); // CCAN_DONE
+    same(&rt, code::CLOSED, 1); // CCAN_CLOSED
+    same(&rt, code::BUSY, 2); // CCAN_BUSY
+    same(&rt, code::SPENT, 3); // CCAN_SPENT
+    same(&rt, code::NO_MEMORY, 4); // CCAN_NO_MEMORY
+    same(&rt, code::SHARED, 5); // CCAN_SHARED
+    same(&rt, code::PROFILE_RANGE, 6); // CCAN_PROFILE_RANGE
+    same(&rt, code::NODES_RANGE, 7); // CCAN_NODES_RANGE
+    same(&rt, code::TRIES_RANGE, 9); // CCAN_TRIES_RANGE
 }
 
 #[test]
 fn codes_of_handles(rt: HostRuntime) {
-    assert_eq!(rt; code::REGISTER_RANGE, 10); // CCAN_REGISTER_RANGE
-    assert_eq!(rt; code::OBJECT_RANGE, 11); // CCAN_OBJECT_RANGE
-    assert_eq!(rt; code::FLAG_RANGE, 12); // CCAN_FLAG_RANGE
-    assert_eq!(rt; code::TURNS_RANGE, 13); // CCAN_TURNS_RANGE
-    assert_eq!(rt; code::NODE_RANGE, 14); // CCAN_NODE_RANGE
-    assert_eq!(rt; code::GROUPS_RANGE, 15); // CCAN_GROUPS_RANGE
-    assert_eq!(rt; code::FRAMES_RANGE, 16); // CCAN_FRAMES_RANGE
-    assert_eq!(rt; code::FRAME_RANGE, 17); // CCAN_FRAME_RANGE
-    assert_eq!(rt; code::FAULT_RANGE, 18); // CCAN_FAULT_RANGE
-    assert_eq!(rt; code::SENDERS, 19); // CCAN_SENDERS
+    same(&rt, code::REGISTER_RANGE, 10); // CCAN_REGISTER_RANGE
+    same(&rt, code::OBJECT_RANGE, 11); // CCAN_OBJECT_RANGE
+    same(&rt, code::FLAG_RANGE, 12); // CCAN_FLAG_RANGE
+    same(&rt, code::TURNS_RANGE, 13); // CCAN_TURNS_RANGE
+    same(&rt, code::NODE_RANGE, 14); // CCAN_NODE_RANGE
+    same(&rt, code::GROUPS_RANGE, 15); // CCAN_GROUPS_RANGE
+    same(&rt, code::FRAMES_RANGE, 16); // CCAN_FRAMES_RANGE
+    same(&rt, code::FRAME_RANGE, 17); // CCAN_FRAME_RANGE
+    same(&rt, code::FAULT_RANGE, 18); // CCAN_FAULT_RANGE
+    same(&rt, code::SENDERS, 19); // CCAN_SENDERS
 }
 
 /// The number of a register, 77 where it has none.
@@ -61,16 +61,16 @@ fn register(sought: Reg) -> u32 {
 
 #[test]
 fn registers(rt: HostRuntime) {
-    assert_eq!(rt; register(Reg::CMask), 0); // CCAN_CMASK
-    assert_eq!(rt; register(Reg::Mask1), 1); // CCAN_MASK1
-    assert_eq!(rt; register(Reg::Mask2), 2); // CCAN_MASK2
-    assert_eq!(rt; register(Reg::Arb1), 3); // CCAN_ARB1
-    assert_eq!(rt; register(Reg::Arb2), 4); // CCAN_ARB2
-    assert_eq!(rt; register(Reg::Ctrl), 5); // CCAN_CTRL
-    assert_eq!(rt; register(Reg::DataA1), 6); // CCAN_DATAA1
-    assert_eq!(rt; register(Reg::DataA2), 7); // CCAN_DATAA2
-    assert_eq!(rt; register(Reg::DataB1), 8); // CCAN_DATAB1
-    assert_eq!(rt; register(Reg::DataB2), 9); // CCAN_DATAB2
+    same(&rt, register(Reg::CMask), 0); // CCAN_CMASK
+    same(&rt, register(Reg::Mask1), 1); // CCAN_MASK1
+    same(&rt, register(Reg::Mask2), 2); // CCAN_MASK2
+    same(&rt, register(Reg::Arb1), 3); // CCAN_ARB1
+    same(&rt, register(Reg::Arb2), 4); // CCAN_ARB2
+    same(&rt, register(Reg::Ctrl), 5); // CCAN_CTRL
+    same(&rt, register(Reg::DataA1), 6); // CCAN_DATAA1
+    same(&rt, register(Reg::DataA2), 7); // CCAN_DATAA2
+    same(&rt, register(Reg::DataB1), 8); // CCAN_DATAB1
+    same(&rt, register(Reg::DataB2), 9); // CCAN_DATAB2
 }
 
 /// The number of a flag, 77 where it has none.
@@ -85,11 +85,11 @@ fn flag(sought: Flag) -> u32 {
 
 #[test]
 fn flags(rt: HostRuntime) {
-    assert_eq!(rt; flag(Flag::NewDat), 0); // CCAN_NEWDAT
-    assert_eq!(rt; flag(Flag::MsgLst), 1); // CCAN_MSGLST
-    assert_eq!(rt; flag(Flag::IntPnd), 2); // CCAN_INTPND
-    assert_eq!(rt; flag(Flag::TxRqst), 3); // CCAN_TXRQST
-    assert_eq!(rt; flag(Flag::MsgVal), 4); // CCAN_MSGVAL
+    same(&rt, flag(Flag::NewDat), 0); // CCAN_NEWDAT
+    same(&rt, flag(Flag::MsgLst), 1); // CCAN_MSGLST
+    same(&rt, flag(Flag::IntPnd), 2); // CCAN_INTPND
+    same(&rt, flag(Flag::TxRqst), 3); // CCAN_TXRQST
+    same(&rt, flag(Flag::MsgVal), 4); // CCAN_MSGVAL
 }
 
 /// The number of a fault, 77 where it has none.
@@ -104,15 +104,15 @@ fn fault(sought: Fault) -> u32 {
 
 #[test]
 fn faults_and_states(rt: HostRuntime) {
-    assert_eq!(rt; fault(Fault::Quiet), 0); // CCAN_QUIET
-    assert_eq!(rt; fault(Fault::Stuff), 1); // CCAN_STUFF
-    assert_eq!(rt; fault(Fault::Form), 2); // CCAN_FORM
-    assert_eq!(rt; fault(Fault::Bit1), 3); // CCAN_BIT1
-    assert_eq!(rt; fault(Fault::Bit0), 4); // CCAN_BIT0
-    assert_eq!(rt; fault(Fault::Crc), 5); // CCAN_CRC
-    assert_eq!(rt; state_number(NodeState::Active), 0); // CCAN_ACTIVE
-    assert_eq!(rt; state_number(NodeState::Passive), 1); // CCAN_PASSIVE
-    assert_eq!(rt; state_number(NodeState::Off), 2); // CCAN_OFF
+    same(&rt, fault(Fault::Quiet), 0); // CCAN_QUIET
+    same(&rt, fault(Fault::Stuff), 1); // CCAN_STUFF
+    same(&rt, fault(Fault::Form), 2); // CCAN_FORM
+    same(&rt, fault(Fault::Bit1), 3); // CCAN_BIT1
+    same(&rt, fault(Fault::Bit0), 4); // CCAN_BIT0
+    same(&rt, fault(Fault::Crc), 5); // CCAN_CRC
+    same(&rt, state_number(NodeState::Active), 0); // CCAN_ACTIVE
+    same(&rt, state_number(NodeState::Passive), 1); // CCAN_PASSIVE
+    same(&rt, state_number(NodeState::Off), 2); // CCAN_OFF
 }
 
 /// The kind of a load.
@@ -123,11 +123,11 @@ fn load(came: LoadAnswer) -> u32 {
 #[test]
 fn loads(rt: HostRuntime) {
     let last = Profile::One.last();
-    assert_eq!(rt; load(LoadAnswer::Nothing), 0); // CCAN_LOAD_NOTHING
-    assert_eq!(rt; load(LoadAnswer::Loaded(last, Record::zero())), 1); // CCAN_LOAD_LOADED
-    assert_eq!(rt; load(LoadAnswer::Held(last)), 2); // CCAN_LOAD_HELD
-    assert_eq!(rt; load(LoadAnswer::Busy(last)), 3); // CCAN_LOAD_BUSY
-    assert_eq!(rt; load(LoadAnswer::Spent(last)), 4); // CCAN_LOAD_SPENT
+    same(&rt, load(LoadAnswer::Nothing), 0); // CCAN_LOAD_NOTHING
+    same(&rt, load(LoadAnswer::Loaded(last, Record::zero())), 1); // CCAN_LOAD_LOADED
+    same(&rt, load(LoadAnswer::Held(last)), 2); // CCAN_LOAD_HELD
+    same(&rt, load(LoadAnswer::Busy(last)), 3); // CCAN_LOAD_BUSY
+    same(&rt, load(LoadAnswer::Spent(last)), 4); // CCAN_LOAD_SPENT
 }
 
 /// The kind of a round.
@@ -146,37 +146,38 @@ fn round(came: RoundAnswer) -> u32 {
 #[test]
 fn rounds(rt: HostRuntime) {
     let last = Profile::One.last();
-    assert_eq!(rt; round(RoundAnswer::Idle), 0); // CCAN_IDLE
-    assert_eq!(rt; round(RoundAnswer::Sent(last, Record::zero())), 1); // CCAN_SENT
-    assert_eq!(rt; round(RoundAnswer::Received(None)), 2); // CCAN_RECEIVED
-    assert_eq!(rt; round(RoundAnswer::Passed), 3); // CCAN_PASSED
-    assert_eq!(rt; round(RoundAnswer::Collision), 4); // CCAN_COLLISION
-    assert_eq!(rt; round(RoundAnswer::NoAck), 5); // CCAN_NO_ACK
-    assert_eq!(rt; round(RoundAnswer::Fault), 6); // CCAN_FAULT
-    assert_eq!(rt; round(RoundAnswer::Looped(last, Record::zero(), None)), 7); // CCAN_LOOPED
-    assert_eq!(rt; round(RoundAnswer::Busy(last)), 8); // CCAN_ROUND_BUSY
-    assert_eq!(rt; round(RoundAnswer::Spent(last)), 9); // CCAN_ROUND_SPENT
+    let looped = RoundAnswer::Looped(last, Record::zero(), None);
+    same(&rt, round(RoundAnswer::Idle), 0); // CCAN_IDLE
+    same(&rt, round(RoundAnswer::Sent(last, Record::zero())), 1); // CCAN_SENT
+    same(&rt, round(RoundAnswer::Received(None)), 2); // CCAN_RECEIVED
+    same(&rt, round(RoundAnswer::Passed), 3); // CCAN_PASSED
+    same(&rt, round(RoundAnswer::Collision), 4); // CCAN_COLLISION
+    same(&rt, round(RoundAnswer::NoAck), 5); // CCAN_NO_ACK
+    same(&rt, round(RoundAnswer::Fault), 6); // CCAN_FAULT
+    same(&rt, round(looped), 7); // CCAN_LOOPED
+    same(&rt, round(RoundAnswer::Busy(last)), 8); // CCAN_ROUND_BUSY
+    same(&rt, round(RoundAnswer::Spent(last)), 9); // CCAN_ROUND_SPENT
 }
 
 #[test]
 fn steps_of_rounds(rt: HostRuntime) {
-    assert_eq!(rt; step_number(None), 0); // CCAN_STEP_NONE
-    assert_eq!(rt; step_number(Some(MemoryStep::Start)), 1); // CCAN_STEP_LOAD
-    assert_eq!(rt; step_number(Some(MemoryStep::Finish)), 2); // CCAN_STEP_FINISH
-    assert_eq!(rt; step_number(Some(MemoryStep::Store)), 3); // CCAN_STEP_STORE
-    assert_eq!(rt; NO_NODE, 255); // CCAN_NO_NODE
+    same(&rt, step_number(None), 0); // CCAN_STEP_NONE
+    same(&rt, step_number(Some(MemoryStep::Start)), 1); // CCAN_STEP_LOAD
+    same(&rt, step_number(Some(MemoryStep::Finish)), 2); // CCAN_STEP_FINISH
+    same(&rt, step_number(Some(MemoryStep::Store)), 3); // CCAN_STEP_STORE
+    same(&rt, NO_NODE, 255); // CCAN_NO_NODE
 }
 
 #[test]
 fn sizes(rt: HostRuntime) {
-    assert_eq!(rt; size_of::<HostHandle>(), 16); // sizeof(ccan_host)
-    assert_eq!(rt; size_of::<BusHandle>(), 16); // sizeof(ccan_bus)
-    assert_eq!(rt; size_of::<Chip>(), 272); // sizeof(ccan_chip)
-    assert_eq!(rt; size_of::<ShownRecord>(), 20); // sizeof(ccan_record)
-    assert_eq!(rt; size_of::<ShownFinal>(), 1284); // sizeof(ccan_final)
-    assert_eq!(rt; size_of::<ShownLoad>(), 28); // sizeof(ccan_loaded)
-    assert_eq!(rt; size_of::<Offer>(), 16); // sizeof(ccan_offer)
-    assert_eq!(rt; size_of::<ShownFrame>(), 16); // sizeof(ccan_frame)
-    assert_eq!(rt; size_of::<ShownOutcome>(), 80); // sizeof(ccan_outcome)
-    assert_eq!(rt; size_of::<ShownCounters>(), 12); // sizeof(ccan_counts)
+    same(&rt, size_of::<HostHandle>(), 16); // sizeof(ccan_host)
+    same(&rt, size_of::<BusHandle>(), 16); // sizeof(ccan_bus)
+    same(&rt, size_of::<Chip>(), 272); // sizeof(ccan_chip)
+    same(&rt, size_of::<ShownRecord>(), 20); // sizeof(ccan_record)
+    same(&rt, size_of::<ShownFinal>(), 1284); // sizeof(ccan_final)
+    same(&rt, size_of::<ShownLoad>(), 28); // sizeof(ccan_loaded)
+    same(&rt, size_of::<Offer>(), 16); // sizeof(ccan_offer)
+    same(&rt, size_of::<ShownFrame>(), 16); // sizeof(ccan_frame)
+    same(&rt, size_of::<ShownOutcome>(), 80); // sizeof(ccan_outcome)
+    same(&rt, size_of::<ShownCounters>(), 12); // sizeof(ccan_counts)
 }

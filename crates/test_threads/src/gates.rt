@@ -26,15 +26,20 @@ impl Together {
     }
 }
 
-/// Raises the word of a host, and waits until that of the other was raised, in so many turns at most.
-fn meet(own: &AtomicU64, other: &AtomicU64) -> bool {
-    own.fetch_add(1, Ordering::SeqCst);
+/// Waits until the word of a port was raised, in so many turns at most.
+fn comes(other: &AtomicU64) -> bool {
     for _ in 0..TURNS {
         if other.fetch_add(0, Ordering::SeqCst) > 0 {
             return true;
         }
     }
     false
+}
+
+/// Raises the word of a port, and waits for that of another.
+fn meet(own: &AtomicU64, other: &AtomicU64) -> bool {
+    own.fetch_add(1, Ordering::SeqCst);
+    comes(other)
 }
 
 impl Gate for Together {
@@ -48,6 +53,41 @@ impl Gate for Together {
             PortName::If1 => meet(&self.if1, &self.if2),
             PortName::If2 => meet(&self.if2, &self.if1),
             PortName::Bus => true,
+        }
+    }
+}
+
+/// Lets the first line of each port pass once all three have come there. So no port gets past it that runs before another has
+/// begun.
+#[derive(Drop)]
+pub struct AllTogether {
+    if1: AtomicU64,
+    if2: AtomicU64,
+    bus: AtomicU64,
+}
+
+impl AllTogether {
+    /// A gate to which no port has come.
+    pub fn new() -> AllTogether {
+        AllTogether {
+            if1: AtomicU64::new(0),
+            if2: AtomicU64::new(0),
+            bus: AtomicU64::new(0),
+        }
+    }
+}
+
+impl Gate for AllTogether {
+    ghost stops = { λ _ _ line. line ≡ 0 };
+
+    fn enter(&self, port: PortName, line: usize) -> bool {
+        if line != 0 {
+            return true;
+        }
+        match port {
+            PortName::If1 => meet(&self.if1, &self.if2) && comes(&self.bus),
+            PortName::If2 => meet(&self.if2, &self.if1) && comes(&self.bus),
+            PortName::Bus => meet(&self.bus, &self.if1) && comes(&self.if2),
         }
     }
 }

@@ -14,6 +14,6 @@ mod tests;
 #[cfg(test)]
 use callers::run_by_callers;
 #[cfg(test)]
-use gates::{HeldFrom, Together};
+use gates::{AllTogether, HeldFrom, Together};
 #[cfg(test)]
 use refusing::Refusing;

@@ -1,6 +1,7 @@
 use super::*;
 
 mod callers;
+mod limits;
 mod rivals;
 mod scripts;
 

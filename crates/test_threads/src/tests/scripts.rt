@@ -45,7 +45,7 @@ const LAST_OBJECT: &[u8] = br#"{"profile":2,"if1":[
   "bus":[{"op":"loopback","on":1},{"op":"round"},{"op":"status"}]}"#;
 
 /// What a script comes to in threads over this memory, from its bytes to what is printed.
-fn text_in_threads<R: SharedRam + Sync + Drop, T: Threads + Wait + Sync>(
+pub fn text_in_threads<R: SharedRam + Sync + Drop, T: Threads + Wait + Sync>(
     rt: &T,
     alloc: Global,
     bytes: &[u8],
@@ -89,6 +89,25 @@ fn hosts_wait_for_each_other_on_words(rt: HostRuntime) -> Result<(), Fail> {
 #[test]
 fn hosts_wait_for_each_other_on_one_word(rt: HostRuntime) -> Result<(), Fail> {
     hosts_wait_for_each_other::<RootRam, HostRuntime>(&rt, rt.alloc())
+}
+
+/// One line of each port.
+const ONE_EACH: &[u8] =
+    br#"{"if1":[{"op":"interrupt"}],"if2":[{"op":"interrupt"}],"bus":[{"op":"status"}]}"#;
+
+/// No port's thread waits for the end of another's before it starts.
+#[test]
+fn the_bus_starts_with_the_hosts(rt: HostRuntime) -> Result<(), Fail> {
+    let gate = AllTogether::new();
+    let outcome = run_gated::<WordRam, AllTogether, HostRuntime>(
+        &rt,
+        rt.alloc(),
+        ONE_EACH,
+        &gate,
+    )??;
+    let want = "if1 interrupt 0000\nif2 interrupt 0000\nbus status 0000\n";
+    assert!(rt; printed(rt.alloc(), &outcome)?.as_slice() == want.as_bytes());
+    Ok(())
 }
 
 #[test]
@@ -216,28 +235,31 @@ final 64 00000000 00000000 2000 0000000000000000\n";
 }
 
 /// The answers to the lines of IF1, and where a gate stopped them, over a memory of which each port may make one change.
-fn first_lines<G: Gate>(
+fn first_lines<R: SharedRam + Drop, G: Gate>(
     alloc: Global,
     script: &Script,
     gate: &G,
 ) -> Result<(Option<usize>, String), Fail> {
-    let (ram, if1, _if2, _bus) = RootRam::open_ram(alloc, script.profile, script.quota)?;
+    let (ram, if1, _if2, _bus) = R::open_ram(alloc, script.profile, script.quota)?;
     let mut log = Vec::with_capacity(alloc, script.if1.len())?;
     let mut access = On::new(&ram, if1);
     let stopped = run_port(&mut access, PortName::If1, script, gate, &mut log);
     Ok((stopped, text_of(alloc, PortName::If1, &log)?))
 }
 
-#[test]
-fn a_port_runs_as_far_as_its_gate_lets_it(rt: HostRuntime) -> Result<(), Fail> {
-    let script = read_script(rt.alloc(), SPENT)?;
-    let (stopped, text) = first_lines(rt.alloc(), &script, &FreeGate)?;
+/// IF1 runs all its lines, and with a gate the first.
+fn runs_as_far_as_its_gate_lets_it<R: SharedRam + Drop, T: Abort>(
+    rt: &T,
+    alloc: Global,
+) -> Result<(), Fail> {
+    let script = read_script(alloc, SPENT)?;
+    let (stopped, text) = first_lines::<R, FreeGate>(alloc, &script, &FreeGate)?;
     assert_eq!(rt; stopped, None);
     let all = "if1 write 01 a48c0000 00000000 0088 1122334455667788\nif1 spent 01\n\
 if1 read 01 a48c0000 00000000 0088 1122334455667788\n";
     assert_eq!(rt; text.as_str(), all);
-    let (stopped, text) = first_lines(
-        rt.alloc(),
+    let (stopped, text) = first_lines::<R, HeldFrom>(
+        alloc,
         &script,
         &HeldFrom {
             port: None,
@@ -248,4 +270,10 @@ if1 read 01 a48c0000 00000000 0088 1122334455667788\n";
     let one = "if1 write 01 a48c0000 00000000 0088 1122334455667788\n";
     assert_eq!(rt; text.as_str(), one);
     Ok(())
+}
+
+#[test]
+fn a_port_runs_as_far_as_its_gate_lets_it(rt: HostRuntime) -> Result<(), Fail> {
+    runs_as_far_as_its_gate_lets_it::<WordRam, HostRuntime>(&rt, rt.alloc())?;
+    runs_as_far_as_its_gate_lets_it::<RootRam, HostRuntime>(&rt, rt.alloc())
 }

@@ -1,0 +1,130 @@
+//! The calls of C without their promises: a test that makes many of them has then no more to prove than its own lines.
+use crate::bus::{
+    ccan_bus_flags, ccan_bus_interrupt, ccan_control, ccan_counters, ccan_init, ccan_load,
+    ccan_loop_back, ccan_recessive, ccan_round, ccan_status,
+};
+use crate::bus_handle::BusHandle;
+use crate::chip::Chip;
+use crate::ending::ccan_end;
+use crate::expect::same;
+use crate::host::{
+    ccan_flags, ccan_get, ccan_interrupt, ccan_peek, ccan_request, ccan_set, ccan_until,
+};
+use crate::host_handle::HostHandle;
+use crate::meeting::ccan_meet;
+use crate::offer::Offer;
+use crate::opening::{ccan_is_open, ccan_open};
+use crate::shown_counters::ShownCounters;
+use crate::shown_final::ShownFinal;
+use crate::shown_load::ShownLoad;
+use crate::shown_outcome::ShownOutcome;
+use crate::shown_record::ShownRecord;
+use std::alloc::Global;
+use std::process::Abort;
+
+// ---- the chip
+
+pub fn open(alloc: Global, chip: &mut Chip, profile: u32, nodes: u32, tries: u32) -> u32 {
+    ccan_open(alloc, chip, profile, nodes, tries)
+}
+
+pub fn is_open(chip: &Chip) -> bool {
+    ccan_is_open(chip)
+}
+
+pub fn meet(alloc: Global, chip: &mut Chip) -> u32 {
+    ccan_meet(alloc, chip)
+}
+
+pub fn end(alloc: Global, chip: &mut Chip, last: &mut ShownFinal) -> u32 {
+    ccan_end(alloc, chip, last)
+}
+
+/// A chip of this profile, whose bus has so many other nodes.
+pub fn opened(rt: &impl Abort, alloc: Global, profile: u32, nodes: u32) -> Chip {
+    let mut chip = Chip::closed(alloc);
+    same(rt, open(alloc, &mut chip, profile, nodes, 100), 0);
+    chip
+}
+
+// ---- a host
+
+pub fn set(host: &mut HostHandle, register: u32, value: u16) -> u32 {
+    ccan_set(host, register, value)
+}
+
+/// Sets registers, each by its number.
+pub fn set_all(rt: &impl Abort, host: &mut HostHandle, settings: &[(u32, u16)]) {
+    for (register, value) in settings {
+        same(rt, set(host, *register, *value), 0);
+    }
+}
+
+/// The register of this number as a host reads it.
+pub fn shown(rt: &impl Abort, host: &mut HostHandle, register: u32) -> u16 {
+    let mut value = 7;
+    same(rt, ccan_get(host, register, &mut value), 0);
+    value
+}
+
+pub fn request(host: &mut HostHandle, object: u16) -> u32 {
+    ccan_request(host, object)
+}
+
+pub fn flags(host: &mut HostHandle, flag: u32, word: &mut u64) -> u32 {
+    ccan_flags(host, flag, word)
+}
+
+pub fn interrupt(host: &mut HostHandle, value: &mut u16) -> u32 {
+    ccan_interrupt(host, value)
+}
+
+pub fn peek(host: &mut HostHandle, object: u32, seen: &mut ShownRecord) -> u32 {
+    ccan_peek(host, object, seen)
+}
+
+pub fn until(host: &mut HostHandle, object: u32, flag: u32, turns: u32, shows: &mut u32) -> u32 {
+    ccan_until(host, object, flag, turns, shows)
+}
+
+// ---- the bus
+
+pub fn load(bus: &mut BusHandle, loaded: &mut ShownLoad) -> u32 {
+    ccan_load(bus, loaded)
+}
+
+pub fn round(bus: &mut BusHandle, offers: &[Offer], fault: u32, outcome: &mut ShownOutcome) -> u32 {
+    ccan_round(bus, offers, fault, outcome)
+}
+
+pub fn status(bus: &mut BusHandle, word: &mut u16) -> u32 {
+    ccan_status(bus, word)
+}
+
+pub fn bus_interrupt(bus: &mut BusHandle, value: &mut u16) -> u32 {
+    ccan_bus_interrupt(bus, value)
+}
+
+pub fn bus_flags(bus: &mut BusHandle, flag: u32, word: &mut u64) -> u32 {
+    ccan_bus_flags(bus, flag, word)
+}
+
+pub fn counters(bus: &mut BusHandle, node: u32, counts: &mut ShownCounters) -> u32 {
+    ccan_counters(bus, node, counts)
+}
+
+pub fn control(bus: &mut BusHandle, sie: u32, eie: u32) -> u32 {
+    ccan_control(bus, sie, eie)
+}
+
+pub fn init(bus: &mut BusHandle) -> u32 {
+    ccan_init(bus)
+}
+
+pub fn recessive(bus: &mut BusHandle, groups: u32, state: &mut u32) -> u32 {
+    ccan_recessive(bus, groups, state)
+}
+
+pub fn loop_back(bus: &mut BusHandle, on: u32) -> u32 {
+    ccan_loop_back(bus, on)
+}
