@@ -31,7 +31,8 @@ HasPast past held = LedTo past held.bus
 
 module _ (held : Held) (after : Option Held) (past : BusPast) (sees : CanSee (pass_of held)) (led : HasPast past held) where
   told : {Out : Type 0} (l : BusLine) (shown : LineAnswer → Out) (result : ℕ) (out : Out) → Answers l shown held after result out
-      → Step HasPast held after (λ added left. LineTold (here held) held.tries l shown past (pass_of held).seen added left result out)
+      → Step HasPast held after
+      (λ added left. LineTold (here held) held.tries l shown past (pass_of held).seen added left result out)
   told l shown result out (reply, (new, is, does), code, shows) =
       moved HasPast held after sees new _ _ is does.tries does.nodes does.runs
       (λ added g. let a = g.each past led in (a.0, a.1, (reply, code, a.2, shows)))

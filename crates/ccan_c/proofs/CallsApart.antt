@@ -178,19 +178,28 @@ module _ (terms : Terms) (tries : ℕ) (some : 1 ≤ tries) where
         (code, interrupt_apart false seen added out alone value, keeps)
     host_call_apart (host.peek object result out) registers left h =
         passed_or_not (is_object terms.profile object) _ _ _ _
-        (λ (code, (found, shows, look), keeps). (code, (found, shows, looks_undisturbed terms object found added alone look), keeps))
+        (λ (code, (found, shows, look), keeps).
+        (code, (found, shows, looks_undisturbed terms object found added alone look), keeps))
         same h
     host_call_apart (host.until object number turns result out) registers left h =
         passed_or_not (is_object terms.profile object) _ _ _ _
         (known_or_not (flag_numbered number) _ _ _ _ same
         (λ flag. passed_or_not (is_from_one_to most_turns turns) _ _ _ _
-        (λ (code, (shown, shows, m)). (code, (shown, shows, host_apart terms tries some seen added alone (host_line.Until object flag turns)
-        registers (answer.Until object flag shown) left m)))
+        (λ (code, (shown, shows, m)). (
+          code,
+          (
+            shown,
+            shows,
+            host_apart terms tries some seen added alone
+                (host_line.Until object flag turns) registers (answer.Until object flag shown) left m,
+          ),
+        ))
         same))
         same h
 
     told_apart : {Out : Type 0} (l : BusLine) (shown : LineAnswer → Out) (past after : BusPast) (result : ℕ) (out : Out)
-        → LineTold terms tries l shown past seen added after result out → LineTold single tries l shown past seen added after result out
+        → LineTold terms tries l shown past seen added after result out
+        → LineTold single tries l shown past seen added after result out
     told_apart l shown past after result out (reply, code, h, shows) =
         (reply, code, bus_apart terms tries some seen added alone l past reply after h, shows)
 

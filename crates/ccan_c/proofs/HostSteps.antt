@@ -24,7 +24,8 @@ module _ (held : Held) (after : Option Held) (sees : CanSee (pass_of held)) wher
   Goal call = Step HasRegisters held after
       (λ added left. HostCallMeans (here held) held.tries call held.registers (pass_of held).seen added left)
 
-  sets : (register : Reg) (value result : ℕ) (new : Held) → result ≡ done → after ≡ Some new → SetsRegister register value held new
+  sets : (register : Reg) (value result : ℕ) (new : Held) → result ≡ done → after ≡ Some new
+      → SetsRegister register value held new
       → Step HasRegisters held after (λ added left. Rests done (set_register register value held.registers) left added result)
   sets register value result new code is_open h =
       let pass : pass_of new ≡ pass_of held = ap (λ (a : SharedPort). a.port) h.access in
@@ -58,15 +59,15 @@ module _ (held : Held) (after : Option Held) (sees : CanSee (pass_of held)) wher
   by_call (flags number result out) h =
       on_option HasRegisters held after sees (flag_numbered number) _ _ _ _
       (refused HasRegisters held after sees held.registers flag_range result refl)
-      (λ flag (code, (new, is, looks)). moved HasRegisters held after sees new _ _ is looks.keeps.tries looks.keeps.nodes looks.goes
-      (λ added m. (new.registers, refl, (code, m, looks.keeps.registers)))) h
+      (λ flag (code, (new, is, looks)). moved HasRegisters held after sees new _ _ is looks.keeps.tries looks.keeps.nodes
+      looks.goes (λ added m. (new.registers, refl, (code, m, looks.keeps.registers)))) h
   by_call (interrupt result out) (code, (new, is, looks)) =
       moved HasRegisters held after sees new _ _ is looks.keeps.tries looks.keeps.nodes looks.goes
       (λ added m. (new.registers, refl, (code, m, looks.keeps.registers)))
   by_call (peek object result out) h =
       on_bool HasRegisters held after sees (is_object (pass_of held).memory.profile object) _ _ _ _
-      (λ (code, (found, shows, (new, is, looks))). moved HasRegisters held after sees new _ _ is looks.keeps.tries looks.keeps.nodes
-      looks.goes (λ added m. (new.registers, refl, (code, (found, shows, m), looks.keeps.registers))))
+      (λ (code, (found, shows, (new, is, looks))). moved HasRegisters held after sees new _ _ is looks.keeps.tries
+      looks.keeps.nodes looks.goes (λ added m. (new.registers, refl, (code, (found, shows, m), looks.keeps.registers))))
       (refused HasRegisters held after sees held.registers object_range result refl) h
   by_call (until object number turns result out) h =
       on_bool HasRegisters held after sees (is_object (pass_of held).memory.profile object) _ _ _ _

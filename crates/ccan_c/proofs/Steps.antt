@@ -144,7 +144,8 @@ module _ {Call State : Type 0} (led : State → Held → Type 0) (does : Call �
         tries_are = s.tries ∙ at.tries_are;
         sees = s.sees;
       } in
-      let t = reached calls s.new after s.left at_new s.leads (subst (λ (o : Option Held). Leads does calls o after) s.is_open rest) in
+      let t = reached calls s.new after s.left at_new s.leads
+      (subst (λ (o : Option Held). Leads does calls o after) s.is_open rest) in
       record {
         new = t.new;
         is_open = t.is_open;
@@ -156,6 +157,6 @@ module _ {Call State : Type 0} (led : State → Held → Type 0) (does : Call �
           s.left,
           by_name held call state s.left (pass_of held).seen s.added at s.means,
           subst (λ (es : List Event). CallsMean mean calls (record { state = s.left; seen = es })
-          (record { state = t.left; seen = (pass_of t.new).seen })) s.seen t.mean_all,
+              (record { state = t.left; seen = (pass_of t.new).seen })) s.seen t.mean_all,
         );
       }

@@ -44,8 +44,12 @@ place held = record { state = held.registers; seen = (pass_of held).seen }
 abbrev pub bus_place : BusPast → Held → Place BusPast
 bus_place past held = record { state = past; seen = (pass_of held).seen }
 
+abbrev pub all_places : Held → Held → Held → BusPast → Places
+all_places first second third past = record { if1 = place first; if2 = place second; bus = bus_place past third }
+
 -- ports that have just been opened are such ports
-at_opening : (memory : Memory) (port : PortName) (nodes tries : ℕ) (held : Held) → IsOpening (opened memory port) nodes tries held
+at_opening : (memory : Memory) (port : PortName) (nodes tries : ℕ) (held : Held)
+    → IsOpening (opened memory port) nodes tries held
     → IsAt memory port nodes tries held
 at_opening memory port nodes tries held h = record {
   memory_is = ap (λ (p : Pass). p.memory) h.port_is;
@@ -74,7 +78,7 @@ module _ (memory : Memory) (nodes tries : ℕ) where
     pub led : LedTo past third.bus
 
   abbrev pub places : {chip : Chip} → ChipAt chip → Places
-  places c = record { if1 = place c.first; if2 = place c.second; bus = bus_place c.past c.third }
+  places c = all_places c.first c.second c.third c.past
 
   -- ---- calls
 
@@ -83,13 +87,14 @@ module _ (memory : Memory) (nodes tries : ℕ) where
       → (new : Held) × (after ≡ Some new) × IsAt memory port nodes tries new
       × CallsMean (HostCallMeans (terms port) tries) calls (place held) (place new)
   host_calls port calls held before after at is leads =
-      let r = reached HasRegisters HostCallDoes (λ t n m. HostCallMeans t n) host_step memory port nodes tries calls held after held.registers at refl
+      let r = reached HasRegisters HostCallDoes (λ t n m. HostCallMeans t n) host_step memory port nodes tries calls held after
+      held.registers at refl
       (subst (λ (o : Option Held). Leads HostCallDoes calls o after) is leads) in (
         r.new,
         r.is_open,
         r.at,
         subst (λ (s : Registers). CallsMean (HostCallMeans (terms port) tries) calls (place held)
-        (record { state = s; seen = (pass_of r.new).seen })) r.leads r.mean_all,
+            (record { state = s; seen = (pass_of r.new).seen })) r.leads r.mean_all,
       )
 
   bus_calls : (calls : List BusCall) (held : Held) (past : BusPast) (before after : Option Held)
@@ -113,11 +118,12 @@ module _ (memory : Memory) (nodes tries : ℕ) where
     sees = met.sees;
   }
 
-  meets : {State : Type 0} (port : PortName) (h k l old new : Held) (before after : State) (r s : Registers) (past : BusPast)
-      → IsAt memory port nodes tries old → after ≡ before → HasMet (pass_of h) (pass_of k) (pass_of l) (pass_of old) (pass_of new)
-      → MeetsAll port (record { if1 = record { state = r; seen = (pass_of h).seen }; if2 = record { state = s; seen = (pass_of k).seen }; bus = bus_place past l })
+  meets : {State : Type 0} (port : PortName) (h k l old new : Held) (past : BusPast) (before after : State)
+      → IsAt memory port nodes tries old → after ≡ before
+      → HasMet (pass_of h) (pass_of k) (pass_of l) (pass_of old) (pass_of new)
+      → MeetsAll port (all_places h k l past)
       (record { state = before; seen = (pass_of old).seen }) (record { state = after; seen = (pass_of new).seen })
-  meets port h k l old new before after r s past at keeps met = record {
+  meets port h k l old new past before after at keeps met = record {
     keeps = keeps;
     begins_if1 = met.begins_if1;
     begins_if2 = met.begins_if2;
@@ -130,6 +136,7 @@ module _ (memory : Memory) (nodes tries : ℕ) where
   abbrev Done : Part → {old : Chip} → ChipAt old → Chip → Type 0
   Done part c new = (d : ChipAt new) × PartMeans terms tries nodes part (places c) (places d)
 
+  -- calls lead each handle on by itself; a meeting is of the handles that stand here, since an open handle stands for one thing
   part_done : (part : Part) (old new : Chip) (c : ChipAt old) → PartDoes part old new → Done part c new
   part_done (at_once if1 if2 bus) old new c h =
       let a = host_calls If1 if1 c.first (held_by old.if1) (held_by new.if1) c.if1_at c.if1_open h.if1_leads in
@@ -170,9 +177,9 @@ module _ (memory : Memory) (nodes tries : ℕ) where
           led = subst (λ (b : a_bus.Bus). LedTo c.past b) (sym here.keeps_bus.bus) c.led;
         },
         record {
-          if1_meets = meets If1 c.first c.second c.third c.first h' _ _ _ _ c.past c.if1_at here.keeps_if1.registers ports.if1_met;
-          if2_meets = meets If2 c.first c.second c.third c.second k' _ _ _ _ c.past c.if2_at here.keeps_if2.registers ports.if2_met;
-          bus_meets = meets Bus c.first c.second c.third c.third l' _ _ _ _ c.past c.bus_at refl ports.bus_met;
+          if1_meets = meets If1 c.first c.second c.third c.first h' c.past _ _ c.if1_at here.keeps_if1.registers ports.if1_met;
+          if2_meets = meets If2 c.first c.second c.third c.second k' c.past _ _ c.if2_at here.keeps_if2.registers ports.if2_met;
+          bus_meets = meets Bus c.first c.second c.third c.third l' c.past c.past c.past c.bus_at refl ports.bus_met;
         },
       )
 
@@ -247,5 +254,6 @@ fit_one_history profile nodes tries parts chip last out opens does ended =
       bus = record { state = opened_at_once nodes; seen = (third.port_is i).seen };
     } in
     let done = parts_done memory nodes tries parts chip last c does in
-    let means = subst (λ (p : Places). PartsMean (terms memory nodes tries) tries nodes parts p (places memory nodes tries done.0)) from done.1 in
+    let to = places memory nodes tries done.0 in
+    let means = subst (λ (p : Places). PartsMean (terms memory nodes tries) tries nodes parts p to) from done.1 in
     fits_at_end memory nodes tries profile parts last out done.0 opens.memory_is means ended

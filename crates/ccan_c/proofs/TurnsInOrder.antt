@@ -19,8 +19,9 @@ use Rattle.ccan_run.proofs.Apart.{both_empty, no_others, none_of_all, same_or_no
 use Rattle.ccan_c.specs.declared.shown_final.ShownFinal.{ShownFinal}
 use Rattle.ccan_c.specs.BusCall.{BusCall, BusCallMeans}
 use Rattle.ccan_c.specs.HostCall.{HostCall, HostCallMeans}
-use Rattle.ccan_c.specs.OneThread.{Turn, on_if1, on_if2, on_bus, turn_alone, met_turns, in_turns, PortCall, of_if1, of_if2, of_bus}
-use Rattle.ccan_c.specs.OneThread.{calls_of_turn, calls_of, opening_three, PortCallMeans, single_terms, RunInOrder, TurnsRunInOrder}
+use Rattle.ccan_c.specs.OneThread.{Turn, on_if1, on_if2, on_bus, turn_alone, met_turns, in_turns, calls_of_turn, calls_of}
+use Rattle.ccan_c.specs.OneThread.{PortCall, of_if1, of_if2, of_bus, PortCallMeans, opening_three, single_terms}
+use Rattle.ccan_c.specs.OneThread.{RunInOrder, TurnsRunInOrder}
 use Rattle.ccan_c.specs.Step.{Place, CallsMean}
 use Rattle.ccan_c.specs.Threads.{Places, opening, PartMeans, PartsMean, MeetsAll, HaveMetAll, FitOneHistory}
 use Rattle.ccan_c.proofs.CallsApart.{host_call_apart, bus_call_apart}
@@ -40,9 +41,9 @@ module _ {Call State : Type 0} (port : PortName) (means alone_means : Call → S
         r.0 ++ first,
         r.1 ∙ sym (append_assoc r.0 first old.seen),
         λ alone. (
-          let parts = undisturbed_parts port r.0 first alone in
-          (first, left, apart call old.state old.seen first left parts.1 m, r.2 parts.0)
-        ),
+            let parts = undisturbed_parts port r.0 first alone in
+            (first, left, apart call old.state old.seen first left parts.1 m, r.2 parts.0)
+            ),
       )
 
 -- calls of one handle among those of all
@@ -53,7 +54,8 @@ module _ {Call Other State Whole : Type 0} (means : Call → State → List Even
   calls_among : (calls : List Call) (old new : Place State) → CallsMean means calls old new
       → CallsMean whole_means (map name calls) (record { state = in_whole old.state; seen = old.seen })
       (record { state = in_whole new.state; seen = new.seen })
-  calls_among [] old new is = ap (λ (p : Place State). (let q : Place Whole = record { state = in_whole p.state; seen = p.seen } in q)) is
+  calls_among [] old new is =
+      ap (λ (p : Place State). (let q : Place Whole = record { state = in_whole p.state; seen = p.seen } in q)) is
   calls_among (call ∷ calls) old new (first, left, m, rest) = (
     first,
     in_whole left,
@@ -113,7 +115,8 @@ module _ (profile : Profile) (nodes tries : ℕ) where
 
   -- ---- one more turn
 
-  module _ (old new : Places) (port : PortName) (done calls : List PortCall) (s : SoFar old done) (turn : Turned old new port calls) where
+  module _ (old new : Places) (port : PortName) (done calls : List PortCall) (s : SoFar old done)
+      (turn : Turned old new port calls) where
     abbrev before : PortName → List Event
     before = seen_in old
 
@@ -141,8 +144,8 @@ module _ (profile : Profile) (nodes tries : ℕ) where
           let more = (s.holds name).0 in
           let own = events_of name (before name) in (
             last ++ more,
-            ap (events_of name) after_is ∙ events_of-append name (turn.added ++ gap) front ∙ ap (λ es. last ++ es) (s.holds name).1
-                ∙ sym (append_assoc last more own) ∙ ap (λ es. (last ++ more) ++ es) (sym (turn.starts.others name apart)),
+            ap (events_of name) after_is ∙ events_of-append name (turn.added ++ gap) front
+                ∙ ap (λ es. last ++ es) (s.holds name).1 ∙ sym (append_assoc last more own) ∙ ap (λ es. (last ++ more) ++ es) (sym (turn.starts.others name apart)),
           )
     ]
 
@@ -152,16 +155,19 @@ module _ (profile : Profile) (nodes tries : ℕ) where
       of_another name apart =
           let all = ap (events_of name) (sym after_is) ∙ theirs name ∙ turn.starts.others name apart in
           let none = no_others name (turn.added ++ gap) front (events_of name (before name)) (s.holds name) all in
-          let parts = both_empty (events_of name turn.added) (events_of name gap) (sym (events_of-append name turn.added gap) ∙ none.0) in
+          let parts = both_empty (events_of name turn.added) (events_of name gap)
+          (sym (events_of-append name turn.added gap) ∙ none.0) in
           (parts.0, parts.1, none.1)
 
       of_own : (events_of port gap ≡ []) × (events_of port front ≡ events_of port (before port))
       of_own =
-          no_others port gap front (events_of port (before port)) (s.holds port) (ap (events_of port) (sym start_is) ∙ turn.starts.own)
+          no_others port gap front (events_of port (before port)) (s.holds port)
+          (ap (events_of port) (sym start_is) ∙ turn.starts.own)
 
       of_any : (name : PortName) → (events_of name gap ≡ []) × (events_of name front ≡ events_of name (before name))
       of_any name = elim (same_or_not name port) [
-        | inl is ↦ subst (λ (p : PortName). (events_of p gap ≡ []) × (events_of p front ≡ events_of p (before p))) (sym is) of_own
+        | inl is ↦
+            subst (λ (p : PortName). (events_of p gap ≡ []) × (events_of p front ≡ events_of p (before p))) (sym is) of_own
         | inr apart ↦ let one = of_another name apart in (one.1, one.2)
       ]
 
@@ -217,6 +223,8 @@ module _ (profile : Profile) (nodes tries : ℕ) where
     begins_all port all old met meets If2 = meets.begins_if2
     begins_all port all old met meets Bus = meets.begins_bus
 
+    -- the handle of the turn starts from what it had seen after the meeting, and adds the events of its calls; the two others
+    -- stay as the meeting left them, in which they made no event
     turned : (turn : Turn) (old met new : Places) → HaveMetAll old met
         → PartMeans shared tries nodes (turn_alone turn) met new
         → (port : PortName) × Turned old new port (calls_of_turn turn)
@@ -302,7 +310,8 @@ module _ (profile : Profile) (nodes tries : ℕ) where
     all_turned : (turns : List Turn) (old last : Places) (done : List PortCall) → SoFar old done
         → PartsMean shared tries nodes (met_turns turns) old last → SoFar last (done ++ calls_of turns)
     all_turned [] old last done s is =
-        subst (λ (calls : List PortCall). SoFar last calls) (sym (append-nil done)) (subst (λ (p : Places). SoFar p done) (sym is) s)
+        subst (λ (calls : List PortCall). SoFar last calls) (sym (append-nil done))
+        (subst (λ (p : Places). SoFar p done) (sym is) s)
     all_turned (turn ∷ turns) old last done s (met, meets, (between, means, rest)) =
         let t = turned turn old met between meets means in
         let more = so_far_more old between t.0 done (calls_of_turn turn) s t.1 in
@@ -329,12 +338,14 @@ module _ (profile : Profile) (nodes tries : ℕ) where
   in_order turns out some fit =
       let s = all_turned fit.memory fit.memory_is some turns (opening nodes) fit.last [] so_far_none
       (first_met fit.memory fit.memory_is some turns fit.last fit.means) in
-      let theirs : IsTheirs (seen_in fit.last) fit.history = elim [ If1 ↦ fit.if1.own | If2 ↦ fit.if2.own | Bus ↦ fit.bus.own ] in
+      let theirs : IsTheirs (seen_in fit.last) fit.history
+      = elim [ If1 ↦ fit.if1.own | If2 ↦ fit.if2.own | Bus ↦ fit.bus.own ] in
       let begins : (name : PortName) → BeginsWith fit.history (seen_in fit.last name)
       = elim [ If1 ↦ fit.if1.begins | If2 ↦ fit.if2.begins | Bus ↦ fit.bus.begins ] in
       let front = seen_in fit.last s.front in
       let more = begins s.front in
-      let none : (name : PortName) → (events_of name more.0 ≡ []) × (events_of name front ≡ events_of name (seen_in fit.last name))
+      let none : (name : PortName)
+      → (events_of name more.0 ≡ []) × (events_of name front ≡ events_of name (seen_in fit.last name))
       = λ name. no_others name more.0 front (events_of name (seen_in fit.last name)) (s.holds name)
       (ap (events_of name) (sym more.1) ∙ theirs name) in
       let whole : fit.history ≡ front = more.1 ∙ ap (λ es. es ++ front) (none_of_all more.0 (λ name. (none name).0)) in
@@ -349,4 +360,5 @@ module _ (profile : Profile) (nodes tries : ℕ) where
 
 pub turns_in_order : TurnsRunInOrder
 turns_in_order profile nodes tries turns chip last out some opens does ends =
-    in_order profile nodes tries turns out some (fit_one_history profile nodes tries (in_turns turns) chip last out opens does ends)
+    in_order profile nodes tries turns out some
+    (fit_one_history profile nodes tries (in_turns turns) chip last out opens does ends)

@@ -23,7 +23,8 @@ CallsMean means (call ∷ calls) old new =
     (added : List Event) × (left : _) × means call old.state old.seen added left
     × CallsMean means calls (record { state = left; seen = added ++ old.seen }) new
 
--- calls on a handle, one after another, each as its contract has it, lead from what the handle stood for to what it stands for
+-- calls on a handle, one after another, lead from what the handle stood for to what it stands for, each as its contract has
+-- it
 abbrev pub Leads : {Call : Type 0} → (Call → Option Held → Option Held → Type 0) → List Call → Option Held → Option Held → Type 0
 Leads does [] before after = after ≡ before
 Leads does (call ∷ calls) before after =

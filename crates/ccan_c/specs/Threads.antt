@@ -33,13 +33,13 @@ pub data Part : Type 0 where
   meeting : Part
 
 -- each call and each meeting has its contract, and so they lead from the one chip to the other
-pub record LeadOnce (if1 if2 : List HostCall) (bus : List BusCall) (old new : Chip) : Type 0 where
+pub record LeadAtOnce (if1 if2 : List HostCall) (bus : List BusCall) (old new : Chip) : Type 0 where
   pub if1_leads : Leads HostCallDoes if1 (held_by old.if1) (held_by new.if1)
   pub if2_leads : Leads HostCallDoes if2 (held_by old.if2) (held_by new.if2)
   pub bus_leads : Leads BusCallDoes bus (held_on old.bus) (held_on new.bus)
 
 abbrev pub PartDoes : Part → Chip → Chip → Type 0
-PartDoes (at_once if1 if2 bus) old new = LeadOnce if1 if2 bus old new
+PartDoes (at_once if1 if2 bus) old new = LeadAtOnce if1 if2 bus old new
 PartDoes meeting old new = Meet old new
 
 abbrev pub PartsDo : List Part → Chip → Chip → Type 0
@@ -64,7 +64,7 @@ opening nodes =
     }
 
 -- the calls of each handle stand for events of its port's history
-pub record MeanOnce (terms : PortName → Terms) (tries nodes : ℕ) (if1 if2 : List HostCall) (bus : List BusCall)
+pub record MeanAtOnce (terms : PortName → Terms) (tries nodes : ℕ) (if1 if2 : List HostCall) (bus : List BusCall)
     (old new : Places) : Type 0 where
   pub if1_means : CallsMean (HostCallMeans (terms If1) tries) if1 old.if1 new.if1
   pub if2_means : CallsMean (HostCallMeans (terms If2) tries) if2 old.if2 new.if2
@@ -84,7 +84,7 @@ pub record HaveMetAll (old new : Places) : Type 0 where
   pub bus_meets : MeetsAll Bus old old.bus new.bus
 
 abbrev pub PartMeans : (PortName → Terms) → ℕ → ℕ → Part → Places → Places → Type 0
-PartMeans terms tries nodes (at_once if1 if2 bus) old new = MeanOnce terms tries nodes if1 if2 bus old new
+PartMeans terms tries nodes (at_once if1 if2 bus) old new = MeanAtOnce terms tries nodes if1 if2 bus old new
 PartMeans terms tries nodes meeting old new = HaveMetAll old new
 
 abbrev pub PartsMean : (PortName → Terms) → ℕ → ℕ → List Part → Places → Places → Type 0
