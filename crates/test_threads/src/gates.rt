@@ -1,25 +1,25 @@
 //! Gates that make ports wait for one another, or stop them.
-ghost use Rattle.std.specs.Prelude.{◌≡◌, ◌≤◌, ◌<◌, None};
+ghost use Rattle.std.specs.Prelude.{◌≡◌, ◌≤◌, ◌<◌, None, false, true, length};
 
 use ccan_ram::PortName;
 use ccan_run::Gate;
+use ccan_script::LineAnswer;
 use std::sync::atomic::{AtomicU64, Ordering};
 
 /// How often a port looks whether the other has come, before it gives up.
 const TURNS: u32 = 50_000_000;
 
-/// Lets line 1 of each host pass once both hosts have come there. So no host gets past it who runs before the other has
-/// begun, as on one thread.
+/// Where two hosts meet: a word for each, which is raised once the host has come.
 #[derive(Drop)]
-pub struct Together {
+pub struct Meeting {
     if1: AtomicU64,
     if2: AtomicU64,
 }
 
-impl Together {
-    /// A gate to which neither host has come.
-    pub fn new() -> Together {
-        Together {
+impl Meeting {
+    /// A place to which neither host has come.
+    pub fn new() -> Meeting {
+        Meeting {
             if1: AtomicU64::new(0),
             if2: AtomicU64::new(0),
         }
@@ -37,16 +37,24 @@ fn meet(own: &AtomicU64, other: &AtomicU64) -> bool {
     false
 }
 
-impl Gate for Together {
-    ghost stops = { λ _ _ line. line ≡ 1 };
+/// Lets line 1 of each host pass once both hosts have come there. So no host gets past it who runs before the other has
+/// begun, as on one thread.
+#[derive(Clone, Copy)]
+pub struct Together<'a> {
+    /// Where the hosts meet.
+    pub at: &'a Meeting,
+}
 
-    fn enter(&self, port: PortName, line: usize) -> bool {
-        if line != 1 {
+impl<'a> Gate for Together<'a> {
+    ghost enters = { λ _ _ answers answer _. answer ≡ false → length answers ≡ 1 };
+
+    fn enter(&mut self, port: PortName, answers: &[LineAnswer]) -> bool {
+        if answers.len() != 1 {
             return true;
         }
         match port {
-            PortName::If1 => meet(&self.if1, &self.if2),
-            PortName::If2 => meet(&self.if2, &self.if1),
+            PortName::If1 => meet(&self.at.if1, &self.at.if2),
+            PortName::If2 => meet(&self.at.if2, &self.at.if1),
             PortName::Bus => true,
         }
     }
@@ -62,15 +70,15 @@ pub struct HeldFrom {
 }
 
 impl Gate for HeldFrom {
-    ghost stops = { λ gate _ line. gate.line ≤ line };
+    ghost use Rattle.test_threads.specs.Gates.{HoldsFrom};
 
-    ghost lets = { λ gate _ line. gate.port ≡ None → line < gate.line };
+    ghost enters = { λ gate _ answers answer left. HoldsFrom gate answers answer left };
 
-    fn enter(&self, port: PortName, line: usize) -> bool {
+    fn enter(&mut self, port: PortName, answers: &[LineAnswer]) -> bool {
         let stopped = match self.port {
             Some(name) => name == port,
             None => true,
         };
-        !stopped || line < self.line
+        !stopped || answers.len() < self.line
     }
 }

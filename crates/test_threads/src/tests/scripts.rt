@@ -57,7 +57,7 @@ fn text_in_threads<R: SharedRam + Sync + Drop, T: Threads + Wait + Sync>(
 }
 
 /// Runs a script in threads with a gate.
-fn run_gated<R: SharedRam + Sync + Drop, G: Gate + Sync, T: Threads + Wait + Sync>(
+fn run_gated<R: SharedRam + Sync + Drop, G: Gate + Copy + Sync, T: Threads + Wait + Sync>(
     rt: &T,
     alloc: Global,
     bytes: &[u8],
@@ -72,7 +72,8 @@ fn hosts_wait_for_each_other<R: SharedRam + Sync + Drop, T: Threads + Wait + Abo
     rt: &T,
     alloc: Global,
 ) -> Result<(), Fail> {
-    let gate = Together::new();
+    let meeting = Meeting::new();
+    let gate = Together { at: &meeting };
     let outcome = run_gated::<R, Together, T>(rt, alloc, WAIT_FOR_EACH_OTHER, &gate)??;
     let want = "if1 write 01 00000000 00000000 8000 0000000000000000\nif1 until 02 newdat yes\n\
 if2 write 02 00000000 00000000 8000 0000000000000000\nif2 until 01 newdat yes\n\
@@ -219,7 +220,7 @@ final 64 00000000 00000000 2000 0000000000000000\n";
 fn first_lines<G: Gate>(
     alloc: Global,
     script: &Script,
-    gate: &G,
+    gate: &mut G,
 ) -> Result<(Option<usize>, String), Fail> {
     let (ram, if1, _if2, _bus) = RootRam::open_ram(alloc, script.profile, script.quota)?;
     let mut log = Vec::with_capacity(alloc, script.if1.len())?;
@@ -231,7 +232,7 @@ fn first_lines<G: Gate>(
 #[test]
 fn a_port_runs_as_far_as_its_gate_lets_it(rt: HostRuntime) -> Result<(), Fail> {
     let script = read_script(rt.alloc(), SPENT)?;
-    let (stopped, text) = first_lines(rt.alloc(), &script, &FreeGate)?;
+    let (stopped, text) = first_lines(rt.alloc(), &script, &mut FreeGate)?;
     assert_eq!(rt; stopped, None);
     let all = "if1 write 01 a48c0000 00000000 0088 1122334455667788\nif1 spent 01\n\
 if1 read 01 a48c0000 00000000 0088 1122334455667788\n";
@@ -239,7 +240,7 @@ if1 read 01 a48c0000 00000000 0088 1122334455667788\n";
     let (stopped, text) = first_lines(
         rt.alloc(),
         &script,
-        &HeldFrom {
+        &mut HeldFrom {
             port: None,
             line: 1,
         },
