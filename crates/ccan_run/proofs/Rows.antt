@@ -1,27 +1,49 @@
 -- Lines, one after another.
-use Rattle.std.proofs.Common.{ℕ, ◌≡◌, ◌<◌, ◌≤◌, ◌+◌, ◌⊎◌, inl, inr, List, [], ◌∷◌, ◌++◌, refl, sym, ap, subst, ◌∙◌}
-use Rattle.std.proofs.Common.{append_assoc, arith}
+use Rattle.std.proofs.Common.{ℕ, zero, suc, ◌≡◌, ◌≤◌, ◌+◌, Bool, true, List, [], ◌∷◌, ◌++◌, refl, sym, ap, subst, ◌∙◌}
+use Rattle.std.proofs.Common.{append_assoc, arith, length, take}
 use Rattle.std.specs.Prelude.{Option}
 use Rattle.std.proofs.lemmas.List.{append-nil}
-use Rattle.std.proofs.lemmas.Bool.{cases_lt}
+use Rattle.std.proofs.lemmas.Grind.{common_steps}
 use Rattle.ccan_ram.specs.declared.port.PortName.{PortName}
 use Rattle.ccan_ram.specs.declared.event.Event.{Event}
 use Rattle.ccan_ram.specs.Terms.{Terms}
 use Rattle.ccan_ram.specs.Access.{Passes, Goes}
 use Rattle.ccan_ram.proofs.Calls.{Goes-then, Goes-weaker}
 use Rattle.ccan_run.specs.Side.{GoesOn}
-use Rattle.ccan_run.specs.Gate.{HasLet, ran}
+use Rattle.ccan_script.specs.declared.line_answer.LineAnswer.{LineAnswer}
+use Rattle.ccan_run.specs.Gate.{LetsRun, ran}
 use Rattle.ccan_run.specs.Lines.{LinesMean, Run}
 
-module _ (lets : PortName → ℕ → Type 0) (port : PortName) (count : ℕ)
-    (so_far : HasLet lets port count) (last : lets port count) where
-  let_at : (line : ℕ) → line < count + 1 → (line < count) ⊎ (count ≤ line) → lets port line
-  let_at line below (inl before) = so_far line before
-  let_at line below (inr after) = subst (λ (n : ℕ). lets port n) (omega arith) last
+module _ {Gate : Type 0} (enters : Gate → PortName → List LineAnswer → Bool → Gate → Type 0) (port : PortName)
+    (answers : List LineAnswer) (answer : LineAnswer) where
+  first_ones : (n : ℕ) → n ≤ length answers → take n (answers ++ answer ∷ []) ≡ take n answers
+  first_ones n less = grind (arith, common_steps)
 
-  -- a gate that let the next line run too
-  pub HasLet-more : HasLet lets port (count + 1)
-  HasLet-more line below = let_at line below (cases_lt line count)
+  -- with one more answer the gate was asked the same before
+  lets_same : (n : ℕ) (old new : Gate) → n ≤ length answers → LetsRun enters port answers n old new
+      → LetsRun enters port (answers ++ answer ∷ []) n old new
+  lets_same zero old new less let_run = let_run
+  lets_same (suc n) old new less (between, before, last) = (
+    between,
+    lets_same n old between (omega (arith, less)) before,
+    subst (λ (shown : List LineAnswer). enters between port shown true new) (sym (first_ones n (omega (arith, less)))) last,
+  )
+
+  -- and it let one more line run
+  pub LetsRun-more : (n : ℕ) (more shown : List LineAnswer) (said : Bool) (old between new : Gate) → length answers ≡ n
+      → more ≡ answers ++ answer ∷ [] → LetsRun enters port answers n old between → shown ≡ answers → said ≡ true
+      → enters between port shown said new → LetsRun enters port more (n + 1) old new
+  LetsRun-more n more shown said old between new counted is before same so last =
+      let all : take n (answers ++ answer ∷ []) ≡ answers = grind (arith, common_steps) in
+      let entered = subst (λ (b : Bool). enters between port shown b new) so last in
+      let there : LetsRun enters port (answers ++ answer ∷ []) (suc n) old new = (
+        between,
+        lets_same n old between (omega (arith, counted)) before,
+        subst (λ (l : List LineAnswer). enters between port l true new) (same ∙ sym all) entered,
+      ) in
+      let next : suc n ≡ n + 1 = omega arith in
+      subst (λ (k : ℕ). LetsRun enters port more k old new) next
+      (subst (λ (l : List LineAnswer). LetsRun enters port l (suc n) old new) (sym is) there)
 
 pub GoesOn-then : {State Value : Type 0} {led_to : State → Value → Type 0} {x y z : Value} {first second both : State → State → Type 0}
     → GoesOn led_to x y first → GoesOn led_to y z second

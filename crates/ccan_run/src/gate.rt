@@ -1,23 +1,22 @@
 use ccan_ram::PortName;
+use ccan_script::LineAnswer;
 
 /// What a port asks before each of its lines, and what may stop it there.
 ///
-/// A gate takes no runtime handle: it may turn in a counted loop over atomics, but it locks nothing and waits for nobody.
+/// A gate is shown the answers to the lines that ran, so it can't be asked for a line before all that come before it have
+/// run. It takes no runtime handle: it may turn in a counted loop over atomics, but it locks nothing and waits for nobody.
 /// With it a test makes one port wait until another has come as far, or ends a run in the middle.
 pub trait Gate {
-    ghost use Rattle.std.specs.Prelude.{◌≡◌, ℕ, true, false};
+    ghost use Rattle.std.specs.Prelude.{Bool, List};
     ghost use Rattle.ccan_ram.specs.declared.port.PortName.{PortName};
+    ghost use Rattle.ccan_script.specs.declared.line_answer.LineAnswer.{LineAnswer};
 
-    /// Before which lines of a port it may stop the port.
-    ghost stops: { Self → PortName → ℕ → Type 0 };
+    /// Asked so by a port with these answers, it may answer this and be this afterwards.
+    ghost enters: { Self → PortName → List LineAnswer → Bool → Self → Type 0 };
 
-    /// Which lines of a port it may let the port run: all, where an implementation leaves this out.
-    ghost lets: { Self → PortName → ℕ → Type 0 } = { λ _ _ _. Unit {0} };
-
-    /// Whether the port may run the line of this index, from 0.
-    fn enter(&self, port: PortName, line: usize) -> bool
-        ensures stops { result ≡ false → stops self.now port line }
-        ensures lets { result ≡ true → lets self.now port line };
+    /// Whether the port may run its next line, after those that have these answers.
+    fn enter(&mut self, port: PortName, answers: &[LineAnswer]) -> bool
+        ensures { enters self.old port answers.now result self.new };
 }
 
 /// A gate that stops nothing.
@@ -25,9 +24,11 @@ pub trait Gate {
 pub struct FreeGate;
 
 impl Gate for FreeGate {
-    ghost stops = { λ _ _ _. ⊥ };
+    ghost use Rattle.std.specs.Prelude.{◌≡◌, true};
 
-    fn enter(&self, _port: PortName, _line: usize) -> bool {
+    ghost enters = { λ _ _ _ answer _. answer ≡ true };
+
+    fn enter(&mut self, _port: PortName, _answers: &[LineAnswer]) -> bool {
         true
     }
 }

@@ -7,7 +7,7 @@ ghost use Rattle.ccan_script.specs.HostLine.{HostFits};
 ghost use Rattle.ccan_script.specs.BusLine.{BusFits};
 ghost use Rattle.ccan_run.specs.BusPort.{BusLineMeans};
 ghost use Rattle.ccan_run.specs.Host.{HostLineMeans};
-ghost use Rattle.ccan_run.specs.Gate.{HasLet, StoppedAt, ran};
+ghost use Rattle.ccan_run.specs.Gate.{Asks, IsHeldAt, ran};
 ghost use Rattle.ccan_run.specs.Lines.{Run};
 ghost use Rattle.ccan_run.specs.Port.{PortMeans, count_of};
 
@@ -24,7 +24,7 @@ fn run_host<A: Access, G: Gate>(
     port: PortName,
     lines: &[HostLine],
     tries: Tries,
-    gate: &G,
+    gate: &mut G,
     log: &mut Vec<LineAnswer>,
 ) -> Option<usize>
     requires fit { All (HostFits (A.passes access.old).terms.profile) lines.now }
@@ -32,8 +32,8 @@ fn run_host<A: Access, G: Gate>(
     requires room { length lines.now ≤ vec_capacity log.old }
     ensures runs { Goes (A.passes access.old) (A.passes access.new) (λ terms seen added.
         Run (HostLineMeans terms tries) zero_registers (ran result lines.now) seen added log.new.items) }
-    ensures stopped { IfSome result (StoppedAt (G.stops gate.now) port (length lines.now)) }
-    ensures entered { HasLet (G.lets gate.now) port (length log.new.items) }
+    ensures stopped { IfSome result (IsHeldAt (length lines.now) log.new.items) }
+    ensures asked { Asks G.enters port log.new.items result gate.old gate.new }
 {
     let mut registers = Iface::new();
     run_lines(&mut registers, access, port, lines, tries, gate, log)
@@ -45,7 +45,7 @@ fn run_bus<A: Access, G: Gate>(
     nodes: u8,
     lines: &[BusLine],
     tries: Tries,
-    gate: &G,
+    gate: &mut G,
     log: &mut Vec<LineAnswer>,
 ) -> Option<usize>
     requires few { nodes ≤ 8 }
@@ -54,15 +54,16 @@ fn run_bus<A: Access, G: Gate>(
     requires room { length lines.now ≤ vec_capacity log.old }
     ensures runs { Goes (A.passes access.old) (A.passes access.new) (λ terms seen added.
         Run (BusLineMeans terms tries) (opened nodes) (ran result lines.now) seen added log.new.items) }
-    ensures stopped { IfSome result (StoppedAt (G.stops gate.now) PortName.Bus (length lines.now)) }
-    ensures entered { HasLet (G.lets gate.now) PortName.Bus (length log.new.items) }
+    ensures stopped { IfSome result (IsHeldAt (length lines.now) log.new.items) }
+    ensures asked { Asks G.enters PortName.Bus log.new.items result gate.old gate.new }
 {
     let mut bus = Bus::new(access.profile(), nodes);
     run_lines(&mut bus, access, PortName::Bus, lines, tries, gate, log)
 }
 
 /// Runs the lines of a port in turn, as far as the gate lets it, and logs their answers. `None` where all ran, and else the
-/// index of the line before which the gate stopped the port. No line runs that the gate did not let through.
+/// index of the line before which the gate stopped the port. The gate is asked once before each line, with the answers so
+/// far, and for nothing else.
 ///
 /// A host begins with registers that read 0, the bus with nothing loaded and nodes to which nothing happened. Three threads
 /// of a caller's own may each run this for one port of a shared memory, over [`ccan_ram::On`]; what they did is then one
@@ -71,7 +72,7 @@ pub fn run_port<A: Access, G: Gate>(
     access: &mut A,
     port: PortName,
     script: &Script,
-    gate: &G,
+    gate: &mut G,
     log: &mut Vec<LineAnswer>,
 ) -> Option<usize>
     requires profile { (A.passes access.old).terms.profile ≡ script.now.profile }
@@ -80,8 +81,8 @@ pub fn run_port<A: Access, G: Gate>(
     ensures runs { Goes (A.passes access.old) (A.passes access.new) (λ terms seen added.
         PortMeans terms (fields_of script.now) port result seen added log.new.items) }
     ensures stopped { let count = count_of (fields_of script.now) port in
-        IfSome result (StoppedAt (G.stops gate.now) port count) }
-    ensures entered { HasLet (G.lets gate.now) port (length log.new.items) }
+        IfSome result (IsHeldAt count log.new.items) }
+    ensures asked { Asks G.enters port log.new.items result gate.old gate.new }
 {
     let tries = script.tries;
     match port {

@@ -1,8 +1,8 @@
 //! A port that runs its lines in a thread of its own.
-ghost use Rattle.std.specs.Prelude.{◌≡◌, length, vec_capacity};
+ghost use Rattle.std.specs.Prelude.{◌≡◌, vec_capacity};
 ghost use Rattle.ccan_ram.specs.SharedRam.{opened};
 ghost use Rattle.ccan_script.specs.Reader.{fields_of};
-ghost use Rattle.ccan_run.specs.Gate.{HasLet};
+ghost use Rattle.ccan_run.specs.Gate.{WasAsked};
 ghost use Rattle.ccan_run.specs.Threads.{HasRoom, HasRun};
 
 use crate::gate::Gate;
@@ -23,8 +23,8 @@ pub(crate) struct PortRun<P: Drop> {
     pub(crate) port: P,
 }
 
-/// Runs the lines of a port that was just opened.
-pub(crate) fn run_opened<R: SharedRam, G: Gate>(
+/// Runs the lines of a port that was just opened, which asks a gate of its own, a copy of this one.
+pub(crate) fn run_opened<R: SharedRam, G: Gate + Copy>(
     ram: &R,
     port: R::Port,
     name: PortName,
@@ -35,13 +35,14 @@ pub(crate) fn run_opened<R: SharedRam, G: Gate>(
     requires opened { R.pass port ≡ opened (R.memory ram.now) name }
     requires profile { (R.memory ram.now).profile ≡ script.now.profile }
     requires room { HasRoom (fields_of script.now) name log.items (vec_capacity log) }
-    ensures ran { HasRun R.contends (G.stops gate.now) (R.memory ram.now) (fields_of script.now)
+    ensures ran { HasRun R.contends (R.memory ram.now) (fields_of script.now)
         name result.stopped result.log.items (R.pass result.port) }
-    ensures entered { HasLet (G.lets gate.now) name (length result.log.items) }
+    ensures asked { WasAsked G.enters name gate.now result.log.items result.stopped }
 {
     let mut log = log;
+    let mut own_gate = *gate;
     let mut access = On::new(ram, port);
-    let stopped = run_port(&mut access, name, script, gate, &mut log);
+    let stopped = run_port(&mut access, name, script, &mut own_gate, &mut log);
     PortRun {
         stopped,
         log,

@@ -1,7 +1,7 @@
 ghost use Rattle.std.specs.Prelude.{◌≡◌, ◌+◌, ◌<◌, ◌≤◌, [], ◌∷◌, ◌++◌, All, IfSome, length, vec_len, vec_capacity};
 ghost use Rattle.ccan_object.specs.declared.profile.Profile.{Profile};
 ghost use Rattle.ccan_ram.specs.Access.{Goes};
-ghost use Rattle.ccan_run.specs.Gate.{HasLet, StoppedAt, ran};
+ghost use Rattle.ccan_run.specs.Gate.{Asks, IsHeldAt, ran};
 ghost use Rattle.ccan_run.specs.Lines.{LinesMean};
 ghost use Rattle.ccan_run.specs.Side.{GoesOn};
 
@@ -58,14 +58,15 @@ pub(crate) fn log_answer<T: Copy>(log: &mut Vec<T>, answer: T)
 }
 
 /// Runs the lines of a port in turn, as far as the gate lets it, and logs their answers. `None` where all ran, and else the
-/// index of the line before which the gate stopped the port. No line runs that the gate did not let through.
+/// index of the line before which the gate stopped the port. The gate is asked once before each line, with the answers so
+/// far, and for nothing else.
 pub fn run_lines<S: Side, A: Access, G: Gate>(
     side: &mut S,
     access: &mut A,
     port: PortName,
     lines: &[S::Line],
     tries: Tries,
-    gate: &G,
+    gate: &mut G,
     log: &mut Vec<LineAnswer>,
 ) -> Option<usize>
     requires taken { All (S.takes (A.passes access.old).terms.profile side.old) lines.now }
@@ -74,13 +75,12 @@ pub fn run_lines<S: Side, A: Access, G: Gate>(
     ensures runs { Goes (A.passes access.old) (A.passes access.new) (λ terms seen added.
         GoesOn S.led_to side.old side.new (λ state left.
         LinesMean (S.means terms tries) (ran result lines.now) state seen added log.new.items left)) }
-    ensures stopped { IfSome result (StoppedAt (G.stops gate.now) port (length lines.now)) }
-    ensures entered { HasLet (G.lets gate.now) port (length log.new.items) }
+    ensures stopped { IfSome result (IsHeldAt (length lines.now) log.new.items) }
+    ensures asked { Asks G.enters port log.new.items result gate.old gate.new }
 {
     for line in lines {
-        let index = log.len();
-        if !gate.enter(port, index) {
-            return Some(index);
+        if !gate.enter(port, log.as_slice()) {
+            return Some(log.len());
         }
         let answer = side.run_line(access, line, tries);
         log_answer(log, answer);

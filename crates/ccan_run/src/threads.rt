@@ -1,9 +1,9 @@
-ghost use Rattle.std.specs.Prelude.{◌≡◌, ◌<◌, ◌↔◌, Err, IfOk, IfErr, length, vec_capacity};
+ghost use Rattle.std.specs.Prelude.{◌≡◌, ◌<◌, ◌↔◌, Err, IfOk, IfErr, vec_capacity};
 ghost use Rattle.ccan_ram.specs.SharedRam.{opened};
 ghost use Rattle.ccan_script.specs.Reader.{fields_of};
-ghost use Rattle.ccan_run.specs.Gate.{HasLet};
+ghost use Rattle.ccan_run.specs.Gate.{WasAsked};
 ghost use Rattle.ccan_run.specs.Threads.{AllRan, AreOpened, HasRoom, HasRun, HaveRun, IsFirstHeld};
-ghost use Rattle.ccan_run.specs.Threads.{RunsAtOnce, StopsThreads, WereLet};
+ghost use Rattle.ccan_run.specs.Threads.{HaveAsked, RunsAtOnce, StopsThreads, WereLet};
 
 use crate::gate::Gate;
 use crate::outcome::Outcome;
@@ -27,10 +27,10 @@ struct RunOf<'a, R: SharedRam, G: Gate> {
 }
 
 impl<'a, R: SharedRam, G: Gate> Promise<PortRun<R::Port>> for RunOf<'a, R, G> {
-    ghost kept_by = { λ promise run. HasRun R.contends (G.stops promise.gate.now)
+    ghost kept_by = { λ promise run. HasRun R.contends
         (R.memory promise.ram.now) (fields_of promise.script.now) promise.name
         run.stopped run.log.items (R.pass run.port)
-        × HasLet (G.lets promise.gate.now) promise.name (length run.log.items) };
+        × WasAsked G.enters promise.name promise.gate.now run.log.items run.stopped };
 }
 
 /// Room for the answers of each port.
@@ -50,7 +50,7 @@ fn logs_for(alloc: Global, script: &Script) -> Result<PerPort<Vec<LineAnswer>>, 
 }
 
 /// Starts the thread of a port.
-fn start<'s, E: 's, R: SharedRam + Sync, G: Gate + Sync>(
+fn start<'s, E: 's, R: SharedRam + Sync, G: Gate + Copy + Sync>(
     scope: &Scope<'s, E>,
     run: RunOf<'s, R, G>,
     port: R::Port,
@@ -88,7 +88,7 @@ fn start<'s, E: 's, R: SharedRam + Sync, G: Gate + Sync>(
 }
 
 /// Starts a thread of the scope for each port, and joins the three.
-fn join_all<'s, E: 's, R: SharedRam + Sync, G: Gate + Sync, T: Threads>(
+fn join_all<'s, E: 's, R: SharedRam + Sync, G: Gate + Copy + Sync, T: Threads>(
     scope: &Scope<'s, E>,
     rt: &T,
     ram: &'s R,
@@ -106,9 +106,8 @@ fn join_all<'s, E: 's, R: SharedRam + Sync, G: Gate + Sync, T: Threads>(
     requires bus { HasRoom (fields_of script.now) PortName.Bus logs.bus.items
         (vec_capacity logs.bus) }
     ensures ok { IfOk result
-        (HaveRun R.pass R.contends (G.stops gate.now) (R.memory ram.now) (fields_of script.now)) }
-    ensures entered { IfOk result (λ runs. WereLet (G.lets gate.now)
-        runs.if1.log.items runs.if2.log.items runs.bus.log.items) }
+        (HaveRun R.pass R.contends (R.memory ram.now) (fields_of script.now)) }
+    ensures asked { IfOk result (HaveAsked G.enters gate.now) }
     ensures err { IfErr result (λ why. why ≡ RunError.Spawn) }
 {
     let run_of = |name: PortName| RunOf {
@@ -128,7 +127,7 @@ fn join_all<'s, E: 's, R: SharedRam + Sync, G: Gate + Sync, T: Threads>(
 }
 
 /// Runs the lines of each port in a thread of its own. Each thread that was started has ended when this returns.
-fn run_at_once<R: SharedRam + Sync, G: Gate + Sync, T: Threads + Wait + Sync>(
+fn run_at_once<R: SharedRam + Sync, G: Gate + Copy + Sync, T: Threads + Wait + Sync>(
     rt: &T,
     ram: &R,
     ports: PerPort<R::Port>,
@@ -145,9 +144,8 @@ fn run_at_once<R: SharedRam + Sync, G: Gate + Sync, T: Threads + Wait + Sync>(
     requires bus { HasRoom (fields_of script.now) PortName.Bus logs.bus.items
         (vec_capacity logs.bus) }
     ensures ok { IfOk result
-        (HaveRun R.pass R.contends (G.stops gate.now) (R.memory ram.now) (fields_of script.now)) }
-    ensures entered { IfOk result (λ runs. WereLet (G.lets gate.now)
-        runs.if1.log.items runs.if2.log.items runs.bus.log.items) }
+        (HaveRun R.pass R.contends (R.memory ram.now) (fields_of script.now)) }
+    ensures asked { IfOk result (HaveAsked G.enters gate.now) }
     ensures err { IfErr result (λ why. why ≡ RunError.Spawn) }
 {
     thread::scope(
@@ -180,23 +178,24 @@ fn unless_held<P: Drop>(runs: PerPort<PortRun<P>>) -> Result<PerPort<PortRun<P>>
     Err(RunError::Held { port, line })
 }
 
-/// Runs the lines of each port in a thread of its own, all over one memory, whatever the script's order says. No line runs
-/// that the gate did not let through.
+/// Runs the lines of each port in a thread of its own, all over one memory, whatever the script's order says. Each port asks
+/// a gate of its own, a copy of this one, once before each of its lines, and for nothing else.
 ///
 /// A quota that is more than the memory numbers is found before anything is asked for, and all memory is taken before a
 /// thread starts. In every case each thread that was started has ended when this returns; a thread that could not be started
 /// is told before a port that its gate held, and of these the first in the order IF1, IF2, bus.
-pub fn run_threads<R: SharedRam + Sync + Drop, G: Gate + Sync, T: Threads + Wait + Sync>(
+pub fn run_threads<R: SharedRam + Sync + Drop, G: Gate + Copy + Sync, T: Threads + Wait + Sync>(
     rt: &T,
     alloc: Global,
     script: &Script,
     gate: &G,
 ) -> Result<Outcome, RunError>
     ensures ok { IfOk result (RunsAtOnce R.contends (fields_of script.now)) }
-    ensures entered { IfOk result (λ outcome. WereLet (G.lets gate.now)
+    ensures asked { IfOk result (λ outcome. WereLet G.enters gate.now
         outcome.if1.items outcome.if2.items outcome.bus.items) }
     ensures quota { (result ≡ Err RunError.Quota) ↔ (R.MAX_QUOTA < script.now.quota) }
-    ensures err { IfErr result (StopsThreads (G.stops gate.now) (fields_of script.now)) }
+    ensures err { IfErr result
+        (StopsThreads R.contends G.enters gate.now (fields_of script.now)) }
 {
     if R::MAX_QUOTA < script.quota {
         return Err(RunError::Quota);

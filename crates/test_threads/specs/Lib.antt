@@ -1,1 +1,1 @@
-pub mod Callers
+pub mod Gates

@@ -1,27 +1,29 @@
 //! Gates that make ports wait for one another, or stop them.
-ghost use Rattle.std.specs.Prelude.{◌≡◌, ◌≤◌, ◌<◌, None};
+ghost use Rattle.std.specs.Prelude.{◌≡◌, ◌≤◌, ◌<◌, None, false, true, length};
 
 use ccan_ram::PortName;
 use ccan_run::Gate;
+use ccan_script::LineAnswer;
 use std::sync::atomic::{AtomicU64, Ordering};
 
 /// How often a port looks whether the other has come, before it gives up.
 const TURNS: u32 = 50_000_000;
 
-/// Lets line 1 of each host pass once both hosts have come there. So no host gets past it who runs before the other has
-/// begun, as on one thread.
+/// Where ports meet: a word for each, which is raised once the port has come.
 #[derive(Drop)]
-pub struct Together {
+pub struct Meeting {
     if1: AtomicU64,
     if2: AtomicU64,
+    bus: AtomicU64,
 }
 
-impl Together {
-    /// A gate to which neither host has come.
-    pub fn new() -> Together {
-        Together {
+impl Meeting {
+    /// A place to which no port has come.
+    pub fn new() -> Meeting {
+        Meeting {
             if1: AtomicU64::new(0),
             if2: AtomicU64::new(0),
+            bus: AtomicU64::new(0),
         }
     }
 }
@@ -42,16 +44,24 @@ fn meet(own: &AtomicU64, other: &AtomicU64) -> bool {
     comes(other)
 }
 
-impl Gate for Together {
-    ghost stops = { λ _ _ line. line ≡ 1 };
+/// Lets line 1 of each host pass once both hosts have come there. So no host gets past it who runs before the other has
+/// begun, as on one thread.
+#[derive(Clone, Copy)]
+pub struct Together<'a> {
+    /// Where the hosts meet.
+    pub at: &'a Meeting,
+}
 
-    fn enter(&self, port: PortName, line: usize) -> bool {
-        if line != 1 {
+impl<'a> Gate for Together<'a> {
+    ghost enters = { λ _ _ answers answer _. answer ≡ false → length answers ≡ 1 };
+
+    fn enter(&mut self, port: PortName, answers: &[LineAnswer]) -> bool {
+        if answers.len() != 1 {
             return true;
         }
         match port {
-            PortName::If1 => meet(&self.if1, &self.if2),
-            PortName::If2 => meet(&self.if2, &self.if1),
+            PortName::If1 => meet(&self.at.if1, &self.at.if2),
+            PortName::If2 => meet(&self.at.if2, &self.at.if1),
             PortName::Bus => true,
         }
     }
@@ -59,35 +69,23 @@ impl Gate for Together {
 
 /// Lets the first line of each port pass once all three have come there. So no port gets past it that runs before another has
 /// begun.
-#[derive(Drop)]
-pub struct AllTogether {
-    if1: AtomicU64,
-    if2: AtomicU64,
-    bus: AtomicU64,
+#[derive(Clone, Copy)]
+pub struct AllTogether<'a> {
+    /// Where the ports meet.
+    pub at: &'a Meeting,
 }
 
-impl AllTogether {
-    /// A gate to which no port has come.
-    pub fn new() -> AllTogether {
-        AllTogether {
-            if1: AtomicU64::new(0),
-            if2: AtomicU64::new(0),
-            bus: AtomicU64::new(0),
-        }
-    }
-}
+impl<'a> Gate for AllTogether<'a> {
+    ghost enters = { λ _ _ answers answer _. answer ≡ false → length answers ≡ 0 };
 
-impl Gate for AllTogether {
-    ghost stops = { λ _ _ line. line ≡ 0 };
-
-    fn enter(&self, port: PortName, line: usize) -> bool {
-        if line != 0 {
+    fn enter(&mut self, port: PortName, answers: &[LineAnswer]) -> bool {
+        if answers.len() != 0 {
             return true;
         }
         match port {
-            PortName::If1 => meet(&self.if1, &self.if2) && comes(&self.bus),
-            PortName::If2 => meet(&self.if2, &self.if1) && comes(&self.bus),
-            PortName::Bus => meet(&self.bus, &self.if1) && comes(&self.if2),
+            PortName::If1 => meet(&self.at.if1, &self.at.if2) && comes(&self.at.bus),
+            PortName::If2 => meet(&self.at.if2, &self.at.if1) && comes(&self.at.bus),
+            PortName::Bus => meet(&self.at.bus, &self.at.if1) && comes(&self.at.if2),
         }
     }
 }
@@ -102,15 +100,15 @@ pub struct HeldFrom {
 }
 
 impl Gate for HeldFrom {
-    ghost stops = { λ gate _ line. gate.line ≤ line };
+    ghost use Rattle.test_threads.specs.Gates.{HoldsFrom};
 
-    ghost lets = { λ gate _ line. gate.port ≡ None → line < gate.line };
+    ghost enters = { λ gate _ answers answer left. HoldsFrom gate answers answer left };
 
-    fn enter(&self, port: PortName, line: usize) -> bool {
+    fn enter(&mut self, port: PortName, answers: &[LineAnswer]) -> bool {
         let stopped = match self.port {
             Some(name) => name == port,
             None => true,
         };
-        !stopped || line < self.line
+        !stopped || answers.len() < self.line
     }
 }

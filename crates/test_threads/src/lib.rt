@@ -12,8 +12,8 @@ mod refusing;
 mod tests;
 
 #[cfg(test)]
-use callers::run_by_callers;
+use callers::{run_by_callers, run_gated_by_callers};
 #[cfg(test)]
-use gates::{AllTogether, HeldFrom, Together};
+use gates::{AllTogether, HeldFrom, Meeting, Together};
 #[cfg(test)]
 use refusing::Refusing;

@@ -57,7 +57,7 @@ pub fn text_in_threads<R: SharedRam + Sync + Drop, T: Threads + Wait + Sync>(
 }
 
 /// Runs a script in threads with a gate.
-fn run_gated<R: SharedRam + Sync + Drop, G: Gate + Sync, T: Threads + Wait + Sync>(
+fn run_gated<R: SharedRam + Sync + Drop, G: Gate + Copy + Sync, T: Threads + Wait + Sync>(
     rt: &T,
     alloc: Global,
     bytes: &[u8],
@@ -72,7 +72,8 @@ fn hosts_wait_for_each_other<R: SharedRam + Sync + Drop, T: Threads + Wait + Abo
     rt: &T,
     alloc: Global,
 ) -> Result<(), Fail> {
-    let gate = Together::new();
+    let meeting = Meeting::new();
+    let gate = Together { at: &meeting };
     let outcome = run_gated::<R, Together, T>(rt, alloc, WAIT_FOR_EACH_OTHER, &gate)??;
     let want = "if1 write 01 00000000 00000000 8000 0000000000000000\nif1 until 02 newdat yes\n\
 if2 write 02 00000000 00000000 8000 0000000000000000\nif2 until 01 newdat yes\n\
@@ -98,7 +99,8 @@ const ONE_EACH: &[u8] =
 /// No port's thread waits for the end of another's before it starts.
 #[test]
 fn the_bus_starts_with_the_hosts(rt: HostRuntime) -> Result<(), Fail> {
-    let gate = AllTogether::new();
+    let meeting = Meeting::new();
+    let gate = AllTogether { at: &meeting };
     let outcome = run_gated::<WordRam, AllTogether, HostRuntime>(
         &rt,
         rt.alloc(),
@@ -238,7 +240,7 @@ final 64 00000000 00000000 2000 0000000000000000\n";
 fn first_lines<R: SharedRam + Drop, G: Gate>(
     alloc: Global,
     script: &Script,
-    gate: &G,
+    gate: &mut G,
 ) -> Result<(Option<usize>, String), Fail> {
     let (ram, if1, _if2, _bus) = R::open_ram(alloc, script.profile, script.quota)?;
     let mut log = Vec::with_capacity(alloc, script.if1.len())?;
@@ -253,7 +255,7 @@ fn runs_as_far_as_its_gate_lets_it<R: SharedRam + Drop, T: Abort>(
     alloc: Global,
 ) -> Result<(), Fail> {
     let script = read_script(alloc, SPENT)?;
-    let (stopped, text) = first_lines::<R, FreeGate>(alloc, &script, &FreeGate)?;
+    let (stopped, text) = first_lines::<R, FreeGate>(alloc, &script, &mut FreeGate)?;
     assert_eq!(rt; stopped, None);
     let all = "if1 write 01 a48c0000 00000000 0088 1122334455667788\nif1 spent 01\n\
 if1 read 01 a48c0000 00000000 0088 1122334455667788\n";
@@ -261,7 +263,7 @@ if1 read 01 a48c0000 00000000 0088 1122334455667788\n";
     let (stopped, text) = first_lines::<R, HeldFrom>(
         alloc,
         &script,
-        &HeldFrom {
+        &mut HeldFrom {
             port: None,
             line: 1,
         },

@@ -6,4 +6,4 @@ pub returns-clause-ran : goal.returns-clause-ran
 returns-clause-ran g c =
     let opened = ap g.R.SharedRam.pass c.new-access.ensures.port ∙ c.requires.opened in
     rw c.into_port.ensures.port
-    (ran_from_opened _ _ _ _ _ _ _ _ _ opened c.run_port-stopped.ensures.runs c.run_port-stopped.ensures.stopped)
+    (ran_from_opened _ _ _ _ _ _ _ _ opened c.run_port-stopped.ensures.runs c.run_port-stopped.ensures.stopped)

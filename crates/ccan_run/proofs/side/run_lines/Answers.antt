@@ -1,6 +1,6 @@
-use Rattle.std.proofs.Common.{◌≡◌, [], ◌∷◌, ◌++◌, take, ◌∙◌, sym, ap, subst, arith}
+use Rattle.std.proofs.Common.{[], ◌∷◌, ◌++◌, take, ◌∙◌, sym, ap, arith}
 use Rattle.std.proofs.lemmas.List.{take_more}
-use Rattle.ccan_run.proofs.Rows.{HasLet-more, runs_more}
+use Rattle.ccan_run.proofs.Rows.{LetsRun-more, runs_more}
 use Rattle.ccan_run.proofs.side.run_lines.Goals as goal
 
 pub loop-line-preserved : goal.loop-line-preserved
@@ -9,9 +9,7 @@ loop-line-preserved g c =
     let lines = c.args.lines.now in
     let n = c.loop-line.line-index in
     let line = c.line-item.result in
-    let lets = g.G.Gate.lets c.args.gate.now in
     let port = c.args.port in
-    let here : c.len-index.result ≡ n = omega arith in
     let front = take_more lines n line (omega arith) ∙ ap (λ x. take n lines ++ x ∷ []) (sym c.line-item.is) in
     record {
       count = omega arith;
@@ -19,6 +17,6 @@ loop-line-preserved g c =
       taken = λ k d h. c.run_line-answer.ensures.takes _ _ (so_far.taken k d h);
       runs = runs_more g.S.Side.led_to (λ terms. g.S.Side.means terms c.args.tries) (take n lines) line _ _ _ _ front
           c.log_answer.ensures.items so_far.runs c.run_line-answer.ensures.runs;
-      entered = HasLet-more lets port n so_far.entered
-          (subst (λ k. lets port k) here (c.enter.ensures.lets (search)));
+      asked = LetsRun-more g.G.Gate.enters port _ c.run_line-answer.result n _ _ _ _ _ _ (omega arith)
+          c.log_answer.ensures.items so_far.asked (search) (search) c.enter.ensures;
     }

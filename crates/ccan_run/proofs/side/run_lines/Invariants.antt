@@ -2,7 +2,7 @@ use Rattle.std.proofs.Common.{◌≡◌, ◌≤◌, take, length, vec_len, vec_c
 use Rattle.std.specs.Prelude.{All}
 use Rattle.ccan_ram.specs.Access.{Goes}
 use Rattle.ccan_run.specs.Side.{GoesOn}
-use Rattle.ccan_run.specs.Gate.{HasLet}
+use Rattle.ccan_run.specs.Gate.{LetsRun}
 use Rattle.ccan_run.specs.Lines.{LinesMean}
 use Rattle.ccan_run.proofs.side.run_lines.Given as goal
 
@@ -17,5 +17,5 @@ invariant-loop-line g l =
       runs : Goes (passes l.fn.access) (passes l.access)
           (λ terms seen added. GoesOn g.S.Side.led_to l.fn.side l.side
           (λ state left. LinesMean (g.S.Side.means terms l.tries) (take l.line-index l.lines) state seen added l.log.items left));
-      entered : HasLet (g.G.Gate.lets l.gate) l.port l.line-index;
+      asked : LetsRun g.G.Gate.enters l.port l.log.items l.line-index l.fn.gate l.gate;
     }
