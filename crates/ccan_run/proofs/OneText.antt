@@ -34,7 +34,7 @@ use Rattle.ccan_run.specs.Host.{HostLineMeans}
 use Rattle.ccan_run.specs.BusPort.{BusLineMeans, Only}
 use Rattle.ccan_run.specs.Lines.{LinesMean}
 use Rattle.ccan_run.specs.Ordered.{PortLine, of_if1, of_if2, of_bus, Three, PortLineMeans, terms_of, opening, lines_of, answers_text, finals_text}
-use Rattle.ccan_run.specs.Laws.{HasOneText}
+use Rattle.ccan_run.specs.Laws.{HasOneText, WhatWasPrintedIsTheText}
 use Rattle.ccan_run.proofs.LooksOnce.{watches_once, interrupts_once, words_once}
 use Rattle.ccan_run.proofs.LoadsOnce.{loads_once}
 use Rattle.ccan_run.proofs.RoundsOnce.{rounds_once}
@@ -186,3 +186,7 @@ one_text script text other some h h' =
     let once = lines_once (PortLineMeans (terms_of script) script.tries) script.profile (port_once script some) (lines_of script) (opening script.nodes)
     h.runs.lines.0 h'.runs.lines.0 [] h.history h'.history h.answers h'.answers legal legal' h.runs.lines.1 h'.runs.lines.1 in
     h.is ∙ ap₂ (λ (answers : List (PortName × LineAnswer)) (history : List Event). answers_text answers ++ finals_text script.profile history) once.1 once.0 ∙ sym h'.is
+
+pub printed_text : WhatWasPrintedIsTheText
+printed_text script old new some p =
+    (p.text, p.has_text, p.written, λ other also. one_text script other p.text some also p.has_text)

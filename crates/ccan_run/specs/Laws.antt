@@ -1,5 +1,6 @@
 -- Laws of what scripts mean. Source: this project's own.
-use Rattle.std.specs.Prelude.{◌≡◌, ◌≤◌, ℕ, Bool, List, All}
+use Rattle.std.specs.Prelude.{◌≡◌, ◌≤◌, ℕ, Bool, List, All, Option}
+use Rattle.std.specs.Io.KnownBytes.{Appends}
 use Rattle.ccan_ram.specs.declared.port.PortName.{PortName}
 use Rattle.ccan_ram.specs.declared.ending.Final.{Final}
 use Rattle.ccan_ram.specs.declared.event.Event.{Event}
@@ -10,7 +11,7 @@ use Rattle.ccan_script.specs.declared.line_answer.LineAnswer.{LineAnswer}
 use Rattle.ccan_script.specs.declared.line_answer.LineAnswer.TheVariants.{Busy, Load, Round}
 use Rattle.ccan_script.specs.Script.{ScriptFields}
 use Rattle.ccan_run.specs.declared.outcome.Outcome.{Outcome}
-use Rattle.ccan_run.specs.Ordered.{LinesRun, HasText, finals_text}
+use Rattle.ccan_run.specs.Ordered.{LinesRun, HasText, Prints, finals_text}
 use Rattle.ccan_run.specs.Threads.{RunsAtOnce}
 use Rattle.ccan_run.specs.Answered.{IsAnsweredBy}
 use Rattle.ccan_run.specs.Outcome.{last_lines}
@@ -21,9 +22,15 @@ IsNotBusy (Load (load.Busy object)) = ⊥
 IsNotBusy (Round (round.Busy object)) = ⊥
 IsNotBusy answer = Unit {0}
 
--- a script has one text: nothing about a run is left open
+-- a script has at most one text: nothing about a run is left open
 abbrev pub HasOneText : Type 0
 HasOneText = (script : ScriptFields) (text other : List ℕ) → 1 ≤ script.tries → HasText script text → HasText script other → text ≡ other
+
+-- and what a run that ended well has written is a text of the script, which has no other
+abbrev pub WhatWasPrintedIsTheText : Type 0
+WhatWasPrintedIsTheText =
+    (script : ScriptFields) (old new : Option (List ℕ)) → 1 ≤ script.tries → Prints script old new
+    → (text : List ℕ) × HasText script text × Appends old new text × ((other : List ℕ) → HasText script other → other ≡ text)
 
 -- over a one-thread memory no line is busy, be it a transfer, a load or a round
 abbrev pub HasNoBusyLine : Type 0

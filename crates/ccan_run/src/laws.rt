@@ -1,10 +1,16 @@
 //! Laws of what scripts and the words of the command line mean. The functions do nothing: their contracts are the laws.
 ghost use Rattle.ccan_run.specs.Laws.{AnswersHaveEvents, HasNoBusyLine, HasOneText, LastLinesAreFinals};
+ghost use Rattle.ccan_run.specs.Laws.{WhatWasPrintedIsTheText};
 ghost use Rattle.ccan_run.specs.CommandLine.{NoWordRuns, OtherWordsAreRefused, RunRuns, ThreadsMeansThreads};
 
-/// A script has one text: the answers of its lines and the final objects are determined.
+/// A script has at most one text: the answers of its lines and the final objects are determined.
 pub fn one_text()
     ensures { HasOneText }
+{}
+
+/// What a run that ended well has written is a text of its script, which has no other.
+pub fn what_was_printed_is_the_text()
+    ensures { WhatWasPrintedIsTheText }
 {}
 
 /// No line of an ordered run is busy.

@@ -20,7 +20,8 @@
 //! What a line stands for is said once, for hosts and for the bus, over any access: which events it adds, what it answers,
 //! and how it leaves what the next line of its port finds ([`Side`], [`run_lines`]). The text of a script is a relation
 //! between a script and a text, over a one-thread memory, in which the program does not appear; [`laws`] say that a script
-//! has one text. [`run_ordered`] and [`run_stream`] are proved to write that text.
+//! has at most one text, and that a run which ended well has written it. [`run_ordered`] and [`run_stream`] are proved to
+//! write a text of their script.
 //!
 //! Without an order the three ports run at once. [`read_input`] gives the script, [`run_threads`] the [`Outcome`], which
 //! is the answers of each port and the objects at the end, and [`print_outcome`] writes it.

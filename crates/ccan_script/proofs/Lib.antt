@@ -17,3 +17,4 @@ pub mod Texts
 pub mod Scripts
 pub mod OneBusLine
 pub mod OneMeaning
+pub mod ReadMeaning

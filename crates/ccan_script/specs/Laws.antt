@@ -1,9 +1,20 @@
 -- Laws of what scripts mean. Source: this project's own.
-use Rattle.std.specs.Prelude.{◌≡◌, Result}
+use Rattle.std.specs.Prelude.{◌≡◌, ◌≢◌, ℕ, List, Result, Err}
 use Rattle.serde_json.specs.Data.{Data}
+use Rattle.ccan_script.specs.declared.script.Script.{Script}
 use Rattle.ccan_script.specs.declared.script_error.ScriptError.{ScriptError}
+use Rattle.ccan_script.specs.declared.script_error.ScriptError.TheVariants.{NotJson, Memory}
+use Rattle.ccan_script.specs.Reader.{Shows, ReadsScript}
 use Rattle.ccan_script.specs.Script.{ScriptFields, Means}
 
--- a value means one thing: no value has two first faults, and none with a fault is a script
+-- a value means at most one thing: no value has two first faults, and none with a fault is a script
 abbrev pub HasOneMeaning : Type 0
 HasOneMeaning = (d : Data) (r s : Result ScriptFields ScriptError) → Means d r → Means d s → r ≡ s
+
+-- and bytes that were read do mean one: where reading answers a script, or a fault that is neither want of memory nor that
+-- the bytes are no JSON, their value has a meaning, and no other
+abbrev pub WhatWasReadHasAMeaning : Type 0
+WhatWasReadHasAMeaning =
+    (bytes : List ℕ) (r : Result Script ScriptError) → ReadsScript bytes r → r ≢ Err Memory → r ≢ Err NotJson
+    → (meaning : Result ScriptFields ScriptError) × Shows bytes meaning
+    × ((other : Result ScriptFields ScriptError) → Shows bytes other → other ≡ meaning)

@@ -19,7 +19,7 @@ use Rattle.ccan_words.specs.Version.{IsSeatOf}
 -- ---- steps
 
 module _ {profile : Profile} {most : ℕ} {contends : ℕ → ℕ → Bool} (F : Form profile most contends) where
-  -- the whole history was seen, and the number found is that of the last change that contends
+  -- a history that goes on was seen (`Plays`), and the number found is that of the last change in it that contends
   pub record CountsOn (k : ℕ) (m : Knows) (found : ℕ) (n : Knows) : Type 0 where
     pub log : History
     pub view : n ≡ (see_all log m.0, m.1)
@@ -27,7 +27,7 @@ module _ {profile : Profile} {most : ℕ} {contends : ℕ → ℕ → Bool} (F :
     pub found_last : found ≡ last_number contends k log
     pub number : found ≢ 0 → IsNumber most found
 
-  -- the whole history was seen, and looks at all objects are its last events
+  -- such a history was seen, and looks at all objects are its last events
   pub record Poses (p : PortName) (m : Knows) (n : Knows) : Type 0 where
     pub log : History
     pub view : n ≡ (see_all (pictured p (objects_in profile) log ++ log) m.0, m.1)

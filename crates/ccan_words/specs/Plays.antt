@@ -58,13 +58,16 @@ pub record IsNoting (most : ℕ) (p : PortName) (number j : ℕ) (m : Knows) : T
   pub few : changes_by p x.seen < most
   pub up : j ≤ length x.note
 
--- the port's change was made, after all of the history
+-- the port's change was made, after all of this history
 pub record Makes (profile : Profile) (p : PortName) (log : History) (m n : Knows) (x : Held) : Type 0 where
   pub view : n ≡ (with_held p (Some (record { seen = log; note = []; quota = x.quota })) (see_all log m.0), m.1)
   pub sound : IsSound profile x.quota log
 
 module _ {profile : Profile} {most : ℕ} {contends : ℕ → ℕ → Bool} (F : Form profile most contends) where
-  -- the whole history was seen, and the look is its last event; the number found is that of the last change that contends
+  -- Each step shows its seat a history `log` of its own, which goes on from what the port has seen. The proofs take the one
+  -- history of the rule for it (`Keeps.log`); but no clause says so, nor that two steps have the same one.
+
+  -- such a history was seen, and the look is its last event; the number found is that of the last change in it that contends
   pub record Looks (p : PortName) (k : ℕ) (m : Knows) (found : ℕ) (n : Knows) : Type 0 where
     pub log : History
     pub view : n ≡ (see_all (look_at p k (record_at k log) ∷ log) m.0, m.1)
@@ -74,7 +77,7 @@ module _ {profile : Profile} {most : ℕ} {contends : ℕ → ℕ → Bool} (F :
     pub latest : Latest contends k found log
     pub number : found ≢ 0 → IsNumber most found
 
-  -- the whole history was seen
+  -- such a history was seen
   pub record Watches (m : Knows) (n : Knows) : Type 0 where
     pub log : History
     pub view : n ≡ (see_all log m.0, m.1)
@@ -86,7 +89,7 @@ module _ {profile : Profile} {most : ℕ} {contends : ℕ → ℕ → Bool} (F :
     pub value : (p : PortName) (x : Held) (number j : ℕ) (at : History) → holding p m.0 ≡ Some x → Stands x.seen number at
         → j < F.width → word ≡ F.place number j → found ≡ slice_index (F.content at) j
 
-  -- the word held the old number, and the change was made, as the last event of the history; or the whole history was seen
+  -- the word held the old number, and the change was made, as the last event after such a history; or such a history was seen
   pub record Exchanges (version : Version) (m : Knows) (found : ℕ) (n : Knows) : Type 0 where
     pub log : History
     pub goes_on : (x : Held) → holding version.port m.0 ≡ Some x → GoesOn profile version.port x log

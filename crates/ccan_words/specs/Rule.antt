@@ -1,5 +1,7 @@
 -- The rule of the shared words: what is true of them, and of what each seat knows, between any two steps of the three
--- ports. No program stores the history; it is there for the proofs. Source: this project's own.
+-- ports. No program stores the history; it is there for the proofs. Source: this project's own. That the steps come one
+-- after another in one order, each of them sequentially consistent, is a promise of the kit's `atomic_table` (its README,
+-- "Limits" and "What is proved").
 use Rattle.std.specs.Prelude.{◌≡◌, ◌≢◌, ℕ, ◌<◌, ◌≤◌, ◌⊎◌, Bool, true, List, [], ◌∷◌, length, slice_index, Some}
 use mathlib.Core.Option.{some}
 use lib.ListN.{get_elem?}

@@ -54,7 +54,7 @@ fn look_as<L: Layout, D: Deed>(
     words.table.shared.load::<Looking<L, D>>(seat, word)
 }
 
-/// Sees the whole history, without an event.
+/// Sees a history that goes on from what the seat's ports have seen, without an event.
 pub fn watch<L: Layout>(words: &Words<L>, seat: &mut Seat)
     requires table { numbers_of seat.old.table_id ≡ words.now.name }
     ensures same { seat.new.table_id ≡ seat.old.table_id }

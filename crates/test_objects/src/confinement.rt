@@ -289,3 +289,10 @@ fn laws_stand(_rt: HostRuntime) {
     laws::reads_clear();
     laws::enabling_makes_nothing_pending();
 }
+
+/// And those of what makes the status interrupt pending.
+#[test]
+fn laws_of_causes_stand(_rt: HostRuntime) {
+    laws::causes_make_pending();
+    laws::passive_makes_nothing_pending();
+}

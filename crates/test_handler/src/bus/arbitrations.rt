@@ -152,6 +152,12 @@ fn laws_of_loads_are_there() {
 }
 
 #[test]
+fn laws_of_what_is_held_are_there() {
+    laws::each_round_sends_what_was_loaded();
+    laws::off_controllers_hold_nothing();
+}
+
+#[test]
 fn laws_of_rounds_are_there() {
     laws::rounds_are_their_steps();
     laws::loops_what_was_loaded();
