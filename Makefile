@@ -31,6 +31,8 @@ sweep:
 	tools/refuse_memory crates/ccan/out/ccan script examples/spent_quota.json examples/spent_quota.json.stdout
 	tools/refuse_memory crates/ccan/out/ccan script examples/spent_quota.json examples/spent_quota.json.stdout threads
 	tools/refuse_memory crates/ccan/out/ccan script examples/spent_quota.json /dev/null walk
+	tools/refuse_memory crates/ccan/out/ccan script tools/sweep/every_line.json tools/sweep/every_line.json.stdout
+	tools/refuse_memory crates/ccan/out/ccan script tools/sweep/every_line.json tools/sweep/every_line.json.stdout threads
 	@tools/build test_speed
 	tools/refuse_memory crates/test_speed/out/test_speed opening
 
