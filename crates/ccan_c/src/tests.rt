@@ -388,4 +388,6 @@ fn the_version_is_that_of_the_header(rt: HostRuntime) {
 fn laws_hold() {
     crate::handle::handles_may_cross();
     crate::laws::lines_keep_the_choice();
+    crate::laws::calls_fit_one_history();
+    crate::laws::turns_run_in_order();
 }
