@@ -36,7 +36,7 @@ pub record Stood (older newer : History) (Tells : History → Type 0) : Type 0 w
   pub tells : Tells at
 
 module _ (profile : Profile) where
-  -- the whole history was seen, and looks at all objects are its last events
+  -- a history that goes on was seen (`Plays`), and looks at all objects are its last events
   pub record Poses (p : PortName) (m : Knows) (n : Knows) : Type 0 where
     pub log : History
     pub view : n ≡ (see_all (pictured p (objects_in profile) log ++ log) m.0, m.1)
