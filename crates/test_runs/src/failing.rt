@@ -1,7 +1,7 @@
 //! Readers and writers that fail at each place of a stream, and those that give or take little at each call.
 ghost use Rattle.std.specs.Prelude.{◌≤◌};
 
-use crate::faulty::{FAULTS, Fault, Sheet};
+use crate::faulty::{FAULTS, Fault, Late, Sheet, Spaces};
 use crate::runs::{holds, pieces, run};
 use crate::streams::{spent, write};
 use crate::worked::{WORKED, worked};
@@ -83,6 +83,25 @@ fn stops_where_a_read_of_a_worked_script_fails(rt: HostRuntime) {
             let (_name, script, text) = worked(place);
             fails_to_read_anywhere(&rt, rt.alloc(), (script, text), 64, fault);
         }
+    }
+}
+
+/// Runs a script that begins with two million spaces, and whose reader meets a fault behind them. The fault is told and not met
+/// again, and nothing is written.
+fn fails_to_read_late(rt: &impl Abort, alloc: Global, fault: Fault) {
+    let mut out = failing_sheet(4096, 0, None);
+    let mut reader = Late {
+        spaces: Spaces { left: 2_000_000 },
+        then: pieces(write().0, 64, 0, Some(fault)),
+    };
+    let got = run(alloc, &mut reader, &mut out);
+    holds(rt, "spaces", got, &out, Err(told(fault)), b"");
+}
+
+#[test]
+fn stops_where_a_late_read_fails(rt: HostRuntime) {
+    for fault in FAULTS {
+        fails_to_read_late(&rt, rt.alloc(), fault);
     }
 }
 

@@ -14,9 +14,11 @@ pub enum Fault {
     Fails(ErrorKind),
 }
 
-pub const FAULTS: [Fault; 3] = [
+pub const FAULTS: [Fault; 5] = [
     Fault::Nothing,
     Fault::Fails(ErrorKind::Interrupted),
+    Fault::Fails(ErrorKind::WouldBlock),
+    Fault::Fails(ErrorKind::OutOfMemory),
     Fault::Fails(ErrorKind::Other),
 ];
 
@@ -72,6 +74,23 @@ impl Read for Spaces {
         }
         self.left -= count;
         Ok(count)
+    }
+}
+
+/// A reader that gives spaces, and then what another one gives.
+#[derive(Drop)]
+pub struct Late<'a> {
+    pub spaces: Spaces,
+    pub then: Pieces<'a>,
+}
+
+impl Read for Late<'_> {
+    fn read(&mut self, buf: &mut [u8]) -> io::Result<usize> {
+        if self.spaces.left > 0 {
+            self.spaces.read(buf)
+        } else {
+            self.then.read(buf)
+        }
     }
 }
 

@@ -9,6 +9,8 @@ mod failing;
 #[cfg(test)]
 mod faulty;
 #[cfg(test)]
+mod limits;
+#[cfg(test)]
 mod malformed;
 #[cfg(test)]
 mod outcomes;

@@ -220,8 +220,13 @@ fn refuses_what_is_no_json(rt: HostRuntime) {
 /// A byte that no UTF-8 has, in place of a digit.
 #[test]
 fn refuses_what_is_no_utf8(rt: HostRuntime) {
-    let script = b"{\"if1\":[{\"op\":\"transfer\",\"request\":\"000\xff\"}]}";
-    is_refused(&rt, rt.alloc(), script, RunError::Script(NOT_JSON));
+    let want = RunError::Script(NOT_JSON);
+    let in_a_name = b"{\"if\xff\":[{\"op\":\"transfer\",\"request\":\"0003\"}]}";
+    is_refused(&rt, rt.alloc(), in_a_name, want);
+    let as_a_number = b"{\"quota\":\xff}";
+    is_refused(&rt, rt.alloc(), as_a_number, want);
+    let in_a_text = b"{\"if1\":[{\"op\":\"transfer\",\"request\":\"000\xff\"}]}";
+    is_refused(&rt, rt.alloc(), in_a_text, want);
 }
 
 /// So many lists, each in the one before.
