@@ -46,6 +46,12 @@ fn laws_hold() {
     ccan_run::laws::answers_have_events();
 }
 
+#[test]
+fn laws_of_what_was_read_and_printed_hold() {
+    ccan_script::laws::what_was_read_has_a_meaning();
+    ccan_run::laws::what_was_printed_is_the_text();
+}
+
 /// The number of a line, as its text shows it: the two bytes of Data A 1, the low one first.
 fn shown_bytes(out: &mut String, index: u32) -> Result<(), AllocError> {
     write!(out, "{:02x}{:02x}", index % 256, index / 256)
