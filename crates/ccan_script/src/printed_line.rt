@@ -6,7 +6,7 @@ ghost use Rattle.ccan_script.specs.PrintedLine.{hex, two_digits, bit_text, hex_b
 use arrayvec::ArrayString;
 use ccan_object::{ObjectNo, Record};
 
-/// A line of the output, as it is printed. It has fewer than 80 bytes, its end included.
+/// A line of the output, as it is printed. It has at most 80 bytes, its end included.
 pub type PrintedLine = ArrayString<80>;
 
 fn digit(value: u32) -> char
