@@ -41,6 +41,8 @@ hostile:
 	tools/fail_streams crates/ccan/out/ccan examples/first_write.json
 	tools/spoil_scripts crates/ccan/out/ccan examples/*.json
 	tools/check_faulty_scripts crates/ccan/out/ccan
+	@tools/build ccan_lab
+	tools/check_lab crates/ccan_lab/out/ccan_lab
 
 soak:
 	@tools/build

@@ -1,16 +1,22 @@
--- Which host a step was of. Source: this project's own.
-use Rattle.std.specs.Prelude.{ℕ, ◌+◌, ◌==◌, Bool, ◌||◌, not, length}
-use Rattle.ccan_outcomes.specs.declared.seat.Seat.{Seat}
-use Rattle.ccan_outcomes.specs.declared.seat.Stage.{Stage}
-use Rattle.ccan_outcomes.specs.declared.seat.Stage.TheVariants.{Between, Tried, Asking}
+-- What is printed of a step of a history. Source: this project's own.
+use Rattle.std.specs.Prelude.{ℕ, ◌/◌, ◌%◌, ◌++◌, List, codes, decimal}
+use Rattle.ccan_ram.specs.Port.{port_text}
+use Rattle.ccan_outcomes.specs.declared.history_kind.HistoryKind.{HistoryKind}
+use Rattle.ccan_outcomes.specs.declared.history_kind.HistoryKind.TheVariants as kind
+use Rattle.ccan_outcomes.specs.declared.history_step.HistoryStep.{HistoryStep}
 
--- how many looks the host has made in its line
-abbrev pub looks_in : Stage → ℕ
-looks_in Between = 0
-looks_in (Tried object lost shown contended) = lost + 1
-looks_in (Asking object looks word) = looks
+abbrev pub kind_text : HistoryKind → List ℕ
+kind_text kind.Reads = codes "read"
+kind_text kind.Looks = codes "look"
+kind_text kind.LooksAgain = codes "try lost, look"
+kind_text kind.LooksLast = codes "last look"
+kind_text kind.Writes = codes "write"
+kind_text kind.ReadsAndClears = codes "read"
+kind_text kind.IsSpent = codes "spent"
+kind_text kind.IsBusy = codes "busy"
 
--- the host ended a line or made a look; what another host does leaves both counts
-abbrev pub has_moved : Seat → Seat → Bool
-has_moved old new =
-    not (length old.answers == length new.answers) || not (looks_in old.stage == looks_in new.stage)
+-- `  4 if2[1] look 01`: the step's number, the host and its line, what it did, and the object in two digits
+abbrev pub step_text : ℕ → HistoryStep → List ℕ
+step_text number step =
+    codes "  " ++ (decimal number ++ (codes " " ++ (port_text step.port ++ (codes "[" ++ (decimal step.line ++ (codes "] "
+    ++ (kind_text step.kind ++ (codes " " ++ (decimal (step.object / 10) ++ (decimal (step.object % 10) ++ codes "\n"))))))))))

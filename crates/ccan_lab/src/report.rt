@@ -5,7 +5,7 @@ ghost use Rattle.ccan_lab.specs.Report.{counted_text, heading_text};
 
 use crate::history::step_line;
 use crate::rows::{Rows, is_in_all, rows_of};
-use ccan_outcomes::{Outcomes, way_to};
+use ccan_outcomes::{Outcomes, history_of};
 use ccan_script::Script;
 use std::alloc::{AllocError, Global};
 
@@ -75,18 +75,9 @@ fn add_history(
     requires within { place < length outcomes.now.listing.endings.keys }
     requires found { AreFound (fields_of script.now) outcomes.now }
 {
-    let way = way_to(alloc, script, outcomes, place)?;
-    let states = outcomes.reached.states.as_slice();
-    let mut before = None;
-    let mut number = 0usize;
-    for index in &way {
-        let now = states.get(*index);
-        if let (Some(old), Some(new)) = (before, now) {
-            // There are fewer steps than states, so nothing saturates; it saves a proof of that.
-            number = number.saturating_add(1);
-            text.push_str(step_line(alloc, number, old, new)?.as_str())?;
-        }
-        before = now;
+    let history = history_of(alloc, script, outcomes, place)?;
+    for (index, step) in history.as_slice().iter().enumerate() {
+        text.push_str(step_line(alloc, index + 1, step)?.as_str())?;
     }
     Ok(())
 }
