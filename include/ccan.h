@@ -23,9 +23,9 @@
  *    number but CCAN_DONE, CCAN_BUSY, CCAN_SPENT and CCAN_SHARED, handle and output stay as they were.
  * Read off the sources: that a call takes no lock, but for those of malloc, realloc and free in ccan_open and ccan_end.
  * Only tested: that no call but ccan_open takes memory, that a call needs at most 16 KiB of stack, that CCAN_SHARED never comes
- * where C keeps its promises, and that this header has the numbers, sizes and offsets of the library. Not proved, and not claimed: how long a call takes, and that a
- * thread is ever run. A look begins anew where another port changed what it looks at meanwhile: one object for ccan_request,
- * ccan_until and ccan_peek, any object for the flags and the interrupt value.
+ * where C keeps its promises, and that this header has the numbers, sizes and offsets of the library. Not proved, and not
+ * claimed: how long a call takes, and that a thread is ever run. A look begins anew where another port changed what it looks
+ * at meanwhile: one object for ccan_request, ccan_until and ccan_peek, any object for the flags and the interrupt value.
  *
  * What C promises. The proofs assume it, and no call can check it:
  *  1. A ccan_chip begins as CCAN_CHIP_CLOSED, or by ccan_chip_init. C neither reads nor writes the insides of a chip or a
