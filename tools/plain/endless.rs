@@ -1,0 +1,247 @@
+//! The memory without an end in plain Rust, to tell what the proved one costs beside it: the same words, the same steps,
+//! nothing proved. Prints medians in nanoseconds, of a look, a flag word of 32 objects in one moment, 32 looks of a flag, and
+//! full writes, alone and by three threads at objects apart and at one.
+use std::hint::black_box;
+use std::sync::atomic::{AtomicU64, Ordering::SeqCst};
+use std::sync::Barrier;
+use std::time::Instant;
+
+const OBJECTS: usize = 32;
+const CALLS: u64 = 4096;
+const RUNS: usize = 101;
+
+#[derive(Clone, Copy, PartialEq, Debug)]
+struct Record {
+    valid: bool,
+    xtd: bool,
+    dir: bool,
+    id: u32,
+    mxtd: bool,
+    mdir: bool,
+    mask: u32,
+    newdat: bool,
+    msglst: bool,
+    intpnd: bool,
+    umask: bool,
+    txie: bool,
+    rxie: bool,
+    rmten: bool,
+    txrqst: bool,
+    eob: bool,
+    dlc: u8,
+    bytes: [u8; 8],
+}
+
+fn bit(value: u64, place: u32) -> bool {
+    value >> place & 1 == 1
+}
+
+impl Record {
+    fn marks(&self) -> u64 {
+        let flags = [
+            self.eob, self.txrqst, self.rmten, self.rxie, self.txie, self.umask, self.intpnd, self.msglst, self.newdat,
+            self.valid,
+        ];
+        let mut marks = u64::from(self.dlc);
+        for (place, flag) in flags.into_iter().enumerate() {
+            marks |= u64::from(flag) << (4 + place);
+        }
+        marks
+    }
+
+    fn body(&self) -> [u64; 2] {
+        let masks = u64::from(self.mxtd) << 31 | u64::from(self.mdir) << 30 | u64::from(self.mask);
+        let identifiers = u64::from(self.xtd) << 30 | u64::from(self.dir) << 29 | u64::from(self.id);
+        [masks << 32 | identifiers, u64::from_le_bytes(self.bytes)]
+    }
+
+    fn of(marks: u64, body: [u64; 2]) -> Record {
+        Record {
+            valid: bit(marks, 13),
+            newdat: bit(marks, 12),
+            msglst: bit(marks, 11),
+            intpnd: bit(marks, 10),
+            umask: bit(marks, 9),
+            txie: bit(marks, 8),
+            rxie: bit(marks, 7),
+            rmten: bit(marks, 6),
+            txrqst: bit(marks, 5),
+            eob: bit(marks, 4),
+            dlc: (marks & 15) as u8,
+            mxtd: bit(body[0], 63),
+            mdir: bit(body[0], 62),
+            mask: (body[0] >> 32 & 0x1fff_ffff) as u32,
+            xtd: bit(body[0], 30),
+            dir: bit(body[0], 29),
+            id: (body[0] & 0x1fff_ffff) as u32,
+            bytes: body[1].to_le_bytes(),
+        }
+    }
+}
+
+/// The value of an object's word: count above the port, then the port, the low bits of the count, a side, the marks.
+fn value_of(count: u64, port: usize, side: u64, marks: u64) -> u64 {
+    count >> 16 << 33 | (port as u64) << 31 | (count & 0xffff) << 15 | side << 14 | marks
+}
+
+fn port_in(value: u64) -> usize {
+    (value >> 31 & 3) as usize
+}
+
+fn side_in(value: u64) -> u64 {
+    value >> 14 & 1
+}
+
+struct Memory {
+    words: Vec<AtomicU64>,
+}
+
+#[derive(Clone, Copy)]
+struct Port {
+    port: usize,
+    used: u64,
+}
+
+impl Memory {
+    fn new() -> Memory {
+        Memory { words: (0..2048).map(|_| AtomicU64::new(0)).collect() }
+    }
+
+    fn place(&self, port: usize, object: usize, side: u64) -> usize {
+        512 + port * 512 + object * 8 + side as usize * 2
+    }
+
+    fn head(&self, object: usize) -> &AtomicU64 {
+        &self.words[object * 8]
+    }
+
+    /// The value of the object's word, and the record that it shows.
+    fn read(&self, object: usize) -> (u64, Record) {
+        let mut value = self.head(object).load(SeqCst);
+        loop {
+            let place = self.place(port_in(value), object, side_in(value));
+            let body = [self.words[place].load(SeqCst), self.words[place + 1].load(SeqCst)];
+            let now = self.head(object).load(SeqCst);
+            if now == value {
+                return (value, Record::of(value & 0x3fff, body));
+            }
+            value = now;
+        }
+    }
+
+    /// One try of a write of all parts.
+    fn write(&self, port: &mut Port, object: usize, record: &Record) -> bool {
+        let (value, _found) = self.read(object);
+        if self.head(object).load(SeqCst) != value {
+            return false;
+        }
+        let side = if port_in(value) == port.port { 1 - side_in(value) } else { 0 };
+        let body = record.body();
+        let place = self.place(port.port, object, side);
+        self.words[place].store(body[0], SeqCst);
+        self.words[place + 1].store(body[1], SeqCst);
+        let new = value_of(port.used + 1, port.port, side, record.marks());
+        let made = self.head(object).compare_exchange(value, new, SeqCst, SeqCst).is_ok();
+        port.used += u64::from(made);
+        made
+    }
+
+    /// MsgVal of all objects in one moment.
+    fn flags(&self) -> u64 {
+        loop {
+            let mut values = [0u64; OBJECTS];
+            for (object, value) in values.iter_mut().enumerate() {
+                *value = self.head(object).load(SeqCst);
+            }
+            let _posed = self.head(0).load(SeqCst);
+            if values.iter().enumerate().all(|(object, value)| self.head(object).load(SeqCst) == *value) {
+                return values.iter().enumerate().map(|(object, value)| (value >> 13 & 1) << object).sum();
+            }
+        }
+    }
+}
+
+fn message() -> Record {
+    let mut record = Record::of(0, [0, 0]);
+    record.valid = true;
+    record.dir = true;
+    record.eob = true;
+    record.id = 0x123 << 18;
+    record.dlc = 8;
+    record.bytes = [0x11, 0x22, 0x33, 0x44, 0x55, 0x66, 0x77, 0x88];
+    record
+}
+
+fn median(mut times: Vec<f64>) -> f64 {
+    times.sort_by(f64::total_cmp);
+    times[times.len() / 2]
+}
+
+/// The median over several memories, of all written, of the time of one of so many steps.
+fn timed(steps: u64, mut step: impl FnMut(&Memory, &mut Port)) -> f64 {
+    median(
+        (0..RUNS)
+            .map(|_| {
+                let memory = Memory::new();
+                let mut port = Port { port: 0, used: 0 };
+                for object in 0..OBJECTS {
+                    assert!(memory.write(&mut port, object, &message()));
+                }
+                let start = Instant::now();
+                for _ in 0..steps {
+                    step(&memory, &mut port);
+                }
+                start.elapsed().as_nanos() as f64 / steps as f64
+            })
+            .collect(),
+    )
+}
+
+/// Three threads write at once, each as often; the mean of their times of a write.
+fn writers(objects: [usize; 3]) -> f64 {
+    median(
+        (0..RUNS)
+            .map(|_| {
+                let memory = Memory::new();
+                let barrier = Barrier::new(3);
+                let times: Vec<f64> = std::thread::scope(|scope| {
+                    let started: Vec<_> = (0..3)
+                        .map(|name| {
+                            let (memory, barrier) = (&memory, &barrier);
+                            scope.spawn(move || {
+                                let mut port = Port { port: name, used: 0 };
+                                barrier.wait();
+                                let start = Instant::now();
+                                for _ in 0..CALLS {
+                                    while !memory.write(&mut port, objects[name], black_box(&message())) {}
+                                }
+                                start.elapsed().as_nanos() as f64 / CALLS as f64
+                            })
+                        })
+                        .collect();
+                    started.into_iter().map(|thread| thread.join().unwrap()).collect()
+                });
+                times.iter().sum::<f64>() / 3.0
+            })
+            .collect(),
+    )
+}
+
+fn main() {
+    println!("the same memory without an end in plain Rust");
+    let look = timed(100_000, |memory, _| {
+        black_box(memory.read(black_box(0)).1);
+    });
+    println!("{:<22} {look:.1} ns", "look");
+    let singles = timed(CALLS, |memory, _| {
+        let word: u64 = (0..OBJECTS).map(|object| u64::from(memory.read(object).1.valid) << object).sum();
+        assert_eq!(black_box(word), 0xffff_ffff);
+    });
+    println!("{:<22} {singles:.1} ns", "32 looks of a flag");
+    let moment = timed(CALLS, |memory, _| assert_eq!(black_box(memory.flags()), 0xffff_ffff));
+    println!("{:<22} {moment:.1} ns", "32 flags of a moment");
+    let write = timed(CALLS, |memory, port| assert!(memory.write(port, 0, black_box(&message()))));
+    println!("{:<22} {write:.1} ns", "full write");
+    println!("{:<22} {:.1} ns", "three writers apart", writers([0, 1, 2]));
+    println!("{:<22} {:.1} ns", "three writers on one", writers([0, 0, 0]));
+}
