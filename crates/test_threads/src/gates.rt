@@ -102,7 +102,8 @@ pub struct HeldFrom {
 impl Gate for HeldFrom {
     ghost use Rattle.test_threads.specs.Gates.{HoldsFrom};
 
-    ghost enters = { λ gate _ answers answer left. HoldsFrom gate answers answer left };
+    ghost enters = { λ gate _ answers answer left. HoldsFrom gate.port gate.line answers answer
+        × (left ≡ gate) };
 
     fn enter(&mut self, port: PortName, answers: &[LineAnswer]) -> bool {
         let stopped = match self.port {
