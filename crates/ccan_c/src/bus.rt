@@ -1,11 +1,8 @@
 //! The calls of the bus.
 ghost use Rattle.std.specs.Prelude.{◌≡◌, ◌≢◌, ◌⊎◌};
-ghost use Rattle.ccan_script.specs.declared.bus_line.BusLine.TheVariants as line;
-ghost use Rattle.ccan_c.specs.Answer.{counters_shown, load_shown, state_shown, word_shown};
-ghost use Rattle.ccan_c.specs.Bus.{Answers, CountsNode, Does, ReadsInterrupt, Recovers, held_on, is_on};
-ghost use Rattle.ccan_c.specs.Call.{IsCall};
-ghost use Rattle.ccan_c.specs.Host.{ReadsFlag};
-ghost use Rattle.ccan_c.specs.Round.{Plays};
+ghost use Rattle.ccan_c.specs.Bus.{held_on};
+ghost use Rattle.ccan_c.specs.BusCall as bus_call;
+ghost use Rattle.ccan_c.specs.BusCall.{BusCallDoes};
 ghost use Rattle.ccan_c.specs.Codes.{busy, closed, done, spent, groups_range, node_range};
 
 use crate::bus_handle::BusHandle;
@@ -24,8 +21,8 @@ use ccan_script::{BusLine, LineAnswer, MAX_FRAMES};
 /// The controller chooses an object to send, and starts it.
 #[unsafe(no_mangle)]
 pub extern "C" fn ccan_load(bus: &mut BusHandle, out: &mut ShownLoad) -> u32
-    ensures call { IsCall (held_on bus.old) (held_on bus.new) result
-        (λ held. Answers line.Load load_shown held (held_on bus.new) result out.new) }
+    ensures call { BusCallDoes (bus_call.load result out.new)
+        (held_on bus.old) (held_on bus.new) }
     ensures refused { result ≡ closed → out.new ≡ out.old }
 {
     if !bus.handle.is_open() {
@@ -39,8 +36,8 @@ pub extern "C" fn ccan_load(bus: &mut BusHandle, out: &mut ShownLoad) -> u32
 /// Reads the Status register. The status interrupt is then no longer pending.
 #[unsafe(no_mangle)]
 pub extern "C" fn ccan_status(bus: &mut BusHandle, out: &mut u16) -> u32
-    ensures call { IsCall (held_on bus.old) (held_on bus.new) result
-        (λ held. Answers line.Status word_shown held (held_on bus.new) result out.new) }
+    ensures call { BusCallDoes (bus_call.status result out.new)
+        (held_on bus.old) (held_on bus.new) }
     ensures refused { result ≡ closed → out.new ≡ out.old }
 {
     if !bus.handle.is_open() {
@@ -54,8 +51,8 @@ pub extern "C" fn ccan_status(bus: &mut BusHandle, out: &mut u16) -> u32
 /// Sets SIE and EIE, the enables of the status interrupt. 0 is off, each other number is on.
 #[unsafe(no_mangle)]
 pub extern "C" fn ccan_control(bus: &mut BusHandle, sie: u32, eie: u32) -> u32
-    ensures { IsCall (held_on bus.old) (held_on bus.new) result
-        (λ held. Does (line.Control (is_on sie) (is_on eie)) held (held_on bus.new) result) }
+    ensures { BusCallDoes (bus_call.control sie eie result)
+        (held_on bus.old) (held_on bus.new) }
 {
     if !bus.handle.is_open() {
         return CLOSED;
@@ -70,8 +67,8 @@ pub extern "C" fn ccan_control(bus: &mut BusHandle, sie: u32, eie: u32) -> u32
 /// Clears Init, from where on groups count for a controller that is off.
 #[unsafe(no_mangle)]
 pub extern "C" fn ccan_init(bus: &mut BusHandle) -> u32
-    ensures { IsCall (held_on bus.old) (held_on bus.new) result
-        (λ held. Does line.Init held (held_on bus.new) result) }
+    ensures { BusCallDoes (bus_call.init result)
+        (held_on bus.old) (held_on bus.new) }
 {
     if !bus.handle.is_open() {
         return CLOSED;
@@ -83,8 +80,8 @@ pub extern "C" fn ccan_init(bus: &mut BusHandle) -> u32
 /// Sets loop back mode. 0 is off, each other number is on.
 #[unsafe(no_mangle)]
 pub extern "C" fn ccan_loop_back(bus: &mut BusHandle, on: u32) -> u32
-    ensures { IsCall (held_on bus.old) (held_on bus.new) result
-        (λ held. Does (line.LoopBack (is_on on)) held (held_on bus.new) result) }
+    ensures { BusCallDoes (bus_call.loop_back on result)
+        (held_on bus.old) (held_on bus.new) }
 {
     if !bus.handle.is_open() {
         return CLOSED;
@@ -96,8 +93,8 @@ pub extern "C" fn ccan_loop_back(bus: &mut BusHandle, on: u32) -> u32
 /// Lets groups of eleven recessive bits pass, and tells the controller's state.
 #[unsafe(no_mangle)]
 pub extern "C" fn ccan_recessive(bus: &mut BusHandle, groups: u32, out: &mut u32) -> u32
-    ensures call { IsCall (held_on bus.old) (held_on bus.new) result
-        (λ held. Recovers groups state_shown held (held_on bus.new) result out.new) }
+    ensures call { BusCallDoes (bus_call.recessive groups result out.new)
+        (held_on bus.old) (held_on bus.new) }
     ensures refused { (result ≡ closed) ⊎ (result ≡ groups_range) → out.new ≡ out.old }
 {
     if !bus.handle.is_open() {
@@ -114,8 +111,8 @@ pub extern "C" fn ccan_recessive(bus: &mut BusHandle, groups: u32, out: &mut u32
 /// Reads the interrupt value of one moment: 0x8000 the status interrupt, else the first object with IntPnd, or 0.
 #[unsafe(no_mangle)]
 pub extern "C" fn ccan_bus_interrupt(bus: &mut BusHandle, out: &mut u16) -> u32
-    ensures call { IsCall (held_on bus.old) (held_on bus.new) result
-        (λ held. ReadsInterrupt held (held_on bus.new) result out.new) }
+    ensures call { BusCallDoes (bus_call.interrupt result out.new)
+        (held_on bus.old) (held_on bus.new) }
     ensures refused { result ≢ done → out.new ≡ out.old }
 {
     if !bus.handle.is_open() {
@@ -130,8 +127,8 @@ pub extern "C" fn ccan_bus_interrupt(bus: &mut BusHandle, out: &mut u16) -> u32
 /// Reads a flag of all objects in one moment, that of object k in bit k - 1.
 #[unsafe(no_mangle)]
 pub extern "C" fn ccan_bus_flags(bus: &mut BusHandle, flag: u32, out: &mut u64) -> u32
-    ensures call { IsCall (held_on bus.old) (held_on bus.new) result
-        (λ held. ReadsFlag flag held (held_on bus.new) result out.new) }
+    ensures call { BusCallDoes (bus_call.flags flag result out.new)
+        (held_on bus.old) (held_on bus.new) }
     ensures refused { result ≢ done → out.new ≡ out.old }
 {
     if !bus.handle.is_open() {
@@ -147,8 +144,8 @@ pub extern "C" fn ccan_bus_flags(bus: &mut BusHandle, flag: u32, out: &mut u64) 
 /// Reads the error counters of a node, node 0 being the controller.
 #[unsafe(no_mangle)]
 pub extern "C" fn ccan_counters(bus: &mut BusHandle, node: u32, out: &mut ShownCounters) -> u32
-    ensures call { IsCall (held_on bus.old) (held_on bus.new) result
-        (λ held. CountsNode node counters_shown held (held_on bus.new) result out.new) }
+    ensures call { BusCallDoes (bus_call.counters node result out.new)
+        (held_on bus.old) (held_on bus.new) }
     ensures refused { (result ≡ closed) ⊎ (result ≡ node_range) → out.new ≡ out.old }
 {
     if !bus.handle.is_open() {
@@ -172,8 +169,8 @@ pub extern "C" fn ccan_round(
     fault: u32,
     out: &mut ShownOutcome,
 ) -> u32
-    ensures call { IsCall (held_on bus.old) (held_on bus.new) result
-        (λ held. Plays offers.now fault held (held_on bus.new) result out.new) }
+    ensures call { BusCallDoes (bus_call.round offers.now fault result out.new)
+        (held_on bus.old) (held_on bus.new) }
     ensures refused { (result ≢ done) → (result ≢ busy) → (result ≢ spent) → out.new ≡ out.old }
 {
     if !bus.handle.is_open() {

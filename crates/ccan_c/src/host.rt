@@ -1,8 +1,9 @@
 //! The calls of a host.
 ghost use Rattle.std.specs.Prelude.{◌≡◌, ◌≢◌};
-ghost use Rattle.ccan_c.specs.Call.{IsCall};
 ghost use Rattle.ccan_c.specs.Codes.{done};
-ghost use Rattle.ccan_c.specs.Host.{Gets, Peeks, ReadsFlag, ReadsInterrupt, Requests, Sets, WaitsFor, held_by};
+ghost use Rattle.ccan_c.specs.Host.{held_by};
+ghost use Rattle.ccan_c.specs.HostCall as host_call;
+ghost use Rattle.ccan_c.specs.HostCall.{HostCallDoes};
 
 use crate::code::{CLOSED, DONE, FLAG_RANGE, OBJECT_RANGE, REGISTER_RANGE, code_of};
 use crate::host_handle::HostHandle;
@@ -12,8 +13,8 @@ use crate::shown_record::ShownRecord;
 /// Writes an interface register. The message RAM has no part in it.
 #[unsafe(no_mangle)]
 pub extern "C" fn ccan_set(host: &mut HostHandle, register: u32, value: u16) -> u32
-    ensures { IsCall (held_by host.old) (held_by host.new) result
-        (λ held. Sets register value held (held_by host.new) result) }
+    ensures { HostCallDoes (host_call.set register value result)
+        (held_by host.old) (held_by host.new) }
 {
     if !host.handle.is_open() {
         return CLOSED;
@@ -28,8 +29,8 @@ pub extern "C" fn ccan_set(host: &mut HostHandle, register: u32, value: u16) -> 
 /// Reads an interface register. The message RAM has no part in it.
 #[unsafe(no_mangle)]
 pub extern "C" fn ccan_get(host: &mut HostHandle, register: u32, out: &mut u16) -> u32
-    ensures call { IsCall (held_by host.old) (held_by host.new) result
-        (λ held. Gets register held (held_by host.new) result out.new) }
+    ensures call { HostCallDoes (host_call.get register result out.new)
+        (held_by host.old) (held_by host.new) }
     ensures refused { result ≢ done → out.new ≡ out.old }
 {
     if !host.handle.is_open() {
@@ -45,8 +46,8 @@ pub extern "C" fn ccan_get(host: &mut HostHandle, register: u32, out: &mut u16) 
 /// Writes the Command Request register: the transfer that the Command Mask register says, with the object of the request.
 #[unsafe(no_mangle)]
 pub extern "C" fn ccan_request(host: &mut HostHandle, request: u16) -> u32
-    ensures { IsCall (held_by host.old) (held_by host.new) result
-        (λ held. Requests request held (held_by host.new) result) }
+    ensures { HostCallDoes (host_call.request request result)
+        (held_by host.old) (held_by host.new) }
 {
     if !host.handle.is_open() {
         return CLOSED;
@@ -58,8 +59,8 @@ pub extern "C" fn ccan_request(host: &mut HostHandle, request: u16) -> u32
 /// Reads a flag of all objects in one moment, that of object k in bit k - 1.
 #[unsafe(no_mangle)]
 pub extern "C" fn ccan_flags(host: &mut HostHandle, flag: u32, out: &mut u64) -> u32
-    ensures call { IsCall (held_by host.old) (held_by host.new) result
-        (λ held. ReadsFlag flag held (held_by host.new) result out.new) }
+    ensures call { HostCallDoes (host_call.flags flag result out.new)
+        (held_by host.old) (held_by host.new) }
     ensures refused { result ≢ done → out.new ≡ out.old }
 {
     if !host.handle.is_open() {
@@ -75,8 +76,8 @@ pub extern "C" fn ccan_flags(host: &mut HostHandle, flag: u32, out: &mut u64) ->
 /// Reads the interrupt value of one moment: the number of the first object with IntPnd, or 0.
 #[unsafe(no_mangle)]
 pub extern "C" fn ccan_interrupt(host: &mut HostHandle, out: &mut u16) -> u32
-    ensures call { IsCall (held_by host.old) (held_by host.new) result
-        (λ held. ReadsInterrupt held (held_by host.new) result out.new) }
+    ensures call { HostCallDoes (host_call.interrupt result out.new)
+        (held_by host.old) (held_by host.new) }
     ensures refused { result ≢ done → out.new ≡ out.old }
 {
     if !host.handle.is_open() {
@@ -89,8 +90,8 @@ pub extern "C" fn ccan_interrupt(host: &mut HostHandle, out: &mut u16) -> u32
 /// Looks at an object once, and gives its record. The interface registers have no part in it.
 #[unsafe(no_mangle)]
 pub extern "C" fn ccan_peek(host: &mut HostHandle, object: u32, out: &mut ShownRecord) -> u32
-    ensures call { IsCall (held_by host.old) (held_by host.new) result
-        (λ held. Peeks object held (held_by host.new) result out.new) }
+    ensures call { HostCallDoes (host_call.peek object result out.new)
+        (held_by host.old) (held_by host.new) }
     ensures refused { result ≢ done → out.new ≡ out.old }
 {
     if !host.handle.is_open() {
@@ -114,8 +115,8 @@ pub extern "C" fn ccan_until(
     turns: u32,
     out: &mut u32,
 ) -> u32
-    ensures call { IsCall (held_by host.old) (held_by host.new) result
-        (λ held. WaitsFor object flag turns held (held_by host.new) result out.new) }
+    ensures call { HostCallDoes (host_call.until object flag turns result out.new)
+        (held_by host.old) (held_by host.new) }
     ensures refused { result ≢ done → out.new ≡ out.old }
 {
     if !host.handle.is_open() {
