@@ -1,5 +1,6 @@
 //! The memory without an end in plain Rust, to tell what the proved one costs beside it: the same words, the same steps,
-//! nothing proved. Prints medians in nanoseconds, of a look, a flag word of 32 objects in one moment, 32 looks of a flag, and
+//! nothing proved. A write here replaces the whole record, where the proved one merges the groups of a command mask and
+//! counts its tries. Prints medians in nanoseconds, of a look, a flag word of 32 objects in one moment, 32 looks of a flag, and
 //! full writes, alone and by three threads at objects apart and at one.
 use std::hint::black_box;
 use std::sync::atomic::{AtomicU64, Ordering::SeqCst};
