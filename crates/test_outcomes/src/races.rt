@@ -1,6 +1,8 @@
 //! The outcomes of scripts in which two hosts race. The outcomes are worked by hand from the rules; the numbers of states
 //! are those that another program found, which was written for that in another language.
-use ccan_outcomes::{Outcomes, OutcomesError, all_outcomes, laws, same, way_to};
+use ccan_outcomes::{
+    HistoryKind, Outcomes, OutcomesError, all_outcomes, history_of, laws, same, way_to,
+};
 use ccan_ram::PortName;
 use ccan_run::read_input;
 use ccan_script::print_line;
@@ -101,6 +103,15 @@ fn answers_a_way_to_each_outcome(rt: HostRuntime) -> Result<(), Fail> {
         let way = way_to(rt.alloc(), &script, &outcomes, place)?;
         assert_eq!(rt; way.len(), 5);
         assert!(rt; way.iter().next() == Some(&0));
+        let history = history_of(rt.alloc(), &script, &outcomes, place)?;
+        assert_eq!(rt; history.len(), 4);
+        for step in history.as_slice() {
+            assert_eq!(rt; step.line, 1);
+            assert_eq!(rt; step.object.get(), 1);
+        }
+        if let Some(last) = history.as_slice().last() {
+            assert!(rt; last.kind == HistoryKind::Writes);
+        }
     }
     Ok(())
 }
