@@ -6,10 +6,9 @@ use arrayvec::ArrayVec;
 use ccan_accept::Frame;
 
 /// What spoils the frame that wins a round (CAN Specification 2.0, "Error Detection").
-#[derive(Clone, Copy, PartialEq, Eq, Debug, Default)]
+#[derive(Clone, Copy, PartialEq, Eq, Debug)]
 pub enum Fault {
     /// Nothing.
-    #[default]
     Quiet,
     /// Six equal bits stood in a row.
     Stuff,
@@ -37,6 +36,14 @@ impl Fault {
             Fault::Bit0 => Some(5),
             Fault::Crc => Some(6),
         }
+    }
+}
+
+impl Default for Fault {
+    ghost is_default = { λ fault. fault ≡ Fault.Quiet };
+
+    fn default() -> Fault {
+        Fault::Quiet
     }
 }
 
