@@ -40,6 +40,8 @@ impl Fault {
 }
 
 impl Default for Fault {
+    ghost use Rattle.ccan_bus.specs.declared.round_line.Fault.{Fault};
+
     ghost is_default = { λ fault. fault ≡ Fault.Quiet };
 
     fn default() -> Fault {
