@@ -1,7 +1,8 @@
 //! The outcomes of scripts in which two hosts race. The outcomes are worked by hand from the rules; the numbers of states
 //! are those that another program found, which was written for that in another language.
 use ccan_outcomes::{
-    HistoryKind, Outcomes, OutcomesError, all_outcomes, history_of, laws, same, way_to,
+    HistoryKind, Outcomes, OutcomesError, all_outcomes, history_of, laws, machine_laws, same,
+    way_to,
 };
 use ccan_ram::PortName;
 use ccan_run::read_input;
@@ -45,6 +46,8 @@ fn laws_hold() {
     laws::own_are_found();
     same::equal_records_are_the_same();
     same::equal_answers_are_the_same();
+    machine_laws::all_outcomes_are_reached();
+    machine_laws::walks_are_histories();
 }
 
 #[test]
