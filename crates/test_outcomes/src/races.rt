@@ -1,7 +1,7 @@
 //! The outcomes of scripts in which two hosts race. The outcomes are worked by hand from the rules; the numbers of states
 //! are those that another program found, which was written for that in another language.
 use ccan_outcomes::{
-    HistoryKind, Outcomes, OutcomesError, all_outcomes, history_of, laws, same, way_to,
+    HistoryKind, Outcomes, OutcomesError, all_outcomes, history_of, laws, same, seat_laws, way_to,
 };
 use ccan_ram::PortName;
 use ccan_run::read_input;
@@ -43,6 +43,11 @@ fn laws_hold() {
     laws::outcomes_are_reached();
     laws::steps_are_own();
     laws::own_are_found();
+    seat_laws::hosts_begin_as_processes();
+    seat_laws::host_steps_are_acts();
+    seat_laws::steps_stay_within();
+    seat_laws::hosts_notice_as_processes();
+    seat_laws::hosts_end_as_processes();
     same::equal_records_are_the_same();
     same::equal_answers_are_the_same();
 }
