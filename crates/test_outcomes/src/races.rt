@@ -2,7 +2,7 @@
 //! are those that another program found, which was written for that in another language.
 use ccan_outcomes::{
     HistoryKind, Outcomes, OutcomesError, all_outcomes, history_of, laws, machine_laws, same,
-    way_to,
+    seat_laws, way_to,
 };
 use ccan_ram::PortName;
 use ccan_run::read_input;
@@ -44,6 +44,11 @@ fn laws_hold() {
     laws::outcomes_are_reached();
     laws::steps_are_own();
     laws::own_are_found();
+    seat_laws::hosts_begin_as_processes();
+    seat_laws::host_steps_are_acts();
+    seat_laws::steps_stay_within();
+    seat_laws::hosts_notice_as_processes();
+    seat_laws::hosts_end_as_processes();
     same::equal_records_are_the_same();
     same::equal_answers_are_the_same();
     machine_laws::all_outcomes_are_reached();
