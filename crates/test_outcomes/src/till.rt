@@ -1,4 +1,4 @@
-//! A machine whose states can't all be told apart: there are as many as lists of coins.
+//! A machine with as many states as there are lists of coins. States of a program stand for them.
 use ccan_search::Machine;
 use std::alloc::{AllocError, Global};
 
@@ -12,6 +12,7 @@ impl Machine for Till {
     /// The digit that it shows.
     type State = u64;
 
+    /// The coins that it was fed, the newest first.
     ghost Abstract = { List ℕ };
 
     ghost leads = { λ _ coins more. (more ≡ 2 ∷ coins) ⊎ (more ≡ 4 ∷ coins) };
