@@ -1,6 +1,7 @@
 ghost use Rattle.std.specs.Prelude.{◌≡◌, ◌≤◌, [], OnOk, IfErr, length, vec_capacity};
 ghost use Rattle.ccan_ram.specs.declared.port.PortName.{PortName};
 ghost use Rattle.ccan_ram.specs.SharedRam.{IsMemoryOf};
+ghost use Rattle.ccan_script.specs.Limits.{most_names};
 ghost use Rattle.ccan_script.specs.Reader.{fields_of};
 ghost use Rattle.ccan_run.specs.Ordered.{Prints, RunsTo, StopsRun};
 ghost use Rattle.ccan_run.specs.Trio.{seen_by};
@@ -49,7 +50,7 @@ fn run_lines_in_order<R: SharedRam>(
 /// How many lines a script has: as many as its order has names.
 fn count_lines(script: &Script) -> usize
     ensures count { result ≡ length script.now.order.items }
-    ensures few { result ≤ 6000 }
+    ensures few { result ≤ most_names }
 {
     script.order.len()
 }

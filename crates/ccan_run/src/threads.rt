@@ -87,7 +87,8 @@ fn start<'s, E: 's, R: SharedRam + Sync, G: Gate + Copy + Sync>(
     }
 }
 
-/// Starts a thread of the scope for each port, and joins the three.
+/// Starts a thread of the scope for each port, and joins the three. Where one could not be started, those before it are
+/// joined all the same, which gives back what they answered.
 fn join_all<'s, E: 's, R: SharedRam + Sync, G: Gate + Copy + Sync, T: Threads>(
     scope: &Scope<'s, E>,
     rt: &T,
@@ -117,13 +118,15 @@ fn join_all<'s, E: 's, R: SharedRam + Sync, G: Gate + Copy + Sync, T: Threads>(
         gate,
     };
     let if1 = start(scope, run_of(PortName::If1), ports.if1, logs.if1)?;
-    let if2 = start(scope, run_of(PortName::If2), ports.if2, logs.if2)?;
-    let bus = start(scope, run_of(PortName::Bus), ports.bus, logs.bus)?;
-    Ok(PerPort {
-        if1: if1.join(rt),
-        if2: if2.join(rt),
-        bus: bus.join(rt),
-    })
+    let if2 = start(scope, run_of(PortName::If2), ports.if2, logs.if2);
+    let bus = match &if2 {
+        Ok(_) => start(scope, run_of(PortName::Bus), ports.bus, logs.bus),
+        Err(_) => Err(RunError::Spawn),
+    };
+    let if1 = if1.join(rt);
+    let if2 = if2?.join(rt);
+    let bus = bus?.join(rt);
+    Ok(PerPort { if1, if2, bus })
 }
 
 /// Runs the lines of each port in a thread of its own. Each thread that was started has ended when this returns.

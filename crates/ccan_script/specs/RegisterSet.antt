@@ -38,7 +38,6 @@ abbrev pub settings : Members → Option (List (Reg × ℕ))
 settings no_members = Some []
 settings (member name d ms) = option_and_then (λ first. option_map (λ rest. first ∷ rest) (settings ms)) (setting name d)
 
--- what an object of register names with texts of four digits sets; it names each register once at most, as every object
--- does with its members
+-- what an object of register names with texts of four digits sets
 unfoldable pub settings_in : Data → Option (List (Reg × ℕ))
 settings_in d = option_and_then settings (as_object d)

@@ -7,7 +7,8 @@ use arrayvec::ArrayVec;
 use ccan_object::Reg;
 use serde_json::{Map, Value};
 
-/// Registers with the numbers that they are set to, each register once, in the order of their names in a script.
+/// Registers with the numbers that they are set to: one for each member of the JSON object that names them, in the order of
+/// the members.
 pub type RegisterSet = ArrayVec<(Reg, u16), 10>;
 
 /// The register of a name in a script.

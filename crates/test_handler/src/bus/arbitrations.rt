@@ -133,6 +133,14 @@ fn takes_lines_with_each_node_once(rt: HostRuntime) {
     }
 }
 
+/// A line without a fault of its own has none.
+#[test]
+fn no_fault_is_the_default(rt: HostRuntime) {
+    holds(&rt, Fault::default() == Fault::Quiet);
+    let line = RoundLine::new(0, ArrayVec::new(), Fault::default());
+    holds(&rt, line.is_some_and(|line| line.fault() == Fault::Quiet));
+}
+
 #[test]
 fn laws_of_arbitration_are_there() {
     laws::data_beats_remote();
