@@ -1,6 +1,7 @@
 //! Loads: what the controller is about to send.
 
 ghost use Rattle.std.specs.Prelude.{◌≡◌, None, Some};
+ghost use Rattle.ccan_object.specs.Profile.{Holds};
 ghost use Rattle.ccan_bus.specs.Load.{Loads, refusal_of_load};
 
 use crate::answer::LoadAnswer;
@@ -33,14 +34,32 @@ fn refusal_of_load(refused: ScanRefused) -> LoadAnswer
 }
 
 impl Bus {
-    ghost use Rattle.ccan_bus.specs.Bus.{GoesOnWith, IsSameBus, LedTo};
-    ghost use Rattle.ccan_bus.specs.Past.{BusPast};
+    ghost use Rattle.ccan_bus.specs.Bus.{GoesOn, GoesOnWith, IsSameBus, LedTo};
+    ghost use Rattle.ccan_bus.specs.Past.{BusPast, is_on};
 
     /// The object whose transmission was started and whose frame has not been sent yet, with its record after the start.
     pub fn loaded(&self) -> Option<(ObjectNo, Record)>
         ensures { (past : BusPast) → LedTo past self.now → result ≡ past.loaded }
     {
         self.loaded
+    }
+
+    /// Whether the controller is on.
+    pub fn controller_is_on(&self) -> bool
+        ensures { (past : BusPast) → LedTo past self.now → result ≡ is_on past 0 }
+    {
+        self.is_on(0)
+    }
+
+    /// Notes that the transmission of this object was started by changes that the caller made itself, and its record
+    /// after the start: from now on it is loaded, as after `load`.
+    pub fn note_loaded(&mut self, object: ObjectNo, started: &Record)
+        requires { Holds self.old.profile object }
+        ensures same { IsSameBus self.old self.new }
+        ensures goes_on { GoesOn self.old self.new
+            (λ past after. after ≡ record past { loaded = Some (object, started.now) }) }
+    {
+        self.loaded = loaded(object, started);
     }
 
     /// Chooses and starts an object, where the controller is on and nothing is loaded.

@@ -117,6 +117,24 @@ impl Bench {
         self.bus.load(&mut self.ram, a_hundred_tries())
     }
 
+    /// The start of an object's transmission by a change of the bus's port, and then its note. Whether it was started.
+    pub fn start(&mut self, request: u16) -> bool {
+        self.ram.at(PortName::Bus);
+        let object = ObjectNo::from_request(self.ram.profile(), request);
+        match self.ram.change(object, &Change::Start, a_hundred_tries()) {
+            Ok(Changed::Done { after, .. }) => {
+                self.bus.note_loaded(object, &after);
+                true
+            }
+            Ok(Changed::NotNow(_)) | Err(_) => false,
+        }
+    }
+
+    /// Whether the controller is on.
+    pub fn controller_is_on(&self) -> bool {
+        self.bus.controller_is_on()
+    }
+
     /// A round in which these nodes send, and this spoils the winner's frame. A line that can't be made is an idle round.
     pub fn round(&mut self, sends: &[(u8, Frame)], fault: Fault) -> RoundAnswer {
         match line_of(sends, fault) {

@@ -47,6 +47,15 @@ fn decides_by_the_frames(rt: HostRuntime) {
 }
 
 #[test]
+fn notes_a_start_that_was_made_outside_of_a_load(rt: HostRuntime) {
+    let mut bench = bench(1, 64);
+    holds(&rt, bench.controller_is_on());
+    holds(&rt, bench.start(0x0001));
+    holds(&rt, bench.loaded() == Some((object(1), bench.record(1))));
+    holds(&rt, bench.load() == LoadAnswer::Held(object(1)));
+}
+
+#[test]
 fn nobody_acknowledges_the_only_node(rt: HostRuntime) {
     let mut alone = bench(0, 64);
     holds(
