@@ -1,8 +1,8 @@
 //! The outcomes of scripts in which two hosts race. The outcomes are worked by hand from the rules; the numbers of states
 //! are those that another program found, which was written for that in another language.
 use ccan_outcomes::{
-    HistoryKind, Outcomes, OutcomesError, all_outcomes, history_of, laws, machine_laws, same,
-    way_to,
+    HistoryKind, Outcomes, OutcomesError, all_outcomes, history_of, laws, line_process_laws,
+    machine_laws, process_laws, same, way_to,
 };
 use ccan_ram::PortName;
 use ccan_run::read_input;
@@ -44,10 +44,14 @@ fn laws_hold() {
     laws::outcomes_are_reached();
     laws::steps_are_own();
     laws::own_are_found();
-    same::equal_records_are_the_same();
-    same::equal_answers_are_the_same();
+    line_process_laws::host_lines_are_processes();
+    line_process_laws::bus_lines_are_processes();
+    line_process_laws::ports_are_processes();
+    process_laws::steps_are_the_whole();
     machine_laws::all_outcomes_are_reached();
     machine_laws::walks_are_histories();
+    same::equal_records_are_the_same();
+    same::equal_answers_are_the_same();
 }
 
 #[test]
