@@ -6,12 +6,16 @@ use std::alloc::{AllocError, Global};
 pub struct Residues;
 
 impl Machine for Residues {
-    ghost use Rattle.std.specs.Prelude.{◌+◌, ◌*◌, ◌%◌, ◌∷◌, [], Contains};
+    ghost use Rattle.std.specs.Prelude.{ℕ, ◌≡◌, ◌+◌, ◌*◌, ◌%◌, ◌∷◌, [], Contains};
     ghost use Rattle.std.proofs.lemmas.Bool.{eqb-true};
 
     type State = u64;
 
+    ghost Abstract = { ℕ };
+
     ghost leads = { λ _ from to. Contains (((from % 10) * 2) % 10 ∷ ((from % 10) + 3) % 10 ∷ []) to };
+
+    ghost stands_for = { λ _ state there. state ≡ there };
 
     fn next(&self, alloc: Global, from: &u64) -> Result<Vec<u64>, AllocError> {
         let digit = *from % 10;

@@ -1,0 +1,28 @@
+//! A machine with as many states as there are lists of coins. States of a program stand for them.
+use ccan_search::Machine;
+use std::alloc::{AllocError, Global};
+
+/// A till that is fed coins of 2 and of 4, and shows the last digit of their sum.
+pub struct Till;
+
+impl Machine for Till {
+    ghost use Rattle.std.specs.Prelude.{ℕ, ◌≡◌, ◌%◌, ◌⊎◌, List, ◌∷◌, sum};
+    ghost use Rattle.std.proofs.lemmas.Bool.{eqb-true};
+
+    /// The digit that it shows.
+    type State = u64;
+
+    /// The coins that it was fed, the newest first.
+    ghost Abstract = { List ℕ };
+
+    ghost leads = { λ _ coins more. (more ≡ 2 ∷ coins) ⊎ (more ≡ 4 ∷ coins) };
+
+    ghost stands_for = { λ _ digit coins. digit ≡ sum coins % 10 };
+
+    fn next(&self, alloc: Global, from: &u64) -> Result<Vec<u64>, AllocError> {
+        let digit = *from % 10;
+        Ok(vec![in alloc; (digit + 2) % 10, (digit + 4) % 10]?)
+    }
+
+    ghost same = { eqb-true };
+}
