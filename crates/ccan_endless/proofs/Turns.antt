@@ -1,5 +1,5 @@
--- Turns that are lost, and one that succeeds. A turn that is lost costs another port a change, so there are few; and what the
--- turns add, one after another, is what the port has seen more than before.
+-- Turns that are lost, and one that succeeds: what the turns add, one after another, is what the port has seen more than
+-- before.
 use Rattle.std.proofs.Common.{append_assoc, ◌≡◌, ℕ, suc, ◌+◌, ◌*◌, ◌<◌, ◌≤◌, List, [], ◌++◌, sym}
 use Rattle.std.proofs.Common.{refl, ap, ◌∙◌, subst, arith}
 use Rattle.ccan_ram.specs.declared.handler_registers.HandlerRegisters.{HandlerRegisters}
@@ -18,8 +18,6 @@ use Rattle.ccan_ram.specs.Sound.{IsSound}
 use Rattle.ccan_endless.specs.Plays.{Knows}
 use Rattle.ccan_endless.specs.Version.{IsSeatOf}
 use Rattle.ccan_endless.specs.Picture.{Turned, Posed, Missed, Added, ShowsAll}
-
--- ---- what a turn adds
 
 module _ (memory : Memory) (p : PortName) where
   abbrev terms : Terms

@@ -109,8 +109,8 @@ one_from id other a b i j same f g = ⊎_elim
     g)
     f
 
-module _ {H : Type 0} {Old Wide New : ℕ → ByPort H → Type 0} (apart : AreApart Old) (id other : ℕ) (v w : ByPort H) (at : Old id v)
-    (there : Old other w)
+module _ {H : Type 0} {Old Wide New : ℕ → ByPort H → Type 0} (apart : AreApart Old) (id other : ℕ) (v w : ByPort H)
+    (at : Old id v) (there : Old other w)
     (at_wide : (i : ℕ) (u : ByPort H) → Wide i u → ((i ≡ id) × (together v w ≡ u)) ⊎ ((i ≢ id) × Old i u))
     (at_new : (i : ℕ) (u : ByPort H) → New i u → ((i ≡ other) × (nothing ≡ u)) ⊎ ((i ≢ other) × Wide i u)) where
   was : (i : ℕ) (q : PortName) (u : ByPort H) (y : H) → New i u → holding q u ≡ Some y

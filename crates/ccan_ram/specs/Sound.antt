@@ -1,6 +1,6 @@
 -- Histories as a shared memory has them: legal ones of records, in which each port keeps to its quota; and which changes stand
 -- in one. Source: this project's own.
-use Rattle.std.specs.Prelude.{◌≡◌, ℕ, ◌≤◌, ◌⊎◌, true, List, [], ◌∷◌}
+use Rattle.std.specs.Prelude.{◌≡◌, ℕ, ◌≤◌, ◌⊎◌, true, [], ◌∷◌}
 use Rattle.ccan_object.specs.declared.profile.Profile.{Profile}
 use Rattle.ccan_object.specs.Record.{IsRecord}
 use Rattle.ccan_ram.specs.declared.port.PortName.{PortName}

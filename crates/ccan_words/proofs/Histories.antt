@@ -1,4 +1,5 @@
--- Facts on histories: which changes stand in one, under which number, and what they left.
+-- What the number of the last change that contends tells of the records of the objects that share its word: at 0 nobody wrote
+-- them, and else they are those that this change left. So where the number is what it was, they are too.
 use native.Mathlib.Decide.{ℕ_discrete}
 use mathlib.Core.Logic.{dite}
 use Rattle.std.proofs.Common.{◌≡◌, ◌≢◌, ℕ, ◌==◌, ◌&&◌, Bool, true}

@@ -86,7 +86,8 @@ module _ {most : ℕ} {contends : ℕ → ℕ → Bool} {memory : Memory} {F : F
   right =
       let e : holding q m.seen.0 ≡ Some (see log y) =
       ap (λ (u : Knows). holding q u.0) seen
-      ∙ (holding-each_as (see log) q (together (only p (Some x)) (only q (Some y))) ∙ ap (see_held log) (held_with p q x y apart)) in
+      ∙ (holding-each_as (see log) q (together (only p (Some x)) (only q (Some y)))
+      ∙ ap (see_held log) (held_with p q x y apart)) in
       m.given ∙ (λ i. (only q (e i), []))
 
   pub met_a : IsPortOf (with_seat a left_seat)

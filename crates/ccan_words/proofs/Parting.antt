@@ -1,4 +1,5 @@
--- A seat that is split, two that are joined, and the table at the start.
+-- A seat that is split, two that are joined, and the table at the start. To split or join seats changes no word and no history,
+-- and what the new seats hold the old ones held (`Seating`). At the start all words are 0, and there are no versions.
 use Rattle.std.proofs.Common.{Bool, ◌≡◌, ℕ, zero, suc, ◌≤◌, ◌⊎◌, List, [], ◌∷◌, ◌++◌, set, get_or, length, replicate}
 use Rattle.std.proofs.Common.{sym, refl, ap, ◌∙◌, subst, inl, inr, ⊎_elim, arith, Some, None, zero-le}
 use Rattle.std.proofs.lemmas.List.{length-replicate}

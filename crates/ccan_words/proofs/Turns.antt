@@ -1,4 +1,5 @@
--- Turns that are lost, and one that succeeds.
+-- Turns that are lost, and one that succeeds: what the turns add, one after another, is what the port has seen more than
+-- before.
 use Rattle.std.proofs.Common.{append_assoc, ◌≡◌, ℕ, suc, ◌+◌, ◌*◌, ◌<◌, ◌≤◌, Bool, List, [], ◌++◌, sym}
 use Rattle.std.proofs.Common.{refl, ap, ◌∙◌, subst, arith}
 use Rattle.ccan_ram.specs.declared.handler_registers.HandlerRegisters.{HandlerRegisters}
@@ -19,8 +20,6 @@ use Rattle.ccan_ram.specs.Picture.{pictured, Turn, LostTurns, IsPicture}
 use Rattle.ccan_words.specs.Picture.{Turned, Posed, Missed, Added, ShowsAll}
 use Rattle.ccan_ram.proofs.Histories.{begins_through}
 use Rattle.ccan_ram.proofs.LostTurns.{few_lost, added_by, added_is, turn_of, own_changes}
-
--- ---- what a turn adds
 
 module _ (contends : ℕ → ℕ → Bool) (memory : Memory) (p : PortName) where
   abbrev terms : Terms
