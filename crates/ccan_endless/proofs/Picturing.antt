@@ -1,65 +1,26 @@
 -- Values of many words, and what they tell of one place of the history.
 use native.Mathlib.Decide.{ℕ_discrete}
 use mathlib.Core.Logic.{dite}
-use Rattle.std.proofs.Common.{◌≡◌, ◌≢◌, ℕ, ◌+◌, ◌<◌, ◌≤◌, Bool, true, false, List, ◌++◌, get_or, sym}
-use Rattle.std.proofs.Common.{refl, ◌∙◌, subst, ⊎_elim, arith}
+use Rattle.std.proofs.Common.{◌≡◌, ◌≢◌, ℕ, ◌+◌, ◌<◌, Bool, true, false, List, ◌++◌, get_or, sym}
+use Rattle.std.proofs.Common.{refl, ◌∙◌, subst, arith}
 use Rattle.ccan_object.specs.declared.profile.Profile.{Profile}
 use Rattle.ccan_object.specs.Profile.{objects_in}
 use Rattle.ccan_ram.specs.declared.port.PortName.{PortName}
-use Rattle.ccan_ram.specs.declared.port.PortName.TheVariants.{If1, If2, Bus}
-use Rattle.ccan_ram.specs.History.{changes_by, last_number, BeginsWith}
+use Rattle.ccan_ram.specs.History.{BeginsWith, History}
 use Rattle.ccan_ram.specs.Picture.{pictured}
-use Rattle.ccan_ram.proofs.Histories.{changes_later}
+use Rattle.ccan_ram.proofs.Histories.{changes_later, begins_again, begins_through}
 use Rattle.ccan_endless.specs.declared.view.Held.{Held}
-use Rattle.ccan_endless.specs.View.{History, see}
+use Rattle.ccan_endless.specs.View.{see}
 use Rattle.ccan_endless.specs.Layout.{same_object, number_in}
-use Rattle.ccan_endless.specs.Rule.{IsSound, Stands, IsHead}
+use Rattle.ccan_ram.specs.Sound.{IsSound}
+use Rattle.ccan_endless.specs.Rule.{IsHead}
 use Rattle.ccan_endless.specs.Plays.{Knows, GoesOn, Watches}
-use Rattle.ccan_endless.specs.Version.{IsSeatOf, total}
+use Rattle.ccan_endless.specs.Version.{IsSeatOf}
 use Rattle.ccan_endless.specs.Picture.{HasNumber, Stood, Poses, Swept, Moved, Turned, Posed, Missed, TurnsIn}
-use Rattle.ccan_endless.proofs.Histories.{IsAsItWas, IsNew, goes_on_at, stands_more, last_stands, unchanged, more_changes}
-use Rattle.ccan_endless.proofs.Histories.{begins_again, begins_through}
+use Rattle.ccan_ram.proofs.Standing.{another, stood_between}
+use Rattle.ccan_endless.proofs.Histories.{unchanged}
 use Rattle.ccan_endless.proofs.Seats.{only_holds, only_sees}
 use Rattle.ccan_endless.proofs.SeatMoves.{head_stays}
-
--- ---- numbers never come twice
-
--- an object whose last change is again what it was had no other between
-pub stood_between : (k : ℕ) (h l g : History) → BeginsWith h l → BeginsWith l g
-    → last_number same_object k h ≡ last_number same_object k g
-    → last_number same_object k l ≡ last_number same_object k g
-stood_between k h l g b c same = ⊎_elim
-    (λ (a : IsAsItWas k l g). a.number)
-    (λ (a : IsNew k l g). ⊎_elim
-    (λ (d : IsAsItWas k h l).
-    let is : last_number same_object k l ≡ last_number same_object k g = sym d.number ∙ same in
-    absurd (a.new (subst (λ (n : ℕ). Stands g n) (sym is) (last_stands k g (λ z. a.some (is ∙ z))))))
-    (λ (d : IsNew k h l).
-    let stood : Stands g (last_number same_object k h) =
-    subst (λ (n : ℕ). Stands g n) (sym same) (last_stands k g (λ z. d.some (same ∙ z))) in
-    absurd (d.new (subst (λ (z : History). Stands z (last_number same_object k h)) (sym c.1)
-    (stands_more c.0 g (last_number same_object k h) stood))))
-    (goes_on_at k h l b))
-    (goes_on_at k l g c)
-
--- where there are more changes, some port made one
-pub record Another (h g : History) : Type 0 where
-  pub port : PortName
-  pub more : changes_by port g < changes_by port h
-
-some_port : (h g : History) → BeginsWith h g → total g + 1 ≤ total h → Another h g
-some_port h g b more =
-    let a = changes_later If1 h g b in
-    let c = changes_later If2 h g b in
-    dite (ℕ_discrete (changes_by If1 g) (changes_by If1 h))
-    (λ same.
-    dite (ℕ_discrete (changes_by If2 g) (changes_by If2 h))
-    (λ equal. record { port = Bus; more = omega arith })
-    (λ other. record { port = If2; more = omega arith }))
-    (λ other. record { port = If1; more = omega arith })
-
-pub another : (k : ℕ) (h g : History) → BeginsWith h g → last_number same_object k h ≢ last_number same_object k g → Another h g
-another k h g b n = some_port h g b (more_changes h g k b n)
 
 -- ---- many words
 
@@ -168,7 +129,7 @@ module _ {profile : Profile} where
             let b = d.each k l in
             let from = before_looks a.at a.to in
             let between =
-            stood_between (k + 1) b.at t.log a.at (after_looks b.at b.from) from (sym b.tells ∙ a.tells.number_is) in
+            stood_between same_object (k + 1) b.at t.log a.at (after_looks b.at b.from) from (sym b.tells ∙ a.tells.number_is) in
             head_stays a.at t.log (get_or values k 0) (k + 1) between (unchanged t.log a.at (k + 1) from between) a.tells;
       }
 
@@ -176,7 +137,7 @@ module _ {profile : Profile} where
       turn_missed d =
           let a = c.each d.k d.less in
           let b = d.stood in
-          let apart = another (d.k + 1) b.at a.at
+          let apart = another same_object (d.k + 1) b.at a.at
           (begins_through b.at t.log a.at (after_looks b.at b.from) (before_looks a.at a.to))
           (λ s. b.tells (a.tells.number_is ∙ sym s)) in
           let first = changes_later apart.port a.at x.seen a.from in

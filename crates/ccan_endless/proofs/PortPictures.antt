@@ -6,9 +6,10 @@ use Rattle.ccan_ram.specs.SharedRam.{Memory, Pass, IsWithin, passes_of, terms_of
 use Rattle.ccan_ram.specs.Picture.{AddsPicture, IsPicture}
 use Rattle.ccan_endless.specs.declared.port.Port.TheInside.{Inside}
 use Rattle.ccan_endless.specs.declared.view.Held.{Held}
-use Rattle.ccan_endless.specs.View.{History, see}
+use Rattle.ccan_ram.specs.History.{History}
+use Rattle.ccan_endless.specs.View.{see}
 use Rattle.ccan_endless.specs.Layout.{same_object}
-use Rattle.ccan_endless.specs.Rule.{IsSound}
+use Rattle.ccan_ram.specs.Sound.{IsSound}
 use Rattle.ccan_endless.specs.Version.{IsSeatOf}
 use Rattle.ccan_endless.specs.Picture.{Added, PicturesIn}
 use Rattle.ccan_endless.proofs.Seats.{only_seen}

@@ -5,19 +5,23 @@ use Rattle.atomic_table.specs.Table.{keeps, Allows}
 use Rattle.ccan_object.specs.declared.profile.Profile.{Profile}
 use Rattle.ccan_object.specs.Profile.{objects_in}
 use Rattle.ccan_ram.specs.declared.port.PortName.{PortName}
-use Rattle.ccan_ram.specs.History.{record_at, events_of}
+use Rattle.ccan_ram.specs.History.{record_at, events_of, History}
 use Rattle.ccan_ram.specs.Attempt.{look_at}
 use Rattle.ccan_ram.specs.Picture.{pictured}
 use Rattle.ccan_ram.proofs.Pictures.{pictured_changes, pictured_last, pictured_legal, pictured_record}
 use Rattle.ccan_endless.specs.declared.view.Held.{Held}
-use Rattle.ccan_endless.specs.declared.view.View.{View}
-use Rattle.ccan_endless.specs.View.{History, holding, see_all}
+use Rattle.ccan_ram.specs.ByPort.{holding}
+use Rattle.ccan_endless.specs.View.{see_all, View}
 use Rattle.ccan_endless.specs.Layout.{same_object}
-use Rattle.ccan_endless.specs.Rule.{IsSound, AreRecords, Keeps}
+use Rattle.ccan_ram.specs.Sound.{IsSound, AreRecords}
+use Rattle.ccan_endless.specs.Rule.{Keeps}
 use Rattle.ccan_endless.specs.Plays.{Knows}
 use Rattle.ccan_endless.specs.Picture.{Poses}
-use Rattle.ccan_endless.proofs.Histories.{stands_more, record_is}
-use Rattle.ccan_endless.proofs.SeatMoves.{with_view, sound_for, not_held, of_other, Still, on_for, saw}
+use Rattle.ccan_ram.proofs.Numbers.{stands_more}
+use Rattle.ccan_ram.proofs.Records.{record_is}
+use Rattle.ccan_ram.proofs.Holding.{not_held}
+use Rattle.ccan_ram.proofs.Counting.{of_other}
+use Rattle.ccan_endless.proofs.SeatMoves.{with_view, sound_for, Still, on_for, saw}
 
 -- ---- looks at all objects change nothing
 
@@ -41,7 +45,7 @@ pictured_sound profile quota p h s = record {
 pictured_still : (profile : Profile) (ws : List ℕ) (p : PortName) (h : History)
     → Still profile ws ws h (pictured p (objects_in profile) h ++ h)
 pictured_still profile ws p h = record {
-  stand = λ n t. stands_more (pictured p (objects_in profile) h) h n t;
+  stand = λ n t. (t.0, stands_more (pictured p (objects_in profile) h) h n t.0 t.1);
   last = λ k. pictured_last same_object p (objects_in profile) k h h;
   object = λ k. pictured_record p (objects_in profile) k h h;
   cells = λ k held. refl;

@@ -7,15 +7,17 @@ use Rattle.ccan_object.specs.Record.{IsRecord}
 use Rattle.ccan_ram.specs.declared.handler_registers.HandlerRegisters.{HandlerRegisters}
 use Rattle.ccan_ram.specs.declared.port.PortName.{PortName}
 use Rattle.ccan_ram.specs.declared.event.Event.{Event}
-use Rattle.ccan_ram.specs.History.{events_of, changes_by, last_number, BeginsWith}
+use Rattle.ccan_ram.specs.History.{events_of, changes_by, last_number, BeginsWith, History}
 use Rattle.ccan_ram.specs.HandlerRegisters.{registers_at, with_flags}
 use Rattle.ccan_ram.specs.Picture.{pictured, LostTurns, IsPicture}
 use Rattle.ccan_ram.specs.SharedRam.{Memory, terms_of}
 use Rattle.ccan_endless.specs.declared.view.Held.{Held}
-use Rattle.ccan_endless.specs.View.{History, holding, see, see_all}
+use Rattle.ccan_ram.specs.ByPort.{holding}
+use Rattle.ccan_endless.specs.View.{see, see_all}
 use Rattle.ccan_endless.specs.Parts.{marks_of}
 use Rattle.ccan_endless.specs.Layout.{same_object, number_in}
-use Rattle.ccan_endless.specs.Rule.{IsSound, IsHead, AreRecords}
+use Rattle.ccan_ram.specs.Sound.{IsSound, AreRecords}
+use Rattle.ccan_endless.specs.Rule.{IsHead}
 use Rattle.ccan_endless.specs.Plays.{Knows, GoesOn}
 use Rattle.ccan_endless.specs.Version.{IsSeatOf}
 

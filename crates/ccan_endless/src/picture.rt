@@ -16,7 +16,7 @@ ghost use Rattle.ccan_endless.specs.Parts.{marks_limit};
 ghost use Rattle.ccan_endless.specs.Picture.{AddsMarks, CollectedIn, MovedIn, PicturesIn, ShowsAll};
 ghost use Rattle.ccan_endless.specs.Picture.{StayedIn, TurnsIn};
 ghost use Rattle.ccan_endless.specs.Port.{numbers_of};
-ghost use Rattle.ccan_endless.specs.Rule.{IsSound};
+ghost use Rattle.ccan_ram.specs.Sound.{IsSound};
 ghost use Rattle.ccan_endless.specs.Version.{IsSeatOf};
 
 use crate::layout::{marks_in, number_in};

@@ -1,8 +1,7 @@
 -- Tries of a change, by drafts that are committed.
-use Rattle.std.proofs.Common.{ℕ, zero, suc, ◌≡◌, ◌≤◌, ◌<◌, ◌+◌, Bool, true, false, List, [], ◌∷◌, ◌++◌, refl, sym, ap, subst, ◌∙◌, arith, add-one, append_assoc, Ok, Err}
+use Rattle.std.proofs.Common.{ℕ, zero, suc, ◌≡◌, ◌<◌, ◌+◌, Bool, true, false, List, [], ◌∷◌, ◌++◌, refl, sym, ap, subst, ◌∙◌, arith, add-one, append_assoc, Ok}
 use Rattle.std.proofs.lemmas.List.{append-nil}
 use Rattle.ccan_object.specs.declared.record.Record.{Record}
-use Rattle.ccan_ram.specs.declared.port.PortName.{PortName}
 use Rattle.ccan_ram.specs.declared.change.Change.{Change}
 use Rattle.ccan_ram.specs.declared.change.Changed.{Changed}
 use Rattle.ccan_ram.specs.declared.change.Changed.TheVariants.{Done, NotNow}
@@ -12,7 +11,7 @@ use Rattle.ccan_ram.specs.Port.{change_number}
 use Rattle.ccan_ram.specs.Change.{fits, changed}
 use Rattle.ccan_ram.specs.History.{changes_by, last_number}
 use Rattle.ccan_ram.specs.Terms.{Terms}
-use Rattle.ccan_ram.specs.Attempt.{look_at, change_at, EndsIn, IsLook, SomeContends, IsLostTry, LostTries, HasRoom, IsSpent, Attempt}
+use Rattle.ccan_ram.specs.Attempt.{look_at, change_at, EndsIn, IsLook, SomeContends, LostTries, HasRoom, IsSpent, Attempt}
 use Rattle.ccan_ram.specs.Access.{Passes, Goes}
 use Rattle.ccan_ram.specs.SharedRam.{Pass, passes_of}
 use Rattle.ccan_ram.specs.Draft.{LooksFor, Commits, CommitsLost}

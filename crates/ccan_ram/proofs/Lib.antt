@@ -1,5 +1,15 @@
 pub mod Calls
+pub mod Booleans
+pub mod Ports
+pub mod Notes
+pub mod Holding
+pub mod Seating
 pub mod Histories
+pub mod Counting
+pub mod Numbers
+pub mod Standing
+pub mod Records
+pub mod LostTurns
 pub mod Arrays
 pub mod Registers
 pub mod FinalRecords

@@ -1,19 +1,15 @@
 -- Each lost try has a change of another port of its own.
 use Rattle.std.proofs.Common.{ℕ, zero, suc, ◌≡◌, ◌≤◌, ◌+◌, ◌*◌, Bool, true, false, ◌&&◌, ◌||◌, not, cond, List, [], ◌∷◌, ◌++◌, refl, ap, ◌∙◌, arith, Ok, Err}
-use Rattle.std.specs.Prelude.{Result}
 use Rattle.ccan_ram.specs.declared.port.PortName.{PortName}
 use Rattle.ccan_ram.specs.declared.port.PortName.TheVariants.{If1, If2, Bus}
 use Rattle.ccan_ram.specs.declared.change.Change.{Change}
-use Rattle.ccan_ram.specs.declared.change.Changed.{Changed}
-use Rattle.ccan_ram.specs.declared.change.Refused.{Refused}
 use Rattle.ccan_ram.specs.declared.change.Refused.TheVariants.{Busy, Spent}
 use Rattle.ccan_ram.specs.declared.event.Event.{Event}
 use Rattle.ccan_ram.specs.Port.{same_port}
 use Rattle.ccan_ram.specs.History.{is_change, events_of, changes_by}
 use Rattle.ccan_ram.specs.Terms.{Terms}
-use Rattle.ccan_ram.specs.Attempt.{SomeContends, LostTries, Attempt}
+use Rattle.ccan_ram.specs.Attempt.{SomeContends, LostTries}
 use Rattle.ccan_ram.specs.Access.{Goes}
-use Rattle.ccan_ram.specs.Answer.{FewTries}
 use Rattle.ccan_ram.specs.Laws.{contending, LostTriesHaveChanges, ManyTriesAreNeverBusy}
 use Rattle.ccan_ram.specs.SharedRam.{Pass, CanSee, passes_of}
 use Rattle.ccan_ram.proofs.Histories.{changes_by-append}

@@ -1,22 +1,19 @@
 -- From the rule of a shared memory to what its calls promise: the steps of a port that knows its part of one history.
-use Rattle.std.proofs.Common.{ℕ, ◌≡◌, ◌≤◌, ◌<◌, ◌+◌, Bool, true, false, cond, ◌||◌, ◌&&◌, List, [], ◌∷◌, ◌++◌, length, length-append, append_assoc, refl, sym, ap, subst, ◌∙◌, arith, Result, Ok, Err}
+use Rattle.std.proofs.Common.{ℕ, ◌≡◌, ◌<◌, Bool, true, false, cond, ◌||◌, ◌&&◌, List, [], ◌∷◌, ◌++◌, length, length-append, append_assoc, refl, sym, ap, subst, ◌∙◌, arith, Ok, Err}
 use Rattle.ccan_object.specs.declared.record.Record.{Record}
-use Rattle.ccan_ram.specs.declared.port.PortName.{PortName}
 use Rattle.ccan_ram.specs.declared.change.Change.{Change}
-use Rattle.ccan_ram.specs.declared.change.Changed.{Changed}
 use Rattle.ccan_ram.specs.declared.change.Changed.TheVariants.{Done}
 use Rattle.ccan_ram.specs.declared.draft.Draft.{Draft}
-use Rattle.ccan_ram.specs.declared.draft.CommitError.{CommitError}
 use Rattle.ccan_ram.specs.declared.draft.CommitError.TheVariants.{Lost}
 use Rattle.ccan_ram.specs.declared.event.Event.{Event}
 use Rattle.ccan_ram.specs.Change.{fits, changed}
-use Rattle.ccan_ram.specs.History.{is_change, IsLegal, events_of, changes_by, next_number, last_number, record_at}
+use Rattle.ccan_ram.specs.History.{is_change, events_of, changes_by, next_number, last_number}
 use Rattle.ccan_ram.specs.Terms.{Terms}
-use Rattle.ccan_ram.specs.Attempt.{look_at, change_at, AreOthers, EndsIn, IsLook, SomeContends, HasRoom}
-use Rattle.ccan_ram.specs.Access.{Passes, Goes}
+use Rattle.ccan_ram.specs.Attempt.{look_at, change_at, AreOthers, IsLook, SomeContends}
+use Rattle.ccan_ram.specs.Access.{Goes}
 use Rattle.ccan_ram.specs.SharedRam.{Memory, Pass, IsWithin, IsSamePort, passes_of, IsShared, Meets}
 use Rattle.ccan_ram.specs.Ending.{IsPart}
-use Rattle.ccan_ram.specs.Draft.{LooksFor, Commits, CommitsLost, IsDrawn}
+use Rattle.ccan_ram.specs.Draft.{LooksFor, Commits, IsDrawn}
 use Rattle.ccan_ram.proofs.Histories.{events_of-append}
 
 -- nothing stands before a list that it leaves as it is

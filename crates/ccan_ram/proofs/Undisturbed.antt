@@ -1,17 +1,15 @@
 -- A caller whom nobody disturbed is answered as by a one-thread memory, whoever else uses the memory.
-use Rattle.std.proofs.Common.{ℕ, zero, suc, ◌≡◌, ◌≤◌, false, true, List, [], ◌∷◌, ◌++◌, refl, sym, ap, subst, ◌∙◌, arith, Ok, Err}
+use Rattle.std.proofs.Common.{ℕ, zero, suc, ◌≡◌, ◌≤◌, false, true, List, [], ◌∷◌, ◌++◌, refl, ap, subst, ◌∙◌, arith, Ok, Err}
 use Rattle.std.specs.Prelude.{Result}
-use Rattle.std.proofs.lemmas.List.{append-nil}
-use Rattle.ccan_object.specs.declared.record.Record.{Record}
 use Rattle.ccan_ram.specs.declared.change.Change.{Change}
 use Rattle.ccan_ram.specs.declared.change.Changed.{Changed}
 use Rattle.ccan_ram.specs.declared.change.Changed.TheVariants.{Done, NotNow}
 use Rattle.ccan_ram.specs.declared.change.Refused.{Refused}
 use Rattle.ccan_ram.specs.declared.change.Refused.TheVariants.{Busy, Spent}
 use Rattle.ccan_ram.specs.declared.event.Event.{Event}
-use Rattle.ccan_ram.specs.History.{events_of, NobodyElse}
+use Rattle.ccan_ram.specs.History.{NobodyElse}
 use Rattle.ccan_ram.specs.Terms.{Terms}
-use Rattle.ccan_ram.specs.Attempt.{look_at, AreOthers, EndsIn, IsLook, LostTries, Attempt}
+use Rattle.ccan_ram.specs.Attempt.{look_at, AreOthers, EndsIn, LostTries, Attempt}
 use Rattle.ccan_ram.specs.Laws.{as_one_thread, UndisturbedLooksAreOneThread, UndisturbedAttemptsAreOneThread}
 use Rattle.ccan_ram.proofs.Histories.{nobody, undisturbed_parts, none_undisturbed}
 

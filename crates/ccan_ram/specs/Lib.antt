@@ -2,6 +2,8 @@ pub mod Port
 pub mod Tries
 pub mod Change
 pub mod History
+pub mod Sound
+pub mod ByPort
 pub mod Terms
 pub mod Attempt
 pub mod Access

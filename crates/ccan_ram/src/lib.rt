@@ -25,6 +25,7 @@
 
 pub mod access;
 pub mod array;
+pub mod by_port;
 pub mod change;
 pub mod draft;
 pub mod ending;
@@ -40,6 +41,7 @@ pub mod tries;
 
 pub use access::Access;
 pub use array::Array;
+pub use by_port::ByPort;
 pub use change::{Change, Changed, Refused};
 pub use draft::{CommitError, Draft};
 pub use ending::Final;

@@ -10,7 +10,7 @@ use Rattle.ccan_ram.specs.declared.draft.CommitError.TheVariants.{Lost}
 use Rattle.ccan_ram.specs.declared.event.Event.{Event}
 use Rattle.ccan_ram.specs.Port.{same_port, change_number}
 use Rattle.ccan_ram.specs.Change.{fits, changed}
-use Rattle.ccan_ram.specs.History.{changes_by, next_number, IsLegal}
+use Rattle.ccan_ram.specs.History.{changes_by, next_number, IsLegal, History}
 use Rattle.ccan_ram.specs.Attempt.{look_at}
 use Rattle.ccan_ram.specs.SharedRam.{Pass, IsSamePort}
 use Rattle.ccan_ram.specs.Draft.{AddsCommit, IsDrawn}
@@ -20,11 +20,14 @@ use Rattle.ccan_ram.proofs.Steps.{done_goes, lost_goes}
 use Rattle.ccan_words.specs.declared.view.Held.{Held}
 use Rattle.ccan_words.specs.declared.version.Version.{Version}
 use Rattle.ccan_words.specs.declared.port.Port.TheInside.{Inside}
-use Rattle.ccan_words.specs.View.{History, holding, see}
+use Rattle.ccan_ram.specs.ByPort.{holding}
+use Rattle.ccan_words.specs.View.{see}
 use Rattle.ccan_words.specs.Layout.{Form, IsNumber}
 use Rattle.ccan_words.specs.Plays.{GoesOn, Makes, change_of}
 use Rattle.ccan_words.specs.Version.{IsReady, IsSeatOf, Publishes, version_of, with_note}
-use Rattle.ccan_words.proofs.Histories.{chosen, same_own, changes_by_own}
+use Rattle.ccan_ram.proofs.Booleans.{chosen}
+use Rattle.ccan_ram.proofs.Ports.{same_own}
+use Rattle.ccan_ram.proofs.Counting.{changes_by_own}
 use Rattle.ccan_words.proofs.Seats.{only_holds, only_seen, only_sees, only_changes}
 use Rattle.ccan_words.proofs.Ports.{WordSeat, IsPortOf, pass, with_seat, last_is_number, seen_is, count_is}
 use Rattle.ccan_words.proofs.Ports.{part, sound, within, kept, same_port_as}

@@ -12,19 +12,23 @@ use Rattle.atomic_table.specs.Table.{keeps, Allows}
 use Rattle.ccan_object.specs.declared.profile.Profile.{Profile}
 use Rattle.ccan_ram.specs.declared.port.PortName.{PortName}
 use Rattle.ccan_ram.specs.Port.{same_port, change_number}
-use Rattle.ccan_ram.specs.History.{record_at, changes_by, next_number, last_number, BeginsWith}
+use Rattle.ccan_ram.specs.History.{record_at, changes_by, next_number, last_number, BeginsWith, History}
 use Rattle.ccan_words.specs.declared.view.Held.{Held}
-use Rattle.ccan_words.specs.declared.view.View.{View}
 use Rattle.ccan_words.specs.declared.version.Version.{Version}
-use Rattle.ccan_words.specs.View.{History, holding, see_all, with_held}
+use Rattle.ccan_ram.specs.ByPort.{holding, with_held}
+use Rattle.ccan_words.specs.View.{see, see_all, View}
 use Rattle.ccan_words.specs.Layout.{Form, IsNumber, Lies}
-use Rattle.ccan_words.specs.Rule.{IsSound, Stands, Fits, Keeps, Heads, Versions}
+use Rattle.ccan_ram.specs.Sound.{IsSound, Stands}
+use Rattle.ccan_words.specs.Rule.{Fits, Keeps, Heads, Versions}
 use Rattle.ccan_words.specs.Plays.{Knows, GoesOn, Makes, change_of, Exchanges, IsDrafted}
-use Rattle.ccan_words.proofs.Histories.{when, chosen, passed, port_discrete, same_own, same_not, changes_by_own, unchanged}
-use Rattle.ccan_words.proofs.Histories.{begins_again, begins_through, begins_further}
-use Rattle.ccan_words.proofs.Views.{holding-with_held_same, holding-with_held_other, seen_by_all, Within}
-use Rattle.ccan_words.proofs.SeatMoves.{TableState, with_view, sound_for, is_next, not_held, of_other}
-use Rattle.ccan_words.proofs.SeatMoves.{moved, goes_by, sees, on_for, standing, saw, below_top, few_all}
+use Rattle.ccan_ram.proofs.Booleans.{when, chosen, passed}
+use Rattle.ccan_ram.proofs.Ports.{port_discrete, same_own, same_not}
+use Rattle.ccan_ram.proofs.Counting.{changes_by_own, of_other}
+use Rattle.ccan_words.proofs.Histories.{unchanged}
+use Rattle.ccan_ram.proofs.Histories.{begins_again, begins_through, begins_further}
+use Rattle.ccan_ram.proofs.Holding.{holding-with_held_same, holding-with_held_other, held_before, not_held}
+use Rattle.ccan_words.proofs.SeatMoves.{TableState, with_view, sound_for, is_next, Within}
+use Rattle.ccan_words.proofs.SeatMoves.{moved, goes_by, sees, on_for, standing, saw, below_top}
 
 -- ---- a history with one change more
 
@@ -115,7 +119,7 @@ module _ {profile : Profile} {most : ℕ} {contends : ℕ → ℕ → Bool} (F :
         (λ (eq : q ≡ p).
         (x, subst (λ (u : PortName). holding u v ≡ Some x) (sym eq) held, ap (λ (u : Held). u.quota) (as_own q y eq h)))
         (λ (n : q ≢ p).
-        let t = seen_by_all q log' v y (other_holding q y n h) in
+        let t = held_before (see log') q v y (other_holding q y n h) in
         (t.0, t.1, ap (λ (u : Held). u.quota) t.2))
         (port_discrete q p)
 
@@ -130,7 +134,7 @@ module _ {profile : Profile} {most : ℕ} {contends : ℕ → ℕ → Bool} (F :
       here : z.before ≡ record_at z.object r.log
       here =
           sym d.before_is
-          ∙ sym (unchanged contends r.log d.at z.object (few_all F lies s r) begins (head ∙ sym d.old_is) z.object
+          ∙ sym (unchanged contends r.log d.at z.object begins (head ∙ sym d.old_is) z.object
           (lies.itself z.object))
 
       sound : IsSound profile r.quota log'
@@ -181,7 +185,7 @@ module _ {profile : Profile} {most : ℕ} {contends : ℕ → ℕ → Bool} (F :
           (λ (eq : q ≡ p).
           subst (λ (u : PortName). Fits F ws log' u y) (sym eq) (subst (Fits F ws log' p) (as_own q y eq h) own_fits))
           (λ (n : q ≢ p).
-          let t = seen_by_all q log' v y (other_holding q y n h) in
+          let t = held_before (see log') q v y (other_holding q y n h) in
           sees F s.words ws r.log log' q t.0 y (changes_not z q r.log n) t.2 (next_kept q) (r.seats id q v t.0 at t.1))
           (port_discrete q p)
 

@@ -12,19 +12,20 @@ use Rattle.ccan_object.specs.Packing.{packed}
 use Rattle.ccan_ram.specs.declared.port.PortName.{PortName}
 use Rattle.ccan_ram.specs.declared.port.PortName.TheVariants.{If1, If2, Bus}
 use Rattle.ccan_ram.specs.declared.ending.Final.{Final}
-use Rattle.ccan_ram.specs.History.{IsLegal, record_at, events_of, last_number, BeginsWith}
+use Rattle.ccan_ram.specs.History.{IsLegal, record_at, events_of, last_number, BeginsWith, History}
 use Rattle.ccan_ram.specs.SharedRam.{Pass}
 use Rattle.ccan_ram.specs.Ending.{IsPart, Ends, final_records}
 use Rattle.ccan_words.specs.declared.view.Held.{Held}
-use Rattle.ccan_words.specs.declared.view.View.{View}
-use Rattle.ccan_words.specs.View.{History, only, together}
+use Rattle.ccan_words.specs.View.{View}
+use Rattle.ccan_ram.specs.ByPort.{only, together}
 use Rattle.ccan_words.specs.Layout.{Form, Lies, Shows, IsNumber}
 use Rattle.ccan_words.specs.Rule.{Settles, Keeps}
 use Rattle.ccan_words.specs.Plays.{Knows}
 use Rattle.ccan_words.specs.Version.{IsSeatOf}
 use Rattle.ccan_words.specs.Port.{IsPort}
 use Rattle.ccan_words.specs.Ending.{AreWordsOf, LeaveRecords, ShowRecord}
-use Rattle.ccan_words.proofs.Histories.{latest, stands_records, record_is}
+use Rattle.ccan_ram.proofs.Records.{stands_records, record_is}
+use Rattle.ccan_words.proofs.Histories.{latest}
 use Rattle.ccan_words.proofs.Reading.{of_three, three_words}
 use Rattle.ccan_words.proofs.Ports.{last_is_number}
 

@@ -1,6 +1,4 @@
 pub mod Histories
-pub mod Views
-pub mod Notes
 pub mod SeatMoves
 pub mod LoadsAndStores
 pub mod Posing

@@ -13,20 +13,25 @@ use Rattle.ccan_object.specs.declared.profile.Profile.{Profile}
 use Rattle.ccan_object.specs.Profile.{Holds}
 use Rattle.ccan_ram.specs.declared.port.PortName.{PortName}
 use Rattle.ccan_ram.specs.Port.{port_index, change_number}
-use Rattle.ccan_ram.specs.History.{record_at, changes_by, next_number, last_number}
+use Rattle.ccan_ram.specs.History.{record_at, changes_by, next_number, last_number, History}
 use Rattle.ccan_ram.specs.Attempt.{look_at}
 use Rattle.ccan_words.specs.declared.view.Held.{Held}
-use Rattle.ccan_words.specs.declared.view.View.{View}
-use Rattle.ccan_words.specs.View.{History, holding, see_all, with_held, note_at}
+use Rattle.ccan_ram.specs.ByPort.{holding, with_held}
+use Rattle.ccan_words.specs.View.{see_all, note_at, View}
 use Rattle.ccan_words.specs.Layout.{Form, Lies, IsNumber}
-use Rattle.ccan_words.specs.Rule.{IsSound, Stands, Latest, Fits, Keeps}
+use Rattle.ccan_ram.specs.Sound.{IsSound, Stands}
+use Rattle.ccan_words.specs.Rule.{Latest, Fits, Keeps}
 use Rattle.ccan_words.specs.Plays.{Knows, Looks, Watches, Reads, Notes}
-use Rattle.ccan_words.proofs.Histories.{port_at, port_discrete, changes_by_own, stands_after}
-use Rattle.ccan_words.proofs.Histories.{next_is_new, latest, begins_again, begins_further, record_is}
-use Rattle.ccan_words.proofs.Notes.{taken_same, taken_before, taken_length}
-use Rattle.ccan_words.proofs.Views.{holding-with_held_same, holding-with_held_other, Within}
-use Rattle.ccan_words.proofs.SeatMoves.{TableState, with_view, sound_for, is_next, not_held, of_other}
-use Rattle.ccan_words.proofs.SeatMoves.{moved, goes_by, on_for, standing, saw, few_all}
+use Rattle.ccan_ram.proofs.Ports.{port_at, port_discrete}
+use Rattle.ccan_ram.proofs.Counting.{changes_by_own, of_other}
+use Rattle.ccan_ram.proofs.Numbers.{stands_after, next_is_new}
+use Rattle.ccan_ram.proofs.Histories.{begins_again, begins_further}
+use Rattle.ccan_ram.proofs.Records.{record_is}
+use Rattle.ccan_words.proofs.Histories.{latest}
+use Rattle.ccan_ram.proofs.Notes.{taken_same, taken_before, taken_length}
+use Rattle.ccan_ram.proofs.Holding.{holding-with_held_same, holding-with_held_other, not_held}
+use Rattle.ccan_words.proofs.SeatMoves.{TableState, with_view, sound_for, is_next, Within}
+use Rattle.ccan_words.proofs.SeatMoves.{moved, goes_by, on_for, standing, saw}
 
 module _ {profile : Profile} {most : ℕ} {contends : ℕ → ℕ → Bool} (F : Form profile most contends) (lies : Lies F) where
   sound_look : (s : TableState) (r : Keeps F s) (p : PortName) (k : ℕ) → Holds profile k
@@ -152,7 +157,7 @@ module _ {profile : Profile} {most : ℕ} {contends : ℕ → ℕ → Bool} (F :
         → get_or ws (F.place n i) 0 ≡ get_or (F.content h) i 0
     versions n i h t l =
         place_apart n i (standing F s r n h t) l
-        (λ e. next_is_new r.log p h (few_all F lies s r) (subst (λ (m : ℕ). Stands r.log m h) e.0 t))
+        (λ e. next_is_new r.log p h (subst (λ (m : ℕ). Stands r.log m h) e.0 t))
         ∙ r.versions n i h t l
 
     -- another port's holding, and this one's

@@ -3,7 +3,7 @@ use Rattle.std.proofs.Common.{◌≡◌, ℕ, Bool, ◌∷◌, sym, refl, ap, �
 use Rattle.ccan_object.specs.declared.profile.Profile.{Profile}
 use Rattle.ccan_object.specs.declared.record.Record.{Record}
 use Rattle.ccan_ram.specs.declared.draft.Draft.{Draft}
-use Rattle.ccan_ram.specs.History.{record_at}
+use Rattle.ccan_ram.specs.History.{record_at, History}
 use Rattle.ccan_ram.specs.Attempt.{look_at}
 use Rattle.ccan_ram.specs.Access.{AddsLook}
 use Rattle.ccan_ram.specs.SharedRam.{Memory, Pass, IsWithin, IsSamePort, passes_of}
@@ -11,12 +11,12 @@ use Rattle.ccan_ram.specs.Draft.{AddsDraft, IsDrawn}
 use Rattle.ccan_ram.specs.Ending.{IsPart}
 use Rattle.ccan_ram.proofs.Steps.{look_goes, prepare_goes, prepare_draws}
 use Rattle.ccan_words.specs.declared.port.Port.TheInside.{Inside}
-use Rattle.ccan_words.specs.View.{History, see}
+use Rattle.ccan_words.specs.View.{see}
 use Rattle.ccan_words.specs.Layout.{Form}
-use Rattle.ccan_words.specs.Rule.{IsSound}
+use Rattle.ccan_ram.specs.Sound.{IsSound}
 use Rattle.ccan_words.specs.Plays.{GoesOn}
 use Rattle.ccan_words.specs.Version.{Finds, IsSeatOf}
-use Rattle.ccan_words.proofs.Histories.{changes_by_own}
+use Rattle.ccan_ram.proofs.Counting.{changes_by_own}
 use Rattle.ccan_words.proofs.Seats.{only_holds, only_seen, only_sees}
 use Rattle.ccan_words.proofs.Ports.{WordSeat, IsPortOf, pass, with_seat, part, within, kept, same_port_as}
 use Rattle.ccan_words.proofs.Tables.{memory_is}

@@ -5,18 +5,18 @@ use mathlib.Core.Logic.{dite}
 use native.Mathlib.Decide.{ℕ_discrete}
 use Rattle.ccan_object.specs.declared.profile.Profile.{Profile}
 use Rattle.ccan_object.specs.Profile.{Holds}
-use Rattle.ccan_ram.specs.declared.port.PortName.{PortName}
-use Rattle.ccan_ram.specs.History.{changes_by, last_number, BeginsWith}
+use Rattle.ccan_ram.specs.History.{last_number, BeginsWith, History}
 use Rattle.ccan_words.specs.declared.view.Held.{Held}
 use Rattle.ccan_words.specs.declared.version.Version.{Version}
-use Rattle.ccan_words.specs.View.{History, holding}
+use Rattle.ccan_ram.specs.ByPort.{holding}
 use Rattle.ccan_words.specs.Layout.{Form, IsBeside, Lies, Makes}
-use Rattle.ccan_words.specs.Rule.{Stands}
+use Rattle.ccan_ram.specs.Sound.{Stands}
 use Rattle.ccan_words.specs.Plays.{Knows, Notes, IsNextWord, change_of}
 use Rattle.ccan_words.specs.Version.{IsSeatOf, IsContent, IsNextFor, IsWritten, with_note}
-use Rattle.ccan_words.proofs.Notes.{taken_same, taken_before, taken_length}
+use Rattle.ccan_ram.proofs.Notes.{taken_same, taken_before, taken_length}
 use Rattle.ccan_words.proofs.Seats.{noted, only_holds}
-use Rattle.ccan_words.proofs.Histories.{latest, unchanged, stands_after}
+use Rattle.ccan_ram.proofs.Numbers.{stands_after}
+use Rattle.ccan_words.proofs.Histories.{latest, unchanged}
 
 module _ {profile : Profile} {most : ℕ} {contends : ℕ → ℕ → Bool} (F : Form profile most contends) (lies : Lies F)
     (makes : Makes F)
@@ -43,10 +43,9 @@ module _ {profile : Profile} {most : ℕ} {contends : ℕ → ℕ → Bool} (F :
   next_kept at word w x inside out nz part is read h legal few b same =
       let s = (latest contends z.object at).some (λ e. nz (sym is ∙ e)) in
       let st : Stands at z.old s.0 = subst (λ (n : ℕ). Stands at n s.0) is s.1 in
-      let below : (q : PortName) → changes_by q h < 65535 = λ q. (let a = few q in let l = lies.few in omega arith) in
       read s.0 (stands_after x.seen at z.old s.0 part st)
       ∙ sym (makes.rest z.port z.object word z.change z.before h s.0 object inside out
-      (λ i c. s.3 i c ∙ sym (unchanged contends h at z.object below b (same ∙ sym is) i c)))
+      (λ i c. s.3 i c ∙ sym (unchanged contends h at z.object b (same ∙ sym is) i c)))
 
 pub long_enough : (n m : ℕ) → (0 < n → m ≡ n) → n ≤ m
 long_enough zero m f = zero-le

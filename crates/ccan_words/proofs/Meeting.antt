@@ -6,12 +6,14 @@ use Rattle.ccan_ram.specs.SharedRam.{Memory, Pass, Meets}
 use Rattle.ccan_ram.proofs.Steps.{meets}
 use Rattle.ccan_words.specs.declared.view.Held.{Held}
 use Rattle.ccan_words.specs.declared.port.Port.TheInside.{Inside}
-use Rattle.ccan_words.specs.View.{History, holding, see, see_held, see_all, with_held, only, together}
+use Rattle.ccan_ram.specs.History.{History}
+use Rattle.ccan_ram.specs.ByPort.{holding, with_held, only, together}
+use Rattle.ccan_words.specs.View.{see, see_held, see_all}
 use Rattle.ccan_words.specs.Layout.{Form}
 use Rattle.ccan_words.specs.Plays.{Knows, GoesOn, Watches}
 use Rattle.ccan_words.specs.Version.{IsSeatOf}
-use Rattle.ccan_words.proofs.Histories.{changes_by_own}
-use Rattle.ccan_words.proofs.Views.{holding-see_all, split_off, held_with, held_first}
+use Rattle.ccan_ram.proofs.Counting.{changes_by_own}
+use Rattle.ccan_ram.proofs.Holding.{holding-each_as, split_off, held_with, held_first}
 use Rattle.ccan_words.proofs.Seats.{only_holds, only_seen}
 use Rattle.ccan_words.proofs.Ports.{WordSeat, IsPortOf, pass, with_seat, part, within, kept, same_port_as}
 use Rattle.ccan_words.proofs.Tables.{memory_is, same_table}
@@ -78,13 +80,14 @@ module _ {most : ℕ} {contends : ℕ → ℕ → Bool} {memory : Memory} {F : F
   seen = m.watched.view ∙ ap (λ (u : Knows). (see_all log u.0, u.1)) both
 
   left : IsSeatOf p (see log x) left_seat.me
-  left = m.kept ∙ (ap (λ (u : Knows). (with_held q None u.0, u.1)) seen ∙ (λ i. (split_off p q log x y apart i, [])))
+  left = m.kept ∙ (ap (λ (u : Knows). (with_held q None u.0, u.1)) seen ∙ (λ i. (split_off (see log) p q x y apart i, [])))
 
   right : IsSeatOf q (see log y) right_seat.me
   right =
       let e : holding q m.seen.0 ≡ Some (see log y) =
       ap (λ (u : Knows). holding q u.0) seen
-      ∙ (holding-see_all q log (together (only p (Some x)) (only q (Some y))) ∙ ap (see_held log) (held_with p q x y apart)) in
+      ∙ (holding-each_as (see log) q (together (only p (Some x)) (only q (Some y)))
+      ∙ ap (see_held log) (held_with p q x y apart)) in
       m.given ∙ (λ i. (only q (e i), []))
 
   pub met_a : IsPortOf (with_seat a left_seat)

@@ -1,6 +1,6 @@
 -- Numbers of many words, and what they tell of one place of the history.
-use Rattle.std.proofs.Common.{append_assoc, ◌≡◌, ◌≢◌, ℕ, ◌+◌, ◌<◌, ◌≤◌, ◌&&◌, Bool, true, false, List, [], ◌∷◌, ◌++◌, get_or, sym}
-use Rattle.std.proofs.Common.{refl, ap, ◌∙◌, subst, ⊎_elim, arith}
+use Rattle.std.proofs.Common.{◌≡◌, ◌≢◌, ℕ, ◌+◌, ◌<◌, ◌≤◌, Bool, true, false, List, ◌++◌, get_or, sym}
+use Rattle.std.proofs.Common.{refl, ap, ◌∙◌, subst, arith}
 use mathlib.Core.Logic.{dite}
 use native.Mathlib.Decide.{ℕ_discrete}
 use Rattle.ccan_object.specs.declared.profile.Profile.{Profile}
@@ -8,78 +8,22 @@ use Rattle.ccan_object.specs.declared.record.Record.{Record}
 use Rattle.ccan_object.specs.Profile.{Holds, objects_in}
 use Rattle.ccan_object.specs.Record.{zero_record}
 use Rattle.ccan_ram.specs.declared.port.PortName.{PortName}
-use Rattle.ccan_ram.specs.History.{is_change, record_at, changes_by, next_number, last_number, BeginsWith}
+use Rattle.ccan_ram.specs.History.{record_at, changes_by, last_number, BeginsWith, History}
 use Rattle.ccan_words.specs.declared.view.Held.{Held}
-use Rattle.ccan_words.specs.View.{History, see}
+use Rattle.ccan_words.specs.View.{see}
 use Rattle.ccan_words.specs.Layout.{Form, Lies, Shows}
-use Rattle.ccan_words.specs.Rule.{IsSound, Stands, Latest}
+use Rattle.ccan_ram.specs.Sound.{IsSound}
+use Rattle.ccan_words.specs.Rule.{Latest}
 use Rattle.ccan_words.specs.Plays.{Knows, GoesOn}
 use Rattle.ccan_words.specs.Version.{IsSeatOf, IsRecordOf}
 use Rattle.ccan_ram.specs.Picture.{pictured}
 use Rattle.ccan_words.specs.Picture.{CountsOn, Poses, Stood, Counted, Moved, Turned, Posed, Missed, TurnsIn}
-use Rattle.ccan_ram.proofs.Histories.{changes_later}
-use Rattle.ccan_words.proofs.Histories.{when, chosen, passed, stands_after, next_is_new, latest, begins_again, begins_through}
-use Rattle.ccan_words.proofs.Histories.{record_is, stands_records, changes_own}
+use Rattle.ccan_ram.proofs.Histories.{changes_later, begins_again, begins_through}
+use Rattle.ccan_ram.proofs.Numbers.{stands_after}
+use Rattle.ccan_words.proofs.Histories.{latest}
+use Rattle.ccan_ram.proofs.Records.{record_is, stands_records}
 use Rattle.ccan_words.proofs.Seats.{only_holds, only_sees}
-
--- ---- numbers never come twice
-
--- a change that contends between two histories gives the word another number, once and for all
-module _ (contends : ℕ → ℕ → Bool) (k : ℕ) where
-  still_more : (more middle g : History) → ((q : PortName) → changes_by q (more ++ (middle ++ g)) < 65535)
-      → last_number contends k (more ++ (middle ++ g)) ≡ last_number contends k g
-      → last_number contends k (middle ++ g) ≡ last_number contends k g
-  still_more [] middle g few e = e
-  still_more (e ∷ more) middle g few same =
-      let rest : History = more ++ (middle ++ g) in
-      let few' : (q : PortName) → changes_by q rest < 65535 = λ q. let f = few q in
-      let grow = changes_later q (e ∷ rest) rest (e ∷ [], refl) in omega arith in
-      ⊎_elim
-      (λ (t : (is_change e && contends e.object k) ≡ true).
-      let is : last_number contends k (e ∷ rest) ≡ next_number e.port rest = chosen (is_change e && contends e.object k) _ _ t in
-      let old : last_number contends k g ≡ next_number e.port rest = sym same ∙ is in
-      let s = (latest contends k g).some (λ z. absurd (omega arith)) in
-      absurd (next_is_new rest e.port s.0 few'
-      (stands_after rest g (next_number e.port rest) s.0 (more ++ middle, sym (append_assoc more middle g))
-      (subst (λ (n : ℕ). Stands g n s.0) old s.1))))
-      (λ (f : (is_change e && contends e.object k) ≡ false).
-      still_more more middle g few' (sym (passed (is_change e && contends e.object k) _ _ f) ∙ same))
-      (when (is_change e && contends e.object k))
-
-  -- a word that holds its old number held it between
-  pub stood_between : (h l g : History) → ((q : PortName) → changes_by q h < 65535) → BeginsWith h l → BeginsWith l g
-      → last_number contends k h ≡ last_number contends k g → last_number contends k l ≡ last_number contends k g
-  stood_between h l g few b c same =
-      let is : h ≡ b.0 ++ (c.0 ++ g) = b.1 ∙ ap (λ (z : History). b.0 ++ z) c.1 in
-      ap (last_number contends k) c.1
-      ∙ still_more b.0 c.0 g (subst (λ (z : History). (q : PortName) → changes_by q z < 65535) is few)
-      (ap (last_number contends k) (sym is) ∙ same)
-
--- a word that holds another number: some port made a change
-pub record Another (h g : History) : Type 0 where
-  pub port : PortName
-  pub more : changes_by port g < changes_by port h
-
-another_more : (contends : ℕ → ℕ → Bool) (k : ℕ) (more g : History)
-    → last_number contends k (more ++ g) ≢ last_number contends k g → Another (more ++ g) g
-another_more contends k [] g n = absurd (n refl)
-another_more contends k (e ∷ more) g n = ⊎_elim
-    (λ (t : is_change e ≡ true). let own = changes_own e (more ++ g) t in
-    let a = changes_later e.port (more ++ g) g (more, refl) in
-    record { port = e.port; more = omega arith })
-    (λ (f : is_change e ≡ false).
-    let is : (is_change e && contends e.object k) ≡ false = ap (λ (b : Bool). b && contends e.object k) f in
-    let a = another_more contends k more g (λ s. n (passed (is_change e && contends e.object k) _ _ is ∙ s)) in
-    let u = a.more in
-    let grow = changes_later a.port (e ∷ (more ++ g)) (more ++ g) (e ∷ [], refl) in
-    record { port = a.port; more = omega arith })
-    (when (is_change e))
-
-pub another : (contends : ℕ → ℕ → Bool) (k : ℕ) (h g : History) → BeginsWith h g
-    → last_number contends k h ≢ last_number contends k g → Another h g
-another contends k h g b n =
-    subst (λ (z : History). Another z g) (sym b.1)
-    (another_more contends k b.0 g (λ s. n (ap (last_number contends k) b.1 ∙ s)))
+use Rattle.ccan_ram.proofs.Standing.{another, stood_between}
 
 -- ---- many words
 
@@ -189,7 +133,6 @@ module _ {profile : Profile} {most : ℕ} {contends : ℕ → ℕ → Bool} (F :
             let a = c.each k l in
             let b = d.each k l in
             let between = stood_between contends (k + 1) b.at t.log a.at
-            (λ r. let f = few_of x.quota d.log top d.goes_on.sound r in let grow = changes_later r d.log b.at b.to in omega arith)
             (after_looks b.at b.from) (begins_through t.log c.log a.at posed_on.0.part a.to) (sym b.last ∙ a.last) in
             a.last ∙ sym between;
         ranged = λ k l. (c.each k l).ranged;

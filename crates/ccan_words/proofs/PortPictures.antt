@@ -5,8 +5,9 @@ use Rattle.ccan_ram.specs.declared.event.Event.{Event}
 use Rattle.ccan_ram.specs.SharedRam.{Memory, Pass, IsWithin, passes_of, terms_of}
 use Rattle.ccan_words.specs.declared.port.Port.TheInside.{Inside}
 use Rattle.ccan_words.specs.declared.view.Held.{Held}
-use Rattle.ccan_words.specs.View.{History, see}
-use Rattle.ccan_words.specs.Rule.{IsSound}
+use Rattle.ccan_ram.specs.History.{History}
+use Rattle.ccan_words.specs.View.{see}
+use Rattle.ccan_ram.specs.Sound.{IsSound}
 use Rattle.ccan_words.specs.Version.{IsSeatOf}
 use Rattle.ccan_ram.specs.Picture.{AddsPicture, IsPicture}
 use Rattle.ccan_words.specs.Picture.{Added, PicturesIn}

@@ -3,19 +3,19 @@ use Rattle.std.proofs.Common.{◌≡◌, ◌≢◌, ℕ, ◌≤◌, Bool, sym, r
 use Rattle.atomic_table.specs.Seated.{TableId}
 use Rattle.atomic_table.specs.declared.shared.Seat.{Seat}
 use Rattle.ccan_ram.specs.declared.port.PortName.{PortName}
-use Rattle.ccan_ram.specs.History.{events_of, changes_by, last_number, BeginsWith}
+use Rattle.ccan_ram.specs.History.{events_of, changes_by, last_number, BeginsWith, History}
 use Rattle.ccan_ram.specs.SharedRam.{Pass, IsWithin, CanSee, IsSamePort}
 use Rattle.ccan_ram.specs.Ending.{IsPart}
 use Rattle.ccan_words.specs.declared.view.Held.{Held}
-use Rattle.ccan_words.specs.declared.view.View.{View}
+use Rattle.ccan_words.specs.View.{View}
 use Rattle.ccan_words.specs.declared.port.Port.TheInside.{Inside}
-use Rattle.ccan_words.specs.View.{History}
 use Rattle.ccan_words.specs.Layout.{IsNumber}
-use Rattle.ccan_words.specs.Rule.{IsSound}
+use Rattle.ccan_ram.specs.Sound.{IsSound}
 use Rattle.ccan_words.specs.Plays.{GoesOn}
 use Rattle.ccan_words.specs.Version.{IsSeatOf}
 use Rattle.ccan_words.specs.Port.{memory_in, pass_of, IsPort}
-use Rattle.ccan_words.proofs.Histories.{numbered, latest}
+use Rattle.ccan_ram.proofs.Numbers.{numbered}
+use Rattle.ccan_words.proofs.Histories.{latest}
 use Rattle.ccan_words.proofs.Seats.{only_seen}
 
 -- the number of the last change that contends is a change's

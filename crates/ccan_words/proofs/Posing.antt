@@ -6,19 +6,24 @@ use Rattle.atomic_table.specs.Table.{keeps, Allows}
 use Rattle.ccan_object.specs.declared.profile.Profile.{Profile}
 use Rattle.ccan_object.specs.Profile.{Holds, objects_in}
 use Rattle.ccan_ram.specs.declared.port.PortName.{PortName}
-use Rattle.ccan_ram.specs.History.{record_at, events_of, last_number}
+use Rattle.ccan_ram.specs.History.{record_at, events_of, last_number, History}
 use Rattle.ccan_ram.specs.Attempt.{look_at}
 use Rattle.ccan_words.specs.declared.view.Held.{Held}
-use Rattle.ccan_words.specs.declared.view.View.{View}
-use Rattle.ccan_words.specs.View.{History, holding, see_all}
+use Rattle.ccan_ram.specs.ByPort.{holding}
+use Rattle.ccan_words.specs.View.{see_all, View}
 use Rattle.ccan_words.specs.Layout.{Form, Lies, IsNumber}
-use Rattle.ccan_words.specs.Rule.{IsSound, AreRecords, Stands, Keeps}
+use Rattle.ccan_ram.specs.Sound.{IsSound, AreRecords, Stands}
+use Rattle.ccan_words.specs.Rule.{Keeps}
 use Rattle.ccan_words.specs.Plays.{Knows}
 use Rattle.ccan_ram.specs.Picture.{pictured}
 use Rattle.ccan_ram.proofs.Pictures.{pictured_changes, pictured_last, pictured_legal}
 use Rattle.ccan_words.specs.Picture.{CountsOn, Poses}
-use Rattle.ccan_words.proofs.Histories.{latest, begins_again, record_is}
-use Rattle.ccan_words.proofs.SeatMoves.{with_view, sound_for, not_held, of_other}
+use Rattle.ccan_ram.proofs.Histories.{begins_again}
+use Rattle.ccan_ram.proofs.Records.{record_is}
+use Rattle.ccan_words.proofs.Histories.{latest}
+use Rattle.ccan_ram.proofs.Holding.{not_held}
+use Rattle.ccan_ram.proofs.Counting.{of_other}
+use Rattle.ccan_words.proofs.SeatMoves.{with_view, sound_for}
 use Rattle.ccan_words.proofs.SeatMoves.{on_for, standing, saw}
 
 -- ---- looks at all objects change nothing

@@ -9,14 +9,15 @@ use Rattle.ccan_object.specs.Profile.{Holds}
 use Rattle.ccan_object.specs.Record.{IsRecord, zero_record}
 use Rattle.ccan_object.specs.Packing.{packed}
 use Rattle.ccan_ram.specs.declared.port.PortName.{PortName}
-use Rattle.ccan_ram.specs.History.{record_at}
+use Rattle.ccan_ram.specs.History.{record_at, History}
 use Rattle.ccan_ram.specs.Attempt.{look_at}
 use Rattle.ccan_words.specs.declared.view.Held.{Held}
-use Rattle.ccan_words.specs.View.{History, holding, see}
+use Rattle.ccan_ram.specs.ByPort.{holding}
+use Rattle.ccan_words.specs.View.{see}
 use Rattle.ccan_words.specs.Layout.{Form, Lies, Shows}
 use Rattle.ccan_words.specs.Plays.{Knows, Looks, Reads}
 use Rattle.ccan_words.specs.Version.{IsSeatOf, IsRecordOf}
-use Rattle.ccan_words.proofs.Histories.{stands_records, record_is}
+use Rattle.ccan_ram.proofs.Records.{stands_records, record_is}
 use Rattle.ccan_words.proofs.Seats.{only_holds, only_sees}
 
 -- three places

@@ -1,6 +1,6 @@
 -- One seat moves: what its step has to show so that the rule is kept.
-use Rattle.std.proofs.Common.{◌≡◌, ◌≢◌, ℕ, ◌+◌, ◌<◌, ◌≤◌, Bool, List, ◌∷◌, set, get_or, length, sym}
-use Rattle.std.proofs.Common.{refl, ◌∙◌, subst, ⊎_elim, arith, Some, None}
+use Rattle.std.proofs.Common.{◌≡◌, ◌≢◌, ℕ, ◌+◌, ◌<◌, ◌≤◌, Bool, List, set, get_or, length, sym}
+use Rattle.std.proofs.Common.{refl, ap, ◌∙◌, subst, ⊎_elim, arith, Some, None}
 use mathlib.Core.Option.{some}
 use lib.ListN.{get_elem?}
 use Rattle.atomic_table.specs.Table.{State}
@@ -8,19 +8,19 @@ use Rattle.atomic_table.proofs.Lists.{at_set}
 use Rattle.ccan_object.specs.declared.profile.Profile.{Profile}
 use Rattle.ccan_object.specs.Profile.{Holds}
 use Rattle.ccan_ram.specs.declared.port.PortName.{PortName}
-use Rattle.ccan_ram.specs.declared.event.Event.{Event}
-use Rattle.ccan_ram.specs.Port.{same_port, change_number}
-use Rattle.ccan_ram.specs.History.{events_of, changes_by, next_number, last_number, BeginsWith}
+use Rattle.ccan_ram.specs.Port.{change_number}
+use Rattle.ccan_ram.specs.History.{events_of, changes_by, next_number, last_number, BeginsWith, History}
 use Rattle.ccan_words.specs.declared.view.Held.{Held}
-use Rattle.ccan_words.specs.declared.view.View.{View}
-use Rattle.ccan_words.specs.View.{History, holding, see, see_all}
-use Rattle.ccan_words.specs.Layout.{Form, Lies, IsNumber}
-use Rattle.ccan_words.specs.Rule.{IsSound, Stands, Fits, Keeps}
+use Rattle.ccan_ram.specs.ByPort.{holding}
+use Rattle.ccan_words.specs.View.{see, see_all, View}
+use Rattle.ccan_words.specs.Layout.{Form, IsNumber}
+use Rattle.ccan_ram.specs.Sound.{IsSound, Stands}
+use Rattle.ccan_words.specs.Rule.{Fits, Keeps}
 use Rattle.ccan_words.specs.Plays.{GoesOn}
-use Rattle.ccan_words.proofs.Histories.{passed, same_not, changes_by_own, numbered}
-use Rattle.ccan_words.proofs.Histories.{begins_again, begins_through}
-use Rattle.ccan_words.proofs.Views.{held_or_not, seen_by_all, Within}
-use Rattle.ccan_words.proofs.Views.{within-see_all}
+use Rattle.ccan_ram.proofs.Counting.{changes_by_own}
+use Rattle.ccan_ram.proofs.Numbers.{numbered}
+use Rattle.ccan_ram.proofs.Histories.{begins_again, begins_through}
+use Rattle.ccan_ram.proofs.Holding.{held_or_not, held_before}
 
 -- what a table of a memory's words is at one time
 abbrev pub TableState : Type 0
@@ -29,18 +29,18 @@ TableState = State (Unit {0}) View
 abbrev pub with_view : TableState → List ℕ → ℕ → View → TableState
 with_view s ws id w = record { words = ws; homes = s.homes; views = set s.views id w }
 
+-- the ports that w holds are held by v
+abbrev pub Within : View → View → Type 0
+Within w v = (p : PortName) (y : Held) → holding p w ≡ Some y → (x : Held) × (holding p v ≡ Some x) × (x.quota ≡ y.quota)
+
+within-see_all : (h : History) (v : View) → Within (see_all h v) v
+within-see_all h v p y e = let t = held_before (see h) p v y e in (t.0, t.1, ap (λ (z : Held). z.quota) t.2)
+
 pub sound_for : {profile : Profile} (m n : ℕ) (h : History) → n ≡ m → IsSound profile m h → IsSound profile n h
 sound_for {profile} m n h e a = subst (λ (z : ℕ). IsSound profile z h) (sym e) a
 
 pub is_next : {most : ℕ} (h : History) (p : PortName) → changes_by p h < most → IsNumber most (next_number p h)
 is_next h p few = record { port = p; count = changes_by p h + 1; is = refl; from_one = omega arith; up_to = omega arith }
-
-pub not_held : (p q : PortName) (v : View) (x : Held) → holding p v ≡ Some x → holding q v ≡ None → q ≢ p
-not_held p q v x e n same = let t : holding p v ≡ None = subst (λ (z : PortName). holding z v ≡ None) same n in cc
-
-pub of_other : (p q : PortName) (e : Event) (h : History) → e.port ≡ p → q ≢ p → events_of q (e ∷ h) ≡ events_of q h
-of_other p q e h is n =
-    passed (same_port e.port q) (e ∷ events_of q h) (events_of q h) (same_not e.port q (λ same. n (same ∙ is)))
 
 module _ {profile : Profile} {most : ℕ} {contends : ℕ → ℕ → Bool} (F : Form profile most contends) where
   -- a step of the seat id, to the words ws, the history log and the view w
@@ -142,9 +142,6 @@ module _ {profile : Profile} {most : ℕ} {contends : ℕ → ℕ → Bool} (F :
   saw s r id v log' at sound begins count heads stands others =
       moved s r id v (see_all log' v) s.words log' at (within-see_all log' v) sound
       r.wide (λ c l. r.heads c l ∙ sym (heads c)) (λ n j h t l. r.versions n j h (stands n h t) l)
-      (λ p y e. let t = seen_by_all p log' v y e in sees s.words s.words r.log log' p t.0 y (count p) t.2 (λ _ j l. refl)
+      (λ p y e. let t = held_before (see log') p v y e in sees s.words s.words r.log log' p t.0 y (count p) t.2 (λ _ j l. refl)
       (r.seats id p v t.0 at t.1))
       (λ p y none f. goes_by s.words s.words r.log log' p y begins (others p none) (λ _ j l. refl) f)
-
-  pub few_all : Lies F → (s : TableState) (r : Keeps F s) (q : PortName) → changes_by q r.log < 65535
-  few_all lies s r q = let a = r.sound.few q in let t = r.top in let b = lies.few in omega arith

@@ -2,9 +2,8 @@
 use Rattle.std.specs.Prelude.{◌≡◌, ℕ, ◌+◌, Bool, List, [], ◌∷◌, slice_index}
 use Rattle.ccan_object.specs.declared.profile.Profile.{Profile}
 use Rattle.ccan_object.specs.declared.record.Record.{Record}
-use Rattle.ccan_ram.specs.History.{record_at}
+use Rattle.ccan_ram.specs.History.{record_at, History}
 use Rattle.ccan_ram.specs.Ending.{final_records}
-use Rattle.ccan_words.specs.View.{History}
 use Rattle.ccan_words.specs.Layout.{Form}
 use Rattle.ccan_words.specs.Rule.{Settles}
 

@@ -14,9 +14,8 @@ use Rattle.ccan_ram.specs.declared.port.PortName.TheVariants.{If1, If2, Bus}
 use Rattle.ccan_ram.specs.declared.change.Change.{Change}
 use Rattle.ccan_ram.specs.Port.{port_index, change_number}
 use Rattle.ccan_ram.specs.Change.{changed}
-use Rattle.ccan_ram.specs.History.{is_change, record_at}
+use Rattle.ccan_ram.specs.History.{is_change, record_at, History}
 use Rattle.ccan_ram.specs.Attempt.{change_at}
-use Rattle.ccan_words.specs.View.{History}
 use Rattle.ccan_words.specs.Layout.{IsNumber, Lies, Shows, Makes, IsChangeFor}
 use Rattle.ccan_words.specs.OneWordEach.{newest, word_form, word_place, word_cell, same_object}
 use Rattle.ccan_words.specs.OneWord.{records_from, image, root_place, root_form, root_offset}

@@ -10,9 +10,8 @@ use Rattle.ccan_ram.specs.declared.port.PortName.{PortName}
 use Rattle.ccan_ram.specs.declared.change.Change.{Change}
 use Rattle.ccan_ram.specs.Port.{change_number}
 use Rattle.ccan_ram.specs.Change.{changed}
-use Rattle.ccan_ram.specs.History.{is_change, record_at}
+use Rattle.ccan_ram.specs.History.{is_change, record_at, History}
 use Rattle.ccan_ram.specs.Attempt.{change_at}
-use Rattle.ccan_words.specs.View.{History}
 
 -- how a memory lies in words that has the objects of a profile, whose ports may be given at most so many changes, and in
 -- which a change at the first object contends with the second

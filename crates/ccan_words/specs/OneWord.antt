@@ -3,8 +3,7 @@ use Rattle.std.specs.Prelude.{ℕ, zero, suc, ◌+◌, ◌-◌, ◌*◌, ◌/◌
 use Rattle.ccan_object.specs.declared.profile.Profile.{Profile}
 use Rattle.ccan_object.specs.Profile.{objects_in}
 use Rattle.ccan_object.specs.Packing.{packed}
-use Rattle.ccan_ram.specs.History.{record_at}
-use Rattle.ccan_words.specs.View.{History}
+use Rattle.ccan_ram.specs.History.{record_at, History}
 use Rattle.ccan_words.specs.Layout.{Form}
 
 -- the one word has a cache line of its own; behind it, each port has room for 64 versions of at most 192 words

@@ -3,7 +3,7 @@
 use Rattle.std.specs.Prelude.{ℕ, ◌+◌, ◌-◌, ◌*◌, ◌/◌, ◌%◌, ◌==◌, Bool, List, [], ◌∷◌}
 use Rattle.ccan_object.specs.declared.profile.Profile.{Profile}
 use Rattle.ccan_object.specs.Packing.{packed}
-use Rattle.ccan_words.specs.View.{History}
+use Rattle.ccan_ram.specs.History.{History}
 use Rattle.ccan_words.specs.Layout.{Form}
 
 -- the words of the objects are eight apart, so that each has a cache line of its own

@@ -5,14 +5,15 @@ use Rattle.ccan_object.specs.Profile.{objects_in}
 use Rattle.ccan_ram.specs.declared.handler_registers.HandlerRegisters.{HandlerRegisters}
 use Rattle.ccan_ram.specs.declared.port.PortName.{PortName}
 use Rattle.ccan_ram.specs.declared.event.Event.{Event}
-use Rattle.ccan_ram.specs.History.{events_of, changes_by, last_number, BeginsWith}
+use Rattle.ccan_ram.specs.History.{events_of, changes_by, last_number, BeginsWith, History}
 use Rattle.ccan_ram.specs.HandlerRegisters.{registers_at}
 use Rattle.ccan_ram.specs.Picture.{pictured, LostTurns, IsPicture}
 use Rattle.ccan_ram.specs.SharedRam.{Memory, terms_of}
 use Rattle.ccan_words.specs.declared.view.Held.{Held}
-use Rattle.ccan_words.specs.View.{History, holding, see, see_all}
+use Rattle.ccan_ram.specs.ByPort.{holding}
+use Rattle.ccan_words.specs.View.{see, see_all}
 use Rattle.ccan_words.specs.Layout.{Form, IsNumber}
-use Rattle.ccan_words.specs.Rule.{IsSound}
+use Rattle.ccan_ram.specs.Sound.{IsSound}
 use Rattle.ccan_words.specs.Plays.{Knows, GoesOn}
 use Rattle.ccan_words.specs.Version.{IsSeatOf}
 

@@ -9,14 +9,15 @@ use Rattle.ccan_ram.specs.declared.port.PortName.TheVariants.{If1}
 use Rattle.ccan_ram.specs.declared.change.Change.TheVariants.{Start}
 use Rattle.ccan_ram.specs.declared.event.Event.{Event}
 use Rattle.ccan_ram.specs.Change.{fits, changed}
-use Rattle.ccan_ram.specs.History.{record_at, IsLegal, events_of, changes_by, next_number, last_number, BeginsWith}
+use Rattle.ccan_ram.specs.History.{record_at, IsLegal, events_of, changes_by, next_number, last_number, BeginsWith, History}
 use Rattle.ccan_ram.specs.Attempt.{look_at, change_at}
 use Rattle.ccan_words.specs.declared.view.Held.{Held}
-use Rattle.ccan_words.specs.declared.view.View.{View}
 use Rattle.ccan_words.specs.declared.version.Version.{Version}
-use Rattle.ccan_words.specs.View.{History, holding, see_all, with_held, note_at}
+use Rattle.ccan_ram.specs.ByPort.{holding, with_held}
+use Rattle.ccan_words.specs.View.{see_all, note_at, View}
 use Rattle.ccan_words.specs.Layout.{Form, IsNumber}
-use Rattle.ccan_words.specs.Rule.{IsSound, Stands, Latest}
+use Rattle.ccan_ram.specs.Sound.{IsSound, Stands}
+use Rattle.ccan_words.specs.Rule.{Latest}
 
 -- a seat's view, beside the slots that it holds: these memories have none
 abbrev pub Knows : Type 0

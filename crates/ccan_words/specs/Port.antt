@@ -6,9 +6,9 @@ use Rattle.ccan_ram.specs.declared.port.PortName.{PortName}
 use Rattle.ccan_ram.specs.History.{changes_by}
 use Rattle.ccan_ram.specs.SharedRam.{Memory, Pass}
 use Rattle.ccan_words.specs.declared.view.Held.{Held}
-use Rattle.ccan_words.specs.declared.view.View.{View}
-use Rattle.ccan_words.specs.View.{holding, seen_in}
-use Rattle.ccan_words.specs.Rule.{IsSound}
+use Rattle.ccan_ram.specs.ByPort.{holding}
+use Rattle.ccan_words.specs.View.{seen_in, View}
+use Rattle.ccan_ram.specs.Sound.{IsSound}
 use Rattle.ccan_words.specs.Plays.{Knows}
 use Rattle.ccan_words.specs.Version.{IsSeatOf}
 

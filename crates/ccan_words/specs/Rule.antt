@@ -2,35 +2,19 @@
 -- ports. No program stores the history; it is there for the proofs. Source: this project's own. That the steps come one
 -- after another in one order, each of them sequentially consistent, is a promise of the kit's `atomic_table` (its README,
 -- "Limits" and "What is proved").
-use Rattle.std.specs.Prelude.{◌≡◌, ◌≢◌, ℕ, ◌<◌, ◌≤◌, ◌⊎◌, Bool, true, List, [], ◌∷◌, length, slice_index, Some}
+use Rattle.std.specs.Prelude.{◌≡◌, ◌≢◌, ℕ, ◌<◌, ◌≤◌, Bool, List, length, slice_index, Some}
 use mathlib.Core.Option.{some}
 use lib.ListN.{get_elem?}
 use Rattle.atomic_table.specs.Table.{State}
 use Rattle.ccan_object.specs.declared.profile.Profile.{Profile}
 use Rattle.ccan_object.specs.Profile.{Holds}
-use Rattle.ccan_object.specs.Record.{IsRecord}
 use Rattle.ccan_ram.specs.declared.port.PortName.{PortName}
-use Rattle.ccan_ram.specs.History.{is_change, IsLegal, events_of, changes_by, next_number, last_number, BeginsWith}
+use Rattle.ccan_ram.specs.History.{events_of, changes_by, next_number, last_number, BeginsWith, History}
 use Rattle.ccan_words.specs.declared.view.Held.{Held}
-use Rattle.ccan_words.specs.declared.view.View.{View}
-use Rattle.ccan_words.specs.View.{History, holding}
+use Rattle.ccan_words.specs.View.{View}
+use Rattle.ccan_ram.specs.ByPort.{holding}
 use Rattle.ccan_words.specs.Layout.{Form, IsChangeFor, IsBlankFor, AgreeFor}
-
--- what each event left is a record
-abbrev pub AreRecords : History → Type 0
-AreRecords [] = Unit {0}
-AreRecords (e ∷ h) = IsRecord e.after × AreRecords h
-
--- a legal history of records, in which no port makes more changes than its quota
-pub record IsSound (profile : Profile) (quota : ℕ) (h : History) : Type 0 where
-  pub legal : IsLegal profile h
-  pub records : AreRecords h
-  pub few : (q : PortName) → changes_by q h ≤ quota
-
--- the change of this number stands in the history, and `at` is the history up to it
-abbrev pub Stands : History → ℕ → History → Type 0
-Stands [] n at = ⊥
-Stands (e ∷ h) n at = ((is_change e ≡ true) × (next_number e.port h ≡ n) × (at ≡ e ∷ h)) ⊎ Stands h n at
+use Rattle.ccan_ram.specs.Sound.{IsSound, Stands}
 
 module _ {profile : Profile} {most : ℕ} {contends : ℕ → ℕ → Bool} (F : Form profile most contends) where
   -- the word of each object holds the number of the last change in the history that contends there, 0 where there is none

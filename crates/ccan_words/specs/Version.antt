@@ -10,12 +10,12 @@ use Rattle.ccan_ram.specs.declared.change.Change.{Change}
 use Rattle.ccan_ram.specs.declared.draft.Draft.{Draft}
 use Rattle.ccan_ram.specs.Port.{change_number}
 use Rattle.ccan_ram.specs.Change.{fits, changed}
-use Rattle.ccan_ram.specs.History.{record_at, changes_by, next_number, last_number, BeginsWith}
+use Rattle.ccan_ram.specs.History.{record_at, changes_by, next_number, last_number, BeginsWith, History}
 use Rattle.ccan_words.specs.declared.view.Held.{Held}
 use Rattle.ccan_words.specs.declared.version.Version.{Version}
-use Rattle.ccan_words.specs.View.{History, holding, only}
+use Rattle.ccan_ram.specs.ByPort.{holding, only}
 use Rattle.ccan_words.specs.Layout.{Form, IsNumber}
-use Rattle.ccan_words.specs.Rule.{Stands}
+use Rattle.ccan_ram.specs.Sound.{Stands}
 use Rattle.ccan_words.specs.Plays.{Knows, Looks, Exchanges, IsNextWord}
 
 -- the seat holds one port, for which it knows this

@@ -12,7 +12,7 @@ ghost use Rattle.ccan_ram.specs.HandlerRegisters.{AreBelow};
 ghost use Rattle.ccan_words.specs.declared.view.Held.{Held};
 ghost use Rattle.ccan_words.specs.Picture.{AreNumbers, CountedIn, MovedIn, PicturesIn, ShowsAll, TurnsIn};
 ghost use Rattle.ccan_words.specs.Port.{numbers_of};
-ghost use Rattle.ccan_words.specs.Rule.{IsSound};
+ghost use Rattle.ccan_ram.specs.Sound.{IsSound};
 ghost use Rattle.ccan_words.specs.Version.{IsSeatOf};
 
 use crate::layout::Layout;

@@ -125,7 +125,7 @@ pub struct Parting<D> {
 
 impl<D: Deed> Split<View> for Parting<D> {
     ghost use Rattle.std.specs.Prelude.{None};
-    ghost use Rattle.ccan_words.specs.View.{holding, only, with_held};
+    ghost use Rattle.ccan_ram.specs.ByPort.{holding, only, with_held};
 
     ghost left = { λ v. with_held D.port None v };
 
@@ -136,7 +136,7 @@ impl<D: Deed> Split<View> for Parting<D> {
 pub struct Joining;
 
 impl Join<View> for Joining {
-    ghost use Rattle.ccan_words.specs.View.{nothing, together};
+    ghost use Rattle.ccan_ram.specs.ByPort.{nothing, together};
 
     ghost both = { together };
 

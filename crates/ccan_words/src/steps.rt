@@ -7,7 +7,7 @@ ghost use Rattle.atomic_table.specs.Table.{Final, Seen};
 ghost use Rattle.ccan_object.specs.Profile.{Holds};
 ghost use Rattle.ccan_ram.specs.History.{changes_by, next_number};
 ghost use Rattle.ccan_words.specs.declared.view.Held.{Held};
-ghost use Rattle.ccan_words.specs.View.{holding, only, together, with_held};
+ghost use Rattle.ccan_ram.specs.ByPort.{holding, only, together, with_held};
 ghost use Rattle.ccan_words.specs.Layout.{IsNumber};
 ghost use Rattle.ccan_words.specs.Rule.{Keeps};
 ghost use Rattle.ccan_words.specs.Plays.{Exchanges, IsDraftedIn, IsNoting, Looks, Notes, Reads, Watches};

@@ -1,5 +1,5 @@
 //! What a seat knows. Histories and views exist in the proofs alone; no value of these types is made.
-use ccan_ram::Event;
+use ccan_ram::{ByPort, Event};
 use std::collections::LinkedList;
 
 /// What a seat knows for a port that it holds.
@@ -12,9 +12,5 @@ pub struct Held {
     pub quota: u64,
 }
 
-/// What a seat knows for each port.
-pub struct View {
-    pub if1: Option<Held>,
-    pub if2: Option<Held>,
-    pub bus: Option<Held>,
-}
+/// What a seat knows for each port that it holds.
+pub type View = ByPort<Held>;

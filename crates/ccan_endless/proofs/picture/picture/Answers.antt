@@ -4,7 +4,7 @@ use Rattle.std.proofs.Common.{refl, subst, ◌∙◌, arith}
 use Rattle.ccan_object.specs.declared.profile.Profile.{Profile}
 use Rattle.ccan_endless.specs.Picture.{ShowsAll}
 use Rattle.ccan_endless.specs.View.{see}
-use Rattle.ccan_endless.proofs.Turns.{added_none, added_more, lost_more, pictured_by, few_lost}
+use Rattle.ccan_endless.proofs.Turns.{added_none, added_more, lost_more, pictured_by, few_turns}
 use Rattle.ccan_endless.proofs.picture.picture.Goals as goal
 
 pub loop-turn-init : goal.loop-turn-init
@@ -46,7 +46,7 @@ returns-then-pose_once-clause-told c x view sound quota =
 pub returns-clause-told : goal.returns-clause-told
 returns-clause-told c x view sound quota =
     let i = c.loop-turn.invariant.told x view sound quota in
-    let few = few_lost c.args.words.now c.args.port x c.loop-turn.turn i.0 _ i.1 i.2 in
+    let few = few_turns c.args.words.now c.args.port x c.loop-turn.turn i.0 _ i.1 i.2 in
     let same = c.key-key.ensures.quota in
     let more = c.loop-turn-test.false in
     absurd (omega arith)

@@ -4,7 +4,7 @@ use Rattle.ccan_ram.specs.HandlerRegisters.{first_records, registers_of}
 use Rattle.ccan_ram.specs.History.{record_at}
 use Rattle.ccan_ram.proofs.Registers.{registers_next}
 use Rattle.ccan_endless.specs.Layout.{marks_in}
-use Rattle.ccan_endless.proofs.Histories.{record_is}
+use Rattle.ccan_ram.proofs.Records.{record_is}
 use Rattle.ccan_endless.proofs.picture.registers.Goals as goal
 
 pub loop-place-preserved : goal.loop-place-preserved

@@ -1,8 +1,9 @@
 use Rattle.std.proofs.Common.{◌≡◌, ℕ, ◌+◌, ◌<◌, get_or}
 use Rattle.ccan_object.specs.Profile.{objects_in}
 use Rattle.ccan_ram.specs.HandlerRegisters.{AreBelow, first_records, registers_of}
-use Rattle.ccan_endless.specs.View.{History}
-use Rattle.ccan_endless.specs.Rule.{IsHead, AreRecords}
+use Rattle.ccan_ram.specs.History.{History}
+use Rattle.ccan_ram.specs.Sound.{AreRecords}
+use Rattle.ccan_endless.specs.Rule.{IsHead}
 use Rattle.ccan_endless.proofs.picture.registers.Given as goal
 
 -- the registers so far are those of the first objects

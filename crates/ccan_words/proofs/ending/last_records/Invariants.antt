@@ -1,6 +1,6 @@
 use Rattle.std.proofs.Common.{◌≡◌, length}
 use Rattle.std.specs.Slots.{slots_items}
-use Rattle.ccan_words.specs.View.{History}
+use Rattle.ccan_ram.specs.History.{History}
 use Rattle.ccan_words.specs.Rule.{Settles}
 use Rattle.ccan_ram.proofs.FinalRecords.{AreListed}
 use Rattle.ccan_words.proofs.ending.last_records.Given as goal

@@ -4,7 +4,7 @@ use Rattle.std.proofs.Common.{◌++◌, ◌≤◌, sym, refl, subst, ◌∙◌, 
 use Rattle.ccan_words.specs.Plays.{Knows}
 use Rattle.ccan_words.specs.Picture.{Added}
 use Rattle.ccan_words.specs.View.{see}
-use Rattle.ccan_words.proofs.Turns.{added_none, added_more, lost_more, pictured_by, few_lost, last}
+use Rattle.ccan_words.proofs.Turns.{added_none, added_more, lost_more, pictured_by, few_turns, last}
 use Rattle.ccan_words.proofs.picture.picture.Goals as goal
 
 pub overflow_mul-most : goal.overflow_mul-most
@@ -64,7 +64,7 @@ returns-then-pose_once-clause-told g c x view sound quota =
 pub returns-clause-told : goal.returns-clause-told
 returns-clause-told g c x view sound quota =
     let i = c.loop-turn.invariant.told x view sound quota in
-    let few = few_lost g.L.Layout.contends c.args.words.now c.args.port x c.loop-turn.turn i.0 _ i.1 i.2 in
+    let few = few_turns g.L.Layout.contends c.args.words.now c.args.port x c.loop-turn.turn i.0 _ i.1 i.2 in
     let same = c.key.ensures.quota in
     let more = c.loop-turn-test.false in
     absurd (omega arith)

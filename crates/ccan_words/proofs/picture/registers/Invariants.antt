@@ -2,10 +2,9 @@ use Rattle.std.proofs.Common.{◌≡◌, ℕ, ◌+◌, ◌<◌, get_or}
 use Rattle.ccan_object.specs.Profile.{objects_in}
 use Rattle.ccan_ram.specs.declared.port.PortName.{PortName}
 use Rattle.ccan_ram.specs.HandlerRegisters.{AreBelow, first_records, registers_of}
-use Rattle.ccan_ram.specs.History.{last_number, BeginsWith}
+use Rattle.ccan_ram.specs.History.{last_number, BeginsWith, History}
 use Rattle.ccan_words.specs.declared.view.Held.{Held}
-use Rattle.ccan_words.specs.View.{History}
-use Rattle.ccan_words.specs.Rule.{IsSound}
+use Rattle.ccan_ram.specs.Sound.{IsSound}
 use Rattle.ccan_words.specs.Version.{IsSeatOf}
 use Rattle.ccan_words.proofs.picture.registers.Given as goal
 

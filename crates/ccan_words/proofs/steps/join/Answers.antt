@@ -1,6 +1,6 @@
 use Rattle.std.proofs.Common.{arith}
 use Rattle.atomic_table.specs.Table.{Joins}
-use Rattle.ccan_words.specs.View.{nothing, together}
+use Rattle.ccan_ram.specs.ByPort.{nothing, together}
 use Rattle.ccan_words.proofs.Parting.{joins}
 use Rattle.ccan_words.proofs.SeatMoves.{TableState}
 use Rattle.ccan_words.proofs.Stepping.{first_inside, of_table, by_key}

@@ -1,6 +1,6 @@
 use Rattle.std.proofs.Common.{None, arith}
 use Rattle.atomic_table.specs.Table.{Splits}
-use Rattle.ccan_words.specs.View.{holding, only, with_held}
+use Rattle.ccan_ram.specs.ByPort.{holding, only, with_held}
 use Rattle.ccan_words.proofs.Parting.{splits}
 use Rattle.ccan_words.proofs.SeatMoves.{TableState}
 use Rattle.ccan_words.proofs.Stepping.{first_inside, of_table, by_key}
