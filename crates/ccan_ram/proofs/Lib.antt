@@ -21,4 +21,5 @@ pub mod Alone
 pub mod Undisturbed
 pub mod Attempts
 pub mod NeverBusy
+pub mod Sounding
 pub mod Steps

@@ -1,5 +1,5 @@
 -- An exchange of an object's word keeps the rule.
-use Rattle.std.proofs.Common.{◌≡◌, ◌≢◌, ℕ, ◌+◌, ◌<◌, ◌≤◌, Bool, true, false, List, [], ◌∷◌, set, get_or, length, eqb}
+use Rattle.std.proofs.Common.{◌≡◌, ◌≢◌, ℕ, ◌+◌, ◌<◌, Bool, true, false, List, [], ◌∷◌, set, get_or, length, eqb}
 use Rattle.std.proofs.Common.{sym, refl, ap, ◌∙◌, subst, ⊎_elim, arith, Some, length-set, get_or-set_other, get_or-set_same}
 use Rattle.std.proofs.Common.{ne_eqb, eq-eqb, zero-le}
 use mathlib.Core.Option.{some}
@@ -11,7 +11,7 @@ use prog.Atomic.{either}
 use Rattle.atomic_table.specs.Table.{keeps, Allows}
 use Rattle.ccan_object.specs.declared.profile.Profile.{Profile}
 use Rattle.ccan_ram.specs.declared.port.PortName.{PortName}
-use Rattle.ccan_ram.specs.Port.{same_port, change_number}
+use Rattle.ccan_ram.specs.Port.{change_number}
 use Rattle.ccan_ram.specs.History.{record_at, changes_by, next_number, last_number, BeginsWith, History}
 use Rattle.ccan_words.specs.declared.view.Held.{Held}
 use Rattle.ccan_words.specs.declared.version.Version.{Version}
@@ -22,13 +22,14 @@ use Rattle.ccan_ram.specs.Sound.{IsSound, Stands}
 use Rattle.ccan_words.specs.Rule.{Fits, Keeps, Heads, Versions}
 use Rattle.ccan_words.specs.Plays.{Knows, GoesOn, Makes, change_of, Exchanges, IsDrafted}
 use Rattle.ccan_ram.proofs.Booleans.{when, chosen, passed}
-use Rattle.ccan_ram.proofs.Ports.{port_discrete, same_own, same_not}
+use Rattle.ccan_ram.proofs.Ports.{port_discrete}
 use Rattle.ccan_ram.proofs.Counting.{changes_by_own, of_other}
 use Rattle.ccan_words.proofs.Histories.{unchanged}
 use Rattle.ccan_ram.proofs.Histories.{begins_again, begins_through, begins_further}
 use Rattle.ccan_ram.proofs.Holding.{holding-with_held_same, holding-with_held_other, held_before, not_held}
 use Rattle.ccan_words.proofs.SeatMoves.{TableState, with_view, sound_for, is_next, Within}
 use Rattle.ccan_words.proofs.SeatMoves.{moved, goes_by, sees, on_for, standing, saw, below_top}
+use Rattle.ccan_ram.proofs.Sounding.{changes_not, sound_change}
 
 -- ---- a history with one change more
 
@@ -39,12 +40,6 @@ changed_last contends z i h e = chosen (contends z.object i) _ _ e
 other_last : (contends : ℕ → ℕ → Bool) (z : Version) (i : ℕ) (h : History) → contends z.object i ≡ false
     → last_number contends i (change_of z ∷ h) ≡ last_number contends i h
 other_last contends z i h e = passed (contends z.object i) _ _ e
-
-changes_mine : (z : Version) (h : History) → changes_by z.port (change_of z ∷ h) ≡ changes_by z.port h + 1
-changes_mine z h = chosen (same_port z.port z.port) _ _ (same_own z.port)
-
-changes_not : (z : Version) (q : PortName) (h : History) → q ≢ z.port → changes_by q (change_of z ∷ h) ≡ changes_by q h
-changes_not z q h n = passed (same_port z.port q) _ _ (same_not z.port q n)
 
 -- what the port holds after its change
 abbrev after : Version → History → Held → Held
@@ -138,17 +133,8 @@ module _ {profile : Profile} {most : ℕ} {contends : ℕ → ℕ → Bool} (F :
           (lies.itself z.object))
 
       sound : IsSound profile r.quota log'
-      sound = record {
-        legal = (record { held = d.held; before = here; after = refl; stands = d.fit }, r.sound.legal);
-        records = (d.left, r.sound.records);
-        few = λ q.
-            ⊎_elim
-            (λ (eq : q ≡ p).
-            subst (λ (u : PortName). changes_by u log' ≤ r.quota) (sym eq)
-            (let c = changes_mine z r.log in let c' = room in omega arith))
-            (λ (n : q ≢ p). let c = changes_not z q r.log n in let b = r.sound.few q in omega arith)
-            (port_discrete q p);
-      }
+      sound =
+          sound_change p z.object z.change z.before r.log profile r.quota d.held here d.fit d.left room r.sound
 
       heads : Heads F ws log'
       heads k object =
@@ -186,7 +172,8 @@ module _ {profile : Profile} {most : ℕ} {contends : ℕ → ℕ → Bool} (F :
           subst (λ (u : PortName). Fits F ws log' u y) (sym eq) (subst (Fits F ws log' p) (as_own q y eq h) own_fits))
           (λ (n : q ≢ p).
           let t = held_before (see log') q v y (other_holding q y n h) in
-          sees F s.words ws r.log log' q t.0 y (changes_not z q r.log n) t.2 (next_kept q) (r.seats id q v t.0 at t.1))
+          sees F s.words ws r.log log' q t.0 y
+          (changes_not p z.object z.change z.before r.log q n) t.2 (next_kept q) (r.seats id q v t.0 at t.1))
           (port_discrete q p)
 
       done : Keeps F (with_view s ws id w)

@@ -26,29 +26,21 @@ use Rattle.ccan_ram.proofs.Ports.{port_at, port_discrete}
 use Rattle.ccan_ram.proofs.Counting.{changes_by_own, of_other}
 use Rattle.ccan_ram.proofs.Numbers.{stands_after, next_is_new}
 use Rattle.ccan_ram.proofs.Histories.{begins_again, begins_further}
-use Rattle.ccan_ram.proofs.Records.{record_is}
 use Rattle.ccan_words.proofs.Histories.{latest}
 use Rattle.ccan_ram.proofs.Notes.{taken_same, taken_before, taken_length}
 use Rattle.ccan_ram.proofs.Holding.{holding-with_held_same, holding-with_held_other, not_held}
 use Rattle.ccan_words.proofs.SeatMoves.{TableState, with_view, sound_for, is_next, Within}
 use Rattle.ccan_words.proofs.SeatMoves.{moved, goes_by, on_for, standing, saw}
+use Rattle.ccan_ram.proofs.Sounding.{sound_look}
 
 module _ {profile : Profile} {most : ℕ} {contends : ℕ → ℕ → Bool} (F : Form profile most contends) (lies : Lies F) where
-  sound_look : (s : TableState) (r : Keeps F s) (p : PortName) (k : ℕ) → Holds profile k
-      → IsSound profile r.quota (look_at p k (record_at k r.log) ∷ r.log)
-  sound_look s r p k object = record {
-    legal = (record { held = object; before = refl; after = refl; stands = refl }, r.sound.legal);
-    records = (record_is k r.log r.sound.records, r.sound.records);
-    few = r.sound.few;
-  }
-
   pub looks : (slots id : ℕ) (me : Knows) (word : ℕ) (p : PortName) (k : ℕ) (x : Held) → holding p me.0 ≡ Some x → Holds profile k
       → word ≡ F.cell k
       → Allows (Keeps F) slots id me word (λ n. n) (Looks F p k me)
   looks slots id me word p k x held object is s r _ at _ =
       let v : View = me.0 in
       let log' : History = look_at p k (record_at k r.log) ∷ r.log in
-      let sound : IsSound profile r.quota log' = sound_look s r p k object in
+      let sound : IsSound profile r.quota log' = sound_look profile r.quota p k r.log object r.sound in
       let found_last : get_or s.words word 0 ≡ last_number contends k r.log =
       subst (λ (z : ℕ). get_or s.words z 0 ≡ last_number contends k r.log) (sym is) (r.heads k object) in (
         see_all log' v,

@@ -1,4 +1,5 @@
--- Two ports in one seat, which has seen the whole history, and then in two seats again.
+-- Two ports in one seat, which has seen the whole history, and then in two seats again. So both have seen that history, which
+-- goes on from what either had seen and has no new event of either.
 use Rattle.std.proofs.Common.{◌≡◌, ◌≢◌, ℕ, Bool, [], sym, refl, ap, ◌∙◌, subst, Some, None}
 use Rattle.ccan_object.specs.declared.profile.Profile.{Profile}
 use Rattle.ccan_ram.specs.declared.port.PortName.{PortName}

@@ -1,4 +1,5 @@
--- What is known of a port.
+-- What is known of a port: its invariant says what its seat holds, and here that is said of the pass that contracts see, and of
+-- the port after a step that made nothing.
 use Rattle.std.proofs.Common.{◌≡◌, ◌≢◌, ℕ, ◌≤◌, Bool, sym, refl, ap, ◌∙◌, subst, arith}
 use Rattle.atomic_table.specs.Seated.{TableId}
 use Rattle.atomic_table.specs.declared.shared.Seat.{Seat}

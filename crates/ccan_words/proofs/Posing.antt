@@ -1,57 +1,28 @@
 -- Loads that keep a number, and a load that adds looks at all objects, keep the rule.
-use Rattle.std.proofs.Common.{◌≡◌, ◌≢◌, ℕ, zero, suc, Bool, List, ◌++◌, get_or, sym}
-use Rattle.std.proofs.Common.{refl, ◌∙◌, subst, ⊎_elim, arith, Some, true≢false}
+use Rattle.std.proofs.Common.{◌≡◌, ℕ, Bool, List, ◌++◌, get_or, sym}
+use Rattle.std.proofs.Common.{refl, ◌∙◌, subst, Some}
 use lib.Seq.{set-get_or}
 use Rattle.atomic_table.specs.Table.{keeps, Allows}
 use Rattle.ccan_object.specs.declared.profile.Profile.{Profile}
 use Rattle.ccan_object.specs.Profile.{Holds, objects_in}
 use Rattle.ccan_ram.specs.declared.port.PortName.{PortName}
-use Rattle.ccan_ram.specs.History.{record_at, events_of, last_number, History}
-use Rattle.ccan_ram.specs.Attempt.{look_at}
+use Rattle.ccan_ram.specs.History.{last_number, History}
 use Rattle.ccan_words.specs.declared.view.Held.{Held}
 use Rattle.ccan_ram.specs.ByPort.{holding}
 use Rattle.ccan_words.specs.View.{see_all, View}
 use Rattle.ccan_words.specs.Layout.{Form, Lies, IsNumber}
-use Rattle.ccan_ram.specs.Sound.{IsSound, AreRecords, Stands}
+use Rattle.ccan_ram.specs.Sound.{IsSound}
 use Rattle.ccan_words.specs.Rule.{Keeps}
 use Rattle.ccan_words.specs.Plays.{Knows}
 use Rattle.ccan_ram.specs.Picture.{pictured}
-use Rattle.ccan_ram.proofs.Pictures.{pictured_changes, pictured_last, pictured_legal}
+use Rattle.ccan_ram.proofs.Pictures.{pictured_changes, pictured_last}
 use Rattle.ccan_words.specs.Picture.{CountsOn, Poses}
 use Rattle.ccan_ram.proofs.Histories.{begins_again}
-use Rattle.ccan_ram.proofs.Records.{record_is}
 use Rattle.ccan_words.proofs.Histories.{latest}
 use Rattle.ccan_ram.proofs.Holding.{not_held}
-use Rattle.ccan_ram.proofs.Counting.{of_other}
 use Rattle.ccan_words.proofs.SeatMoves.{with_view, sound_for}
 use Rattle.ccan_words.proofs.SeatMoves.{on_for, standing, saw}
-
--- ---- looks at all objects change nothing
-
-pictured_stands : (p : PortName) (n : ℕ) (h g : History) (m : ℕ) (at : History) → Stands (pictured p n h ++ g) m at
-    → Stands g m at
-pictured_stands p zero h g m at t = t
-pictured_stands p (suc n) h g m at t =
-    ⊎_elim (λ a. absurd (true≢false (sym a.0))) (λ a. pictured_stands p n h g m at a) t
-
-pictured_others : (p q : PortName) (n : ℕ) (h g : History) → q ≢ p → events_of q (pictured p n h ++ g) ≡ events_of q g
-pictured_others p q zero h g other = refl
-pictured_others p q (suc n) h g other =
-    of_other p q (look_at p (suc n) (record_at (suc n) h)) (pictured p n h ++ g) refl other ∙ pictured_others p q n h g other
-
-pictured_records : (p : PortName) (n : ℕ) (h : History) → AreRecords h → AreRecords (pictured p n h ++ h)
-pictured_records p zero h a = a
-pictured_records p (suc n) h a = (record_is (suc n) h a, pictured_records p n h a)
-
-pub pictured_sound : (profile : Profile) (quota : ℕ) (p : PortName) (h : History) → IsSound profile quota h
-    → IsSound profile quota (pictured p (objects_in profile) h ++ h)
-pictured_sound profile quota p h s = record {
-  legal = pictured_legal profile p (objects_in profile) h (omega arith) s.legal;
-  records = pictured_records p (objects_in profile) h s.records;
-  few = λ q. let same = pictured_changes p q (objects_in profile) h h in let f = s.few q in omega arith;
-}
-
--- ---- steps
+use Rattle.ccan_ram.proofs.Sounding.{pictured_stands, pictured_others, pictured_sound}
 
 module _ {profile : Profile} {most : ℕ} {contends : ℕ → ℕ → Bool} (F : Form profile most contends) (lies : Lies F) where
   pub counts_on : (slots id : ℕ) (me : Knows) (word : ℕ) (k : ℕ) → Holds profile k → word ≡ F.cell k
