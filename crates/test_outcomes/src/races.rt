@@ -1,9 +1,10 @@
 //! The outcomes of scripts in which two hosts race. The outcomes are worked by hand from the rules; the numbers of states
 //! are those that another program found, which was written for that in another language.
 use ccan_outcomes::{
-    HistoryKind, Outcomes, OutcomesError, all_outcomes, history_of, laws, line_process_laws,
+    HistoryKind, Outcomes, all_outcomes, history_of, laws, line_process_laws,
     machine_laws, process_laws, same, seat_laws, way_to,
 };
+use ccan_object::ObjectNo;
 use ccan_ram::PortName;
 use ccan_run::read_input;
 use ccan_script::print_line;
@@ -119,7 +120,7 @@ fn answers_a_way_to_each_outcome(rt: HostRuntime) -> Result<(), Fail> {
         assert_eq!(rt; history.len(), 4);
         for step in history.as_slice() {
             assert_eq!(rt; step.line, 1);
-            assert_eq!(rt; step.object.get(), 1);
+            assert!(rt; step.object == ObjectNo::new(1));
         }
         if let Some(last) = history.as_slice().last() {
             assert!(rt; last.kind == HistoryKind::Writes);
@@ -223,25 +224,5 @@ fn lists_the_interrupt_values_of_a_race(rt: HostRuntime) -> Result<(), Fail> {
         if1 until 02 intpnd yes\nif1 interrupt 0001\n\
         if1 until 02 intpnd yes\nif1 interrupt 0002\n";
     assert_eq!(rt; texts.as_str(), want);
-    Ok(())
-}
-
-#[test]
-fn refuses_lines_of_the_bus(rt: HostRuntime) -> Result<(), Fail> {
-    for text in [
-        r#"{"bus":[{"op":"status"}]}"#,
-        r#"{"if1":[{"op":"interrupt"}],"bus":[{"op":"status"},{"op":"round"}]}"#,
-    ] {
-        let script = read_input(rt.alloc(), &mut text.as_bytes())?;
-        let refused = all_outcomes(rt.alloc(), &script, 10).err();
-        assert_eq!(rt;
-            refused,
-            Some(OutcomesError::NoHostLine {
-                port: PortName::Bus,
-                line: 0
-            }),
-            "at {text}"
-        );
-    }
     Ok(())
 }
