@@ -1,5 +1,7 @@
 //! The outcomes of scripts in which the bus runs beside a host. They are worked by hand from the rules, as are the smaller
 //! numbers of states; the others are those that another program found, which was written for that in another language.
+ghost use Rattle.std.specs.Prelude.{◌≤◌};
+
 use ccan_outcomes::{HistoryKind, Outcomes, all_outcomes, history_of};
 use ccan_ram::PortName;
 use ccan_run::read_input;
@@ -16,7 +18,9 @@ const LOST_MESSAGE: &str =
     r#"{"nodes":1,"if1":[{"op":"transfer","request":"0001","set":{"cmask":"00b3","arb2":"848c","ctrl":"8088","dataa1":"1111"}},{"op":"transfer","request":"0001","set":{"cmask":"0073"}},{"op":"transfer","request":"0001","set":{"cmask":"0004"}}],"bus":[{"op":"round","send":[{"node":1,"id":291,"dlc":2,"data":"2222"}]}]}"#;
 
 /// The outcomes of a script, which are to have just so many states.
-fn outcomes_in(alloc: Global, text: &str, states: usize) -> Result<Outcomes, Fail> {
+fn outcomes_in(alloc: Global, text: &str, states: usize) -> Result<Outcomes, Fail>
+    requires { 1 ≤ states }
+{
     let script = read_input(alloc, &mut text.as_bytes())?;
     if all_outcomes(alloc, &script, states - 1)?.is_some() {
         return Err(Fail::new("fewer states than that"));
