@@ -1,5 +1,5 @@
 -- What is printed of a step of a history. Source: this project's own.
-use Rattle.std.specs.Prelude.{ℕ, ◌/◌, ◌%◌, ◌++◌, List, codes, decimal}
+use Rattle.std.specs.Prelude.{ℕ, ◌/◌, ◌%◌, ◌++◌, List, [], Option, Some, None, codes, decimal}
 use Rattle.ccan_ram.specs.Port.{port_text}
 use Rattle.ccan_outcomes.specs.declared.history_kind.HistoryKind.{HistoryKind}
 use Rattle.ccan_outcomes.specs.declared.history_kind.HistoryKind.TheVariants as kind
@@ -11,12 +11,21 @@ kind_text kind.Looks = codes "look"
 kind_text kind.LooksAgain = codes "try lost, look"
 kind_text kind.LooksLast = codes "last look"
 kind_text kind.Writes = codes "write"
+kind_text kind.Starts = codes "start"
+kind_text kind.Finishes = codes "finish"
+kind_text kind.Stores = codes "store"
+kind_text kind.Decides = codes "decision"
 kind_text kind.ReadsAndClears = codes "read"
 kind_text kind.IsSpent = codes "spent"
 kind_text kind.IsBusy = codes "busy"
 
--- `  4 if2[1] look 01`: the step's number, the host and its line, what it did, and the object in two digits
+-- the object in two digits, behind a space
+abbrev pub object_text : Option ℕ → List ℕ
+object_text None = []
+object_text (Some object) = codes " " ++ (decimal (object / 10) ++ decimal (object % 10))
+
+-- `  4 if2[1] look 01`: the step's number, the port and its line, what it did, and the object, where it has one
 abbrev pub step_text : ℕ → HistoryStep → List ℕ
 step_text number step =
     codes "  " ++ (decimal number ++ (codes " " ++ (port_text step.port ++ (codes "[" ++ (decimal step.line ++ (codes "] "
-    ++ (kind_text step.kind ++ (codes " " ++ (decimal (step.object / 10) ++ (decimal (step.object % 10) ++ codes "\n"))))))))))
+    ++ (kind_text step.kind ++ (object_text step.object ++ codes "\n"))))))))

@@ -1,5 +1,3 @@
-use ccan_outcomes::OutcomesError;
-use ccan_ram::PortName;
 use ccan_run::RunError;
 use std::alloc::AllocError;
 use thiserror::Error;
@@ -16,10 +14,7 @@ pub enum LabError {
     /// The input could not be read, or is no script. It prints as `ccan` tells it.
     #[error(transparent)]
     Input(RunError),
-    /// The line of this port and this index, from 0, is no host line.
-    #[error("ccan-lab: outcomes: {port} {line}: only host lines can be listed yet")]
-    NoHostLine { port: PortName, line: usize },
-    /// The hosts can come to more states than this.
+    /// The ports can come to more states than this.
     #[error("ccan-lab: outcomes: more than {0} states")]
     More(usize),
     /// Memory ran out.
@@ -40,7 +35,6 @@ impl LabError {
     {
         match self {
             LabError::Input(fault) => fault.status(),
-            LabError::NoHostLine { .. } => 1,
             LabError::Words => 2,
             LabError::Memory => 3,
             LabError::Open | LabError::Write => 4,
@@ -68,19 +62,5 @@ impl From<RunError> for LabError {
 
     fn from(fault: RunError) -> LabError {
         LabError::Input(fault)
-    }
-}
-
-impl From<OutcomesError> for LabError {
-    ghost use Rattle.std.specs.Prelude.{◌≡◌};
-    ghost use Rattle.ccan_lab.specs.LabError.{error_from};
-
-    ghost from_gives = { λ from e. e ≡ error_from from };
-
-    fn from(fault: OutcomesError) -> LabError {
-        match fault {
-            OutcomesError::NoHostLine { port, line } => LabError::NoHostLine { port, line },
-            OutcomesError::Memory => LabError::Memory,
-        }
     }
 }

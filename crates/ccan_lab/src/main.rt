@@ -1,10 +1,10 @@
 //! Answers questions about scripts, by what is proved of the model.
 //!
-//! `ccan-lab outcomes` lists every outcome that a script of host lines can have when its two hosts run at once, each with a
+//! `ccan-lab outcomes` lists every outcome that a script can have when its two hosts and its bus run at once, each with a
 //! history that leads to it.
 //!
 //! A fault is told on standard error, and the exit status: 1 where the script is refused, 2 where the words of the command
-//! line ask no question, 3 where memory ran out, 4 where a stream or a file failed, 5 where the hosts can come to more
+//! line ask no question, 3 where memory ran out, 4 where a stream or a file failed, 5 where the ports can come to more
 //! states than were allowed.
 #![tactic(auto)]
 

@@ -28,7 +28,7 @@ fn outcomes_command<'a>(alloc: Global) -> Result<Command<'a>, AllocError> {
         .action(ArgAction::Set)
         .help("The script; left out or -: standard input");
     Command::new(alloc, "outcomes")
-        .about("Lists every outcome of a script of host lines whose two hosts run at once")
+        .about("Lists every outcome of a script whose two hosts and bus run at once")
         .arg(most)?
         .arg(file)
 }

@@ -4,8 +4,8 @@ use ccan_ram::PortName;
 use ccan_script::{LineAnswer, PrintedLine, print_final, print_line};
 use std::alloc::{AllocError, Global};
 
-/// The lines of an outcome, each in its place: the answers of IF1, those of IF2, and a line for each object, which is empty
-/// where the object is all zero. In the outcomes of one script the same thing stands in the same place.
+/// The lines of an outcome, each in its place: the answers of IF1, those of IF2, those of the bus, and a line for each object,
+/// which is empty where the object is all zero. In the outcomes of one script the same thing stands in the same place.
 pub type Rows = Vec<PrintedLine>;
 
 /// The line of the object of this number, which is empty where the object is all zero or there is none of this number.
@@ -37,6 +37,7 @@ pub fn rows_of(alloc: Global, ending: &Ending) -> Result<Rows, AllocError> {
     let mut rows = Vec::new(alloc);
     add_answers(&mut rows, PortName::If1, ending.if1.as_slice())?;
     add_answers(&mut rows, PortName::If2, ending.if2.as_slice())?;
+    add_answers(&mut rows, PortName::Bus, ending.bus.as_slice())?;
     add_finals(&mut rows, ending.records.as_slice())?;
     Ok(rows)
 }
