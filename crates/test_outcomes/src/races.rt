@@ -1,11 +1,11 @@
 //! The outcomes of scripts in which two hosts race. The outcomes are worked by hand from the rules; the numbers of states
 //! are those that another program found, which was written for that in another language.
-use ccan_outcomes::{
-    HistoryKind, Outcomes, all_outcomes, history_of, laws, line_process_laws,
-    machine_laws, process_laws, same, seat_laws, way_to,
-};
 use ccan_bus::LoadAnswer;
 use ccan_object::ObjectNo;
+use ccan_outcomes::{
+    HistoryKind, Outcomes, all_outcomes, history_of, laws, line_process_laws, machine_laws,
+    process_laws, same, seat_laws, told_laws, way_to,
+};
 use ccan_ram::PortName;
 use ccan_run::read_input;
 use ccan_script::{LineAnswer, print_line};
@@ -59,6 +59,8 @@ fn laws_hold() {
     same::equal_answers_are_the_same();
     machine_laws::all_outcomes_are_reached();
     machine_laws::walks_are_histories();
+    told_laws::host_steps_are_told();
+    told_laws::bus_steps_are_told();
 }
 
 #[test]
