@@ -97,7 +97,10 @@ fn runs_a_round_alone(rt: HostRuntime) -> Result<(), Fail> {
     assert_eq!(rt; answers(rt.alloc(), &idle)?.as_str(), "bus idle\n");
     let text = r#"{"nodes":1,"bus":[{"op":"round","send":[{"node":1,"id":291,"dlc":0}]}]}"#;
     let unheard = outcomes_in(rt.alloc(), text, 66)?;
-    assert_eq!(rt; answers(rt.alloc(), &unheard)?.as_str(), "bus received none\n");
+    assert_eq!(rt;
+        answers(rt.alloc(), &unheard)?.as_str(),
+        "bus received none\n"
+    );
     Ok(())
 }
 

@@ -8,7 +8,7 @@ returns-clause-goes_on c =
       each = λ past led. (
         _,
         LedTo-loaded past c.args.self.now _ _ record { others = refl; nodes = refl; status = refl; loops_back = refl; choice = refl }
-        c.loaded-self.ensures led,
+            c.loaded-self.ensures led,
         refl,
       );
     }
