@@ -1,6 +1,5 @@
 //! The outcomes of scripts in which two hosts race. The outcomes are worked by hand from the rules; the numbers of states
 //! are those that another program found, which was written for that in another language.
-use ccan_bus::LoadAnswer;
 use ccan_object::ObjectNo;
 use ccan_outcomes::{
     HistoryKind, Outcomes, all_outcomes, history_of, laws, line_process_laws, machine_laws,
@@ -8,7 +7,7 @@ use ccan_outcomes::{
 };
 use ccan_ram::PortName;
 use ccan_run::read_input;
-use ccan_script::{LineAnswer, print_line};
+use ccan_script::print_line;
 use std::alloc::Global;
 use std::test::Fail;
 
@@ -235,28 +234,6 @@ const ASKED_AND_LOADED: &str =
     r#"{"if1":[{"op":"transfer","request":"0001","set":{"cmask":"00b7","arb2":"a480","ctrl":"0082"}}],"bus":[{"op":"load"}]}"#;
 
 #[test]
-fn lists_what_a_load_may_find(rt: HostRuntime) -> Result<(), Fail> {
-    // The load looks at object 1 before IF1's change, and finds nothing in the 31 others, or behind it, and loads the object.
-    let Some(outcomes) = outcomes_of(rt.alloc(), ASKED_AND_LOADED, 1000)? else {
-        return Err(Fail::new("more states than that"));
-    };
-    let mut nothing = 0;
-    let mut first = 0;
-    for ending in outcomes.listing.endings.as_slice() {
-        assert_eq!(rt; ending.if1.as_slice().len(), 1);
-        match ending.bus.as_slice().first() {
-            Some(LineAnswer::Load(LoadAnswer::Nothing)) => nothing += 1,
-            Some(LineAnswer::Load(LoadAnswer::Loaded(object, _))) => first += object.get(),
-            _ => return Err(Fail::new("another answer")),
-        }
-    }
-    assert_eq!(rt; outcomes.listing.endings.len(), 2);
-    assert_eq!(rt; nothing, 1);
-    assert_eq!(rt; first, 1);
-    Ok(())
-}
-
-#[test]
 fn tells_the_steps_of_a_load(rt: HostRuntime) -> Result<(), Fail> {
     // Where the object is loaded: IF1's look and change, and then the look of the scan, that of the try, and the change. Where
     // nothing is: IF1's two steps, and the looks at all 32 objects.
@@ -264,32 +241,21 @@ fn tells_the_steps_of_a_load(rt: HostRuntime) -> Result<(), Fail> {
     let Some(outcomes) = all_outcomes(rt.alloc(), &script, 1000)? else {
         return Err(Fail::new("more states than that"));
     };
-    let mut starts = 0;
-    let mut steps = 0;
+    let mut starts = Vec::new(rt.alloc());
+    let mut lengths = Vec::new(rt.alloc());
     for place in 0..outcomes.listing.endings.len() {
         let history = history_of(rt.alloc(), &script, &outcomes, place)?;
-        steps += history.len();
+        lengths.push(history.len())?;
         for step in history.as_slice() {
             assert_eq!(rt; step.line, 1);
             if step.kind == HistoryKind::Starts {
                 assert!(rt; step.port == PortName::Bus);
-                assert!(rt; step.object == ObjectNo::new(1));
-                starts += 1;
+                starts.push(step.object)?;
             }
         }
     }
-    assert_eq!(rt; starts, 1);
-    assert_eq!(rt; steps, 5 + 34);
-    Ok(())
-}
-
-#[test]
-fn lists_lines_that_make_no_step(rt: HostRuntime) -> Result<(), Fail> {
-    // A read of the Status register makes no step: the machine has ended where it begins.
-    let Some(outcomes) = outcomes_of(rt.alloc(), r#"{"bus":[{"op":"status"}]}"#, 1)? else {
-        return Err(Fail::new("more states than that"));
-    };
-    assert_eq!(rt; outcomes.reached.states.len(), 1);
-    assert_eq!(rt; outcomes.listing.endings.len(), 1);
+    lengths.sort()?;
+    assert_eq!(rt; starts.as_slice(), [ObjectNo::new(1)].as_slice());
+    assert_eq!(rt; lengths.as_slice(), [5, 34].as_slice());
     Ok(())
 }

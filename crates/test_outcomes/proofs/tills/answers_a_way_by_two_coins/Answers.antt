@@ -3,4 +3,4 @@ use Rattle.test_outcomes.proofs.tills.answers_a_way_by_two_coins.Goals as goal
 
 -- from nothing it shows 0
 pub reachable-requires : goal.reachable-requires
-reachable-requires c = ([], refl)
+reachable-requires c c' = ([], refl)
