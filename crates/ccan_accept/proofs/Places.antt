@@ -13,15 +13,18 @@ use Rattle.ccan_accept.specs.Frame.{identifier_bits}
 
 -- ---- a list of places
 -- what all places below a number pass, each of them does
-pub each_below : (test : ℕ → Bool) (n : ℕ) → list_all test (range_with_len 0 n) ≡ true → (place : ℕ) → place < n → test place ≡ true
+pub each_below : (test : ℕ → Bool) (n : ℕ) → list_all test (range_with_len 0 n) ≡ true → (place : ℕ) → place < n
+    → test place ≡ true
 each_below test n all place low =
     let inside : place < length (range_with_len 0 n) = rw (length-range_with_len 0 n) low in
-    let passes : test (get_or (range_with_len 0 n) place 0) ≡ true = AllPass-from_list_all test (range_with_len 0 n) all place 0 inside in
+    let passes : test (get_or (range_with_len 0 n) place 0) ≡ true =
+        AllPass-from_list_all test (range_with_len 0 n) all place 0 inside in
     let is : get_or (range_with_len 0 n) place 0 ≡ place = get_or-range_with_len 0 n place 0 low ∙ zero-add place in
     ap test (sym is) ∙ passes
 
 -- and what each of them passes, all do
-pub all_below : (test : ℕ → Bool) (n : ℕ) → ((place : ℕ) → place < n → test place ≡ true) → list_all test (range_with_len 0 n) ≡ true
+pub all_below : (test : ℕ → Bool) (n : ℕ) → ((place : ℕ) → place < n → test place ≡ true)
+    → list_all test (range_with_len 0 n) ≡ true
 all_below test n each =
     list_all-from_AllPass test (range_with_len 0 n)
     (λ place d inside.
@@ -81,7 +84,8 @@ module _ (a b c : ℕ) (within : c < 2 ^ 29) where
   differs_at place = bit_at_and (bit_xor a b) c place ∙ ap (λ n. min n (bit_at c place)) (bit_at_xor a b place)
 
   -- no place differs, so the word of those that do is 0
-  pub none_differs : ((place : ℕ) → place < 29 → bit c place ≡ true → bit_at a place ≡ bit_at b place) → bit_and (bit_xor a b) c ≡ 0
+  pub none_differs : ((place : ℕ) → place < 29 → bit c place ≡ true → bit_at a place ≡ bit_at b place)
+      → bit_and (bit_xor a b) c ≡ 0
   none_differs same =
       same_from_bits _ 0 (λ place.
       differs_at place
@@ -113,7 +117,8 @@ upper n place fits high =
 
 -- identifiers that agree in each place that they have are the same number
 pub same_number : (xtd : Bool) (object frame : ℕ) → object < 2 ^ 29 → frame < 2 ^ identifier_bits xtd
-    → ((place : ℕ) → place < 29 → (nat_le 18 place || xtd) ≡ true → bit_at object place ≡ bit_at (if xtd then frame else at 18 frame) place)
+    → ((place : ℕ) → place < 29 → (nat_le 18 place || xtd) ≡ true
+        → bit_at object place ≡ bit_at (if xtd then frame else at 18 frame) place)
     → frame ≡ (if xtd then object else part object 18 11)
 same_number true object frame fits small same =
     same_from_bits_below 29 frame object small fits (λ place low. sym (same place low (or_right (nat_le 18 place) true refl)))

@@ -22,7 +22,8 @@ at_one_moment terms tries object started seen added past after at_once l =
     choice_of_one_moment terms tries object started seen added
     (subst (λ choice. Chooses choice terms tries seen added (Ok (Some (object, started)))) at_once l.choice.chooses)
 
-pub unloaded : (past after : BusPast) (event : ℕ → BusEvent) (noted : StatusEvent) → after ≡ happens event noted past → after.loaded ≡ None
+pub unloaded : (past after : BusPast) (event : ℕ → BusEvent) (noted : StatusEvent) → after ≡ happens event noted past
+    → after.loaded ≡ None
 unloaded past after event noted is = ap (λ (p : BusPast). p.loaded) is
 
 pub own_unloaded : (past after : BusPast) → after ≡ sends_to_itself past → after.loaded ≡ None
@@ -45,7 +46,8 @@ module _ (terms : Terms) (line : RoundLine) (tries : ℕ) (seen added : List Eve
   empty_contended (answer.Spent object) (RefusedScan h) not = unloaded past after _ _ h.success.happened
   empty_contended (answer.Looped object finished found) h not = absurd h
 
-  empty_looped : (reply : RoundAnswer) → LoopsBack terms tries seen added past after reply → reply ≢ answer.Idle → after.loaded ≡ None
+  empty_looped : (reply : RoundAnswer) → LoopsBack terms tries seen added past after reply → reply ≢ answer.Idle
+      → after.loaded ≡ None
   empty_looped answer.Idle h not = absurd (not refl)
   empty_looped (answer.Looped object finished None) h not = own_unloaded past after h.finish.happened
   empty_looped (answer.Looped object finished (Some found)) h not = own_unloaded past after h.2.finish.happened
@@ -70,8 +72,10 @@ module _ (terms : Terms) (line : RoundLine) (tries : ℕ) (seen first rest last 
   empty_after : (loading : LoadAnswer) → Loads terms tries seen first past between loading
       → Continues (refusal_of_round loading) terms line tries rest last between after reply
       → after.loaded ≡ None
-  empty_after (load.Loaded object started) l h = empty_transferred terms line tries rest last between after (hears_itself between) reply h not
-  empty_after (load.Held object) l h = empty_transferred terms line tries rest last between after (hears_itself between) reply h not
+  empty_after (load.Loaded object started) l h =
+      empty_transferred terms line tries rest last between after (hears_itself between) reply h not
+  empty_after (load.Held object) l h = empty_transferred terms line tries rest last between after
+      (hears_itself between) reply h not
   empty_after load.Nothing l h = empty_transferred terms line tries rest last between after (hears_itself between) reply h not
   empty_after (load.Busy object) l h = ap (λ (p : BusPast). p.loaded) (h.same ∙ l.2.same) ∙ l.2.choice.empty
   empty_after (load.Spent object) l h = ap (λ (p : BusPast). p.loaded) (h.same ∙ l.same) ∙ l.choice.empty
@@ -84,7 +88,8 @@ nothing_after terms line tries seen added past after reply r not =
 
 module _ (terms : Terms) (line : RoundLine) (tries : ℕ) (seen first rest last : List Event) (past between after : BusPast)
     (reply refusal : RoundAnswer) where
-  refused_all : (loading : LoadAnswer) → refusal_of_round loading ≡ Some refusal → Loads terms tries seen first past between loading
+  refused_all : (loading : LoadAnswer) → refusal_of_round loading ≡ Some refusal
+      → Loads terms tries seen first past between loading
       → Continues (refusal_of_round loading) terms line tries rest last between after reply → (after ≡ past) × (reply ≡ refusal)
   refused_all (load.Busy object) is l h = (h.same ∙ l.2.same, h.told ∙ (let e = is in cc))
   refused_all (load.Spent object) is l h = (h.same ∙ l.same, h.told ∙ (let e = is in cc))

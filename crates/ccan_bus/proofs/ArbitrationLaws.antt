@@ -36,7 +36,8 @@ data_first : (xtd : Bool) (id : ℕ)
     → precedes (cond xtd (extended_list (id / 2 ^ 18) id false) (standard_list id false))
     (cond xtd (extended_list (id / 2 ^ 18) id true) (standard_list id true)) ≡ true
 data_first true id =
-    precedes-same (lowest_bits 11 (id / 2 ^ 18)) (true ∷ true ∷ (lowest_bits 18 id ++ false ∷ [])) (true ∷ true ∷ (lowest_bits 18 id ++ true ∷ []))
+    precedes-same (lowest_bits 11 (id / 2 ^ 18)) (true ∷ true ∷ (lowest_bits 18 id ++ false ∷ []))
+        (true ∷ true ∷ (lowest_bits 18 id ++ true ∷ []))
     ∙ precedes-same (lowest_bits 18 id) (false ∷ []) (true ∷ [])
 data_first false id = precedes-same (lowest_bits 11 id) (false ∷ false ∷ []) (true ∷ false ∷ [])
 
@@ -54,11 +55,13 @@ by_kind true rest = refl
 
 standard_before : (id : ℕ) (a b : Bool) (lower : ℕ) → precedes (standard_list id a) (extended_list id lower b) ≡ true
 standard_before id a b lower =
-    precedes-same (lowest_bits 11 id) (a ∷ false ∷ []) (true ∷ true ∷ (lowest_bits 18 lower ++ b ∷ [])) ∙ by_kind a (lowest_bits 18 lower ++ b ∷ [])
+    precedes-same (lowest_bits 11 id) (a ∷ false ∷ []) (true ∷ true ∷ (lowest_bits 18 lower ++ b ∷ []))
+        ∙ by_kind a (lowest_bits 18 lower ++ b ∷ [])
 
 pub standard_wins : StandardBeatsExtended
 standard_wins standard extended s e same =
-    rw (list_of standard false (extended.id / 2 ^ 18) standard.rtr s same refl, list_of extended true extended.id extended.rtr e refl refl)
+    rw (list_of standard false (extended.id / 2 ^ 18) standard.rtr s same refl,
+        list_of extended true extended.id extended.rtr e refl refl)
     (standard_before (extended.id / 2 ^ 18) standard.rtr extended.rtr extended.id)
 
 -- ---- the upper part of the identifier
@@ -117,7 +120,8 @@ same_frame frames place other winner loser w l is =
 
 other_frame : (frames : List Frame) (place other : ℕ) (winner loser : Frame) → Wins (map arbitration_bits frames) place
     → slice_get frames place ≡ Some winner
-    → slice_get frames other ≡ Some loser → IsFrame winner → IsFrame loser → (other ≡ place → ⊥) → upper_part winner ≤ upper_part loser
+    → slice_get frames other ≡ Some loser → IsFrame winner → IsFrame loser → (other ≡ place → ⊥)
+    → upper_part winner ≤ upper_part loser
 other_frame frames place other winner loser wins w l wf lf apart =
     let all : length (map arbitration_bits frames) ≡ length frames = simp length-map in
     let here = there frames other loser l in
@@ -142,9 +146,11 @@ by_test : (frames : List Frame) (place other : ℕ) (winner loser : Frame) → W
     → slice_get frames place ≡ Some winner
     → slice_get frames other ≡ Some loser → IsFrame winner → IsFrame loser → (same : Bool) → (other == place) ≡ same
     → upper_part winner ≤ upper_part loser
-by_test frames place other winner loser wins w l wf lf true is = same_frame frames place other winner loser w l (eqb-true other place is)
+by_test frames place other winner loser wins w l wf lf true is =
+    same_frame frames place other winner loser w l (eqb-true other place is)
 by_test frames place other winner loser wins w l wf lf false is =
     other_frame frames place other winner loser wins w l wf lf (λ e. not_same other place is e)
 
 pub least_upper : LeastUpperPartWins
-least_upper frames place other winner loser wins w l wf lf = by_test frames place other winner loser wins w l wf lf (other == place) refl
+least_upper frames place other winner loser wins w l wf lf =
+    by_test frames place other winner loser wins w l wf lf (other == place) refl

@@ -99,15 +99,18 @@ module _ where
   field (f ∷ frames) zero h = (f, refl)
   field (f ∷ frames) (suc k) h = field frames k (omega arith)
 
-  pub in_order : (frames : List Frame) (j k : ℕ) → j < length (map arbitration_bits frames) → k < length (map arbitration_bits frames)
-      → precedes (list_at (map arbitration_bits frames) j) (list_at (map arbitration_bits frames) k) ≡ nat_lt (key_of frames j) (key_of frames k)
+  pub in_order : (frames : List Frame) (j k : ℕ) → j < length (map arbitration_bits frames)
+      → k < length (map arbitration_bits frames)
+      → precedes (list_at (map arbitration_bits frames) j) (list_at (map arbitration_bits frames) k)
+          ≡ nat_lt (key_of frames j) (key_of frames k)
   unfolding packed
   in_order frames j k p q =
       let a = field frames j p in
       let b = field frames k q in
       rw (a.1, b.1) (packed-order a.0 b.0)
 
-  pub wins : (frames : List Frame) (lead : Lead) → lead.tied ≡ false → Leads (key_of frames) (length (map arbitration_bits frames)) lead
+  pub wins : (frames : List Frame) (lead : Lead) → lead.tied ≡ false
+      → Leads (key_of frames) (length (map arbitration_bits frames)) lead
       → Wins (map arbitration_bits frames) lead.place
   wins frames lead t h =
       record {
@@ -128,7 +131,8 @@ module _ where
       let here : nat_lt (key_of frames other) (key_of frames j) ≡ false = grind (arith, nat_tests) in
       in_order frames other j q p ∙ here
 
-  pub collide : (frames : List Frame) (lead : Lead) → lead.tied ≡ true → Leads (key_of frames) (length (map arbitration_bits frames)) lead
+  pub collide : (frames : List Frame) (lead : Lead) → lead.tied ≡ true
+      → Leads (key_of frames) (length (map arbitration_bits frames)) lead
       → Collide (map arbitration_bits frames)
   collide frames lead t h =
       let a = h.another t in

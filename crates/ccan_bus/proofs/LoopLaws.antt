@@ -37,7 +37,8 @@ rests : (past : BusPast) (node : ℕ) → node ≢ 0 → with_own (BusEventOf Se
 unfolding with_own
 rests past node other = let e : is_controller node ≡ false = grind (arith, nat_tests) in rw e refl
 
-module _ (terms : Terms) (line : RoundLine) (tries : ℕ) (seen added : List Event) (past after : BusPast) (node : ℕ) (other : node ≢ 0) where
+module _ (terms : Terms) (line : RoundLine) (tries : ℕ) (seen added : List Event) (past after : BusPast) (node : ℕ)
+    (other : node ≢ 0) where
   rest_by : after ≡ sends_to_itself past → after.events node ≡ past.events node
   rest_by is = ap (λ (p : BusPast). p.events node) is ∙ rests past node other
 
@@ -65,7 +66,8 @@ module _ (terms : Terms) (line : RoundLine) (tries : ℕ) (seen added : List Eve
 pub others_rest : OthersRestInLoopBack
 others_rest terms line tries seen added past after reply r hears node other =
     let same = still_hears terms tries seen r.first past r.between r.loading r.loads in
-    rest_continued terms line tries _ r.last r.between after node other (refusal_of_round r.loading) reply (same.0 ∙ hears) r.continues ∙ same.1 node
+    rest_continued terms line tries _ r.last r.between after node other (refusal_of_round r.loading) reply
+        (same.0 ∙ hears) r.continues ∙ same.1 node
 
 unheard : (refusal : Option RoundAnswer) (terms : Terms) (line other : RoundLine) (tries : ℕ) (seen added : List Event)
     (past after : BusPast) (reply : RoundAnswer)
@@ -86,5 +88,6 @@ lines_unheard terms line other tries seen added past after reply hears r =
       last = r.last;
       whole = r.whole;
       loads = r.loads;
-      continues = unheard (refusal_of_round r.loading) terms line other tries _ r.last r.between after reply (same.0 ∙ hears) r.continues;
+      continues = unheard (refusal_of_round r.loading) terms line other tries _ r.last r.between after reply
+          (same.0 ∙ hears) r.continues;
     }

@@ -47,7 +47,8 @@ idle_same false terms line tries seen added past after h = h.same
 idle_continues : (refusal : Option RoundAnswer) (terms : Terms) (line : RoundLine) (tries : ℕ) (seen added : List Event)
     (past after : BusPast) → Continues refusal terms line tries seen added past after answer.Idle → after ≡ past
 idle_continues (Some refusal) terms line tries seen added past after h = h.same
-idle_continues None terms line tries seen added past after h = idle_same (hears_itself past) terms line tries seen added past after h
+idle_continues None terms line tries seen added past after h =
+    idle_same (hears_itself past) terms line tries seen added past after h
 
 module _ (terms : Terms) (line : RoundLine) (tries : ℕ) (seen added : List Event) (past after : BusPast) where
   round_rests : (reply : RoundAnswer) → Round terms line tries seen added past after reply → RestsOff past → RestsOff after
@@ -62,7 +63,8 @@ module _ (terms : Terms) (line : RoundLine) (tries : ℕ) (seen added : List Eve
   round_rests answer.Fault r rests = λ off. nothing_after terms line tries seen added past after _ r (λ e. cc)
   round_rests (answer.Busy object) r rests = λ off. nothing_after terms line tries seen added past after _ r (λ e. cc)
   round_rests (answer.Spent object) r rests = λ off. nothing_after terms line tries seen added past after _ r (λ e. cc)
-  round_rests (answer.Looped object finished found) r rests = λ off. nothing_after terms line tries seen added past after _ r (λ e. cc)
+  round_rests (answer.Looped object finished found) r rests =
+      λ off. nothing_after terms line tries seen added past after _ r (λ e. cc)
 
 decision_rests : (loops : Bool) (line : RoundLine) (past after : BusPast) (decided : Decision)
     → Decides loops line past after decided → RestsOff past → RestsOff after
@@ -137,7 +139,8 @@ off_holds_nothing =
       clears = λ past rests. stays_empty past (clears_init past) refl
           (λ on. ap (λ es. is_off (levels_after_all true es)) (clear_events past) ∙ clear_stays (past.events 0) on) rests;
       recovers = λ groups past rests. stays_empty past (recovers groups past) refl
-          (λ on. ap (λ es. is_off (levels_after_all true es)) (groups_events groups past) ∙ groups_stay groups (past.events 0) on) rests;
+          (λ on. ap (λ es. is_off (levels_after_all true es)) (groups_events groups past)
+              ∙ groups_stay groups (past.events 0) on) rests;
       notes = λ steps past rests. stays_empty past (record past { steps = steps }) refl (λ on. on) rests;
       sets = λ loops past rests. stays_empty past (record past { loops_back = loops }) refl (λ on. on) rests;
     }

@@ -58,7 +58,8 @@ raised-is m zero = sym (zero-add m)
 raised-is m (suc n) = let h = raised-is m n in omega arith
 
 -- two lists whose first parts are as long as one another
-pub joined : (m n : ℕ) (us vs c d : List Bool) → length us ≡ n → length vs ≡ n → precedes c d ≡ nat_lt (value_of m c) (value_of m d)
+pub joined : (m n : ℕ) (us vs c d : List Bool) → length us ≡ n → length vs ≡ n
+    → precedes c d ≡ nat_lt (value_of m c) (value_of m d)
     → precedes (us ++ c) (vs ++ d) ≡ nat_lt (value_of (raised m n) (us ++ c)) (value_of (raised m n) (vs ++ d))
 unfolding value_of
 joined m zero [] [] c d p q h = h
@@ -120,7 +121,8 @@ in_order : (x y : Bool) (f g : Frame) → f.xtd ≡ x → g.xtd ≡ y
     → precedes (cond x (extended_bits f) (standard_bits f)) (cond y (extended_bits g) (standard_bits g))
     ≡ nat_lt (value_of 32 (cond x (extended_bits f) (standard_bits f))) (value_of 32 (cond y (extended_bits g) (standard_bits g)))
 in_order true true f g p q =
-    joined 21 11 (lowest_bits 11 _) (lowest_bits 11 _) (low_extended f) (low_extended g) (length-lowest_bits 11 _) (length-lowest_bits 11 _)
+    joined 21 11 (lowest_bits 11 _) (lowest_bits 11 _) (low_extended f) (low_extended g) (length-lowest_bits 11 _)
+        (length-lowest_bits 11 _)
     (both_extended _ _ (joined 1 18 (lowest_bits 18 _) (lowest_bits 18 _) (f.rtr ∷ []) (g.rtr ∷ []) (length-lowest_bits 18 _)
     (length-lowest_bits 18 _) (ends f.rtr g.rtr)))
 in_order true false f g p q =
@@ -153,13 +155,15 @@ unfolding value_of
 by_bit n true bits = refl
 by_bit n false bits = omega arith
 
-pub value_of-lowest_bits : (m n x : ℕ) (c : List Bool) → value_of (raised m n) (lowest_bits n x ++ c) ≡ (x % 2 ^ n) * 2 ^ m + value_of m c
+pub value_of-lowest_bits : (m n x : ℕ) (c : List Bool)
+    → value_of (raised m n) (lowest_bits n x ++ c) ≡ (x % 2 ^ n) * 2 ^ m + value_of m c
 unfolding lowest_bits
 value_of-lowest_bits m zero x c = sym (none (2 ^ m) (x % 2 ^ 0) (value_of m c) (omega arith))
 value_of-lowest_bits m (suc n) x c =
     let split : x % 2 ^ (1 + n) ≡ (x / 2 ^ n % 2 ^ 1) * 2 ^ n + x % 2 ^ n = mod-pow-add x 1 n in
     let one : 1 + n ≡ suc n = omega arith in
-    let split' : x % 2 ^ suc n ≡ bit_at x n * 2 ^ n + x % 2 ^ n = subst (λ k. x % 2 ^ k ≡ bit_at x n * 2 ^ n + x % 2 ^ n) one split in
+    let split' : x % 2 ^ suc n ≡ bit_at x n * 2 ^ n + x % 2 ^ n =
+        subst (λ k. x % 2 ^ k ≡ bit_at x n * 2 ^ n + x % 2 ^ n) one split in
     let power : 2 ^ raised m n ≡ 2 ^ n * 2 ^ m = ap (λ k. 2 ^ k) (raised-is m n) ∙ pow-add 2 n m in
     by_bit (raised m n) (bit x n) (lowest_bits n x ++ c)
     ∙ (ap (λ v. cond (bit x n) (2 ^ raised m n) 0 + v) (value_of-lowest_bits m n x c)
@@ -187,7 +191,8 @@ by_width x f is = rw is refl
 pub packed_standard : (f : Frame) → f.xtd ≡ false → f.id < 2048 → packed f ≡ f.id * 2097152 + flag f.rtr * 1048576
 packed_standard f is within =
     let small : f.id % 2048 ≡ f.id = omega arith in
-    by_width false f is ∙ (value_of-lowest_bits 21 11 f.id (low_standard f) ∙ (rw small (ap (λ v. f.id * 2097152 + v) (low_bits f.rtr))))
+    by_width false f is ∙ (value_of-lowest_bits 21 11 f.id (low_standard f)
+        ∙ (rw small (ap (λ v. f.id * 2097152 + v) (low_bits f.rtr))))
 
 pub packed_extended : (f : Frame) → f.xtd ≡ true → f.id < 536870912
     → packed f ≡ (f.id / 262144) * 2097152 + (1572864 + ((f.id % 262144) * 2 + flag f.rtr))
@@ -208,7 +213,8 @@ push_step items start count done number b within is h =
     let here : count - 1 - done ≡ count - (done + 1) = omega arith in
     append_assoc items (b ∷ []) _ ∙ (rw (is, here) (rw left at h))
 
-pub push_end : (items start : List Bool) (count done number : ℕ) → count ≤ done → items ++ lowest_bits (count - done) number ≡ start
+pub push_end : (items start : List Bool) (count done number : ℕ) → count ≤ done
+    → items ++ lowest_bits (count - done) number ≡ start
     → items ≡ start
 unfolding lowest_bits
 push_end items start count done number out h =
@@ -224,7 +230,8 @@ number_extended f id n a b is within = rw (a, b) (sym (packed_extended f is (rw 
 
 -- the bits one after another
 pub field_extended : (f : Frame) (id : ℕ) (r : Bool) (o a b c d e : List Bool) → f.xtd ≡ true → id ≡ f.id → r ≡ f.rtr → o ≡ []
-    → a ≡ o ++ lowest_bits 11 (id / 262144) → b ≡ a ++ true ∷ [] → c ≡ b ++ true ∷ [] → d ≡ c ++ lowest_bits 18 id → e ≡ d ++ r ∷ []
+    → a ≡ o ++ lowest_bits 11 (id / 262144) → b ≡ a ++ true ∷ [] → c ≡ b ++ true ∷ [] → d ≡ c ++ lowest_bits 18 id
+    → e ≡ d ++ r ∷ []
     → e ≡ arbitration_bits f
 unfolding arbitration_bits
 field_extended f id r o a b c d e x i t nil pa pb pc pd pe = rw (x, pe, pd, pc, pb, pa, nil, i, t) (simp append_assoc)

@@ -29,7 +29,8 @@ module _ (event : NodeEvent) (old new : Bus) (has : HasOwn event old new) (past 
       let here : AreAfter (is_controller node) (past.events node) (counters_at old node) = led.counters node within in
       rw is (subst (AreAfter false (past.events node)) (sym (has.rest node is)) (rw is at here))
 
-  pub own_counters : (node : ℕ) → node ≤ past.others → AreAfter (is_controller node) (with_own event past node) (counters_at new node)
+  pub own_counters : (node : ℕ) → node ≤ past.others
+      → AreAfter (is_controller node) (with_own event past node) (counters_at new node)
   own_counters node within = by_node node within (is_controller node) refl
 
   pub levels_own : (counters_at new 0).levels ≡ own_levels event past
@@ -46,14 +47,18 @@ only_own event old new k d others loops chooses all nodes adds =
       own =
           rw nodes (subst (λ (old_counts : Counts). AddsEvent event old_counts (get_or (set old.nodes 0 k) 0 (new_counts false)))
           (get_or_default old.nodes 0 d (new_counts false) (omega (arith, all)))
-          (subst (AddsEvent event (get_or old.nodes 0 d)) (sym (get_or-set_same old.nodes 0 k (new_counts false) (omega (arith, all)))) adds));
-      rest = λ node other. rw nodes (get_or-set_other old.nodes 0 node k (new_counts false) (λ is. absurd (let e = ap is_controller is in cc)));
+          (subst (AddsEvent event (get_or old.nodes 0 d))
+              (sym (get_or-set_same old.nodes 0 k (new_counts false) (omega (arith, all)))) adds));
+      rest = λ node other. rw nodes (get_or-set_other old.nodes 0 node k (new_counts false)
+          (λ is. absurd (let e = ap is_controller is in cc)));
       loops_back = loops;
       choice = chooses;
     }
 
-pub own_is : (old new : Bus) (k : Counts) → length old.nodes ≡ 9 → new.nodes ≡ set old.nodes 0 k → k.levels ≡ (counters_at new 0).levels
-own_is old new k all nodes = rw nodes (ap (λ (c : Counts). c.levels) (sym (get_or-set_same old.nodes 0 k (new_counts false) (omega (arith, all)))))
+pub own_is : (old new : Bus) (k : Counts) → length old.nodes ≡ 9 → new.nodes ≡ set old.nodes 0 k
+    → k.levels ≡ (counters_at new 0).levels
+own_is old new k all nodes = rw nodes (ap (λ (c : Counts). c.levels)
+    (sym (get_or-set_same old.nodes 0 k (new_counts false) (omega (arith, all)))))
 
 -- what stays where only the first place of the array, the register and what is loaded are written
 pub record WritesFirst (old new : Bus) (k : Counts) : Type 0 where
@@ -86,7 +91,8 @@ cleared_init old new k d writes loaded event adds =
 
 pub sent_to_itself : (old new : Bus) (k d : Counts) (between : Held) → WritesFirst old new k → new.loaded ≡ None
     → AddsEvent (BusEventOf Sent) (get_or old.nodes 0 d) k
-    → AddsStep (Happened status.Sent k.levels) old.status between → AddsStep (Happened status.Received k.levels) between new.status
+    → AddsStep (Happened status.Sent k.levels) old.status between
+    → AddsStep (Happened status.Received k.levels) between new.status
     → GoesOn old new (λ past after. after ≡ sends_to_itself past)
 sent_to_itself old new k d between writes loaded event sends receives =
     let has = only_own (BusEventOf Sent) old new k d writes.others writes.loops_back writes.choice old.all writes.nodes event in
@@ -98,7 +104,8 @@ sent_to_itself old new k d between writes loaded event sends receives =
           counters = own_counters (BusEventOf Sent) old new has past led;
           status =
               subst (λ l. IsHeldAfter (Happened status.Received l ∷ Happened status.Sent l ∷ past.steps) new.status)
-              (own_is old new k old.all writes.nodes ∙ levels_own (BusEventOf Sent) old new has past led) (receives _ (sends past.steps led.status));
+              (own_is old new k old.all writes.nodes ∙ levels_own (BusEventOf Sent) old new has past led)
+                  (receives _ (sends past.steps led.status));
           loaded = loaded;
           loops_back = has.loops_back ∙ led.loops_back;
           choice = has.choice ∙ led.choice;

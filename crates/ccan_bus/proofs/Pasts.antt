@@ -64,10 +64,12 @@ node_after host false events event old new led is change =
     change ∙ (ap (λ (l : Levels). record old { levels = l }) (off_keeps event (is_off old.levels) old.levels off) ∙ led)
 
 -- the register after its event, if it has one
-register_after : (on : Bool) (noted : StatusEvent) (levels told : Levels) (steps : List StatusStep) (old new : Held) → IsHeldAfter steps old
+register_after : (on : Bool) (noted : StatusEvent) (levels told : Levels) (steps : List StatusStep) (old new : Held)
+    → IsHeldAfter steps old
     → levels ≡ told → (on ≡ true → AddsStep (Happened noted levels) old new) → (on ≡ false → new ≡ old)
     → IsHeldAfter (cond on (Happened noted told ∷ steps) steps) new
-register_after true noted levels told steps old new held is on off = subst (λ l. IsHeldAfter (Happened noted l ∷ steps) new) is (on refl steps held)
+register_after true noted levels told steps old new held is on off =
+    subst (λ l. IsHeldAfter (Happened noted l ∷ steps) new) is (on refl steps held)
 register_after false noted levels told steps old new held is on off = subst (IsHeldAfter steps) (sym (off refl)) held
 
 -- what a bus does at the end of a transfer or of its fault
@@ -122,10 +124,12 @@ pub GoesOn-none : (bus : Bus) (what : BusPast → BusPast → Type 0) → ((past
 GoesOn-none bus what h = record { each = λ past led. (past, led, h past led) }
 
 pub GoesOn-then : {x y z : Bus} {first second both : BusPast → BusPast → Type 0} → GoesOn x y first → GoesOn y z second
-    → ((past between after : BusPast) → LedTo past x → LedTo between y → LedTo after z → first past between → second between after → both past after)
+    → ((past between after : BusPast) → LedTo past x → LedTo between y → LedTo after z → first past between
+        → second between after → both past after)
     → GoesOn x z both
 GoesOn-then f g join =
-    record { each = λ past led. let a = f.each past led in let b = g.each a.0 a.1 in (b.0, b.1, join past a.0 b.0 led a.1 b.1 a.2 b.2) }
+    record { each = λ past led. let a = f.each past led in let b = g.each a.0 a.1 in
+        (b.0, b.1, join past a.0 b.0 led a.1 b.1 a.2 b.2) }
 
 pub GoesOn-weaker : {x y : Bus} {what weaker : BusPast → BusPast → Type 0} → GoesOn x y what
     → ((past after : BusPast) → LedTo past x → LedTo after y → what past after → weaker past after) → GoesOn x y weaker
@@ -139,7 +143,8 @@ pub record KeepsAll (old new : Bus) : Type 0 where
   pub loops_back : new.loops_back ≡ old.loops_back
   pub choice : new.choice ≡ old.choice
 
-pub LedTo-loaded : (past : BusPast) (old new : Bus) (now : Option (ℕ × Record)) → KeepsAll old new → new.loaded ≡ now → LedTo past old
+pub LedTo-loaded : (past : BusPast) (old new : Bus) (now : Option (ℕ × Record)) → KeepsAll old new → new.loaded ≡ now
+    → LedTo past old
     → LedTo (record past { loaded = now }) new
 LedTo-loaded past old new now keeps is led =
     record {
@@ -174,7 +179,8 @@ pub opens : (bus : Bus) (others : ℕ) (choice : Choice) → others ≤ 8 → bu
 opens bus others choice few same counters status loaded loops chooses =
     record {
       others = same;
-      counters = λ node within. subst (AreAfter (is_controller node) []) (sym (counters node (omega arith))) (none_yet (node == 0));
+      counters = λ node within. subst (AreAfter (is_controller node) []) (sym (counters node (omega arith)))
+          (none_yet (node == 0));
       status = status;
       loaded = loaded;
       loops_back = loops;

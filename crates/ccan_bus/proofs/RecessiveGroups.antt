@@ -21,8 +21,10 @@ pub record HaveAllGroups (groups : ℕ) (old new : Bus) : Type 0 where
 abbrev pub recovery_event : ℕ → Bool → StatusEvent
 recovery_event groups recovering = cond (nat_le 1 groups && recovering) status.Recovery status.Level
 
-module _ (groups : ℕ) (old new : Bus) (has : HaveAllGroups groups old new) (few : old.others ≤ 8) (past : BusPast) (led : LedTo past old) where
-  group_counters : (node : ℕ) → node ≤ past.others → AreAfter (is_controller node) (with_groups groups past node) (counters_at new node)
+module _ (groups : ℕ) (old new : Bus) (has : HaveAllGroups groups old new) (few : old.others ≤ 8) (past : BusPast)
+    (led : LedTo past old) where
+  group_counters : (node : ℕ) → node ≤ past.others
+      → AreAfter (is_controller node) (with_groups groups past node) (counters_at new node)
   unfolding with_groups
   group_counters node within =
       let same = led.others in
@@ -31,9 +33,11 @@ module _ (groups : ℕ) (old new : Bus) (has : HaveAllGroups groups old new) (fe
   group_levels : (counters_at new 0).levels ≡ levels_after_all (is_controller 0) (with_groups groups past 0)
   group_levels = listed_levels (is_controller 0) (with_groups groups past 0) (counters_at new 0) (group_counters 0 (omega arith))
 
-pub recovered : (groups : ℕ) (old new : Bus) (recovering : Bool) (event : StatusEvent) (d e : Counts) → HaveAllGroups groups old new
+pub recovered : (groups : ℕ) (old new : Bus) (recovering : Bool) (event : StatusEvent) (d e : Counts)
+    → HaveAllGroups groups old new
     → length new.nodes ≡ 9
-    → ((host : Bool) (events : List NodeEvent) → AreAfter host events (get_or old.nodes 0 d) → recovering ≡ is_recovering_after host events)
+    → ((host : Bool) (events : List NodeEvent) → AreAfter host events (get_or old.nodes 0 d)
+        → recovering ≡ is_recovering_after host events)
     → event ≡ recovery_event groups recovering
     → AddsStep (Happened event (get_or new.nodes 0 e).levels) old.status new.status
     → GoesOn old new (λ past after. after ≡ recovers groups past)
@@ -41,7 +45,8 @@ recovered groups old new recovering event d e has all tells_read event_is adds_r
     let few = old.few in
     let tells : (host : Bool) (events : List NodeEvent) → AreAfter host events (counters_at old 0)
     → recovering ≡ is_recovering_after host events =
-    subst (λ (k : Counts). (host : Bool) (events : List NodeEvent) → AreAfter host events k → recovering ≡ is_recovering_after host events)
+    subst (λ (k : Counts). (host : Bool) (events : List NodeEvent) → AreAfter host events k
+        → recovering ≡ is_recovering_after host events)
     (get_or_default old.nodes 0 d (new_counts false) (omega (arith, old.all))) tells_read in
     let adds : AddsStep (Happened (recovery_event groups recovering) (counters_at new 0).levels) old.status new.status =
     subst (λ (k : Counts). AddsStep (Happened (recovery_event groups recovering) k.levels) old.status new.status)

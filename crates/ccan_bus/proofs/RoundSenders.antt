@@ -59,7 +59,8 @@ module _ (terms : Terms) (line : RoundLine) (tries : ℕ) (seen added : List Eve
   transferred true is reply h = looped_back (and_second past.loops_back (is_on past 0) is) reply h
   transferred false is reply h = contended reply h
 
-  continued : (refusal : Option RoundAnswer) (reply : RoundAnswer) → Continues refusal terms line tries seen added past after reply
+  continued : (refusal : Option RoundAnswer) (reply : RoundAnswer)
+      → Continues refusal terms line tries seen added past after reply
       → Shares past after (sends_well refusal reply)
   continued (Some refusal) reply h = quiet past after h.same
   continued None reply h = transferred (hears_itself past) refl reply h
@@ -85,7 +86,8 @@ module _ (terms : Terms) (tries : ℕ) (seen added : List Event) (past between a
   before_load (load.Spent object) l h = before past between after well l.same h
 
 shares : (terms : Terms) (line : RoundLine) (tries : ℕ) (seen added : List Event) (past after : BusPast) (reply : RoundAnswer)
-    → (round : Round terms line tries seen added past after reply) → Shares past after (sends_well (refusal_of_round round.loading) reply)
+    → (round : Round terms line tries seen added past after reply)
+    → Shares past after (sends_well (refusal_of_round round.loading) reply)
 shares terms line tries seen added past after reply r =
     before_load terms tries seen r.first past r.between after _ r.loading r.loads
     (continued terms line tries _ r.last r.between after (refusal_of_round r.loading) reply r.continues)
@@ -93,11 +95,13 @@ shares terms line tries seen added past after reply r =
 longer : (e : NodeEvent) (xs ys : List NodeEvent) → ys ≡ e ∷ xs → ys ≡ xs → ⊥
 longer e xs ys p q = let h = ap length (sym q ∙ p) in omega arith
 
-is_sent : (past after : BusPast) (well : Bool) (s : Shares past after well) (node : ℕ) → HasEvent past after node Sent → s.event node ≡ Sent
+is_sent : (past after : BusPast) (well : Bool) (s : Shares past after well) (node : ℕ) → HasEvent past after node Sent
+    → s.event node ≡ Sent
 is_sent past after well s node h =
     elim (s.given node) [
       | inl none ↦ absurd (longer _ _ _ h none)
-      | inr some ↦ let e : BusEventOf (s.event node) ∷ past.events node ≡ BusEventOf Sent ∷ past.events node = sym some.1 ∙ h in cc
+      | inr some ↦ let e : BusEventOf (s.event node) ∷ past.events node ≡ BusEventOf Sent ∷ past.events node =
+          sym some.1 ∙ h in cc
     ]
 
 pub one_sends : AtMostOneSends

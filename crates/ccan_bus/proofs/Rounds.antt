@@ -33,7 +33,8 @@ filter_same p q h (x ∷ xs) =
 abbrev pub contenders_now : Bus → RoundLine → List (ℕ × Frame)
 contenders_now bus line = contenders (is_on_now bus) bus.loaded line.send.items
 
-pub contenders_same : (past : BusPast) (bus : Bus) → LedTo past bus → (line : RoundLine) → contenders_now bus line ≡ contenders_of past line
+pub contenders_same : (past : BusPast) (bus : Bus) → LedTo past bus → (line : RoundLine)
+    → contenders_now bus line ≡ contenders_of past line
 unfolding contenders
 contenders_same past bus led line =
     filter_same (is_on_now bus) (is_on past) (λ n. sym (on_same past bus led n)) (own_frame bus.loaded ++ line.send.items)
@@ -53,7 +54,8 @@ pub no_own : (on : ℕ → Bool) (line : RoundLine) (frame : Frame) → IsWonBy 
 unfolding contenders
 no_own on line frame won =
     let others = All-filter (λ c. on c.0) (λ s. (1 ≤ s.0) × (s.0 ≤ 8)) line.send.items line.senders.others in
-    let at = All-get_or (λ s. (1 ≤ s.0) × (s.0 ≤ 8)) (filter (λ c. on c.0) line.send.items) won.place (0, frame) won.within others in
+    let at = All-get_or (λ s. (1 ≤ s.0) × (s.0 ≤ 8)) (filter (λ c. on c.0) line.send.items) won.place (0, frame)
+        won.within others in
     let zero_is = ap (λ c. c.0) won.sent in
     let low = at.0 in
     omega arith
@@ -64,12 +66,14 @@ none_left (Some x) h = absurd (h x refl)
 
 module _ (bus : Bus) (line : RoundLine) where
   pub idle : contenders_now bus line ≡ [] → GoesOn bus bus (λ past after. DecidesBetween line past after decision.Idle)
-  idle nobody = GoesOn-none bus _ (λ past led. record { nobody = sym (contenders_same past bus led line) ∙ nobody; quiet = refl; same = refl })
+  idle nobody = GoesOn-none bus _ (λ past led. record { nobody = sym (contenders_same past bus led line) ∙ nobody;
+      quiet = refl; same = refl })
 
   -- events that are shared out by the places of an array
   abbrev pub Happens : Bus → List Bool → BusEvent → BusEvent → StatusEvent → Type 0
   Happens new senders sending listening noted =
-      (each : ℕ → BusEvent) → IsSharedOut senders sending listening each → GoesOn bus new (λ past after. after ≡ happens each noted past)
+      (each : ℕ → BusEvent) → IsSharedOut senders sending listening each
+          → GoesOn bus new (λ past after. after ≡ happens each noted past)
 
   share : (senders : List Bool) (sends : ℕ → Bool) (sending listening : BusEvent)
       → ((node : ℕ) → node < 9 → sends_at senders node ≡ sends node)
@@ -82,7 +86,8 @@ module _ (bus : Bus) (line : RoundLine) where
       → Happens new senders SendFault ReceiveFault (status.Fault code)
       → GoesOn bus new (λ past after. DecidesBetween line past after decision.Collision)
   collided new senders code tie sends told first happen =
-      GoesOn-weaker (happen (shared (sends_least (contenders_now bus line)) SendFault ReceiveFault) (share senders _ SendFault ReceiveFault sends))
+      GoesOn-weaker (happen (shared (sends_least (contenders_now bus line)) SendFault ReceiveFault)
+          (share senders _ SendFault ReceiveFault sends))
       (λ past after led here e.
       let same = contenders_same past bus led line in
       let code_is : code ≡ cond (sends_least (contenders_now bus line) 0) 4 1 = told ∙ ap (λ b. cond b 4 1) (sends 0 first) in
@@ -92,7 +97,8 @@ module _ (bus : Bus) (line : RoundLine) where
         happened =
             subst (λ cs. after ≡ happens (shared (sends_least cs) SendFault ReceiveFault)
             (status.Fault (cond (sends_least cs 0) 4 1)) past) same
-            (e ∙ ap (λ n. happens (shared (sends_least (contenders_now bus line)) SendFault ReceiveFault) (status.Fault n) past) code_is);
+            (e ∙ ap (λ n. happens (shared (sends_least (contenders_now bus line)) SendFault ReceiveFault)
+                (status.Fault n) past) code_is);
       })
 
   module _ (winner : ℕ) (frame : Frame) (won : IsWonBy (contenders_now bus line) winner frame) (new : Bus) (senders : List Bool)
@@ -155,13 +161,15 @@ module _ (bus : Bus) (line : RoundLine) where
           another = λ zero_is. another (sym at ∙ zero_is);
           on = on_same past bus led 0 ∙ on;
           success =
-              subst (λ f. IsSuccess line past after node f) (sym same) (subst (λ n. IsSuccess line past after n frame) (sym at) s);
+              subst (λ f. IsSuccess line past after node f) (sym same)
+                  (subst (λ n. IsSuccess line past after n frame) (sym at) s);
         }
     by_due past after led s (decision.Passed node sent) (off, at, same) =
         record {
           off = on_same past bus led 0 ∙ off;
           success =
-              subst (λ f. IsSuccess line past after node f) (sym same) (subst (λ n. IsSuccess line past after n frame) (sym at) s);
+              subst (λ f. IsSuccess line past after node f) (sym same)
+                  (subst (λ n. IsSuccess line past after n frame) (sym at) s);
         }
     by_due past after led s decision.Idle (own, none) =
         absurd (no_own (is_on past) line frame
@@ -174,7 +182,8 @@ module _ (bus : Bus) (line : RoundLine) where
 
     pub heard : (decided : Decision) (noted : StatusEvent) → IsDue bus winner frame decided
         → noted ≡ cond (winner == 0) status.Sent status.Received
-        → code_of line.fault ≡ None → (node : ℕ) × (node ≢ winner) × (is_on_now bus node ≡ true) → Happens new senders Sent Received noted
+        → code_of line.fault ≡ None → (node : ℕ) × (node ≢ winner) × (is_on_now bus node ≡ true)
+        → Happens new senders Sent Received noted
         → GoesOn bus new (λ past after. DecidesBetween line past after decided)
     heard decided noted due noted_is quiet listener happen =
         GoesOn-weaker (happen (shared (is_node winner) Sent Received) (share senders _ Sent Received one))

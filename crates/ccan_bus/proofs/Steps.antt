@@ -184,7 +184,8 @@ module _ (terms : Terms) (line : RoundLine) (tries : ℕ) (seen added : List Eve
   continues None None end h = absurd h
 
 pub round_of : (terms : Terms) (line : RoundLine) (tries : ℕ) (seen added : List Event) (past after : BusPast)
-    (report : RoundReport) → RunsSteps terms line tries seen added past after report → Round terms line tries seen added past after report.end.answer
+    (report : RoundReport) → RunsSteps terms line tries seen added past after report
+        → Round terms line tries seen added past after report.end.answer
 round_of terms line tries seen added past after report r =
     record {
       between = r.between;

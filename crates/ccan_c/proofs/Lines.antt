@@ -7,7 +7,8 @@ use Rattle.ccan_ram.proofs.Calls.{Goes-weaker}
 use Rattle.ccan_run.specs.Side.{GoesOn}
 
 -- the value before stands for the state before, and the value after for the state after
-pub as_values : {Value : Type 0} {x y : Passes} (old new : Value) (what : Terms → List Event → List Event → Value → Value → Type 0)
+pub as_values : {Value : Type 0} {x y : Passes} (old new : Value)
+    (what : Terms → List Event → List Event → Value → Value → Type 0)
     → Goes x y (λ terms seen added. GoesOn (λ (state value : Value). state ≡ value) old new (what terms seen added))
     → Goes x y (λ terms seen added. what terms seen added old new)
 as_values {x = x} old new what f =

@@ -21,10 +21,12 @@ within_older memory more older h = record {
 sees_part : (memory : Memory) (pass : Pass) (history : List Event) → pass.memory ≡ memory → IsWithin memory history
     → BeginsWith history pass.seen → CanSee pass
 sees_part memory pass history same within (more, is) =
-    subst (λ (m : Memory). IsWithin m pass.seen) (sym same) (within_older memory more pass.seen (subst (IsWithin memory) is within))
+    subst (λ (m : Memory). IsWithin m pass.seen) (sym same)
+        (within_older memory more pass.seen (subst (IsWithin memory) is within))
 
 -- the port has the events that it had, by another name of it
-own_as : (p q : PortName) (newer older : List Event) → q ≡ p → events_of q newer ≡ events_of q older → events_of p newer ≡ events_of p older
+own_as : (p q : PortName) (newer older : List Event) → q ≡ p → events_of q newer ≡ events_of q older
+    → events_of p newer ≡ events_of p older
 own_as p q newer older same own = subst (λ (r : PortName). events_of r newer ≡ events_of r older) same own
 
 -- IF1 meets IF2 and then the bus, and IF2 meets IF1 again

@@ -145,7 +145,8 @@ module _ (profile : Profile) (nodes tries : ℕ) where
           let own = events_of name (before name) in (
             last ++ more,
             ap (events_of name) after_is ∙ events_of-append name (turn.added ++ gap) front
-                ∙ ap (λ es. last ++ es) (s.holds name).1 ∙ sym (append_assoc last more own) ∙ ap (λ es. (last ++ more) ++ es) (sym (turn.starts.others name apart)),
+                ∙ ap (λ es. last ++ es) (s.holds name).1 ∙ sym (append_assoc last more own)
+                ∙ ap (λ es. (last ++ more) ++ es) (sym (turn.starts.others name apart)),
           )
     ]
 

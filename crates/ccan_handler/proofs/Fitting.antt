@@ -35,7 +35,8 @@ module _ (terms : Terms) (change : Change) (object : ℕ) where
       let fits_shown = subst (λ (r : Record). fits change r ≡ true) (sym step.before) fits_here in
       cc
 
-  passed_unfit : (tries : ℕ) (seen added last before : List Event) → IsLegal terms.profile (added ++ seen) → added ≡ last ++ before
+  passed_unfit : (tries : ℕ) (seen added last before : List Event) → IsLegal terms.profile (added ++ seen)
+      → added ≡ last ++ before
       → IsPassed terms object change tries (before ++ seen) last → FitsThroughout change object seen added → ⊥
   passed_unfit tries seen added last before legal whole (inl (shown, unfit, look)) fit =
       unfit_look seen added [] last before shown legal whole look unfit fit
@@ -67,7 +68,8 @@ not_passed terms change tries from (suc n) object seen added legal (last, earlie
           less (omega arith)
 
 -- it is not before the object at which a scan stops
-stops_by : (terms : Terms) (change : Change) (tries from object at : ℕ) (seen added : List Event) (outcome : Result Changed Refused)
+stops_by : (terms : Terms) (change : Change) (tries from object at : ℕ) (seen added : List Event)
+    (outcome : Result Changed Refused)
     → IsLegal terms.profile (added ++ seen) → StopsAt terms from at change tries seen added outcome
     → from ≤ object → FitsThroughout change object seen added → at ≤ object
 stops_by terms change tries from object at seen added outcome legal s low fit = by_order (cases_lt object at) where
@@ -98,7 +100,8 @@ made_law terms change tries from object number before after seen added legal s =
     let event = change_at terms.port object change before in
     let earlier = ((others ++ (a.looked ++ a.lost)) ++ t.looked) ++ s.passed in
     let last : added ≡ event ∷ earlier =
-    s.whole ∙ ap (λ zs. zs ++ s.passed) (t.whole ∙ ap (λ zs. zs ++ t.looked) (a.whole ∙ ap (λ zs. zs ++ (a.looked ++ a.lost)) a.make.2)) in
+    s.whole ∙ ap (λ zs. zs ++ s.passed) (t.whole
+        ∙ ap (λ zs. zs ++ t.looked) (a.whole ∙ ap (λ zs. zs ++ (a.looked ++ a.lost)) a.make.2)) in
     let step = (subst (λ (es : List Event). IsLegal terms.profile (es ++ seen)) last legal).0 in
     record { earlier = earlier; last = last; found = step.before; fit = a.fit; left = a.left }
 

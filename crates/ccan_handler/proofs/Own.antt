@@ -59,7 +59,8 @@ module _ (terms : Terms) (among : ℕ → Type 0) where
       let port = terms.port in
       let parts = ap (events_of port) whole ∙ events_of-append port ys xs in
       record {
-        looked = omega (arith, ap looks_in parts, looks_in-append (events_of port ys) (events_of port xs), own_ys.looked, own_xs.looked);
+        looked = omega (arith, ap looks_in parts, looks_in-append (events_of port ys) (events_of port xs),
+            own_ys.looked, own_xs.looked);
         changed = omega (arith, ap (changes_by port) whole, changes_by-append port ys xs, own_ys.changed, own_xs.changed);
         each = rw parts (All-append holds (events_of port ys) (events_of port xs) own_ys.each own_xs.each);
       }
@@ -71,7 +72,8 @@ module _ (terms : Terms) (among : ℕ → Type 0) where
   Own-none added none = rw none (record { looked = omega arith; changed = refl; each = All-nil holds })
 
   -- others, and then one look or one change
-  one_look : (object : ℕ) (shown : Record) (added : List Event) → among object → IsLook terms object shown added → Own terms among 1 0 added
+  one_look : (object : ℕ) (shown : Record) (added : List Event) → among object → IsLook terms object shown added
+      → Own terms among 1 0 added
   one_look object shown added here (others, foreign, whole) =
       let port = terms.port in
       let own = events_of-EndsIn terms added (look_at port object shown) (its_own port) (others, foreign, whole) in
@@ -86,7 +88,8 @@ module _ (terms : Terms) (among : ℕ → Type 0) where
   one_change object change before added here (others, foreign, whole) =
       let port = terms.port in
       let own = events_of-EndsIn terms added (change_at port object change before) (its_own port) (others, foreign, whole) in
-      let counted : changes_by port (change_at port object change before ∷ others) ≡ changes_by port others + 1 = rw (its_own port) refl in
+      let counted : changes_by port (change_at port object change before ∷ others) ≡ changes_by port others + 1 =
+          rw (its_own port) refl in
       record {
         looked = rw own (omega arith);
         changed = ap (changes_by port) whole ∙ (counted ∙ ap (λ n. n + 1) (changes_by-foreign port others foreign.not_own));
@@ -95,14 +98,16 @@ module _ (terms : Terms) (among : ℕ → Type 0) where
 
   foreign_only : (added : List Event) → events_of terms.port added ≡ [] → Own terms among 0 0 added
   foreign_only added none =
-      record { looked = rw none (omega arith); changed = changes_by-foreign terms.port added none; each = rw none (All-nil holds) }
+      record { looked = rw none (omega arith); changed = changes_by-foreign terms.port added none;
+          each = rw none (All-nil holds) }
 
   module _ (object : ℕ) (here : among object) (change : Change) where
     pub lost : (n : ℕ) (added : List Event) → LostTries terms object change n added → Own terms among n 0 added
     lost zero added none = Own-none added none
     lost (suc n) added (last, earlier, whole, try, lose) =
         let looked = one_look object try.shown try.looked here try.look in
-        let tried = Own-append 0 1 0 0 try.others try.looked last try.whole (foreign_only try.others try.foreign.not_own) looked in
+        let tried = Own-append 0 1 0 0 try.others try.looked last try.whole (foreign_only try.others try.foreign.not_own)
+            looked in
         Own-less _ _ _ _ (omega arith) (Own-append 1 n 0 0 last earlier added whole tried (lost n earlier lose))
 
     attempted : (tries : ℕ) (seen added : List Event) (outcome : Result Changed Refused)
@@ -121,14 +126,16 @@ module _ (terms : Terms) (among : ℕ → Type 0) where
     attempted tries seen added (Err (Busy told now)) a = lost tries added a.lose
     attempted tries seen added (Err Spent) a = Own-less _ _ _ _ (omega arith) (Own-none added a.1)
 
-    tried : (tries : ℕ) (seen added : List Event) (outcome : Result Changed Refused) → IsTried terms object change tries seen added outcome
+    tried : (tries : ℕ) (seen added : List Event) (outcome : Result Changed Refused)
+        → IsTried terms object change tries seen added outcome
         → Own terms among (tries + 1) (made_by outcome) added
     tried tries seen added outcome t =
         let own = Own-append tries 1 (made_by outcome) 0 t.tried t.looked added t.whole
         (attempted tries (t.looked ++ seen) t.tried outcome t.attempt) (one_look object t.shown t.looked here t.look) in
         record { looked = own.looked; changed = omega (arith, own.changed); each = own.each }
 
-    passed : (tries : ℕ) (seen added : List Event) → IsPassed terms object change tries seen added → Own terms among (tries + 1) 0 added
+    passed : (tries : ℕ) (seen added : List Event) → IsPassed terms object change tries seen added
+        → Own terms among (tries + 1) 0 added
     passed tries seen added (inl (shown, unfit, look)) = Own-less _ _ _ _ (omega arith) (one_look object shown added here look)
     passed tries seen added (inr (shown, try)) = tried tries seen added (Ok (NotNow shown)) try
 
@@ -149,7 +156,8 @@ module _ (terms : Terms) (change : Change) (tries from : ℕ) where
 
   passes : (n : ℕ) (seen added : List Event) → PassesOver terms from n change tries seen added
       → Own terms in_reach (n * (tries + 1)) 0 added
-  passes zero seen added none = Own-less terms in_reach 0 (0 * (tries + 1)) 0 added (omega arith) (Own-none terms in_reach added none)
+  passes zero seen added none = Own-less terms in_reach 0 (0 * (tries + 1)) 0 added (omega arith)
+      (Own-none terms in_reach added none)
   passes (suc n) seen added (last, earlier, whole, pass, before) =
       let own = Own-append terms in_reach (tries + 1) (n * (tries + 1)) 0 0 last earlier added whole
       (passed terms in_reach (from + n) (omega arith) change tries (earlier ++ seen) last pass) (passes n seen earlier before) in
@@ -159,7 +167,8 @@ module _ (terms : Terms) (change : Change) (tries from : ℕ) where
       → StopsAt terms from object change tries seen added outcome
       → Own terms in_reach ((objects_in terms.profile + 1 - from) * (tries + 1)) (made_by outcome) added
   stops object seen added outcome s =
-      let own = Own-append terms in_reach (tries + 1) ((object - from) * (tries + 1)) (made_by outcome) 0 s.last s.passed added s.whole
+      let own = Own-append terms in_reach (tries + 1) ((object - from) * (tries + 1)) (made_by outcome) 0 s.last
+          s.passed added s.whole
       (tried terms in_reach object s.in_turn change tries (s.passed ++ seen) s.last outcome s.try)
       (passes (object - from) seen s.passed s.passes) in
       let within : object - from < objects_in terms.profile + 1 - from = omega (arith, s.in_turn, s.held.greatest) in
@@ -210,7 +219,8 @@ module _ (terms : Terms) (object : ℕ) (what : Record → Type 0) where
         so = s.so;
       }
 
-  shows_look : (shown : Record) (added : List Event) → what shown → IsLook terms object shown added → ShowsAt terms object what added
+  shows_look : (shown : Record) (added : List Event) → what shown → IsLook terms object shown added
+      → ShowsAt terms object what added
   shows_look shown added so look =
       record {
         shown = shown;
@@ -231,7 +241,8 @@ module _ (terms : Terms) (change : Change) (tries object : ℕ) where
   unfit_shown seen added (inr (shown, t)) =
       let a = t.attempt in
       shows_last terms object unfit t.tried t.looked added t.whole
-      (shows_last terms object unfit a.looked a.lost t.tried a.whole (shows_look terms object unfit shown a.looked a.unfit a.look))
+      (shows_last terms object unfit a.looked a.lost t.tried a.whole
+          (shows_look terms object unfit shown a.looked a.unfit a.look))
 
   pub passed_shown : (from n : ℕ) (seen added : List Event) → PassesOver terms from n change tries seen added → from ≤ object
       → object < from + n

@@ -81,7 +81,8 @@ one_each terms (last ∷ before) =
     let event = λ (k : ℕ). look_at terms.port k last in
     (last, own_looks terms in_turn before, ap (λ k. event k ∷ own_looks terms in_turn before) next, one_each terms before)
 
-in_turn_to : (terms : Terms) (n : ℕ) (shown : List Record) (added : List Event) → Looks terms in_turn shown added → length shown ≡ n
+in_turn_to : (terms : Terms) (n : ℕ) (shown : List Record) (added : List Event) → Looks terms in_turn shown added
+    → length shown ≡ n
     → LooksInTurn terms n (events_of terms.port added)
 in_turn_to terms n shown added looks counted =
     subst (λ k. LooksInTurn terms k (events_of terms.port added)) counted

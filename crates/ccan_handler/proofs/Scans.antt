@@ -47,7 +47,8 @@ passed_more {x} change tries from number object below is passes pass =
     (λ seen xs ys p q. (ys, xs, refl, subst (λ n. IsPassed x.terms n change tries (xs ++ seen) ys) there q, p)))
 
 -- an object at which a scan stops
-pub stops : (terms : Terms) (change : Change) (tries from number object : ℕ) (seen xs ys : List Event) (outcome : Result Changed Refused)
+pub stops : (terms : Terms) (change : Change) (tries from number object : ℕ) (seen xs ys : List Event)
+    (outcome : Result Changed Refused)
     → from ≤ number → object ≡ number → Holds terms.profile object → PassesOver terms from (number - from) change tries seen xs
     → IsTried terms object change tries (xs ++ seen) ys outcome → StopsAt terms from object change tries seen (ys ++ xs) outcome
 stops terms change tries from number object seen xs ys outcome below is held passes try =
@@ -63,7 +64,8 @@ stops terms change tries from number object seen xs ys outcome below is held pas
     }
 
 -- a scan that ends where the change was made
-pub found_at : {x y z : Passes} (change : Change) (tries from number object : ℕ) (found : Stored) → from ≤ number → object ≡ number
+pub found_at : {x y z : Passes} (change : Change) (tries from number object : ℕ) (found : Stored) → from ≤ number
+    → object ≡ number
     → Holds x.terms.profile object
     → Goes x y (λ terms seen added. PassesOver terms from (number - from) change tries seen added)
     → Goes y z (λ terms seen added. Visit terms object change tries seen added (Ok (Some found)))
@@ -100,8 +102,10 @@ pub few_earlier : {x y : Passes} {what : Terms → List Event → List Event →
 few_earlier tries why goes few = subst (λ (t : Terms). FewTries t.quota tries (Err why)) goes.same few
 
 module _ {x y : Passes} {what : Terms → List Event → List Event
-    → Type 0} (goes : Goes x y what) (change : Change) (from number object : ℕ) (below : from ≤ number) (is : object ≡ number) where
-  pub made_in_turn : (found : Stored) → IsMade y.terms change object found × (found.object ≡ object) → IsMade x.terms change from found
+    → Type 0} (goes : Goes x y what) (change : Change) (from number object : ℕ) (below : from ≤ number)
+        (is : object ≡ number) where
+  pub made_in_turn : (found : Stored) → IsMade y.terms change object found × (found.object ≡ object)
+      → IsMade x.terms change from found
   made_in_turn found (made, at) =
       record {
         in_turn = omega arith;

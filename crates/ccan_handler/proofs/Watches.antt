@@ -21,14 +21,16 @@ pub nothing_read : {x : Passes} (flag : Flag) → Goes x x (λ terms seen added.
 nothing_read flag = Goes-none (λ seen here. record { shown = []; looks = refl; counted = refl; is = refl })
 
 -- one more look after so many
-more : (terms : Terms) (place : ℕ → ℕ) (n object : ℕ) (shown : Record) (before : List Record) (xs ys : List Event) → object ≡ place n
+more : (terms : Terms) (place : ℕ → ℕ) (n object : ℕ) (shown : Record) (before : List Record) (xs ys : List Event)
+    → object ≡ place n
     → length before ≡ n
     → Looks terms place before xs → IsLook terms object shown ys → Looks terms place (shown ∷ before) (ys ++ xs)
 more terms place n object shown before xs ys at counted looks here =
     (ys, xs, refl, subst (λ k. IsLook terms k shown ys) (at ∙ ap place (sym counted)) here, looks)
 
 module _ {x y z : Passes} (place : ℕ
-    → ℕ) (n object : ℕ) (shown : Record) (look : Goes y z (λ terms seen added. IsLook terms object shown added)) (at : object ≡ place n)
+    → ℕ) (n object : ℕ) (shown : Record) (look : Goes y z (λ terms seen added. IsLook terms object shown added))
+        (at : object ≡ place n)
   where
     module _ (flag : Flag) where
       -- it does not show the flag
@@ -57,7 +59,8 @@ module _ {x y z : Passes} (place : ℕ
 
 -- one more bit of the word
 pub reads_more : {x y z : Passes} (flag : Flag) (n object low word : ℕ) (shown : Record)
-    → Goes y z (λ terms seen added. IsLook terms object shown added) → object ≡ n + 1 → word ≡ low + cond (flag_of flag shown) (2 ^ n) 0
+    → Goes y z (λ terms seen added. IsLook terms object shown added) → object ≡ n + 1
+    → word ≡ low + cond (flag_of flag shown) (2 ^ n) 0
     → Goes x y (λ terms seen added. ReadsSome terms flag n added low)
     → Goes x z (λ terms seen added. ReadsSome terms flag (n + 1) added word)
 reads_more {x} flag n object low word shown look at is so_far =
@@ -84,4 +87,5 @@ asks n value within is first = Goes-weaker first (λ seen added here after p. in
 pub all_read : {x y : Passes} (flag : Flag) (n word : ℕ) → n ≡ objects_in x.terms.profile
     → Goes x y (λ terms seen added. ReadsSome terms flag n added word)
     → Goes x y (λ terms seen added. ReadsFlags terms flag added word)
-all_read {x} flag n word all reads = Goes-weaker reads (λ seen added here after p. subst (λ k. ReadsSome x.terms flag k added word) all p)
+all_read {x} flag n word all reads = Goes-weaker reads
+    (λ seen added here after p. subst (λ k. ReadsSome x.terms flag k added word) all p)

@@ -29,13 +29,15 @@ contending-append terms object (event ∷ xs) ys = counted_more _ _ _ _ (contend
 
 -- among events of others, one that contends is counted
 one_counts : (change contends mine rest : Bool) (event : Event) (own : List Event) (n : ℕ) → cond mine (event ∷ own) own ≡ []
-    → ((change && contends) || rest) ≡ true → (own ≡ [] → rest ≡ true → 1 ≤ n) → 1 ≤ cond (change && (contends && not mine)) (n + 1) n
+    → ((change && contends) || rest) ≡ true → (own ≡ [] → rest ≡ true → 1 ≤ n)
+    → 1 ≤ cond (change && (contends && not mine)) (n + 1) n
 one_counts change contends true rest event own n none some more = absurd (let k : event ∷ own ≡ [] = none in cc)
 one_counts true true false rest event own n none some more = omega arith
 one_counts true false false rest event own n none some more = more none some
 one_counts false contends false rest event own n none some more = more none some
 
-some_counts : (terms : Terms) (object : ℕ) (events : List Event) → events_of terms.port events ≡ [] → SomeContends terms object events
+some_counts : (terms : Terms) (object : ℕ) (events : List Event) → events_of terms.port events ≡ []
+    → SomeContends terms object events
     → 1 ≤ contending terms object events
 some_counts terms object [] none some = absurd cc
 some_counts terms object (event ∷ events) none some =
@@ -58,7 +60,8 @@ total events = changes_by If1 events + (changes_by If2 events + changes_by Bus e
 
 one_in_total : (change contends foreign : Bool) (port : PortName) (n a b c : ℕ) → n ≤ a + (b + c)
     → cond (change && (contends && foreign)) (n + 1) n
-    ≤ cond (change && same_port port If1) (a + 1) a + (cond (change && same_port port If2) (b + 1) b + cond (change && same_port port Bus) (c + 1) c)
+    ≤ cond (change && same_port port If1) (a + 1) a +
+        (cond (change && same_port port If2) (b + 1) b + cond (change && same_port port Bus) (c + 1) c)
 one_in_total false contends foreign port n a b c h = h
 one_in_total true true true If1 n a b c h = omega arith
 one_in_total true true true If2 n a b c h = omega arith

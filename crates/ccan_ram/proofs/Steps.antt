@@ -47,7 +47,8 @@ some_contends terms object [] earlier h = absurd (h refl)
 some_contends terms object (event ∷ later) earlier h =
     one_of (is_change event && terms.contends event.object object) _ _ _ _ h (some_contends terms object later earlier)
 
-module _ (contends : ℕ → ℕ → Bool) (old new : Pass) (history : List Event) (part : IsPart old history) (same : IsSamePort old new) where
+module _ (contends : ℕ → ℕ → Bool) (old new : Pass) (history : List Event) (part : IsPart old history)
+    (same : IsSamePort old new) where
   same_terms : (passes_of contends new).terms ≡ (passes_of contends old).terms
   same_terms = rw (same.memory, same.port) refl
 
@@ -125,7 +126,8 @@ module _ (contends : ℕ → ℕ → Bool) (old new : Pass) (history : List Even
   pub lost_goes : (draft : Draft) (change : Change) (now : ℕ) → new.seen ≡ history → IsWithin old.memory history
       → changes_by old.port old.seen < old.memory.quota → fits change draft.held ≡ true
       → now ≡ last_number contends draft.object history → (now ≡ draft.number → ⊥)
-      → Goes (passes_of contends old) (passes_of contends new) (λ terms seen added. Commits terms draft change seen added (Err (Lost now)))
+      → Goes (passes_of contends old) (passes_of contends new)
+          (λ terms seen added. Commits terms draft change seen added (Err (Lost now)))
   lost_goes draft change now all within room fit is other =
       sees [] (λ terms seen added. Commits terms draft change seen added (Err (Lost now))) all within
       (record {
@@ -135,14 +137,16 @@ module _ (contends : ℕ → ℕ → Bool) (old new : Pass) (history : List Even
         contended = λ later earlier drawn.
             let look = look_at old.port draft.object draft.held in
             let place : history ≡ (part.begins.0 ++ later) ++ look ∷ earlier =
-            part.begins.1 ∙ (ap (λ zs. part.begins.0 ++ zs) drawn.whole ∙ sym (append_assoc part.begins.0 later (look ∷ earlier))) in
+            part.begins.1 ∙ (ap (λ zs. part.begins.0 ++ zs) drawn.whole
+                ∙ sym (append_assoc part.begins.0 later (look ∷ earlier))) in
             some_contends (passes_of contends old).terms draft.object (part.begins.0 ++ later) (look ∷ earlier)
             (λ e. other (is ∙ (ap (last_number contends draft.object) place ∙ (e ∙ sym drawn.numbered))));
         last = is ∙ ap (last_number contends draft.object) part.begins.1;
       })
 
 -- two ports that see the whole history have met
-pub meets : (a b new_a new_b : Pass) (history : List Event) → IsPart a history → IsPart b history → IsSamePort a new_a → IsSamePort b new_b
+pub meets : (a b new_a new_b : Pass) (history : List Event) → IsPart a history → IsPart b history → IsSamePort a new_a
+    → IsSamePort b new_b
     → new_a.seen ≡ history → new_b.seen ≡ history → IsWithin a.memory history → Meets a b new_a new_b
 meets a b new_a new_b history part_a part_b same_a same_b is_a is_b within =
     let shared : IsShared a b history =

@@ -18,7 +18,8 @@ module _ (terms : Terms) where
   none_of : (others : List Event) → NobodyElse terms.port others → AreOthers terms others → others ≡ []
   none_of others alone foreign = none_undisturbed terms.port others alone foreign.not_own
 
-  ends : (added : List Event) (event : Event) → NobodyElse terms.port added → EndsIn terms added event → EndsIn (as_one_thread terms) added event
+  ends : (added : List Event) (event : Event) → NobodyElse terms.port added → EndsIn terms added event
+      → EndsIn (as_one_thread terms) added event
   ends added event alone (others, foreign, whole) =
       let parts = undisturbed_parts terms.port (event ∷ []) others (subst (λ es. NobodyElse terms.port es) whole alone) in
       let none = none_of others parts.1 foreign in
@@ -26,7 +27,8 @@ module _ (terms : Terms) where
 
   module _ (object : ℕ) (change : Change) where
     -- no try is lost
-    none_lost : (n : ℕ) (added : List Event) → NobodyElse terms.port added → LostTries terms object change n added → (n ≡ 0) × (added ≡ [])
+    none_lost : (n : ℕ) (added : List Event) → NobodyElse terms.port added → LostTries terms object change n added
+        → (n ≡ 0) × (added ≡ [])
     none_lost zero added alone lost = (refl, lost)
     none_lost (suc n) added alone (last, earlier, whole, try, lost) =
         let all = undisturbed_parts terms.port last earlier (subst (λ es. NobodyElse terms.port es) whole alone) in
@@ -34,8 +36,10 @@ module _ (terms : Terms) where
         let none = none_of try.others parts.0 try.foreign in
         absurd (let e : false ≡ true = rw none at try.contended in cc)
 
-    pub undisturbed : (tries : ℕ) (seen added : List Event) (outcome : Result Changed Refused) → 1 ≤ tries → NobodyElse terms.port added
-        → Attempt terms object change tries seen added outcome → Attempt (as_one_thread terms) object change tries seen added outcome
+    pub undisturbed : (tries : ℕ) (seen added : List Event) (outcome : Result Changed Refused) → 1 ≤ tries
+        → NobodyElse terms.port added
+        → Attempt terms object change tries seen added outcome
+        → Attempt (as_one_thread terms) object change tries seen added outcome
     undisturbed tries seen added (Err Spent) some alone spent = spent
     undisturbed tries seen added (Err (Busy told now)) some alone busy =
         absurd (let none = none_lost tries added alone busy.lose in omega (arith, none.0))
@@ -54,7 +58,8 @@ module _ (terms : Terms) where
           unfit = h.unfit;
         }
     undisturbed tries seen added (Ok (Done before after number)) some alone h =
-        let parts = undisturbed_parts terms.port h.made (h.looked ++ h.lost) (subst (λ es. NobodyElse terms.port es) h.whole alone) in
+        let parts = undisturbed_parts terms.port h.made (h.looked ++ h.lost)
+            (subst (λ es. NobodyElse terms.port es) h.whole alone) in
         let rest = undisturbed_parts terms.port h.looked h.lost parts.1 in
         let none = none_lost h.times h.lost rest.1 h.lose in
         record {

@@ -75,7 +75,8 @@ module _ (profile : Profile) (quota made used : ℕ) where
         same = refl;
         each = λ seen h.
             let a = look.each seen h.seen_below in
-            let all = lone (one_thread_terms profile Bus quota) refl object (Clear (record { 0 = 0 })) a.0 (look_at Bus object shown)
+            let all = lone (one_thread_terms profile Bus quota) refl object (Clear (record { 0 = 0 })) a.0
+                (look_at Bus object shown)
             (subst (λ t. IsLook t object shown a.0) is a.2) in
             let here = subst (λ (es : List Event). y.has_seen (es ++ seen)) all a.1 in (
               look_at Bus object shown ∷ [],
@@ -119,8 +120,10 @@ module _ (profile : Profile) (quota made used : ℕ) where
       }
 
   -- a change that nobody disturbs
-  pub exchanges : {x y : Passes} (object : ℕ) (change : Change) (tries : ℕ) (outcome : Result Changed Refused) → 1 ≤ tries → used < quota
-      → x.terms ≡ one_thread_terms profile Bus quota → Goes x y (λ terms seen added. Attempt terms object change tries seen added outcome)
+  pub exchanges : {x y : Passes} (object : ℕ) (change : Change) (tries : ℕ) (outcome : Result Changed Refused)
+      → 1 ≤ tries → used < quota
+      → x.terms ≡ one_thread_terms profile Bus quota
+      → Goes x y (λ terms seen added. Attempt terms object change tries seen added outcome)
       → Goes (contended profile quota x made used) (contended profile quota y made (used + changes_of outcome))
       (λ terms seen added. Exchanges terms object change outcome seen added)
   exchanges {x} {y} object change tries outcome some room is attempt =
@@ -128,11 +131,13 @@ module _ (profile : Profile) (quota made used : ℕ) where
         same = refl;
         each = λ seen h.
             let a = attempt.each seen h.seen_below in
-            let e = one_try (one_thread_terms profile Bus quota) refl object change tries seen a.0 outcome some (omega (arith, h.own))
+            let e = one_try (one_thread_terms profile Bus quota) refl object change tries seen a.0 outcome some
+                (omega (arith, h.own))
             (subst (λ t. Attempt t object change tries seen a.0 outcome) is a.2) in
             (a.0, counted outcome seen a.0 h a.1 e, as_port outcome seen a.0 e);
       } where
-        counted : (outcome : Result Changed Refused) (seen added : List Event) → Counted x made used seen → y.has_seen (added ++ seen)
+        counted : (outcome : Result Changed Refused) (seen added : List Event) → Counted x made used seen
+            → y.has_seen (added ++ seen)
             → Exchanges (one_thread_terms profile Bus quota) object change outcome seen added
             → Counted y made (used + changes_of outcome) (added ++ seen)
         counted (Ok (Done before after number)) seen added h here e =
@@ -174,7 +179,8 @@ they_act {x} {y} {z} {w} transfer tries outcome some attempt if1 begins ends mad
       always : (r : Record) → fits (change_of transfer) r ≡ true
       always r = transfer_fits (is_write transfer.command) transfer.command transfer.buffer r
 
-      counted : (outcome : Result Changed Refused) (seen added : List Event) → Counted x made used seen → w.has_seen (added ++ seen)
+      counted : (outcome : Result Changed Refused) (seen added : List Event) → Counted x made used seen
+          → w.has_seen (added ++ seen)
           → Exchanges (one_thread_terms x.terms.profile If1 x.terms.quota) transfer.object (change_of transfer) outcome seen added
           → Counted w (made + 1) used (added ++ seen)
       counted (Ok (Done before after number)) seen added h here e =
@@ -199,7 +205,8 @@ they_act {x} {y} {z} {w} transfer tries outcome some attempt if1 begins ends mad
 
 -- ---- the caller's own values, which stay
 
-module _ {what : Terms → List Event → List Event → Type 0} (profile profile' : Profile) (quota quota' made used used' : ℕ) (x y : Passes)
+module _ {what : Terms → List Event → List Event → Type 0} (profile profile' : Profile)
+    (quota quota' made used used' : ℕ) (x y : Passes)
     (same_profile : profile' ≡ profile) (same_quota : quota' ≡ quota) (same_used : used' ≡ used) where
   pub begins_same : Goes (contended profile' quota' x made used') y what → Goes (contended profile quota x made used) y what
   begins_same goes = rw (← same_profile, ← same_quota, ← same_used) goes
@@ -211,7 +218,8 @@ pub bus_same : (terms : Terms) (profile profile' : Profile) (quota quota' : ℕ)
     → terms ≡ one_thread_terms profile' Bus quota' → terms ≡ one_thread_terms profile Bus quota
 bus_same terms profile profile' quota quota' same_profile same_quota is = is ∙ rw (same_profile, same_quota) refl
 
-pub acts_for : (old new : Passes) (profile : Profile) (quota made used : ℕ) (transfer : Transfer) (number : ℕ) → old.terms ≡ one_thread_terms profile Bus quota
+pub acts_for : (old new : Passes) (profile : Profile) (quota made used : ℕ) (transfer : Transfer) (number : ℕ)
+    → old.terms ≡ one_thread_terms profile Bus quota
     → AddsTheirs old new transfer number → made < quota
     → Goes (contended profile quota old made used) (contended profile quota new (made + 1) used)
     (λ terms seen added. TheyAct transfer number terms seen added)
@@ -220,7 +228,8 @@ acts_for old new profile quota made used transfer number bus acts room =
     let same_quota : old.terms.quota ≡ quota = ap (λ (t : Terms). t.quota) bus in
     let what : Terms → List Event → List Event → Type 0 = λ terms seen added. TheyAct transfer number terms seen added in
     subst (λ (p : Profile). Goes (contended p quota old made used) (contended p quota new (made + 1) used) what) same_profile
-    (subst (λ (q : ℕ). Goes (contended old.terms.profile q old made used) (contended old.terms.profile q new (made + 1) used) what)
+    (subst (λ (q : ℕ). Goes (contended old.terms.profile q old made used)
+        (contended old.terms.profile q new (made + 1) used) what)
     same_quota (acts made used (omega (arith, same_quota, room))))
 
 -- ---- the other host, before and after so many transfers

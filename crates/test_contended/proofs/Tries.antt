@@ -42,7 +42,8 @@ module _ (theirs : Host) (object : ℕ) (change : Change) where
 
   -- before the first try
   pub no_try : (profile : Profile) (quota made used last : ℕ) (x : Passes) → used < quota
-      → Goes (contended profile quota x made used) (contended profile quota x made used) (λ terms seen added. SoFar 0 last terms seen added)
+      → Goes (contended profile quota x made used) (contended profile quota x made used)
+          (λ terms seen added. SoFar 0 last terms seen added)
   no_try profile quota made used last x room =
       Goes-none
       (λ seen h. record { room = omega (arith, h.own); lose = refl; told = λ some. absurd (omega arith); lose_to = refl })
@@ -75,7 +76,8 @@ module _ (theirs : Host) (object : ℕ) (change : Change) where
   lost_more {x} n last now shown next so_far look fit stands there act =
       Goes-then (parts so_far look)
       act (λ seen added zs p t.
-      let all : zs ++ added ≡ (zs ++ p.later) ++ p.earlier = ap (λ es. zs ++ es) p.whole ∙ sym (append_assoc zs p.later p.earlier) in
+      let all : zs ++ added ≡ (zs ++ p.later) ++ p.earlier = ap (λ es. zs ++ es) p.whole
+          ∙ sym (append_assoc zs p.later p.earlier) in
       record {
         room = p.one.room;
         lose = rw add-one (
@@ -131,7 +133,8 @@ module _ (theirs : Host) (object : ℕ) (change : Change) where
       )) where
         by_outcome : (outcome : Result Changed Refused) (seen added zs xs ys : List Event) → added ≡ ys ++ xs
             → SoFar n last x.terms seen xs → AreOthers x.terms ys
-            → Exchanges x.terms object change outcome (added ++ seen) zs → Attempt x.terms object change tries seen (zs ++ added) outcome
+            → Exchanges x.terms object change outcome (added ++ seen) zs
+            → Attempt x.terms object change tries seen (zs ++ added) outcome
         by_outcome (Ok (Done before after number)) seen added zs xs ys whole s f e =
             let port = x.terms.port in
             let mine = lost x.terms (λ k. k ≡ object) object refl change n xs s.lose in
@@ -209,5 +212,6 @@ module _ (theirs : Host) (object : ℕ) (change : Change) where
           all = refl;
           last = s.told (omega arith);
         },
-        (subst (λ k. AreLostTo theirs object change k x.terms added) all s.lose_to, subst (λ k. made ≡ theirs.made + k) all count),
+        (subst (λ k. AreLostTo theirs object change k x.terms added) all s.lose_to,
+            subst (λ k. made ≡ theirs.made + k) all count),
       ))

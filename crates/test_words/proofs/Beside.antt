@@ -9,7 +9,8 @@ use Rattle.ccan_ram.specs.Access.{Goes}
 use Rattle.ccan_ram.specs.SharedRam.{Pass, CanSee, passes_of}
 use Rattle.ccan_ram.specs.Draft.{IsDrawn}
 
-pub still_drawn : (contends : ℕ → ℕ → Bool) (old new : Pass) (draft : Draft) (what : Terms → List Event → List Event → Type 0) → CanSee old
+pub still_drawn : (contends : ℕ → ℕ → Bool) (old new : Pass) (draft : Draft) (what : Terms → List Event → List Event → Type 0)
+    → CanSee old
     → Goes (passes_of contends old) (passes_of contends new) what → IsDrawn contends draft old → IsDrawn contends draft new
 still_drawn contends old new draft what here goes drawn =
     let a = goes.each old.seen (refl, here) in

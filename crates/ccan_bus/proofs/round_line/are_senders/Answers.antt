@@ -32,6 +32,7 @@ returns-then-not-may_send c =
     let is : s ≡ get_or sends c.loop-place.place s = subst (λ (t : ℕ × Frame). t ≡ get_or sends c.loop-place.place t)
     c.index-sends-place.is c.index-sends-place.is in (
       λ t. absurd cc,
-      λ good. absurd (none_so c.args.nodes sends c.loop-place.place c.loop-place.sent c.requires s c.loop-place-test.true is c.loop-place.invariant
+      λ good. absurd (none_so c.args.nodes sends c.loop-place.place c.loop-place.sent c.requires s
+          c.loop-place-test.true is c.loop-place.invariant
           (c.may_send.ensures.no c.if-not-may_send.true) good),
     )

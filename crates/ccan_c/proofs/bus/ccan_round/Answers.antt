@@ -24,4 +24,5 @@ returns-in-Some-play-clause-call c =
       (c.in-Some-play.report, (c.play.new.self, refl, some.1.3), c.code_of.ensures, c.of.ensures),
     ) in
     on_open _ _ _ _ _ c.as_mut.ensures.value
-    (on_true _ _ _ (few_frames _ c.if-offers-gt-MAX_FRAMES.false) (on_true _ _ _ read.0 (on_known _ fault _ _ c.in-Some-fault_numbered.ensures played)))
+    (on_true _ _ _ (few_frames _ c.if-offers-gt-MAX_FRAMES.false)
+        (on_true _ _ _ read.0 (on_known _ fault _ _ c.in-Some-fault_numbered.ensures played)))

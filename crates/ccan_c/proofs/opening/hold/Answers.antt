@@ -14,6 +14,7 @@ returns-in-Ok-new c =
         tries_are = ap (λ (h : Held). h.tries) same;
         nodes_are = ap (λ (h : Held). h.nodes) same;
         registers_are = ap (λ (h : Held). h.registers) same ∙ c.new.ensures;
-        bus_is = subst (λ (h : Held). LedTo (opened_at_once c.args.settings.now.nodes) h.bus) (sym same) c.choosing_at_once.ensures.opened;
+        bus_is = subst (λ (h : Held). LedTo (opened_at_once c.args.settings.now.nodes) h.bus) (sym same)
+            c.choosing_at_once.ensures.opened;
       },
     )

@@ -24,7 +24,8 @@ returns-in-Ok-NotNow-clause-adds g c =
     (λ seen added here after t. inr (c.in-Ok-NotNow.field-0-0, t))
 
 pub returns-in-Err-clause-adds : goal.returns-in-Err-clause-adds
-returns-in-Err-clause-adds g c = tried _ _ _ _ _ c.look-shown.ensures (sym c.fits.ensures ∙ c.if-not-fits.false) c.in-Err.ensures.attempts
+returns-in-Err-clause-adds g c = tried _ _ _ _ _ c.look-shown.ensures (sym c.fits.ensures ∙ c.if-not-fits.false)
+    c.in-Err.ensures.attempts
 
 pub returns-in-Err-clause-tells : goal.returns-in-Err-clause-tells
 returns-in-Err-clause-tells g c =

@@ -15,7 +15,8 @@ loop-number-preserved g c =
     let next : n + 1 - 1 ≡ n - 1 + 1 = omega (arith, so_far.some) in
     record {
       some = omega arith;
-      none = rw next (none_more in_turn (n - 1) _ c.look-shown.result c.look-shown.ensures (omega (arith, c.nth.ensures, so_far.some))
+      none = rw next (none_more in_turn (n - 1) _ c.look-shown.result c.look-shown.ensures
+          (omega (arith, c.nth.ensures, so_far.some))
           IntPnd c.if-shown.false so_far.none);
     }
 

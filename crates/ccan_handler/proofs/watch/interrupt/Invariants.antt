@@ -10,5 +10,6 @@ invariant-loop-number g l =
     let passes = g.A.Access.passes in
     record {
       some : 1 ≤ l.number;
-      none : Goes (passes l.fn.access) (passes l.access) (λ terms seen added. NoneShows terms in_turn IntPnd (l.number - 1) added);
+      none : Goes (passes l.fn.access) (passes l.access)
+          (λ terms seen added. NoneShows terms in_turn IntPnd (l.number - 1) added);
     }

@@ -10,7 +10,8 @@ returns-then-is_empty c =
     record {
       same = record { profile = refl; others = refl; choice = refl };
       held = tt;
-      goes_on = idle c.args.self.now c.args.line.now (sym c.contenders-contenders.ensures ∙ c.is_empty.ensures.none c.if-is_empty.true);
+      goes_on = idle c.args.self.now c.args.line.now
+          (sym c.contenders-contenders.ensures ∙ c.is_empty.ensures.none c.if-is_empty.true);
     }
 
 pub returns-in-Collision : goal.returns-in-Collision

@@ -19,7 +19,8 @@ returns-clause-attempts c =
     let room : slice_index a.used (port_index a.port) < a.quota = omega (arith, a.within_quota a.port) in
     let held = c.place_of.ensures.within in
     let at_place = c.place_of.ensures.place in
-    rw c.done.ensures (makes a.profile a.records a.used a.port c.args.object c.requires.held a.quota c.args.change.now c.args.tries
+    rw c.done.ensures (makes a.profile a.records a.used a.port c.args.object c.requires.held a.quota c.args.change.now
+        c.args.tries
     _ _ _ _ _ record {
       some = omega (arith, c.get-tries.ensures.range.least);
       all = omega (arith, a.all_records);

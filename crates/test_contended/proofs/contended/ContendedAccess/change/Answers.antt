@@ -26,7 +26,8 @@ returns-in-None-clause-course c =
       nobody (contended_terms first.profile first.quota),
       (rests _ _ _ (λ next. let no = c.in-None.ensures.known.1 (subst HasNext (sym same) next) in cc), refl),
     )))
-    (begins_same first.profile _ first.quota _ _ first.used _ _ _ so_far.profile so_far.quota so_far.used c.exchange.ensures.exchanges)
+    (begins_same first.profile _ first.quota _ _ first.used _ _ _ so_far.profile so_far.quota so_far.used
+        c.exchange.ensures.exchanges)
 
 pub returns-in-None-clause-attempts : goal.returns-in-None-clause-attempts
 returns-in-None-clause-attempts c = Goes-weaker (returns-in-None-clause-course c) (λ seen added here after w. w.0)
@@ -106,7 +107,8 @@ loop-turn-preserved c =
       list = so_far.list;
       made = omega (arith, so_far.made);
       room = so_far.room;
-      lost = lost_more theirs c.args.object c.args.change.now c.loop-turn.turn c.loop-turn.last _ c.look-shown.result c.in-Some.theirs
+      lost = lost_more theirs c.args.object c.args.change.now c.loop-turn.turn c.loop-turn.last _ c.look-shown.result
+          c.in-Some.theirs
           so_far.lost
           (looks first.profile first.quota self.made first.used c.args.object c.look-shown.result bus c.look-shown.ensures)
           (sym c.fits.ensures ∙ c.if-not-fits.false)
