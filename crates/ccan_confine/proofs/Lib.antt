@@ -4,3 +4,6 @@ pub mod CounterLaws
 pub mod PendingInterrupt
 pub mod StatusCalls
 pub mod StatusLaws
+pub mod Flags
+pub mod Controllers
+pub mod ControllerLaws

@@ -2,4 +2,8 @@ pub mod NodeState
 pub mod StatusEvent
 pub mod Counters
 pub mod Status
+pub mod Bits
+pub mod StatusFlags
+pub mod Controller
 pub mod Laws
+pub mod ControllerLaws

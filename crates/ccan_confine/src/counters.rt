@@ -2,7 +2,7 @@ ghost use Rattle.std.specs.Prelude.{◌≡◌, ℕ, ◌+◌, ◌-◌, ◌<◌, �
 ghost use Rattle.ccan_confine.specs.Counters.{NodeEvent, Bus, Groups, ClearInit, reaches, is_off, by_table, state_of};
 ghost use Rattle.ccan_confine.specs.Counters.{passive_limit, rec_after_passive, groups_to_return, levels_after_all};
 ghost use Rattle.ccan_confine.specs.Counters.{is_recovering_after, AreAfter, AddsEvent, new_counts, counts_after};
-ghost use Rattle.ccan_confine.specs.Counters.{counts_cleared, is_recovering};
+ghost use Rattle.ccan_confine.specs.Counters.{counts_cleared, is_recovering, most_rec, off_limit, send_fault_step};
 
 use crate::bus_event::BusEvent;
 use crate::node_state::NodeState;
@@ -26,11 +26,11 @@ const GROUPS_TO_RETURN: u32 = 128;
 /// it, as they are `Copy`. Contracts see the record of the parts.
 #[derive(Clone, Copy, Debug, PartialEq, Eq, Hash)]
 pub struct Counters {
-    host: bool,
-    tec: u16,
-    rec: u8,
-    init_cleared: bool,
-    groups: u8,
+    pub(crate) host: bool,
+    pub(crate) tec: u16,
+    pub(crate) rec: u8,
+    pub(crate) init_cleared: bool,
+    pub(crate) groups: u8,
 }
 
 impl Model for Counters {
@@ -201,6 +201,19 @@ impl Counters {
                 ..self
             },
         }
+    }
+
+    // TEC, REC and the groups that count so far, each in its range.
+    pub(crate) fn numbers(self) -> (u64, u64, u64)
+        ensures tec { (result.0 ≡ self.levels.tec) × (result.0 < off_limit + send_fault_step) }
+        ensures rec { (result.1 ≡ self.levels.rec) × (result.1 ≤ most_rec) }
+        ensures groups { (result.2 ≡ self.groups) × (result.2 < groups_to_return) }
+    {
+        (
+            u64::from(self.tec),
+            u64::from(self.rec),
+            u64::from(self.groups),
+        )
     }
 
     // Whether a counter is at least the limit.

@@ -1,4 +1,5 @@
-//! Laws of the error counters and of the Status register, each proved of every list of events. The functions do
+//! Laws of the error counters, of the Status register and of the controller's registers, each proved of every list of
+//! events or changes. The functions do
 //! nothing: their contracts are the laws.
 
 ghost use Rattle.ccan_confine.specs.Laws.{BackWithTheGroups, BackWithTheGroupsAfterInit, CausesMakePending};
@@ -6,6 +7,8 @@ ghost use Rattle.ccan_confine.specs.Laws.{CountersAreBounded, PassiveMakesNothin
 ghost use Rattle.ccan_confine.specs.Laws.{EnablingMakesNothingPending, GroupsCountOnlyWhileRecovering, NotBackBeforeInit};
 ghost use Rattle.ccan_confine.specs.Laws.{NotBackBeforeTheGroups, NotBackBeforeTheGroupsAfterInit, OffNodesKeepTheirCounters};
 ghost use Rattle.ccan_confine.specs.Laws.{OnWithoutSendFaults, OnlySendFaultsLeadOff, OnlyTheFirstClearingCounts, ReadsClear};
+ghost use Rattle.ccan_confine.specs.ControllerLaws.{CountersAreAsDefined, FlagsAreGivenLast, GoingOffSetsInit};
+ghost use Rattle.ccan_confine.specs.ControllerLaws.{HostsLeaveTheCounters, MasksLoseNothing, OneWord, StatusReadsClear};
 
 /// No counter leaves its range, and TEC of a node that is on is below 256.
 pub fn counters_are_bounded()
@@ -82,4 +85,40 @@ pub fn causes_make_pending()
 /// An event that ends no transfer, is no bus error and leaves BOff and EWarn makes nothing pending, whatever EPass does.
 pub fn passive_makes_nothing_pending()
     ensures { PassiveMakesNothingPending }
+{}
+
+/// Two controllers that pack to the same word are the same.
+pub fn one_word_tells_its_controller()
+    ensures { OneWord }
+{}
+
+/// The error counters of a controller, after any changes, are those that fault confinement defines over what the changes
+/// are to them.
+pub fn counters_are_as_defined()
+    ensures { CountersAreAsDefined }
+{}
+
+/// Only the message handler's changes, the ends of frames and the groups of recessive bits, change TEC or REC.
+pub fn hosts_leave_the_counters()
+    ensures { HostsLeaveTheCounters }
+{}
+
+/// A controller that goes bus off has Init afterwards.
+pub fn going_off_sets_init()
+    ensures { GoingOffSetsInit }
+{}
+
+/// After a read of the Status register, of a C_CAN or a D_CAN, the Interrupt register shows no status interrupt.
+pub fn status_reads_clear()
+    ensures { StatusReadsClear }
+{}
+
+/// What is pending does not depend on SIE and EIE: they mask what is shown.
+pub fn masks_lose_nothing()
+    ensures { MasksLoseNothing }
+{}
+
+/// TxOk and RxOk are what the newest transfer, write or clearing read made of them.
+pub fn flags_are_given_last()
+    ensures { FlagsAreGivenLast }
 {}

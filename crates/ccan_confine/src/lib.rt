@@ -32,19 +32,33 @@
 //! [`Status`] follows the counters of the controller and says when the status interrupt is pending (C_CAN User's Manual
 //! 1.2, "Status Register" and "CAN Control Register").
 //!
-//! Neither stores what happened. Their contracts do: whatever list of events led to a value, the value after a call is
+//! [`Controller`] has all registers of a controller in one value, which packs into one word: Control, Status, the error
+//! counters and Test. A [`ControllerChange`] is what one step makes of it, of a host or of the message handler.
+//!
+//! Neither counters nor Status register store what happened. Their contracts do: whatever list of events led to a value, the value after a call is
 //! that of the list with one event more. [`laws`] says what follows over whole lists.
 #![tactic(auto)]
 
+mod bits;
 pub mod bus_event;
+pub mod control_register;
+pub mod controller;
+pub mod controller_change;
 pub mod counters;
 pub mod laws;
 pub mod node_state;
 pub mod status;
 pub mod status_event;
+pub mod status_flags;
+pub mod test_register;
 
 pub use bus_event::BusEvent;
+pub use control_register::ControlRegister;
+pub use controller::Controller;
+pub use controller_change::ControllerChange;
 pub use counters::Counters;
 pub use node_state::NodeState;
 pub use status::Status;
 pub use status_event::StatusEvent;
+pub use status_flags::StatusFlags;
+pub use test_register::TestRegister;

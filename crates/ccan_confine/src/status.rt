@@ -1,15 +1,16 @@
-ghost use Rattle.std.specs.Prelude.{◌≡◌, ℕ, ◌<◌, ◌↔◌, IsTrue, false, List, [], ◌∷◌, if◌then◌else◌};
+ghost use Rattle.std.specs.Prelude.{◌≡◌, ℕ, ◌<◌, ◌≤◌, ◌↔◌, IsTrue, false, List, [], ◌∷◌, if◌then◌else◌};
 ghost use Rattle.ccan_confine.specs.StatusEvent.{HasFaultCode};
 ghost use Rattle.ccan_confine.specs.Counters.{Levels, is_off, reaches};
 ghost use Rattle.ccan_confine.specs.Status.{StatusStep, Happened, Enabled, WasRead, IsPending, IsHeldAfter, AddsStep};
 ghost use Rattle.ccan_confine.specs.Status.{nothing_held, warning_limit, raises, held_after, word_held, word_after};
+ghost use Rattle.ccan_confine.specs.Status.{word_of};
 
 use crate::counters::{Counters, PASSIVE};
 use crate::status_event::StatusEvent;
 use std::marker::Model;
 
 /// From this count of either counter on the register shows EWarn.
-const WARNING: u16 = 96;
+pub(crate) const WARNING: u16 = 96;
 
 // The flags of the word, each at its place.
 const BOFF: u16 = 1 << 7;
@@ -139,18 +140,11 @@ impl Status {
         self.pending
     }
 
-    // The flags stand at places of their own and above LEC, so that their sum is their union; a sum is what the prover
-    // reads best.
     fn word(&self, counters: &Counters) -> u16
         ensures word { result ≡ word_held self.now counters.now.levels }
         ensures in_range { result < 256 }
     {
-        bit(BOFF, counters.is_off())
-            + bit(EWARN, counters.reaches(WARNING))
-            + bit(EPASS, counters.reaches(PASSIVE))
-            + bit(RX_OK, self.rx_ok)
-            + bit(TX_OK, self.tx_ok)
-            + u16::from(self.lec)
+        register_word(self.tx_ok, self.rx_ok, self.lec, counters)
     }
 
     // Whether this event makes the interrupt pending.
@@ -161,6 +155,21 @@ impl Status {
             || self.eie
                 && (counters.is_off() != self.boff || counters.reaches(WARNING) != self.ewarn)
     }
+}
+
+// The word of the register. The flags stand at places of their own and above LEC, so that their sum is their union; a sum
+// is what the prover reads best.
+pub(crate) fn register_word(tx_ok: bool, rx_ok: bool, lec: u8, counters: &Counters) -> u16
+    requires { lec ≤ 7 }
+    ensures word { result ≡ word_of tx_ok rx_ok lec counters.now.levels }
+    ensures in_range { result < 256 }
+{
+    bit(BOFF, counters.is_off())
+        + bit(EWARN, counters.reaches(WARNING))
+        + bit(EPASS, counters.reaches(PASSIVE))
+        + bit(RX_OK, rx_ok)
+        + bit(TX_OK, tx_ok)
+        + u16::from(lec)
 }
 
 // The mask where the flag is set, else 0.

@@ -1,9 +1,11 @@
-//! Tests of the lowest layers: objects, frames, the plain memory and fault confinement, by worked examples whose expected
+//! Tests of the lowest layers: objects, frames, the plain memory, fault confinement and the controller's registers, by worked examples whose expected
 //! values come from the rules and not from the program. There is nothing here but tests.
 #![tactic(auto)]
 
 #[cfg(test)]
 mod confinement;
+#[cfg(test)]
+mod controller;
 #[cfg(test)]
 mod expect;
 #[cfg(test)]

@@ -1,0 +1,165 @@
+-- The laws of the controller's registers.
+use Rattle.std.proofs.Common.{◌≡◌, ℕ, ◌+◌, Bool, true, false, ◌&&◌, ◌||◌, not, cond, nat_le, List, [], ◌∷◌, refl, sym}
+use Rattle.std.proofs.Common.{ap, ◌∙◌, inl, inr, Some, None, unwrap_or}
+use Rattle.std.proofs.lemmas.Bool.{or_right, and_from}
+use Rattle.std.proofs.lemmas.Bool.Decides.{leb_tells}
+use Rattle.ccan_confine.specs.declared.controller.Controller.{Controller}
+use Rattle.ccan_confine.specs.declared.controller_change.ControllerChange.{ControllerChange}
+use Rattle.ccan_confine.specs.declared.controller_change.ControllerChange.TheVariants as change
+use Rattle.ccan_confine.specs.declared.status_event.StatusEvent.TheVariants as event
+use Rattle.ccan_confine.specs.StatusEvent.{is_sent, is_received}
+use Rattle.ccan_confine.specs.Counters.{Counts, Levels, NodeEvent, Groups, ClearInit, AreAfter, AddsEvent, counts_after}
+use Rattle.ccan_confine.specs.Counters.{counts_cleared, is_recovering, new_counts, is_off}
+use Rattle.ccan_confine.specs.Controller.{controller_after, counts_grouped, clears_init_of, is_handlers}
+use Rattle.ccan_confine.specs.ControllerLaws.{controller_of, add_event, node_events, CountersAreAsDefined, HostsLeaveTheCounters}
+use Rattle.ccan_confine.specs.ControllerLaws.{GoingOffSetsInit, StatusReadsClear, MasksLoseNothing, FlagsAreGivenLast}
+use Rattle.ccan_confine.specs.ControllerLaws.{tx_ok_given, rx_ok_given, newest_given}
+use Rattle.ccan_confine.proofs.Calls.{listed_after, listed_clear, listed_ignored, listed_counted, listed_back, adds_result}
+use Rattle.ccan_confine.proofs.Steps.{counts-none}
+
+-- groups of recessive bits, by whether they count and whether they are enough
+grouped_adds : (n : ℕ) (k : Counts) → AddsEvent (Groups n) k (counts_grouped n k)
+grouped_adds n k = by (is_recovering k) refl where
+  more : Counts
+  more = record k { groups = k.groups + n }
+
+  enough : Bool → Counts
+  enough b = cond b (new_counts k.host) more
+
+  is_at : (b : Bool) (r : Counts) → is_recovering k ≡ b → cond b (enough (nat_le 128 (k.groups + n))) k ≡ r → counts_grouped n k ≡ r
+  is_at b r e f = ap (λ (z : Bool). cond z (enough (nat_le 128 (k.groups + n))) k) e ∙ f
+
+  by_groups : is_recovering k ≡ true → (b : Bool) → nat_le 128 (k.groups + n) ≡ b → AddsEvent (Groups n) k (counts_grouped n k)
+  by_groups is true e = elim (leb_tells 128 (k.groups + n)) [
+    | inl h ↦ adds_result (Groups n) k (new_counts k.host) (counts_grouped n k) (is_at true (new_counts k.host) is (ap enough e))
+        (listed_back n k is h.1)
+    | inr h ↦ (let both : true ≡ false = sym e ∙ h.0 in absurd cc)
+  ]
+  by_groups is false e = elim (leb_tells 128 (k.groups + n)) [
+    | inl h ↦ (let both : true ≡ false = sym h.0 ∙ e in absurd cc)
+    | inr h ↦ adds_result (Groups n) k more (counts_grouped n k) (is_at true more is (ap enough e)) (listed_counted n k is h.1)
+  ]
+
+  by : (b : Bool) → is_recovering k ≡ b → AddsEvent (Groups n) k (counts_grouped n k)
+  by true is = by_groups is (nat_le 128 (k.groups + n)) refl
+  by false is = adds_result (Groups n) k k (counts_grouped n k) (is_at false k is refl) (listed_ignored n k is)
+
+cleared_adds : (b : Bool) (k : Counts) (events : List NodeEvent) → AreAfter true events k
+    → AreAfter true (cond b (ClearInit ∷ events) events) (cond b (counts_cleared k) k)
+cleared_adds true k events e = listed_clear k (counts_cleared k) refl true events e
+cleared_adds false k events e = e
+
+change_adds : (z : ControllerChange) (c : Controller) (events : List NodeEvent) → AreAfter true events c.counters
+    → AreAfter true (add_event z c events) (controller_after z c).counters
+change_adds (change.Frame event noted) c events e = listed_after event c.counters (counts_after event c.counters) refl true events e
+change_adds (change.Recessive n) c events e = grouped_adds n c.counters true events e
+change_adds change.ReadStatus c events e = e
+change_adds change.ReadAndClearStatus c events e = e
+change_adds (change.WriteStatus flags) c events e = e
+change_adds (change.WriteControl control) c events e = cleared_adds (clears_init_of c control) c.counters events e
+change_adds (change.WriteTest test) c events e = e
+
+pub counters_defined : CountersAreAsDefined
+unfolding controller_of node_events
+counters_defined [] = sym (counts-none true)
+counters_defined (z ∷ earlier) = change_adds z (controller_of earlier) (node_events earlier) (counters_defined earlier)
+
+one_levels : (b : Bool) (x y : Counts) (l : Levels) → x.levels ≡ l → y.levels ≡ l → (cond b x y).levels ≡ l
+one_levels true x y l e f = e
+one_levels false x y l e f = f
+
+pub hosts_leave : HostsLeaveTheCounters
+hosts_leave (change.Frame event noted) c host = absurd cc
+hosts_leave (change.Recessive n) c host = absurd cc
+hosts_leave change.ReadStatus c host = refl
+hosts_leave change.ReadAndClearStatus c host = refl
+hosts_leave (change.WriteStatus flags) c host = refl
+hosts_leave (change.WriteControl control) c host =
+    one_levels (clears_init_of c control) (counts_cleared c.counters) c.counters c.counters.levels refl refl
+hosts_leave (change.WriteTest test) c host = refl
+
+-- Init after new counters
+init_with : (init before after : Bool) → before ≡ false → after ≡ true → (init || (not before && after)) ≡ true
+init_with init before after on off = or_right init _ (and_from (not before) after (ap not on) off)
+
+-- a step that leaves the error counters leads no controller off
+stays : (z : ControllerChange) (c : Controller) {P : Type 0} → is_handlers z ≡ false → is_off c.counters.levels ≡ false
+    → is_off (controller_after z c).counters.levels ≡ true → P
+stays z c host on off =
+    let both : false ≡ true = sym on ∙ (ap is_off (sym (hosts_leave z c host)) ∙ off) in
+    absurd cc
+
+pub off_sets_init : GoingOffSetsInit
+off_sets_init (change.Frame event noted) c on off =
+    init_with c.control.init (is_off c.counters.levels) (is_off (counts_after event c.counters).levels) on off
+off_sets_init (change.Recessive n) c on off =
+    init_with c.control.init (is_off c.counters.levels) (is_off (counts_grouped n c.counters).levels) on off
+off_sets_init change.ReadStatus c on off = stays change.ReadStatus c refl on off
+off_sets_init change.ReadAndClearStatus c on off = stays change.ReadAndClearStatus c refl on off
+off_sets_init (change.WriteStatus flags) c on off = stays (change.WriteStatus flags) c refl on off
+off_sets_init (change.WriteControl control) c on off = stays (change.WriteControl control) c refl on off
+off_sets_init (change.WriteTest test) c on off = stays (change.WriteTest test) c refl on off
+
+masked : (a b : Bool) → ((a && false) || (b && false)) ≡ false
+masked true true = refl
+masked true false = refl
+masked false true = refl
+masked false false = refl
+
+pub reads_clear : StatusReadsClear
+reads_clear c = (masked c.control.sie c.control.eie, masked c.control.sie c.control.eie)
+
+pub masks_keep : MasksLoseNothing
+masks_keep (change.Frame event noted) c control = (refl, refl)
+masks_keep (change.Recessive n) c control = (refl, refl)
+masks_keep change.ReadStatus c control = (refl, refl)
+masks_keep change.ReadAndClearStatus c control = (refl, refl)
+masks_keep (change.WriteStatus flags) c control = (refl, refl)
+masks_keep (change.WriteControl written) c control = (refl, refl)
+masks_keep (change.WriteTest test) c control = (refl, refl)
+
+-- a flag that is set or stays
+set_by : (b before : Bool) → (before || b) ≡ unwrap_or (cond b (Some true) None) before
+set_by true true = refl
+set_by true false = refl
+set_by false true = refl
+set_by false false = refl
+
+recovery_sends : (b : Bool) (before : Bool) → (before || is_sent (cond b event.Recovery event.Level)) ≡ before
+recovery_sends true true = refl
+recovery_sends true false = refl
+recovery_sends false true = refl
+recovery_sends false false = refl
+
+recovery_receives : (b : Bool) (before : Bool) → (before || is_received (cond b event.Recovery event.Level)) ≡ before
+recovery_receives true true = refl
+recovery_receives true false = refl
+recovery_receives false true = refl
+recovery_receives false false = refl
+
+tx_step : (z : ControllerChange) (c : Controller) → (controller_after z c).status.tx_ok ≡ unwrap_or (tx_ok_given z) c.status.tx_ok
+tx_step (change.Frame event noted) c = set_by (is_sent noted) c.status.tx_ok
+tx_step (change.Recessive n) c = recovery_sends (nat_le 1 n && is_recovering c.counters) c.status.tx_ok
+tx_step change.ReadStatus c = refl
+tx_step change.ReadAndClearStatus c = refl
+tx_step (change.WriteStatus flags) c = refl
+tx_step (change.WriteControl control) c = refl
+tx_step (change.WriteTest test) c = refl
+
+rx_step : (z : ControllerChange) (c : Controller) → (controller_after z c).status.rx_ok ≡ unwrap_or (rx_ok_given z) c.status.rx_ok
+rx_step (change.Frame event noted) c = set_by (is_received noted) c.status.rx_ok
+rx_step (change.Recessive n) c = recovery_receives (nat_le 1 n && is_recovering c.counters) c.status.rx_ok
+rx_step change.ReadStatus c = refl
+rx_step change.ReadAndClearStatus c = refl
+rx_step (change.WriteStatus flags) c = refl
+rx_step (change.WriteControl control) c = refl
+rx_step (change.WriteTest test) c = refl
+
+pub given_last : FlagsAreGivenLast
+unfolding controller_of newest_given
+given_last [] = (refl, refl)
+given_last (z ∷ earlier) =
+    let before = given_last earlier in (
+      tx_step z (controller_of earlier) ∙ ap (unwrap_or (tx_ok_given z)) before.0,
+      rx_step z (controller_of earlier) ∙ ap (unwrap_or (rx_ok_given z)) before.1,
+    )

@@ -1,0 +1,23 @@
+use Rattle.std.proofs.Common.{◌∙◌, ap, arith}
+use Rattle.ccan_confine.specs.declared.controller.Controller.{Controller}
+use Rattle.ccan_confine.proofs.Controllers.{host_after}
+use Rattle.ccan_confine.proofs.controller.Controller.after.Goals as goal
+
+pub returns-clause-is : goal.returns-clause-is
+returns-clause-is c is =
+    let n = c.numbers.ensures in
+    let code = c.lec.ensures in
+    let tec = n.tec in
+    let rec' = n.rec in
+    let groups = n.groups in
+    let value = code.value in
+    let in_range = code.in_range in
+    record {
+      host =
+          ap (λ (z : Controller). z.counters.host) c.changed-after.ensures
+          ∙ (host_after c.args.change.now c.args.self ∙ is.host);
+      tec = (let a = tec.0 in let b = tec.1 in omega arith);
+      rec = (let a = rec'.0 in let b = rec'.1 in omega arith);
+      groups = (let a = groups.0 in let b = groups.1 in omega arith);
+      lec = omega arith;
+    }

@@ -1,0 +1,167 @@
+-- The registers of a controller at one moment, what each step makes of them, and the word that they pack to. Source: C_CAN
+-- User's Manual 1.2, "CAN Control Register", "Status Register", "Error Counter" and "Test Register". That a status
+-- interrupt is raised whatever SIE and EIE say, and the packed word, are this project's own. The clearing read: Texas
+-- Instruments, AM335x Technical Reference Manual, D_CAN's "Error and Status Register".
+use Rattle.std.specs.Prelude.{ℕ, ◌≡◌, ◌+◌, ◌<◌, ◌≤◌, Bool, true, false, ◌&&◌, ◌||◌, not, nat_le, min, ◌/◌, ◌^◌, if◌then◌else◌}
+use Rattle.ccan_confine.specs.declared.status_event.StatusEvent.{StatusEvent}
+use Rattle.ccan_confine.specs.declared.status_event.StatusEvent.TheVariants.{Recovery, Level}
+use Rattle.ccan_confine.specs.declared.controller.Controller.{Controller}
+use Rattle.ccan_confine.specs.declared.control_register.ControlRegister.{ControlRegister}
+use Rattle.ccan_confine.specs.declared.test_register.TestRegister.{TestRegister}
+use Rattle.ccan_confine.specs.declared.controller_change.ControllerChange.{ControllerChange}
+use Rattle.ccan_confine.specs.declared.controller_change.ControllerChange.TheVariants as change
+use Rattle.ccan_confine.specs.Bits.{flag, at, bit, part}
+use Rattle.ccan_confine.specs.StatusEvent.{HasFaultCode, is_transfer_or_error}
+use Rattle.ccan_confine.specs.StatusFlags.{flags_after, no_flags, highest_code}
+use Rattle.ccan_confine.specs.Status.{warning_limit, differ, word_of}
+use Rattle.ccan_confine.specs.Counters.{Levels, Counts, counts_after, counts_cleared, is_recovering, is_off, reaches, new_counts}
+use Rattle.ccan_confine.specs.Counters.{groups_to_return, off_limit, send_fault_step, most_rec}
+
+-- going off: on before and off after
+abbrev pub goes_off : Levels → Levels → Bool
+goes_off before after = not (is_off before) && is_off after
+
+-- BOff or EWarn changes
+abbrev pub changes_level : Levels → Levels → Bool
+changes_level before after =
+    differ (is_off before) (is_off after) || differ (reaches warning_limit before) (reaches warning_limit after)
+
+-- The controller with these counters, after this event of the Status register. Going off sets Init. A transfer or an error
+-- raises the one status interrupt, a change of BOff or EWarn the other.
+abbrev pub counted : StatusEvent → Counts → Controller → Controller
+counted event counts c =
+    record c {
+      counters = counts;
+      control = record c.control { init = c.control.init || goes_off c.counters.levels counts.levels };
+      status = flags_after event c.status;
+      transfer_pending = c.transfer_pending || is_transfer_or_error event;
+      level_pending = c.level_pending || changes_level c.counters.levels counts.levels;
+    }
+
+-- the counters after so many groups of eleven recessive bits
+abbrev pub counts_grouped : ℕ → Counts → Counts
+counts_grouped groups counts =
+    if is_recovering counts then
+    (if nat_le groups_to_return (counts.groups + groups) then new_counts counts.host
+    else record counts { groups = counts.groups + groups })
+    else counts
+
+-- a group of recessive bits on the way back sets LEC
+abbrev pub recovery_of : ℕ → Counts → StatusEvent
+recovery_of groups counts = if nat_le 1 groups && is_recovering counts then Recovery else Level
+
+-- a write of the Control register clears Init
+abbrev pub clears_init_of : Controller → ControlRegister → Bool
+clears_init_of c control = c.control.init && not control.init
+
+-- what a step makes of a controller
+abbrev pub controller_after : ControllerChange → Controller → Controller
+controller_after (change.Frame event noted) c = counted noted (counts_after event c.counters) c
+controller_after (change.Recessive groups) c = counted (recovery_of groups c.counters) (counts_grouped groups c.counters) c
+controller_after change.ReadStatus c = record c { transfer_pending = false; level_pending = false }
+controller_after change.ReadAndClearStatus c =
+    record c {
+      status = record { tx_ok = false; rx_ok = false; lec = 7 };
+      transfer_pending = false;
+      level_pending = false;
+    }
+controller_after (change.WriteStatus flags) c = record c { status = flags }
+controller_after (change.WriteControl control) c =
+    record c { control = control; counters = (if clears_init_of c control then counts_cleared c.counters else c.counters) }
+controller_after (change.WriteTest test) c = record c { test = (if c.control.test then test else c.test) }
+
+-- the event has a code that the register can show
+abbrev pub CanMake : ControllerChange → Type 0
+CanMake (change.Frame event noted) = HasFaultCode noted
+CanMake _ = Unit {0}
+
+-- the ends of frames and the groups of recessive bits are the message handler's, all else is a host's
+abbrev pub is_handlers : ControllerChange → Bool
+is_handlers (change.Frame event noted) = true
+is_handlers (change.Recessive groups) = true
+is_handlers _ = false
+
+-- the Interrupt register shows a status interrupt: one that was raised, and is not masked
+abbrev pub shows_interrupt : Controller → Bool
+shows_interrupt c = (c.control.sie && c.transfer_pending) || (c.control.eie && c.level_pending)
+
+-- the word of the Status register
+abbrev pub status_word : Controller → ℕ
+status_word c = word_of c.status.tx_ok c.status.rx_ok c.status.lec c.counters.levels
+
+-- as it opens: nothing happened, everything is 0
+abbrev pub no_control : ControlRegister
+no_control =
+    record { init = false; ie = false; sie = false; eie = false; dar = false; cce = false; test = false }
+
+abbrev pub no_test : TestRegister
+no_test = record { basic = false; silent = false; lback = false }
+
+abbrev pub new_controller : Controller
+new_controller =
+    record {
+      counters = new_counts true;
+      control = no_control;
+      status = no_flags;
+      transfer_pending = false;
+      level_pending = false;
+      test = no_test;
+    }
+
+-- it is a controller, and its numbers are in their ranges
+pub record IsController (c : Controller) : Type 0 where
+  pub host : c.counters.host ≡ true
+  pub tec : c.counters.levels.tec < off_limit + send_fault_step
+  pub rec : c.counters.levels.rec ≤ most_rec
+  pub groups : c.counters.groups < groups_to_return
+  pub lec : c.status.lec ≤ highest_code
+
+-- REC at bits 0 to 7, TEC at 8 to 16, the groups at 17 to 23, LEC at 24 to 26
+abbrev pub packed_numbers : Controller → ℕ
+packed_numbers c = at 24 c.status.lec + at 17 c.counters.groups + at 8 c.counters.levels.tec + c.counters.levels.rec
+
+-- from bit 27 on: TxOk, RxOk, the two pending interrupts, whether Init was cleared since the controller went off, Init, IE,
+-- SIE, EIE, DAR, CCE, Test, Basic, Silent, LBack
+abbrev pub packed_flags : Controller → ℕ
+packed_flags c =
+    at 14 (flag c.test.lback) + at 13 (flag c.test.silent) + at 12 (flag c.test.basic) + at 11 (flag c.control.test)
+    + at 10 (flag c.control.cce) + at 9 (flag c.control.dar) + at 8 (flag c.control.eie) + at 7 (flag c.control.sie)
+    + at 6 (flag c.control.ie) + at 5 (flag c.control.init) + at 4 (flag c.counters.init_cleared)
+    + at 3 (flag c.level_pending) + at 2 (flag c.transfer_pending) + at 1 (flag c.status.rx_ok) + flag c.status.tx_ok
+
+-- the word
+abbrev pub packed : Controller → ℕ
+packed c = at 27 (packed_flags c) + packed_numbers c
+
+-- the controller in a word; some controller where none packs to it
+abbrev pub unpacked : ℕ → Controller
+unpacked word =
+    record {
+      counters =
+          record {
+            host = true;
+            levels = record { tec = min (part word 8 9) 263; rec = part word 0 8 };
+            init_cleared = bit (word / 2 ^ 27) 4;
+            groups = part word 17 7;
+          };
+      control =
+          record {
+            init = bit (word / 2 ^ 27) 5;
+            ie = bit (word / 2 ^ 27) 6;
+            sie = bit (word / 2 ^ 27) 7;
+            eie = bit (word / 2 ^ 27) 8;
+            dar = bit (word / 2 ^ 27) 9;
+            cce = bit (word / 2 ^ 27) 10;
+            test = bit (word / 2 ^ 27) 11;
+          };
+      status =
+          record { tx_ok = bit (word / 2 ^ 27) 0; rx_ok = bit (word / 2 ^ 27) 1; lec = part word 24 3 };
+      transfer_pending = bit (word / 2 ^ 27) 2;
+      level_pending = bit (word / 2 ^ 27) 3;
+      test =
+          record {
+            basic = bit (word / 2 ^ 27) 12;
+            silent = bit (word / 2 ^ 27) 13;
+            lback = bit (word / 2 ^ 27) 14;
+          };
+    }
