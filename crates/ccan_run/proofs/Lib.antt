@@ -7,12 +7,14 @@ pub mod Turns
 pub mod TurnsSoFar
 pub mod Printed
 pub mod NeverBusy
+pub mod Determined
 pub mod LooksOnce
 pub mod ScansOnce
 pub mod ChoicesOnce
 pub mod LoadsOnce
 pub mod WinsOnce
-pub mod LoopsOnce
+pub mod DecidesOnce
+pub mod CompletesOnce
 pub mod RoundsOnce
 pub mod OneText
 pub mod CommandLine

@@ -1,5 +1,6 @@
--- A load, where nobody else acts: what is loaded, whether the controller is on and its choice decide what it adds and answers.
-use Rattle.std.proofs.Common.{◌≡◌, ◌≤◌, ℕ, true, false, List, [], ◌++◌, inl, inr, Option, Some, None, Ok, Err, refl, sym, ap, ◌∙◌, true≢false}
+-- A load, where nobody else acts: what it adds, leaves and answers is a function of the history and of what is loaded, whether the
+-- controller is on and its choice.
+use Rattle.std.proofs.Common.{◌≡◌, ◌≤◌, ℕ, Bool, true, false, List, [], ◌++◌, inl, inr, Option, Some, None, Ok, Err, sym, ap, ap₂, ◌∙◌}
 use Rattle.ccan_object.specs.declared.record.Record.{Record}
 use Rattle.ccan_ram.specs.declared.change.Refused.TheVariants.{Busy, Spent}
 use Rattle.ccan_ram.specs.declared.event.Event.{Event}
@@ -9,71 +10,54 @@ use Rattle.ccan_handler.specs.Moment.{Chosen}
 use Rattle.ccan_bus.specs.declared.answer.LoadAnswer.{LoadAnswer}
 use Rattle.ccan_bus.specs.declared.answer.LoadAnswer.TheVariants as load
 use Rattle.ccan_bus.specs.Past.{BusPast, is_on}
-use Rattle.ccan_bus.specs.Choice.{Chooses}
-use Rattle.ccan_bus.specs.Load.{Loads, refusal_of_load}
-use Rattle.ccan_run.proofs.ChoicesOnce.{choices_once}
+use Rattle.ccan_bus.specs.Load.{IsLoadChoice, Loads, refusal_of_load}
+use Rattle.ccan_run.proofs.ChoicesOnce.{choose, choice_is}
+use Rattle.ccan_run.proofs.Determined.{Gives, pair, once}
 
-same_pair : (x y : ℕ × Record) → Some x ≡ Some y → x ≡ y
-same_pair x y h = cc
+-- the past and the answer that a choice leads to
+abbrev chosen_load : BusPast → Chosen → BusPast × LoadAnswer
+chosen_load past (Ok None) = (past, load.Nothing)
+chosen_load past (Ok (Some chosen)) = (record past { loaded = Some chosen }, load.Loaded chosen.0 chosen.1)
+chosen_load past (Err refused) = (past, refusal_of_load refused.at refused.why)
 
-pub one_loaded : (past : BusPast) (object object' : ℕ) (started started' : Record) → past.loaded ≡ Some (object, started)
-    → past.loaded ≡ Some (object', started') → (object ≡ object') × (started ≡ started')
-one_loaded past object object' started started' is is' =
-    let pair = same_pair (object, started) (object', started') (sym is ∙ is') in
-    (ap (λ (p : ℕ × Record). p.0) pair, ap (λ (p : ℕ × Record). p.1) pair)
+module _ (terms : Terms) (seen : List Event) (past : BusPast) where
+  -- by what is loaded, and by whether the controller is on
+  abbrev load_by : Option (ℕ × Record) → Bool → List Event × (BusPast × LoadAnswer)
+  load_by (Some loaded) on = ([], (past, load.Held loaded.0))
+  load_by None false = ([], (past, load.Nothing))
+  load_by None true = let chosen = choose terms past.choice seen in (chosen.0, chosen_load past chosen.1)
 
-pub some_none : {A : Type 0} (o : Option A) (x : A) → o ≡ Some x → o ≡ None → ⊥
-some_none o x is none = let both : Some x ≡ None = sym is ∙ none in absurd cc
+  abbrev pub loads : List Event × (BusPast × LoadAnswer)
+  loads = load_by past.loaded (is_on past 0)
 
--- the answer of a load whose choice comes to this, and the past that it leaves
-abbrev load_of : Chosen → LoadAnswer
-load_of (Ok None) = load.Nothing
-load_of (Ok (Some chosen)) = load.Loaded chosen.0 chosen.1
-load_of (Err refused) = refusal_of_load refused.at refused.why
+  module _ (alone : terms.alone ≡ true) (tries : ℕ) (some : 1 ≤ tries) (added : List Event) (legal : IsLegal terms.profile (added ++ seen)) where
+    chosen_is : (chosen : Chosen) → IsLoadChoice terms tries seen added past chosen → Gives loads added (chosen_load past chosen)
+    chosen_is chosen h =
+        ap (λ (c : List Event × Chosen). (c.0, chosen_load past c.1))
+        (choice_is terms alone tries some past.choice seen added chosen legal h.chooses)
+        ∙ sym (ap₂ load_by h.empty h.on)
 
-abbrev left_by : BusPast → Chosen → BusPast
-left_by past (Ok None) = past
-left_by past (Ok (Some chosen)) = record past { loaded = Some chosen }
-left_by past (Err refused) = past
+    pub load_is : (after : BusPast) (loading : LoadAnswer) → Loads terms tries seen added past after loading
+        → Gives loads added (after, loading)
+    load_is after (load.Held object) h =
+        pair h.quiet (pair h.same (λ i. load.Held object)) ∙ ap (λ l. load_by l (is_on past 0)) (sym h.held)
+    load_is after load.Nothing (inl h) =
+        pair h.quiet (pair h.same (λ i. load.Nothing)) ∙ sym (ap₂ load_by h.empty h.off)
+    load_is after load.Nothing (inr h) =
+        pair (λ i. added) (pair h.same (λ i. load.Nothing)) ∙ chosen_is (Ok None) h.choice
+    load_is after (load.Loaded object started) h =
+        pair (λ i. added) (pair h.now_loaded (λ i. load.Loaded object started)) ∙ chosen_is (Ok (Some (object, started))) h.choice
+    load_is after (load.Busy object) (told, now, h) =
+        pair (λ i. added) (pair h.same (λ i. load.Busy object)) ∙ chosen_is (Err (record { at = object; why = Busy told now })) h.choice
+    load_is after (load.Spent object) h =
+        pair (λ i. added) (pair h.same (λ i. load.Spent object)) ∙ chosen_is (Err (record { at = object; why = Spent })) h.choice
 
--- a load is one of three things
-data Case (terms : Terms) (tries : ℕ) (seen added : List Event) (past after : BusPast) (loading : LoadAnswer) : Type 0 where
-  held : (object : ℕ) (started : Record) → past.loaded ≡ Some (object, started) → loading ≡ load.Held object → added ≡ [] → after ≡ past
-      → Case terms tries seen added past after loading
-  off : past.loaded ≡ None → is_on past 0 ≡ false → loading ≡ load.Nothing → added ≡ [] → after ≡ past
-      → Case terms tries seen added past after loading
-  chose : (chosen : Chosen) → past.loaded ≡ None → is_on past 0 ≡ true → Chooses past.choice terms tries seen added chosen
-      → loading ≡ load_of chosen → after ≡ left_by past chosen → Case terms tries seen added past after loading
-
-module _ (terms : Terms) (tries : ℕ) (seen : List Event) (past : BusPast) where
-  case_of : (added : List Event) (after : BusPast) (loading : LoadAnswer) → Loads terms tries seen added past after loading
-      → Case terms tries seen added past after loading
-  case_of added after (load.Loaded object started) h = chose (Ok (Some (object, started))) h.choice.empty h.choice.on h.choice.chooses refl h.now_loaded
-  case_of added after (load.Held object) h = held object h.started h.held refl h.quiet h.same
-  case_of added after load.Nothing (inl h) = off h.empty h.off refl h.quiet h.same
-  case_of added after load.Nothing (inr h) = chose (Ok None) h.choice.empty h.choice.on h.choice.chooses refl h.same
-  case_of added after (load.Busy object) (told, now, h) = chose (Err (record { at = object; why = Busy told now })) h.choice.empty h.choice.on h.choice.chooses refl h.same
-  case_of added after (load.Spent object) h = chose (Err (record { at = object; why = Spent })) h.choice.empty h.choice.on h.choice.chooses refl h.same
-
-  abbrev Same : List Event → List Event → BusPast → BusPast → LoadAnswer → LoadAnswer → Type 0
-  Same added added' after after' loading loading' = (added ≡ added') × (after ≡ after') × (loading ≡ loading')
-
-  module _ (alone : terms.alone ≡ true) (some : 1 ≤ tries) (added added' : List Event) (after after' : BusPast) (loading loading' : LoadAnswer)
-      (legal : IsLegal terms.profile (added ++ seen)) (legal' : IsLegal terms.profile (added' ++ seen)) where
-    cases_once : Case terms tries seen added past after loading → Case terms tries seen added' past after' loading' → Same added added' after after' loading loading'
-    cases_once (held object started is told none same) (held object' started' is' told' none' same') =
-        (none ∙ sym none', same ∙ sym same', told ∙ ap load.Held (one_loaded past object object' started started' is is').0 ∙ sym told')
-    cases_once (held object started is told none same) (off is' _ _ _ _) = absurd (some_none past.loaded _ is is')
-    cases_once (held object started is told none same) (chose _ is' _ _ _ _) = absurd (some_none past.loaded _ is is')
-    cases_once (off is _ _ _ _) (held object' started' is' _ _ _) = absurd (some_none past.loaded _ is' is)
-    cases_once (off is _ told none same) (off is' _ told' none' same') = (none ∙ sym none', same ∙ sym same', told ∙ sym told')
-    cases_once (off is out _ _ _) (chose _ is' on _ _ _) = absurd (true≢false (sym on ∙ out))
-    cases_once (chose _ is _ _ _ _) (held object' started' is' _ _ _) = absurd (some_none past.loaded _ is' is)
-    cases_once (chose _ is on _ _ _) (off is' out _ _ _) = absurd (true≢false (sym on ∙ out))
-    cases_once (chose chosen is on choice told same) (chose chosen' is' on' choice' told' same') =
-        let once = choices_once terms alone tries some past.choice seen added added' chosen chosen' legal legal' choice choice' in
-        (once.0, same ∙ ap (left_by past) once.1 ∙ sym same', told ∙ ap load_of once.1 ∙ sym told')
-
-    pub loads_once : Loads terms tries seen added past after loading → Loads terms tries seen added' past after' loading'
-        → Same added added' after after' loading loading'
-    loads_once h h' = cases_once (case_of added after loading h) (case_of added' after' loading' h')
+module _ (terms : Terms) (tries : ℕ) (seen : List Event) (past : BusPast) (alone : terms.alone ≡ true) (some : 1 ≤ tries)
+    (added added' : List Event) (after after' : BusPast) (loading loading' : LoadAnswer)
+    (legal : IsLegal terms.profile (added ++ seen)) (legal' : IsLegal terms.profile (added' ++ seen)) where
+  pub loads_once : Loads terms tries seen added past after loading → Loads terms tries seen added' past after' loading'
+      → (added ≡ added') × (after ≡ after') × (loading ≡ loading')
+  loads_once h h' =
+      let same = once (loads terms seen past) added added' _ _ (load_is terms seen past alone tries some added legal after loading h)
+      (load_is terms seen past alone tries some added' legal' after' loading' h') in
+      (same.0, ap (λ (l : BusPast × LoadAnswer). l.0) same.1, ap (λ (l : BusPast × LoadAnswer). l.1) same.1)

@@ -1,180 +1,133 @@
--- Looks, where nobody else acts: each shows what the history leaves, and none changes it. So what looks tell is determined.
-use Rattle.std.proofs.Common.{◌≡◌, ◌<◌, ◌+◌, ℕ, zero, suc, Bool, true, false, List, [], ◌∷◌, ◌++◌, ◌⊎◌, inl, inr, length, refl, sym, ap, ap₂, subst, ◌∙◌, append_assoc, arith, true≢false, ◌||◌}
+-- Looks, where nobody else acts: what they show, and so what the lines that look are answered, is a function of the history.
+use Rattle.std.proofs.Common.{◌≡◌, ◌<◌, ◌+◌, ◌-◌, ℕ, zero, suc, Bool, true, false, cond, List, [], ◌∷◌, ◌++◌, inl, inr, Option, Some, None}
+use Rattle.std.proofs.Common.{length, sym, ap, subst, ◌∙◌, arith}
 use Rattle.std.specs.List.{list_any}
+use Rattle.std.proofs.lemmas.Bool.{or_parts}
 use Rattle.ccan_object.specs.declared.record.Record.{Record}
 use Rattle.ccan_object.specs.Profile.{objects_in}
 use Rattle.ccan_ram.specs.declared.event.Event.{Event}
 use Rattle.ccan_ram.specs.declared.flag.Flag.{Flag}
 use Rattle.ccan_ram.specs.declared.flag.Flag.TheVariants.{IntPnd}
+use Rattle.ccan_ram.specs.Attempt.{IsLook}
 use Rattle.ccan_ram.specs.Flags.{flag_of}
 use Rattle.ccan_ram.specs.HandlerRegisters.{flag_word}
-use Rattle.ccan_ram.specs.History.{IsLegal, record_at}
+use Rattle.ccan_ram.specs.History.{IsLegal}
 use Rattle.ccan_ram.specs.Terms.{Terms}
-use Rattle.ccan_ram.specs.Attempt.{look_at}
-use Rattle.ccan_ram.proofs.Alone.{looks_alone}
-use Rattle.ccan_ram.proofs.Histories.{IsLegal-older}
-use Rattle.ccan_handler.specs.Watch.{Looks, in_turn, NoneShows, FirstShows, Watches, Interrupts, ReadsFlags}
+use Rattle.ccan_handler.specs.Watch.{Looks, in_turn as objects, NoneShows, FirstShows, Watches, Interrupts, ReadsFlags}
+use Rattle.ccan_run.proofs.Determined.{Step, Gives, pair, once, and_then, in_turn, row, one_more, stays, look, look_is}
 
-split_less : (n m : ℕ) → n < suc m → (n < m) ⊎ (n ≡ m)
-split_less zero zero h = inr refl
-split_less zero (suc m) h = inl (omega arith)
-split_less (suc n) zero h = absurd (omega arith)
-split_less (suc n) (suc m) h = elim (split_less n m (omega arith)) [
-  | inl less ↦ inl (omega (arith, less))
-  | inr same ↦ inr (ap suc same)
-]
+module _ (terms : Terms) (place : ℕ → ℕ) where
+  -- a look that adds its record to those of the looks before it
+  abbrev adds : ℕ → List Record → Step (List Record)
+  adds n before now = let l = look terms (place n) now in (l.0, l.1 ∷ before)
 
-pub three_ways : (n m : ℕ) → (n < m) ⊎ ((n ≡ m) ⊎ (m < n))
-three_ways zero zero = inr (inl refl)
-three_ways zero (suc m) = inl (omega arith)
-three_ways (suc n) zero = inr (inr (omega arith))
-three_ways (suc n) (suc m) = elim (three_ways n m) [
-  | inl less ↦ inl (omega (arith, less))
-  | inr rest ↦ elim rest [
-    | inl same ↦ inr (inl (ap suc same))
-    | inr more ↦ inr (inr (omega (arith, more)))
-  ]
-]
+  abbrev reads : ℕ → Step (List Record)
+  reads zero seen = ([], [])
+  reads (suc n) seen = and_then (reads n seen) (adds n) seen
 
--- the records that so many looks show, and their events
-module _ (terms : Terms) (place : ℕ → ℕ) (seen : List Event) where
-  abbrev pub records : ℕ → List Record
-  records zero = []
-  records (suc n) = record_at (place n) seen ∷ records n
+  -- a look that stops where it shows the flag, with how many looks came before it
+  abbrev seeks : Flag → ℕ → Step (Option ℕ)
+  seeks flag n now = let l = look terms (place n) now in (l.0, cond (flag_of flag l.1) (Some n) None)
 
-  abbrev pub looks_at : ℕ → List Event
-  looks_at zero = []
-  looks_at (suc n) = look_at terms.port (place n) (record_at (place n) seen) ∷ looks_at n
+  module _ (alone : terms.alone ≡ true) where
+    read_are : (shown : List Record) (seen added : List Event) → IsLegal terms.profile (added ++ seen) → Looks terms place shown added
+        → Gives (reads (length shown) seen) added shown
+    read_are [] seen added legal none = pair none (λ i. [])
+    read_are (last ∷ before) seen added legal (newest, earlier, whole, shows, rest) =
+        in_turn terms.profile seen added earlier newest whole legal (reads (length before) seen) (adds (length before)) before _
+        (λ so_far. read_are before seen earlier so_far rest)
+        (λ so_far. ap (λ (l : List Event × Record). (l.0, l.1 ∷ before))
+        (look_is terms alone (earlier ++ seen) newest so_far (place (length before)) last shows))
 
-  -- looks change no record
-  pub untouched : (object n : ℕ) → record_at object (looks_at n ++ seen) ≡ record_at object seen
-  untouched object zero = refl
-  untouched object (suc n) = untouched object n
+    module _ (flag : Flag) where
+      sought : (n : ℕ) (shown : Record) (shows : Bool) (seen added : List Event) → IsLegal terms.profile (added ++ seen)
+          → IsLook terms (place n) shown added → flag_of flag shown ≡ shows → Gives (seeks flag n seen) added (cond shows (Some n) None)
+      sought n shown shows seen added legal h is =
+          pair (λ i. added) (ap (λ b. cond b (Some n) None) (sym is))
+          ∙ ap (λ (l : List Event × Record). (l.0, cond (flag_of flag l.1) (Some n) None)) (look_is terms alone seen added legal (place n) shown h)
 
--- a row of events is legal up to its first part
-pub legal_first : (terms : Terms) (seen added newest earlier : List Event) → added ≡ newest ++ earlier → IsLegal terms.profile (added ++ seen)
-    → IsLegal terms.profile (newest ++ (earlier ++ seen))
-legal_first terms seen added newest earlier whole legal =
-    subst (IsLegal terms.profile) (ap (λ es. es ++ seen) whole ∙ append_assoc newest earlier seen) legal
+      none_seen : (shown : List Record) (seen added : List Event) → IsLegal terms.profile (added ++ seen)
+          → Looks terms place shown added → list_any (flag_of flag) shown ≡ false → Gives (row (seeks flag) seen (length shown)) added None
+      none_seen [] seen added legal none nowhere = pair none (λ i. None)
+      none_seen (last ∷ before) seen added legal (newest, earlier, whole, shows, rest) nowhere =
+          let parts = or_parts (flag_of flag last) (list_any (flag_of flag) before) nowhere in
+          one_more (seeks flag) seen terms.profile (length before) added earlier newest None whole legal
+          (λ so_far. none_seen before seen earlier so_far rest parts.1)
+          (λ so_far. sought (length before) last false (earlier ++ seen) newest so_far shows parts.0)
 
-module _ (terms : Terms) (alone : terms.alone ≡ true) (place : ℕ → ℕ) (seen : List Event) where
-  looks_are : (shown : List Record) (added : List Event) → IsLegal terms.profile (added ++ seen) → Looks terms place shown added
-      → (shown ≡ records terms place seen (length shown)) × (added ≡ looks_at terms place seen (length shown))
-  looks_are [] added legal looks = (refl, looks)
-  looks_are (last ∷ before) added legal (newest, earlier, whole, look, rest) =
-      let so_far = legal_first terms seen added newest earlier whole legal in
-      let ih = looks_are before earlier (IsLegal-older terms.profile newest (earlier ++ seen) so_far) rest in
-      let object = place (length before) in
-      let a = looks_alone terms object last (earlier ++ seen) newest alone so_far look in
-      let last_is : last ≡ record_at object seen =
-      a.0 ∙ ap (λ es. record_at object (es ++ seen)) ih.1 ∙ untouched terms place seen object (length before) in (
-        ap₂ ◌∷◌ last_is ih.0,
-        whole ∙ ap₂ ◌++◌ (a.1 ∙ ap (λ r. look_at terms.port object r ∷ []) last_is) ih.1,
-      )
+      module _ (count : ℕ) (seen added : List Event) (legal : IsLegal terms.profile (added ++ seen)) where
+        none_is : NoneShows terms place flag count added → Gives (row (seeks flag) seen count) added None
+        none_is h =
+            subst (λ n. Gives (row (seeks flag) seen n) added None) h.counted (none_seen h.shown seen added legal h.looks h.none)
 
-  module _ (flag : Flag) (added : List Event) (legal : IsLegal terms.profile (added ++ seen)) (count : ℕ) where
-    pub none_is : NoneShows terms place flag count added → (added ≡ looks_at terms place seen count) × (list_any (flag_of flag) (records terms place seen count) ≡ false)
-    none_is h =
-        let a = looks_are h.shown added legal h.looks in
-        let n = h.counted in (
-          a.1 ∙ ap (looks_at terms place seen) n,
-          sym (ap (list_any (flag_of flag)) (a.0 ∙ ap (records terms place seen) n)) ∙ h.none,
-        )
-
-    pub first_is : FirstShows terms place flag count added
-        → (added ≡ looks_at terms place seen (suc count)) × (list_any (flag_of flag) (records terms place seen count) ≡ false)
-        × (flag_of flag (record_at (place count) seen) ≡ true)
-    first_is h =
-        let a = looks_are (h.last ∷ h.before) added legal h.looks in
-        let n = h.counted in
-        let all : h.last ∷ h.before ≡ record_at (place count) seen ∷ records terms place seen count =
-        a.0 ∙ ap (λ m. records terms place seen (suc m)) n in
-        let last : h.last ≡ record_at (place count) seen = cc in
-        let before : h.before ≡ records terms place seen count = cc in (
-          a.1 ∙ ap (λ m. looks_at terms place seen (suc m)) n,
-          sym (ap (list_any (flag_of flag)) before) ∙ h.none,
-          sym (ap (flag_of flag) last) ∙ h.shows,
-        )
-
-  either : (a b : Bool) → (b ≡ true) ⊎ (a ≡ true) → (a || b) ≡ true
-  either true b h = refl
-  either false true h = refl
-  either false false (inl h) = h
-  either false false (inr h) = h
-
-  -- a look that shows the flag is among more looks, too
-  any_below : (flag : Flag) (n m : ℕ) → n < m → flag_of flag (record_at (place n) seen) ≡ true → list_any (flag_of flag) (records terms place seen m) ≡ true
-  any_below flag n zero less shows = absurd (omega arith)
-  any_below flag n (suc m) less shows = elim (split_less n m less) [
-    | inl below ↦ either (flag_of flag (record_at (place m) seen)) _ (inl (any_below flag n m below shows))
-    | inr same ↦ either (flag_of flag (record_at (place m) seen)) _ (inr (sym (ap (λ k. flag_of flag (record_at (place k) seen)) same) ∙ shows))
-  ]
-
-  module _ (flag : Flag) (added added' : List Event) (legal : IsLegal terms.profile (added ++ seen)) (legal' : IsLegal terms.profile (added' ++ seen)) where
-    pub nones_once : (count : ℕ) → NoneShows terms place flag count added → NoneShows terms place flag count added' → added ≡ added'
-    nones_once count h h' = (none_is flag added legal count h).0 ∙ sym (none_is flag added' legal' count h').0
-
-    pub not_both : (count most : ℕ) → count < most → FirstShows terms place flag count added → NoneShows terms place flag most added' → ⊥
-    not_both count most less h h' =
-        let a = first_is flag added legal count h in
-        let b = none_is flag added' legal' most h' in
-        true≢false (sym (any_below flag count most less a.2) ∙ b.1)
-
-    not_before : (count count' : ℕ) → count < count' → FirstShows terms place flag count added → FirstShows terms place flag count' added' → ⊥
-    not_before count count' less h h' =
-        let a = first_is flag added legal count h in
-        let b = first_is flag added' legal' count' h' in
-        true≢false (sym (any_below flag count count' less a.2) ∙ b.1)
-
-  firsts_same : (flag : Flag) (added added' : List Event) (legal : IsLegal terms.profile (added ++ seen)) (legal' : IsLegal terms.profile (added' ++ seen))
-      (count count' : ℕ) → FirstShows terms place flag count added → FirstShows terms place flag count' added' → count ≡ count'
-  firsts_same flag added added' legal legal' count count' h h' = elim (three_ways count count') [
-    | inl less ↦ absurd (not_before flag added added' legal legal' count count' less h h')
-    | inr rest ↦ elim rest [
-      | inl same ↦ same
-      | inr more ↦ absurd (not_before flag added' added legal' legal count' count more h' h)
-    ]
-  ]
-
-  pub firsts_once : (flag : Flag) (added added' : List Event) → IsLegal terms.profile (added ++ seen) → IsLegal terms.profile (added' ++ seen)
-      → (count count' : ℕ) → FirstShows terms place flag count added → FirstShows terms place flag count' added' → (count ≡ count') × (added ≡ added')
-  firsts_once flag added added' legal legal' count count' h h' =
-      let same = firsts_same flag added added' legal legal' count count' h h' in (
-        same,
-        (first_is flag added legal count h).0 ∙ ap (λ n. looks_at terms place seen (suc n)) same ∙ sym (first_is flag added' legal' count' h').0,
-      )
+        first_is : (most : ℕ) → count < most → FirstShows terms place flag count added
+            → Gives (row (seeks flag) seen most) added (Some count)
+        first_is most less h =
+            let (newest, earlier, whole, shows, rest) = h.looks in
+            stays (seeks flag) seen (most - suc count) (suc count) most added count (omega (arith, less))
+            (subst (λ n. Gives (row (seeks flag) seen (suc n)) added (Some n)) h.counted
+            (one_more (seeks flag) seen terms.profile (length h.before) added earlier newest _ whole legal
+            (λ so_far. none_seen h.before seen earlier so_far rest h.none)
+            (λ so_far. sought (length h.before) h.last true (earlier ++ seen) newest so_far shows h.shows)))
 
 -- ---- what the lines that look are answered
 
-module _ (terms : Terms) (alone : terms.alone ≡ true) (seen added added' : List Event)
-    (legal : IsLegal terms.profile (added ++ seen)) (legal' : IsLegal terms.profile (added' ++ seen)) where
-  pub watches_once : (object : ℕ) (flag : Flag) (turns : ℕ) (shown shown' : Bool) → Watches terms object flag turns added shown
-      → Watches terms object flag turns added' shown' → (added ≡ added') × (shown ≡ shown')
-  watches_once object flag turns true true (count, less, h) (count', less', h') =
-      ((firsts_once terms alone (λ before. object) seen flag added added' legal legal' count count' h h').1, refl)
-  watches_once object flag turns true false (count, less, h) h' = absurd (not_both terms alone (λ before. object) seen flag added added' legal legal' count turns less h h')
-  watches_once object flag turns false true h (count', less', h') =
-      absurd (not_both terms alone (λ before. object) seen flag added' added legal' legal count' turns less' h' h)
-  watches_once object flag turns false false h h' = (nones_once terms alone (λ before. object) seen flag added added' legal legal' turns h h', refl)
+-- whether some look showed the flag, and the number of the object whose look did
+abbrev is_seen : Option ℕ → Bool
+is_seen None = false
+is_seen (Some count) = true
 
-  pub interrupts_once : (pending : Bool) (value value' : ℕ) → Interrupts terms pending added value → Interrupts terms pending added' value'
-      → (added ≡ added') × (value ≡ value')
-  interrupts_once true value value' (is, none) (is', none') = (none ∙ sym none', is ∙ sym is')
-  interrupts_once false value value' (inl (is, h)) (inl (is', h')) =
-      (nones_once terms alone in_turn seen IntPnd added added' legal legal' (objects_in terms.profile) h h', is ∙ sym is')
-  interrupts_once false value value' (inl (is, h)) (inr (count', less', is', h')) =
-      absurd (not_both terms alone in_turn seen IntPnd added' added legal' legal count' (objects_in terms.profile) less' h' h)
-  interrupts_once false value value' (inr (count, less, is, h)) (inl (is', h')) =
-      absurd (not_both terms alone in_turn seen IntPnd added added' legal legal' count (objects_in terms.profile) less h h')
-  interrupts_once false value value' (inr (count, less, is, h)) (inr (count', less', is', h')) =
-      let once = firsts_once terms alone in_turn seen IntPnd added added' legal legal' count count' h h' in
-      (once.1, is ∙ ap (λ n. n + 1) once.0 ∙ sym is')
+abbrev number_of : Option ℕ → ℕ
+number_of None = 0
+number_of (Some count) = count + 1
 
-  pub words_once : (flag : Flag) (word word' : ℕ) → ReadsFlags terms flag added word → ReadsFlags terms flag added' word' → (added ≡ added') × (word ≡ word')
-  words_once flag word word' h h' =
-      let a = looks_are terms alone in_turn seen h.shown added legal h.looks in
-      let b = looks_are terms alone in_turn seen h'.shown added' legal' h'.looks in
-      let n : length h.shown ≡ length h'.shown = h.counted ∙ sym h'.counted in (
-        a.1 ∙ ap (looks_at terms in_turn seen) n ∙ sym b.1,
-        h.is ∙ ap (flag_word flag) (a.0 ∙ ap (records terms in_turn seen) n ∙ sym b.0) ∙ sym h'.is,
-      )
+module _ (terms : Terms) where
+  abbrev watch : ℕ → Flag → ℕ → Step Bool
+  watch object flag turns seen = let w = row (seeks terms (λ before. object) flag) seen turns in (w.0, is_seen w.1)
+
+  abbrev interrupt : Bool → Step ℕ
+  interrupt true seen = ([], 0x8000)
+  interrupt false seen = let w = row (seeks terms objects IntPnd) seen (objects_in terms.profile) in (w.0, number_of w.1)
+
+  abbrev flags : Flag → Step ℕ
+  flags flag seen = let w = reads terms objects (objects_in terms.profile) seen in (w.0, flag_word flag w.1)
+
+  module _ (alone : terms.alone ≡ true) (seen : List Event) where
+    watch_is : (object : ℕ) (flag : Flag) (turns : ℕ) (added : List Event) (shown : Bool) → IsLegal terms.profile (added ++ seen)
+        → Watches terms object flag turns added shown → Gives (watch object flag turns seen) added shown
+    watch_is object flag turns added true legal (count, less, h) =
+        ap (λ (w : List Event × Option ℕ). (w.0, is_seen w.1)) (first_is terms (λ before. object) alone flag count seen added legal turns less h)
+    watch_is object flag turns added false legal h =
+        ap (λ (w : List Event × Option ℕ). (w.0, is_seen w.1)) (none_is terms (λ before. object) alone flag turns seen added legal h)
+
+    interrupt_is : (pending : Bool) (added : List Event) (value : ℕ) → IsLegal terms.profile (added ++ seen)
+        → Interrupts terms pending added value → Gives (interrupt pending seen) added value
+    interrupt_is true added value legal (is, none) = pair none is
+    interrupt_is false added value legal (inl (is, h)) =
+        pair (λ i. added) is ∙ ap (λ (w : List Event × Option ℕ). (w.0, number_of w.1))
+        (none_is terms objects alone IntPnd (objects_in terms.profile) seen added legal h)
+    interrupt_is false added value legal (inr (count, less, is, h)) =
+        pair (λ i. added) is ∙ ap (λ (w : List Event × Option ℕ). (w.0, number_of w.1))
+        (first_is terms objects alone IntPnd count seen added legal (objects_in terms.profile) less h)
+
+    flags_are : (flag : Flag) (added : List Event) (word : ℕ) → IsLegal terms.profile (added ++ seen)
+        → ReadsFlags terms flag added word → Gives (flags flag seen) added word
+    flags_are flag added word legal h =
+        pair (λ i. added) h.is ∙ ap (λ (w : List Event × List Record). (w.0, flag_word flag w.1))
+        (subst (λ n. Gives (reads terms objects n seen) added h.shown) h.counted (read_are terms objects alone h.shown seen added legal h.looks))
+
+    module _ (added added' : List Event) (legal : IsLegal terms.profile (added ++ seen)) (legal' : IsLegal terms.profile (added' ++ seen)) where
+      pub watches_once : (object : ℕ) (flag : Flag) (turns : ℕ) (shown shown' : Bool) → Watches terms object flag turns added shown
+          → Watches terms object flag turns added' shown' → (added ≡ added') × (shown ≡ shown')
+      watches_once object flag turns shown shown' h h' =
+          once (watch object flag turns seen) _ _ _ _ (watch_is object flag turns added shown legal h) (watch_is object flag turns added' shown' legal' h')
+
+      pub interrupts_once : (pending : Bool) (value value' : ℕ) → Interrupts terms pending added value
+          → Interrupts terms pending added' value' → (added ≡ added') × (value ≡ value')
+      interrupts_once pending value value' h h' =
+          once (interrupt pending seen) _ _ _ _ (interrupt_is pending added value legal h) (interrupt_is pending added' value' legal' h')
+
+      pub words_once : (flag : Flag) (word word' : ℕ) → ReadsFlags terms flag added word → ReadsFlags terms flag added' word'
+          → (added ≡ added') × (word ≡ word')
+      words_once flag word word' h h' =
+          once (flags flag seen) _ _ _ _ (flags_are flag added word legal h) (flags_are flag added' word' legal' h')

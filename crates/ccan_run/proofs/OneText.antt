@@ -17,7 +17,6 @@ use Rattle.ccan_ram.specs.declared.event.Event.{Event}
 use Rattle.ccan_ram.specs.History.{IsLegal}
 use Rattle.ccan_ram.specs.Terms.{Terms}
 use Rattle.ccan_ram.specs.Attempt.{Attempt, IsLook, look_at}
-use Rattle.ccan_ram.proofs.Alone.{looks_alone, attempts_alone}
 use Rattle.ccan_ram.proofs.Histories.{IsLegal-older}
 use Rattle.ccan_handler.specs.Watch.{Interrupts}
 use Rattle.ccan_confine.specs.Status.{IsPending}
@@ -35,6 +34,7 @@ use Rattle.ccan_run.specs.BusPort.{BusLineMeans, Only}
 use Rattle.ccan_run.specs.Lines.{LinesMean}
 use Rattle.ccan_run.specs.Ordered.{PortLine, of_if1, of_if2, of_bus, Three, PortLineMeans, terms_of, opening, lines_of, answers_text, finals_text}
 use Rattle.ccan_run.specs.Laws.{HasOneText, WhatWasPrintedIsTheText}
+use Rattle.ccan_run.proofs.Determined.{once, look, attempt, look_is, attempt_is}
 use Rattle.ccan_run.proofs.LooksOnce.{watches_once, interrupts_once, words_once}
 use Rattle.ccan_run.proofs.LoadsOnce.{loads_once}
 use Rattle.ccan_run.proofs.RoundsOnce.{rounds_once}
@@ -101,18 +101,19 @@ module _ (terms : Terms) (alone : terms.alone ≡ true) (tries : ℕ) (some : 1 
       ((shown : Record) × IsLook terms object shown added' × Ends object registers shown reply' left')
       ((outcome : Result Changed Refused) × Attempt terms object (change_of registers) tries seen added' outcome × Answers object registers outcome reply' left')
       → (added ≡ added') × (reply ≡ reply') × (left ≡ left')
-  transfer_once true object registers left left' (shown, look, e) (shown', look', e') =
-      let a = looks_alone terms object shown seen added alone legal look in
-      let b = looks_alone terms object shown' seen added' alone legal' look' in
-      let same : shown ≡ shown' = a.0 ∙ sym b.0 in
-      let once = ends_once object registers left left' shown shown' reply reply' same e e' in
-      (a.1 ∙ ap (λ (r : Record). look_at terms.port object r ∷ []) same ∙ sym b.1, once.0, once.1)
-  transfer_once false object registers left left' (outcome, attempt, e) (outcome', attempt', e') =
-      let a = attempts_alone terms object (change_of registers) tries seen added outcome alone some legal attempt in
-      let b = attempts_alone terms object (change_of registers) tries seen added' outcome' alone some legal' attempt' in
-      let same : outcome' ≡ outcome = b.0 ∙ sym a.0 in
-      let once = answers_once object registers left left' reply reply' outcome e (subst (λ (o : Result Changed Refused). Answers object registers o reply' left') same e') in
-      (a.1 ∙ sym b.1, once.0, once.1)
+  transfer_once true object registers left left' (shown, shows, e) (shown', shows', e') =
+      let one = once (look terms object seen) added added' shown shown' (look_is terms alone seen added legal object shown shows)
+      (look_is terms alone seen added' legal' object shown' shows') in
+      let same = ends_once object registers left left' shown shown' reply reply' one.1 e e' in
+      (one.0, same.0, same.1)
+  transfer_once false object registers left left' (outcome, tried, e) (outcome', tried', e') =
+      let change = change_of registers in
+      let one = once (attempt terms object change seen) added added' outcome outcome'
+      (attempt_is terms alone seen added legal object change tries outcome some tried)
+      (attempt_is terms alone seen added' legal' object change tries outcome' some tried') in
+      let same = answers_once object registers left left' reply reply' outcome e
+      (subst (λ (o : Result Changed Refused). Answers object registers o reply' left') (sym one.1) e') in
+      (one.0, same.0, same.1)
 
   -- ---- a line of a host
 
