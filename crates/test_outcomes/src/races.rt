@@ -3,7 +3,7 @@
 use ccan_object::ObjectNo;
 use ccan_outcomes::{
     HistoryKind, Outcomes, all_outcomes, history_of, laws, line_process_laws, machine_laws,
-    process_laws, same, seat_laws, told_laws, way_to,
+    process_laws, same, seat_laws, way_to,
 };
 use ccan_ram::PortName;
 use ccan_run::read_input;
@@ -58,8 +58,6 @@ fn laws_hold() {
     same::equal_answers_are_the_same();
     machine_laws::all_outcomes_are_reached();
     machine_laws::walks_are_histories();
-    told_laws::host_steps_are_told();
-    told_laws::bus_steps_are_told();
 }
 
 #[test]

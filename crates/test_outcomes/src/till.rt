@@ -6,7 +6,7 @@ use std::alloc::{AllocError, Global};
 pub struct Till;
 
 impl Machine for Till {
-    ghost use Rattle.std.specs.Prelude.{ℕ, ◌≡◌, ◌%◌, ◌⊎◌, List, ◌∷◌, sum};
+    ghost use Rattle.std.specs.Prelude.{ℕ, ◌≡◌, ◌+◌, ◌%◌, ◌⊎◌, List, [], ◌∷◌, Contains, sum};
     ghost use Rattle.std.proofs.lemmas.Bool.{eqb-true};
 
     /// The digit that it shows.
@@ -18,6 +18,8 @@ impl Machine for Till {
     ghost leads = { λ _ coins more. (more ≡ 2 ∷ coins) ⊎ (more ≡ 4 ∷ coins) };
 
     ghost stands_for = { λ _ digit coins. digit ≡ sum coins % 10 };
+
+    ghost follows = { λ _ from to. Contains ((from % 10 + 2) % 10 ∷ (from % 10 + 4) % 10 ∷ []) to };
 
     fn next(&self, alloc: Global, from: &u64) -> Result<Vec<u64>, AllocError> {
         let digit = *from % 10;
