@@ -2,7 +2,7 @@
 //! are those that another program found, which was written for that in another language.
 use ccan_object::ObjectNo;
 use ccan_outcomes::{
-    HistoryKind, Outcomes, all_outcomes, history_of, laws, line_process_laws, machine_laws,
+    HistoryKind, Outcomes, all_outcomes, history_of, line_process_laws, machine_laws, place_laws,
     process_laws, same, seat_laws, way_to,
 };
 use ccan_ram::PortName;
@@ -39,17 +39,14 @@ fn texts(alloc: Global, outcomes: &Outcomes) -> Result<Vec<String>, Fail> {
 
 #[test]
 fn laws_hold() {
-    laws::ports_stand_as_they_came();
-    laws::steps_keep_standing();
-    laws::others_keep_standing();
-    laws::outcomes_are_reached();
-    laws::steps_are_own();
-    laws::own_are_found();
     seat_laws::hosts_begin_as_processes();
     seat_laws::host_steps_are_acts();
     seat_laws::steps_stay_within();
     seat_laws::hosts_notice_as_processes();
     seat_laws::hosts_end_as_processes();
+    seat_laws::steps_are_own();
+    seat_laws::own_are_found();
+    place_laws::stages_tell_places();
     process_laws::steps_are_the_whole();
     line_process_laws::host_lines_are_processes();
     line_process_laws::bus_lines_are_processes();
