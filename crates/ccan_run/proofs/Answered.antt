@@ -27,15 +27,18 @@ none_after contends memory script history port answers part =
     none_before (events_of port part.begins.0) (events_of port part.seen)
     (sym (events_of-append port part.begins.0 part.seen) ∙ (sym (ap (events_of port) part.begins.1) ∙ part.own))
 
-module _ (contends : ℕ → ℕ → Bool) (memory : Memory) (script : ScriptFields) (history : List Event) (answers : List LineAnswer) where
-  of_if1 : HasPart contends memory script history If1 answers → HostInOrder memory.profile If1 script.if1 zero_registers answers history
+module _ (contends : ℕ → ℕ → Bool) (memory : Memory) (script : ScriptFields) (history : List Event)
+    (answers : List LineAnswer) where
+  of_if1 : HasPart contends memory script history If1 answers
+      → HostInOrder memory.profile If1 script.if1 zero_registers answers history
   of_if1 part =
       let none = none_after contends memory script history If1 answers part in
       let all = host_lines (terms_of contends memory If1) script.tries script.if1 zero_registers [] part.seen answers
       part.answered.0 part.answered.1 part.begins.0 none in
       subst (λ (es : List Event). HostInOrder memory.profile If1 script.if1 zero_registers answers es) (sym part.begins.1) all
 
-  of_if2 : HasPart contends memory script history If2 answers → HostInOrder memory.profile If2 script.if2 zero_registers answers history
+  of_if2 : HasPart contends memory script history If2 answers
+      → HostInOrder memory.profile If2 script.if2 zero_registers answers history
   of_if2 part =
       let none = none_after contends memory script history If2 answers part in
       let all = host_lines (terms_of contends memory If2) script.tries script.if2 zero_registers [] part.seen answers

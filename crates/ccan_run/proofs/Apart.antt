@@ -58,27 +58,35 @@ none_of_all events none = none_undisturbed If1 events (λ other apart. none othe
 
 -- ---- a line
 
-module _ (contends : ℕ → ℕ → Bool) (memory : Memory) (script : ScriptFields) (same : IsMemoryOf script.profile script.quota memory)
+module _ (contends : ℕ → ℕ → Bool) (memory : Memory) (script : ScriptFields)
+    (same : IsMemoryOf script.profile script.quota memory)
     (some : 1 ≤ script.tries) where
   single_is : (name : PortName) → one_thread_terms memory.profile name memory.quota ≡ terms_of script name
   single_is name = ap₂ (λ profile quota. one_thread_terms profile name quota) same.profile_is same.quota_is
 
-  pub port_line_apart : (line : PortLine) (three : Three) (seen added : List Event) (reply : PortName × LineAnswer) (left : Three)
+  pub port_line_apart : (line : PortLine) (three : Three) (seen added : List Event) (reply : PortName × LineAnswer)
+      (left : Three)
       → NobodyElse reply.0 added
       → PortLineMeans (shared.terms_of contends memory) script.tries line three seen added reply left
       → PortLineMeans (terms_of script) script.tries line three seen added reply left
   port_line_apart (of_if1 line) three seen added reply left alone (after, port, means, is) =
       let mine = subst (λ (p : PortName). NobodyElse p added) port alone in
-      let one = host_apart (shared.terms_of contends memory If1) script.tries some seen added mine line three.first reply.1 after means in
-      let single = subst (λ (t : Terms). HostLineMeans t script.tries line three.first seen added reply.1 after) (single_is If1) one in
+      let one = host_apart (shared.terms_of contends memory If1) script.tries some seen added
+      mine line three.first reply.1 after means in
+      let single = subst (λ (t : Terms). HostLineMeans t script.tries line three.first seen added reply.1 after)
+      (single_is If1) one in
       (after, port, single, is)
   port_line_apart (of_if2 line) three seen added reply left alone (after, port, means, is) =
       let mine = subst (λ (p : PortName). NobodyElse p added) port alone in
-      let one = host_apart (shared.terms_of contends memory If2) script.tries some seen added mine line three.second reply.1 after means in
-      let single = subst (λ (t : Terms). HostLineMeans t script.tries line three.second seen added reply.1 after) (single_is If2) one in
+      let one = host_apart (shared.terms_of contends memory If2) script.tries some seen added
+      mine line three.second reply.1 after means in
+      let single = subst (λ (t : Terms). HostLineMeans t script.tries line three.second seen added reply.1 after)
+      (single_is If2) one in
       (after, port, single, is)
   port_line_apart (of_bus line) three seen added reply left alone (after, port, means, is) =
       let mine = subst (λ (p : PortName). NobodyElse p added) port alone in
-      let one = bus_apart (shared.terms_of contends memory Bus) script.tries some seen added mine line three.bus reply.1 after means in
-      let single = subst (λ (t : Terms). BusLineMeans t script.tries line three.bus seen added reply.1 after) (single_is Bus) one in
+      let one = bus_apart (shared.terms_of contends memory Bus) script.tries some seen added
+      mine line three.bus reply.1 after means in
+      let single = subst (λ (t : Terms). BusLineMeans t script.tries line three.bus seen added reply.1 after)
+      (single_is Bus) one in
       (after, port, single, is)

@@ -51,7 +51,8 @@ use Rattle.ccan_run.proofs.StepsShown.{in_newest, in_earlier, done_at, interrupt
 -- ---- what stands in a part of the history stands in it
 
 abbrev event_of : ℕ → Change → Record → Record → Event
-event_of object change before left = record { port = Bus; object = object; operation = Make change; before = before; after = left }
+event_of object change before left =
+    record { port = Bus; object = object; operation = Make change; before = before; after = left }
 
 module _ (added newest earlier : List Event) (whole : added ≡ newest ++ earlier) where
   newest_changed : (object : ℕ) (change : Change) (left : Record) → WasChanged object change left newest
@@ -95,7 +96,8 @@ module _ (added newest earlier : List Event) (whole : added ≡ newest ++ earlie
       → changes_in Bus added ≡ later ++ first
   two_parts later first is_later is_first =
       ap (changes_in Bus) whole ∙ (changes_in-append Bus newest earlier
-      ∙ (ap (λ (l : List (ℕ × Change)). l ++ changes_in Bus earlier) is_later ∙ ap (λ (l : List (ℕ × Change)). later ++ l) is_first))
+      ∙ (ap (λ (l : List (ℕ × Change)). l ++ changes_in Bus earlier) is_later
+      ∙ ap (λ (l : List (ℕ × Change)). later ++ l) is_first))
 
 -- ---- what is loaded, and what others send
 
@@ -167,7 +169,8 @@ module _ (terms : Terms) (bus : terms.port ≡ Bus) (tries : ℕ) where
       changes_in-one Bus object change before left added (subst (λ (port : PortName). changes_by port added ≡ 1) bus is) step
 
   one_made : (object : ℕ) (change : Change) (seen added : List Event) (before after : Record) (number : ℕ)
-      → Attempt terms object change tries seen added (Ok (Done before after number)) → changes_in Bus added ≡ (object, change) ∷ []
+      → Attempt terms object change tries seen added (Ok (Done before after number))
+      → changes_in Bus added ≡ (object, change) ∷ []
   one_made object change seen added before after number h =
       one object change after added (changes_by-attempt terms object change tries seen added (Ok (Done before after number)) h)
       (made object change seen added before after number h)
@@ -178,12 +181,14 @@ module _ (terms : Terms) (bus : terms.port ≡ Bus) (tries : ℕ) where
       one object change after added (bounds_law terms change tries 1 seen added (MadeAt object before after number) h).1
       (scanned object 1 change seen added before after number h)
 
-  none_found : (change : Change) (seen added : List Event) → Scan terms change 1 tries seen added Nowhere → changes_in Bus added ≡ []
+  none_found : (change : Change) (seen added : List Event) → Scan terms change 1 tries seen added Nowhere
+      → changes_in Bus added ≡ []
   none_found change seen added h = none added (bounds_law terms change tries 1 seen added Nowhere h).1
 
   -- ---- loads and rounds
 
-  loads : (seen added : List Event) (past after : BusPast) (loading : LoadAnswer) → Loads terms tries seen added past after loading
+  loads : (seen added : List Event) (past after : BusPast) (loading : LoadAnswer)
+      → Loads terms tries seen added past after loading
       → BusShownBy terms.profile line.Load (answer.Load loading) seen added
   loads seen added past after (load.Loaded object started) h = chosen past.choice object seen added started h.choice.chooses
   loads seen added past after (load.Held object) h = tt
@@ -191,7 +196,8 @@ module _ (terms : Terms) (bus : terms.port ≡ Bus) (tries : ℕ) where
   loads seen added past after (load.Busy object) h = tt
   loads seen added past after (load.Spent object) h = tt
 
-  load_makes : (seen added : List Event) (past after : BusPast) (loading : LoadAnswer) → Loads terms tries seen added past after loading
+  load_makes : (seen added : List Event) (past after : BusPast) (loading : LoadAnswer)
+      → Loads terms tries seen added past after loading
       → BusMakes (answer.Load loading) (changes_in Bus added)
   load_makes seen added past after (load.Loaded object started) h =
       one object Start started added (changes_by-choice terms past.choice tries seen added _ h.choice.chooses)
@@ -205,7 +211,8 @@ module _ (terms : Terms) (bus : terms.port ≡ Bus) (tries : ℕ) where
   load_makes seen added past after (load.Spent object) h =
       none added (changes_by-choice terms past.choice tries seen added _ h.choice.chooses)
 
-  load_starts : (seen added : List Event) (past after : BusPast) (loading : LoadAnswer) → Loads terms tries seen added past after loading
+  load_starts : (seen added : List Event) (past after : BusPast) (loading : LoadAnswer)
+      → Loads terms tries seen added past after loading
       → IsAtMost Start (changes_in Bus added)
   load_starts seen added past after (load.Loaded object started) h =
       inr (object, load_makes seen added past after (load.Loaded object started) h)
@@ -214,7 +221,8 @@ module _ (terms : Terms) (bus : terms.port ≡ Bus) (tries : ℕ) where
   load_starts seen added past after (load.Busy object) h = inl (load_makes seen added past after (load.Busy object) h)
   load_starts seen added past after (load.Spent object) h = inl (load_makes seen added past after (load.Spent object) h)
 
-  load_carries : (seen added : List Event) (past after : BusPast) (loading : LoadAnswer) → Loads terms tries seen added past after loading
+  load_carries : (seen added : List Event) (past after : BusPast) (loading : LoadAnswer)
+      → Loads terms tries seen added past after loading
       → Carries past seen → Carries after (added ++ seen)
   load_carries seen added past after (load.Loaded object started) h carries loaded is =
       let same : (object, started) ≡ loaded = let e = sym (ap (λ (p : BusPast). p.loaded) h.now_loaded) ∙ is in cc in
@@ -346,7 +354,8 @@ module _ (terms : Terms) (bus : terms.port ≡ Bus) (tries : ℕ) where
   loop_makes seen added past after (round.Busy at) (told, now, AtScan object finished h) = inr (
     object,
     two_parts added h.last h.first h.whole [] ((object, Finish) ∷ [])
-        (none h.last (bounds_law terms (Store h.frame) tries 1 (h.first ++ seen) h.last (RefusedAt at (refused.Busy told now)) h.scan).1)
+        (none h.last (bounds_law terms (Store h.frame) tries 1 (h.first ++ seen) h.last
+        (RefusedAt at (refused.Busy told now)) h.scan).1)
         (one_made object Finish seen h.first h.before finished h.number h.finish.finish),
   )
   loop_makes seen added past after (round.Spent at) (AtFinish frame h) =
@@ -447,7 +456,8 @@ module _ (terms : Terms) (bus : terms.port ≡ Bus) (tries : ℕ) where
   interrupts false value seen added h =
       record {
         shown =
-            inr (subst (λ (port : PortName). NamesPending port terms.profile value added) bus (interrupt_shown terms value added h));
+            inr (subst (λ (port : PortName). NamesPending port terms.profile value added) bus
+            (interrupt_shown terms value added h));
         changes = none added (changes_by-interrupt terms value added h);
       }
 
@@ -455,7 +465,8 @@ module _ (terms : Terms) (bus : terms.port ≡ Bus) (tries : ℕ) where
       → IsBusPart terms.profile (line.Flags flag) (answer.Flags flag word terms.profile) seen added
   flags flag word seen added h =
       record {
-        shown = subst (λ (port : PortName). WordWasShown port terms.profile flag word added) bus (word_shown terms flag word added h);
+        shown = subst (λ (port : PortName). WordWasShown port terms.profile flag word added) bus
+            (word_shown terms flag word added h);
         changes = none added (changes_by-flags terms flag added word h);
       }
 
@@ -484,7 +495,8 @@ module _ (terms : Terms) (bus : terms.port ≡ Bus) (tries : ℕ) where
 
   line_carries : (line : BusLine) (past : BusPast) (seen added : List Event) (reply : LineAnswer) (after : BusPast)
       → BusLineMeans terms tries line past seen added reply after → Carries past seen → Carries after (added ++ seen)
-  line_carries line.Load past seen added reply after (loading, is, h) carries = load_carries seen added past after loading h carries
+  line_carries line.Load past seen added reply after (loading, is, h) carries =
+      load_carries seen added past after loading h carries
   line_carries (line.Round sends) past seen added reply after (ended, is, h) carries =
       round_carries sends seen added past after ended h carries
   line_carries line.Status past seen added reply after (word, is, quiet, h) carries =
@@ -526,8 +538,8 @@ module _ (terms : Terms) (bus : terms.port ≡ Bus) (tries : ℕ) where
   bus_lines [] past seen added answers left carries (none, empty, same) more foreign =
       let last : events_of Bus (more ++ added) ≡ [] = rw none (ap (events_of Bus) (append-nil more) ∙ foreign) in
       subst (λ (l : List LineAnswer). BusInOrder terms.profile [] l seen (more ++ added)) (sym empty) last
-  bus_lines (line ∷ lines) past seen added answers left carries (later, first, reply, replies, between, whole, all, means, rest) more
-      foreign =
+  bus_lines (line ∷ lines) past seen added answers left carries
+      (later, first, reply, replies, between, whole, all, means, rest) more foreign =
       let kept = line_carries line past seen first reply between means carries in
       let there : BusInOrder terms.profile (line ∷ lines) (reply ∷ replies) seen (more ++ added) = (
         more ++ later,

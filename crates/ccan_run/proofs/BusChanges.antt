@@ -49,14 +49,16 @@ empty (first ∷ made) h = absurd (omega (arith, h))
 pub changes_in-none : (port : PortName) (events : List Event) → changes_by port events ≡ 0 → changes_in port events ≡ []
 changes_in-none port events none = empty (changes_in port events) (omega (arith, counted port events, none))
 
-append_more : (mine : Bool) (operation : Operation) (object : ℕ) (all newest earlier : List (ℕ × Change)) → all ≡ newest ++ earlier
+append_more : (mine : Bool) (operation : Operation) (object : ℕ) (all newest earlier : List (ℕ × Change))
+    → all ≡ newest ++ earlier
     → cond mine (with_change operation object all) all ≡ cond mine (with_change operation object newest) newest ++ earlier
 append_more true Look object all newest earlier h = h
 append_more false Look object all newest earlier h = h
 append_more true (Make change) object all newest earlier h = ap (λ (l : List (ℕ × Change)). (object, change) ∷ l) h
 append_more false (Make change) object all newest earlier h = h
 
-pub changes_in-append : (port : PortName) (xs ys : List Event) → changes_in port (xs ++ ys) ≡ changes_in port xs ++ changes_in port ys
+pub changes_in-append : (port : PortName) (xs ys : List Event)
+    → changes_in port (xs ++ ys) ≡ changes_in port xs ++ changes_in port ys
 changes_in-append port [] ys = refl
 changes_in-append port (event ∷ xs) ys =
     append_more (same_port event.port port) event.operation event.object _ _ _ (changes_in-append port xs ys)
@@ -84,9 +86,11 @@ module _ (port : PortName) (object : ℕ) (change : Change) (before left : Recor
   among (first ∷ events) there =
       let rest = changes_in port events in
       let own : Contains (changes_in port (event ∷ events)) (object, change) =
-      rw (its_own port) (Contains-append_left ((object, change) ∷ []) rest (object, change) (Contains-push [] (object, change))) in
+      rw (its_own port) (Contains-append_left ((object, change) ∷ []) rest (object, change)
+      (Contains-push [] (object, change))) in
       elim (Contains-append_cases (first ∷ []) events event there) [
-        | inl here ↦ subst (λ (e : Event). Contains (changes_in port (e ∷ events)) (object, change)) (sym (same_event first event here)) own
+        | inl here ↦ subst (λ (e : Event). Contains (changes_in port (e ∷ events)) (object, change))
+            (sym (same_event first event here)) own
         | inr later ↦
             rest_more (same_port first.port port) first.operation first.object rest (object, change) (among events later)
       ]
@@ -209,7 +213,8 @@ module _ (terms : Terms) where
       ) in
       in_three added h.tried h.looked s.last s.skipped 1 h.whole s.whole looked
       (skips h.shown tries s.below (h.looked ++ seen) s.skipped s.skips)
-      (changes_by-attempt terms object Start tries (s.skipped ++ (h.looked ++ seen)) s.last (Ok (Done s.start.1 after s.start.2)) s.start.3)
+      (changes_by-attempt terms object Start tries (s.skipped ++ (h.looked ++ seen)) s.last
+      (Ok (Done s.start.1 after s.start.2)) s.start.3)
   changes_by-choice AtOnce tries seen added (Err refused) h =
       let p = h.picture in
       let s = h.choice in

@@ -1,7 +1,7 @@
 -- The choice of what to send, where nobody else acts: whether it is made in turn or at one moment, its end is a function of the
 -- history.
-use Rattle.std.proofs.Common.{◌≡◌, ◌<◌, ◌≤◌, ◌+◌, ◌-◌, ℕ, zero, suc, true, false, cond, List, [], ◌++◌, inl, inr, Option, Some, None}
-use Rattle.std.proofs.Common.{Result, Ok, Err, refl, sym, ap, subst, ◌∙◌, arith}
+use Rattle.std.proofs.Common.{◌≡◌, ◌≤◌, ◌-◌, ℕ, zero, suc, true, cond, List, [], ◌++◌, inl, inr, Option, Some, None}
+use Rattle.std.proofs.Common.{Result, Ok, Err, refl, sym, ap, ◌∙◌, arith}
 use Rattle.ccan_object.specs.declared.record.Record.{Record}
 use Rattle.ccan_object.specs.Profile.{objects_in}
 use Rattle.ccan_ram.specs.declared.change.Change.TheVariants.{Start}
@@ -17,7 +17,7 @@ use Rattle.ccan_ram.specs.Picture.{pictured}
 use Rattle.ccan_ram.specs.Terms.{Terms}
 use Rattle.ccan_ram.proofs.Pictures.{alone_added, alone_shown}
 use Rattle.ccan_handler.specs.Scan.{Scans}
-use Rattle.ccan_handler.specs.Moment.{was_ready, Starts, Skips, StopsAtOne, Chosen, ChoosesAmong, ChoosesAtOnce}
+use Rattle.ccan_handler.specs.Moment.{was_ready, Starts, Skips, StopsAtOne, Chosen, ChoosesAmong}
 use Rattle.ccan_bus.specs.declared.choice.Choice.{Choice}
 use Rattle.ccan_bus.specs.declared.choice.Choice.TheVariants.{InTurn, AtOnce}
 use Rattle.ccan_bus.specs.Choice.{Chooses}
@@ -61,7 +61,8 @@ module _ (terms : Terms) where
           pair none (λ i. None) ∙ ap (λ b. cond b (try terms Start object seen) ([], None)) (sym unready)
       skip_is object seen added legal (inr (ready, now, h)) = tried object seen added (Ok (NotNow now)) legal ready h
 
-      skips_are : (n : ℕ) (seen added : List Event) → IsLegal terms.profile (added ++ seen) → Skips terms shown tries n seen added
+      skips_are : (n : ℕ) (seen added : List Event) → IsLegal terms.profile (added ++ seen)
+          → Skips terms shown tries n seen added
           → Gives (row (starts shown) seen n) added None
       skips_are zero seen added legal none = pair none (λ i. None)
       skips_are (suc n) seen added legal (last, earlier, whole, start, rest) =
@@ -77,7 +78,8 @@ module _ (terms : Terms) where
             let held = h.held in
             let object_is : object ≡ suc h.below = let e = h.is in omega (arith, e) in
             ap (λ (w : List Event × Option Found). (w.0, chosen_of (found w.1)))
-            (stays (starts shown) seen (objects_in terms.profile - suc h.below) (suc h.below) (objects_in terms.profile) added stop
+            (stays (starts shown) seen (objects_in terms.profile - suc h.below) (suc h.below)
+            (objects_in terms.profile) added stop
             (omega (arith, held))
             (one_more (starts shown) seen terms.profile h.below added h.skipped h.last (Some stop) h.whole legal
             (λ so_far. skips_are h.below seen h.skipped so_far h.skips)
@@ -86,7 +88,8 @@ module _ (terms : Terms) where
 
         among_is : (chosen : Chosen) → ChoosesAmong terms shown tries seen added chosen → Gives (among shown seen) added chosen
         among_is (Ok None) h =
-            ap (λ (w : List Event × Option Found). (w.0, chosen_of (found w.1))) (skips_are (objects_in terms.profile) seen added legal h)
+            ap (λ (w : List Event × Option Found). (w.0, chosen_of (found w.1)))
+            (skips_are (objects_in terms.profile) seen added legal h)
         among_is (Ok (Some (object, after))) h =
             let (ready, before, number, attempt) = h.start in
             stops_are object (Ok (Some after)) (Ok (Done before after number)) _ h ready attempt refl
@@ -105,5 +108,6 @@ module _ (terms : Terms) where
     choice_is InTurn seen added (Err refused) legal h = scanned seen added (Err refused) legal h
     choice_is AtOnce seen added chosen legal h =
         in_turn terms.profile seen added h.looked h.tried h.whole legal _ among h.shown chosen
-        (λ so_far. pair (alone_added terms alone h.shown seen h.looked h.picture) (alone_shown terms alone h.shown seen h.looked h.picture))
+        (λ so_far. pair (alone_added terms alone h.shown seen h.looked h.picture)
+        (alone_shown terms alone h.shown seen h.looked h.picture))
         (λ so_far. among_is h.shown (h.looked ++ seen) h.tried so_far chosen h.choice)

@@ -20,15 +20,18 @@ ccan_is_simple : (names : Names) → is_simple (ccan names) ≡ true
 unfolding ccan clap_on_literals
 ccan_is_simple names = refl
 
-pub answers_from : (command : Command) (found : ArgMatches) (words : List Text) (word : Option Text) (mode : RunMode) → IsCommand command
-    → HasMatchesOf (app_of command) words found → (is_simple_and_free (app_of command) ≡ true → fault_of (app_of command) words ≡ [])
+pub answers_from : (command : Command) (found : ArgMatches) (words : List Text) (word : Option Text) (mode : RunMode)
+    → IsCommand command
+    → HasMatchesOf (app_of command) words found
+    → (is_simple_and_free (app_of command) ≡ true → fault_of (app_of command) words ≡ [])
     → word ≡ first_value (found_of found) (codes "mode") → mode ≡ mode_of word → Answers words mode
 answers_from command found words word mode is matches taken value mode_is = record {
   names = is.0;
   modes = is.1;
   taken = ap (λ (a : App). fault_of a words) (sym is.2) ∙ taken (ap is_simple_and_free is.2 ∙ ccan_is_free is.0);
   mode_is = mode_is ∙ ap mode_of (value ∙ first_value-rows (found_of found) (codes "mode")
-      ∙ ap (first_of (codes "mode")) ((matches (ap is_simple is.2 ∙ ccan_is_simple is.0)).0 ∙ ap (λ (a : App). matches_of a words) is.2));
+      ∙ ap (first_of (codes "mode"))
+      ((matches (ap is_simple is.2 ∙ ccan_is_simple is.0)).0 ∙ ap (λ (a : App). matches_of a words) is.2));
 }
 
 some_kind : (kinds : Kinds) (e : Error) → HasKind kinds e → error_from e ≡ Words → kinds ≢ []

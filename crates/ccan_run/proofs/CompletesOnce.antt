@@ -1,5 +1,5 @@
 -- The memory steps of a decision, where nobody else acts: what they add and how the round ends is a function of the history.
-use Rattle.std.proofs.Common.{◌≡◌, ◌≤◌, ℕ, true, List, [], ◌++◌, Some, None, Result, Ok, Err, refl, sym, ap, ◌∙◌}
+use Rattle.std.proofs.Common.{◌≡◌, ◌≤◌, ℕ, true, List, [], ◌++◌, Result, Ok, Err, refl, ap, ◌∙◌}
 use Rattle.ccan_object.specs.declared.record.Record.{Record}
 use Rattle.ccan_accept.specs.declared.frame.Frame.{Frame}
 use Rattle.ccan_ram.specs.declared.change.Change.TheVariants as change
@@ -63,12 +63,14 @@ module _ (terms : Terms) where
           in_turn terms.profile seen added added [] refl legal (finish object seen) (follow object frame) (Err h.why) end
           (λ so_far. finish_is object seen added (Err h.why) so_far h.finish) (λ so_far. pair refl h.told)
       back_is object frame (Scanned h) =
-          in_turn terms.profile seen added h.first h.last h.whole legal (finish object seen) (follow object frame) (Ok h.finished) end
+          in_turn terms.profile seen added h.first h.last h.whole legal (finish object seen) (follow object frame)
+          (Ok h.finished) end
           (λ so_far. finish_is object seen h.first (Ok h.finished) so_far h.finish)
           (λ so_far. pair refl h.told ∙ ap (λ (f : List Event × Found). (f.0, end_of_loop object h.finished f.1))
           (scan_is terms (change.Store frame) alone tries some 1 (h.first ++ seen) h.last h.outcome so_far h.scan))
 
-      pub complete_is : (decided : Decision) → Completes terms tries seen added decided end → Gives (complete decided seen) added end
+      pub complete_is : (decided : Decision) → Completes terms tries seen added decided end
+          → Gives (complete decided seen) added end
       complete_is decision.Idle (none, is) = pair none is
       complete_is decision.Collision (none, is) = pair none is
       complete_is (decision.Fault winner frame) (none, is) = pair none is

@@ -120,7 +120,8 @@ module _ (terms : Terms) (tries : ℕ) (line : HostLine) where
       tells terms line registers reply left added (answer.Spent object) registers answers.0 answers.1 refl tt
       (changes_by-attempt terms object (change_of registers) tries seen added (Err refused.Spent) attempt)
 
-  by_command : (pure : Bool) (object : ℕ) (registers : Registers) (seen added : List Event) (reply : LineAnswer) (left : Registers)
+  by_command : (pure : Bool) (object : ℕ) (registers : Registers) (seen added : List Event) (reply : LineAnswer)
+      (left : Registers)
       → is_pure_read registers.command ≡ pure
       → MatchBool pure
       ((shown : Record) × IsLook terms object shown added × Ends object registers shown reply left)
@@ -181,7 +182,8 @@ module _ (terms : Terms) (tries : ℕ) where
   transferred object registers reply left (Err (refused.Busy told now)) answers = rw answers.0 refl
   transferred object registers reply left (Err refused.Spent) answers = rw answers.0 refl
 
-  of_transfer : (pure : Bool) (object : ℕ) (registers : Registers) (seen added : List Event) (reply : LineAnswer) (left : Registers)
+  of_transfer : (pure : Bool) (object : ℕ) (registers : Registers) (seen added : List Event) (reply : LineAnswer)
+      (left : Registers)
       → MatchBool pure
       ((shown : Record) × IsLook terms object shown added × Ends object registers shown reply left)
       ((outcome : Result Changed Refused) × Attempt terms object (change_of registers) tries seen added outcome
@@ -221,4 +223,5 @@ module _ (terms : Terms) (tries : ℕ) where
         shows.0,
         subst (λ (i : Registers). HostInOrder terms.profile terms.port lines i replies (more ++ later)) shows.1 all_later,
       ) in
-      subst (λ (l : List LineAnswer). HostInOrder terms.profile terms.port (line ∷ lines) registers l (more ++ added)) (sym all) there
+      subst (λ (l : List LineAnswer). HostInOrder terms.profile terms.port (line ∷ lines) registers l (more ++ added))
+      (sym all) there

@@ -42,7 +42,8 @@ module _ (terms : Terms) where
   made (Ok (NotNow shown)) = 0
   made (Err why) = 0
 
-  pub changes_by-attempt : (object : ℕ) (change : Change) (tries : ℕ) (seen added : List Event) (outcome : Result Changed Refused)
+  pub changes_by-attempt : (object : ℕ) (change : Change) (tries : ℕ) (seen added : List Event)
+      (outcome : Result Changed Refused)
       → Attempt terms object change tries seen added outcome → changes_by terms.port added ≡ made outcome
   changes_by-attempt object change tries seen added (Ok (Done before after number)) a =
       let port = terms.port in
@@ -53,7 +54,8 @@ module _ (terms : Terms) where
   changes_by-attempt object change tries seen added (Ok (NotNow shown)) a =
       in_two terms.port added a.looked a.lost 0 0 a.whole (changes_by-look object shown a.looked a.look)
       (changes_by-lost terms object change a.times a.lost a.lose)
-  changes_by-attempt object change tries seen added (Err (Busy told now)) a = changes_by-lost terms object change tries added a.lose
+  changes_by-attempt object change tries seen added (Err (Busy told now)) a =
+      changes_by-lost terms object change tries added a.lose
   changes_by-attempt object change tries seen added (Err Spent) a = ap (changes_by terms.port) a.1
 
   -- looks make none
@@ -66,10 +68,12 @@ module _ (terms : Terms) where
 
   pub changes_by-watch : (object : ℕ) (flag : Flag) (turns : ℕ) (added : List Event) (shown : Bool)
       → Watches terms object flag turns added shown → changes_by terms.port added ≡ 0
-  changes_by-watch object flag turns added true (count, less, h) = changes_by-looks (λ before. object) (h.last ∷ h.before) added h.looks
+  changes_by-watch object flag turns added true (count, less, h) =
+      changes_by-looks (λ before. object) (h.last ∷ h.before) added h.looks
   changes_by-watch object flag turns added false h = changes_by-looks (λ before. object) h.shown added h.looks
 
-  pub changes_by-interrupt : (value : ℕ) (added : List Event) → Interrupts terms false added value → changes_by terms.port added ≡ 0
+  pub changes_by-interrupt : (value : ℕ) (added : List Event) → Interrupts terms false added value
+      → changes_by terms.port added ≡ 0
   changes_by-interrupt value added (inl (is, h)) = changes_by-looks (λ before. before + 1) h.shown added h.looks
   changes_by-interrupt value added (inr (count, less, is, h)) =
       changes_by-looks (λ before. before + 1) (h.last ∷ h.before) added h.looks

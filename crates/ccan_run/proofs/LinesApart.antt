@@ -38,12 +38,14 @@ module _ (terms : Terms) (tries : ℕ) (some : 1 ≤ tries) (seen added : List E
       ((shown : Record) × IsLook single object shown added × Ends object registers shown reply left)
       ((outcome : Result Changed Refused) × Attempt single object (change_of registers) tries seen added outcome
       × Answers object registers outcome reply left)
-  transfer_apart true object registers reply left (shown, look, ends) = (shown, looks_undisturbed terms object shown added alone look, ends)
+  transfer_apart true object registers reply left (shown, look, ends) =
+      (shown, looks_undisturbed terms object shown added alone look, ends)
   transfer_apart false object registers reply left (outcome, attempt, answers) =
       (outcome, attempts_undisturbed terms object (change_of registers) tries seen added outcome some alone attempt, answers)
 
   pub host_apart : (line : HostLine) (registers : Registers) (reply : LineAnswer) (left : Registers)
-      → HostLineMeans terms tries line registers seen added reply left → HostLineMeans single tries line registers seen added reply left
+      → HostLineMeans terms tries line registers seen added reply left
+      → HostLineMeans single tries line registers seen added reply left
   host_apart (host.Transfer request set) registers reply left means =
       let settled = with_settings set.items registers in
       transfer_apart (is_pure_read settled.command) (requested terms.profile request) settled reply left means

@@ -1,5 +1,5 @@
--- A load, where nobody else acts: what it adds, leaves and answers is a function of the history and of what is loaded, whether the
--- controller is on and its choice.
+-- A load, where nobody else acts: what it adds, leaves and answers is a function of the history, of what is loaded, of whether
+-- the controller is on, and of its choice.
 use Rattle.std.proofs.Common.{◌≡◌, ◌≤◌, ℕ, Bool, true, false, List, [], ◌++◌, inl, inr, Option, Some, None, Ok, Err, sym, ap, ap₂, ◌∙◌}
 use Rattle.ccan_object.specs.declared.record.Record.{Record}
 use Rattle.ccan_ram.specs.declared.change.Refused.TheVariants.{Busy, Spent}
@@ -30,7 +30,8 @@ module _ (terms : Terms) (seen : List Event) (past : BusPast) where
   abbrev pub loads : List Event × (BusPast × LoadAnswer)
   loads = load_by past.loaded (is_on past 0)
 
-  module _ (alone : terms.alone ≡ true) (tries : ℕ) (some : 1 ≤ tries) (added : List Event) (legal : IsLegal terms.profile (added ++ seen)) where
+  module _ (alone : terms.alone ≡ true) (tries : ℕ) (some : 1 ≤ tries) (added : List Event)
+      (legal : IsLegal terms.profile (added ++ seen)) where
     chosen_is : (chosen : Chosen) → IsLoadChoice terms tries seen added past chosen → Gives loads added (chosen_load past chosen)
     chosen_is chosen h =
         ap (λ (c : List Event × Chosen). (c.0, chosen_load past c.1))
@@ -46,9 +47,11 @@ module _ (terms : Terms) (seen : List Event) (past : BusPast) where
     load_is after load.Nothing (inr h) =
         pair (λ i. added) (pair h.same (λ i. load.Nothing)) ∙ chosen_is (Ok None) h.choice
     load_is after (load.Loaded object started) h =
-        pair (λ i. added) (pair h.now_loaded (λ i. load.Loaded object started)) ∙ chosen_is (Ok (Some (object, started))) h.choice
+        pair (λ i. added) (pair h.now_loaded (λ i. load.Loaded object started))
+        ∙ chosen_is (Ok (Some (object, started))) h.choice
     load_is after (load.Busy object) (told, now, h) =
-        pair (λ i. added) (pair h.same (λ i. load.Busy object)) ∙ chosen_is (Err (record { at = object; why = Busy told now })) h.choice
+        pair (λ i. added) (pair h.same (λ i. load.Busy object))
+        ∙ chosen_is (Err (record { at = object; why = Busy told now })) h.choice
     load_is after (load.Spent object) h =
         pair (λ i. added) (pair h.same (λ i. load.Spent object)) ∙ chosen_is (Err (record { at = object; why = Spent })) h.choice
 
@@ -58,6 +61,7 @@ module _ (terms : Terms) (tries : ℕ) (seen : List Event) (past : BusPast) (alo
   pub loads_once : Loads terms tries seen added past after loading → Loads terms tries seen added' past after' loading'
       → (added ≡ added') × (after ≡ after') × (loading ≡ loading')
   loads_once h h' =
-      let same = once (loads terms seen past) added added' _ _ (load_is terms seen past alone tries some added legal after loading h)
+      let same = once (loads terms seen past) added added' _ _
+      (load_is terms seen past alone tries some added legal after loading h)
       (load_is terms seen past alone tries some added' legal' after' loading' h') in
       (same.0, ap (λ (l : BusPast × LoadAnswer). l.0) same.1, ap (λ (l : BusPast × LoadAnswer). l.1) same.1)

@@ -30,7 +30,8 @@ module _ (terms : Terms) (place : ℕ → ℕ) where
   seeks flag n now = let l = look terms (place n) now in (l.0, cond (flag_of flag l.1) (Some n) None)
 
   module _ (alone : terms.alone ≡ true) where
-    read_are : (shown : List Record) (seen added : List Event) → IsLegal terms.profile (added ++ seen) → Looks terms place shown added
+    read_are : (shown : List Record) (seen added : List Event) → IsLegal terms.profile (added ++ seen)
+        → Looks terms place shown added
         → Gives (reads (length shown) seen) added shown
     read_are [] seen added legal none = pair none (λ i. [])
     read_are (last ∷ before) seen added legal (newest, earlier, whole, shows, rest) =
@@ -41,13 +42,16 @@ module _ (terms : Terms) (place : ℕ → ℕ) where
 
     module _ (flag : Flag) where
       sought : (n : ℕ) (shown : Record) (shows : Bool) (seen added : List Event) → IsLegal terms.profile (added ++ seen)
-          → IsLook terms (place n) shown added → flag_of flag shown ≡ shows → Gives (seeks flag n seen) added (cond shows (Some n) None)
+          → IsLook terms (place n) shown added → flag_of flag shown ≡ shows
+          → Gives (seeks flag n seen) added (cond shows (Some n) None)
       sought n shown shows seen added legal h is =
           pair (λ i. added) (ap (λ b. cond b (Some n) None) (sym is))
-          ∙ ap (λ (l : List Event × Record). (l.0, cond (flag_of flag l.1) (Some n) None)) (look_is terms alone seen added legal (place n) shown h)
+          ∙ ap (λ (l : List Event × Record). (l.0, cond (flag_of flag l.1) (Some n) None))
+          (look_is terms alone seen added legal (place n) shown h)
 
       none_seen : (shown : List Record) (seen added : List Event) → IsLegal terms.profile (added ++ seen)
-          → Looks terms place shown added → list_any (flag_of flag) shown ≡ false → Gives (row (seeks flag) seen (length shown)) added None
+          → Looks terms place shown added → list_any (flag_of flag) shown ≡ false
+          → Gives (row (seeks flag) seen (length shown)) added None
       none_seen [] seen added legal none nowhere = pair none (λ i. None)
       none_seen (last ∷ before) seen added legal (newest, earlier, whole, shows, rest) nowhere =
           let parts = or_parts (flag_of flag last) (list_any (flag_of flag) before) nowhere in
@@ -96,9 +100,11 @@ module _ (terms : Terms) where
     watch_is : (object : ℕ) (flag : Flag) (turns : ℕ) (added : List Event) (shown : Bool) → IsLegal terms.profile (added ++ seen)
         → Watches terms object flag turns added shown → Gives (watch object flag turns seen) added shown
     watch_is object flag turns added true legal (count, less, h) =
-        ap (λ (w : List Event × Option ℕ). (w.0, is_seen w.1)) (first_is terms (λ before. object) alone flag count seen added legal turns less h)
+        ap (λ (w : List Event × Option ℕ). (w.0, is_seen w.1))
+        (first_is terms (λ before. object) alone flag count seen added legal turns less h)
     watch_is object flag turns added false legal h =
-        ap (λ (w : List Event × Option ℕ). (w.0, is_seen w.1)) (none_is terms (λ before. object) alone flag turns seen added legal h)
+        ap (λ (w : List Event × Option ℕ). (w.0, is_seen w.1))
+        (none_is terms (λ before. object) alone flag turns seen added legal h)
 
     interrupt_is : (pending : Bool) (added : List Event) (value : ℕ) → IsLegal terms.profile (added ++ seen)
         → Interrupts terms pending added value → Gives (interrupt pending seen) added value
@@ -114,18 +120,23 @@ module _ (terms : Terms) where
         → ReadsFlags terms flag added word → Gives (flags flag seen) added word
     flags_are flag added word legal h =
         pair (λ i. added) h.is ∙ ap (λ (w : List Event × List Record). (w.0, flag_word flag w.1))
-        (subst (λ n. Gives (reads terms objects n seen) added h.shown) h.counted (read_are terms objects alone h.shown seen added legal h.looks))
+        (subst (λ n. Gives (reads terms objects n seen) added h.shown) h.counted
+        (read_are terms objects alone h.shown seen added legal h.looks))
 
-    module _ (added added' : List Event) (legal : IsLegal terms.profile (added ++ seen)) (legal' : IsLegal terms.profile (added' ++ seen)) where
-      pub watches_once : (object : ℕ) (flag : Flag) (turns : ℕ) (shown shown' : Bool) → Watches terms object flag turns added shown
+    module _ (added added' : List Event) (legal : IsLegal terms.profile (added ++ seen))
+        (legal' : IsLegal terms.profile (added' ++ seen)) where
+      pub watches_once : (object : ℕ) (flag : Flag) (turns : ℕ) (shown shown' : Bool)
+          → Watches terms object flag turns added shown
           → Watches terms object flag turns added' shown' → (added ≡ added') × (shown ≡ shown')
       watches_once object flag turns shown shown' h h' =
-          once (watch object flag turns seen) _ _ _ _ (watch_is object flag turns added shown legal h) (watch_is object flag turns added' shown' legal' h')
+          once (watch object flag turns seen) _ _ _ _ (watch_is object flag turns added shown legal h)
+          (watch_is object flag turns added' shown' legal' h')
 
       pub interrupts_once : (pending : Bool) (value value' : ℕ) → Interrupts terms pending added value
           → Interrupts terms pending added' value' → (added ≡ added') × (value ≡ value')
       interrupts_once pending value value' h h' =
-          once (interrupt pending seen) _ _ _ _ (interrupt_is pending added value legal h) (interrupt_is pending added' value' legal' h')
+          once (interrupt pending seen) _ _ _ _ (interrupt_is pending added value legal h)
+          (interrupt_is pending added' value' legal' h')
 
       pub words_once : (flag : Flag) (word word' : ℕ) → ReadsFlags terms flag added word → ReadsFlags terms flag added' word'
           → (added ≡ added') × (word ≡ word')

@@ -45,13 +45,15 @@ use Rattle.ccan_run.specs.Ordered.{PortLine, of_if1, of_if2, of_bus, Three, Port
 use Rattle.ccan_run.specs.Laws.{IsNotBusy, HasNoBusyLine}
 
 module _ (terms : Terms) (alone : terms.alone ≡ true) (tries : ℕ) (some : 1 ≤ tries) where
-  no_lost_try : (object : ℕ) (change : Change) (count : ℕ) (added : List Event) → 1 ≤ count → LostTries terms object change count added → ⊥
+  no_lost_try : (object : ℕ) (change : Change) (count : ℕ) (added : List Event) → 1 ≤ count
+      → LostTries terms object change count added → ⊥
   no_lost_try object change zero added one lost = absurd (omega arith)
   no_lost_try object change (suc n) added one (last, earlier, whole, try, lost) =
       let nobody = try.foreign.none_alone alone in
       absurd (let e : false ≡ true = rw nobody at try.contended in cc)
 
-  never : (object : ℕ) (change : Change) (seen added : List Event) (told now : ℕ) → Attempt terms object change tries seen added (Err (refused.Busy told now)) → ⊥
+  never : (object : ℕ) (change : Change) (seen added : List Event) (told now : ℕ)
+      → Attempt terms object change tries seen added (Err (refused.Busy told now)) → ⊥
   never object change seen added told now busy = no_lost_try object change tries added some busy.lose
 
   never_scanned : (change : Change) (object from : ℕ) (seen added : List Event) (told now : ℕ)
@@ -65,51 +67,66 @@ module _ (terms : Terms) (alone : terms.alone ≡ true) (tries : ℕ) (some : 1 
 
   -- ---- a line of a host
 
-  shown : (write : Bool) (object : ℕ) (buffer : Record) (reply : LineAnswer) → reply ≡ cond write (answer.Write object buffer) (answer.Read object buffer) → IsNotBusy reply
+  shown : (write : Bool) (object : ℕ) (buffer : Record) (reply : LineAnswer)
+      → reply ≡ cond write (answer.Write object buffer) (answer.Read object buffer) → IsNotBusy reply
   shown true object buffer reply is = rw is tt
   shown false object buffer reply is = rw is tt
 
-  by_outcome : (object : ℕ) (registers : Registers) (seen added : List Event) (reply : LineAnswer) (left : Registers) (outcome : Result Changed Refused)
-      → Attempt terms object (change_of registers) tries seen added outcome → Answers object registers outcome reply left → IsNotBusy reply
-  by_outcome object registers seen added reply left (Ok (Done before after number)) attempt answers = shown (is_write registers.command) object left.buffer reply answers.answer_is
+  by_outcome : (object : ℕ) (registers : Registers) (seen added : List Event) (reply : LineAnswer) (left : Registers)
+      (outcome : Result Changed Refused)
+      → Attempt terms object (change_of registers) tries seen added outcome → Answers object registers outcome reply left
+      → IsNotBusy reply
+  by_outcome object registers seen added reply left (Ok (Done before after number)) attempt answers =
+      shown (is_write registers.command) object left.buffer reply answers.answer_is
   by_outcome object registers seen added reply left (Ok (NotNow found)) attempt answers = absurd answers
-  by_outcome object registers seen added reply left (Err (refused.Busy told now)) attempt answers = absurd (never object (change_of registers) seen added told now attempt)
+  by_outcome object registers seen added reply left (Err (refused.Busy told now)) attempt answers =
+      absurd (never object (change_of registers) seen added told now attempt)
   by_outcome object registers seen added reply left (Err refused.Spent) attempt answers = rw answers.0 tt
 
-  by_command : (pure : Bool) (object : ℕ) (registers : Registers) (seen added : List Event) (reply : LineAnswer) (left : Registers)
+  by_command : (pure : Bool) (object : ℕ) (registers : Registers) (seen added : List Event) (reply : LineAnswer)
+      (left : Registers)
       → MatchBool pure
       ((shown : Record) × IsLook terms object shown added × Ends object registers shown reply left)
-      ((outcome : Result Changed Refused) × Attempt terms object (change_of registers) tries seen added outcome × Answers object registers outcome reply left)
+      ((outcome : Result Changed Refused) × Attempt terms object (change_of registers) tries seen added outcome
+      × Answers object registers outcome reply left)
       → IsNotBusy reply
-  by_command true object registers seen added reply left (record_shown, look, ends) = shown (is_write registers.command) object left.buffer reply ends.answer_is
-  by_command false object registers seen added reply left (outcome, attempt, answers) = by_outcome object registers seen added reply left outcome attempt answers
+  by_command true object registers seen added reply left (record_shown, look, ends) =
+      shown (is_write registers.command) object left.buffer reply ends.answer_is
+  by_command false object registers seen added reply left (outcome, attempt, answers) =
+      by_outcome object registers seen added reply left outcome attempt answers
 
   host_line : (line : HostLine) (registers : Registers) (seen added : List Event) (reply : LineAnswer) (left : Registers)
       → HostLineMeans terms tries line registers seen added reply left → IsNotBusy reply
   host_line (host.Transfer request set) registers seen added reply left means =
-      by_command (is_pure_read (with_settings set.items registers).command) (requested terms.profile request) (with_settings set.items registers) seen added reply left means
+      by_command (is_pure_read (with_settings set.items registers).command) (requested terms.profile request)
+      (with_settings set.items registers) seen added reply left means
   host_line (host.Until object flag turns) registers seen added reply left means = rw means.1 tt
   host_line host.Interrupt registers seen added reply left means = rw means.1 tt
   host_line (host.Flags flag) registers seen added reply left means = rw means.1 tt
 
   -- ---- a line of the bus
 
-  loads : (seen added : List Event) (past after : BusPast) (loading : LoadAnswer) → Loads terms tries seen added past after loading → IsNotBusy (answer.Load loading)
+  loads : (seen added : List Event) (past after : BusPast) (loading : LoadAnswer)
+      → Loads terms tries seen added past after loading → IsNotBusy (answer.Load loading)
   loads seen added past after (load.Loaded object started) h = tt
   loads seen added past after (load.Held object) h = tt
   loads seen added past after load.Nothing h = tt
-  loads seen added past after (load.Busy object) (told, now, h) = absurd (never_chosen past.choice object seen added told now h.choice.chooses)
+  loads seen added past after (load.Busy object) (told, now, h) =
+      absurd (never_chosen past.choice object seen added told now h.choice.chooses)
   loads seen added past after (load.Spent object) h = tt
 
   refused_busy : (sends : RoundLine) (seen added : List Event) (past after : BusPast) (object told now : ℕ)
       → IsRefused terms sends tries seen added past after object (refused.Busy told now) → ⊥
-  refused_busy sends seen added past after object told now (RefusedFinish finish) = never object Finish seen added told now finish.finish
-  refused_busy sends seen added past after object told now (RefusedScan receipt) = never_scanned (Store receipt.frame) object 1 seen added told now receipt.scan
+  refused_busy sends seen added past after object told now (RefusedFinish finish) =
+      never object Finish seen added told now finish.finish
+  refused_busy sends seen added past after object told now (RefusedScan receipt) =
+      never_scanned (Store receipt.frame) object 1 seen added told now receipt.scan
 
   loop_busy : (seen added : List Event) (past after : BusPast) (object told now : ℕ)
       → IsLoopRefused terms tries seen added past after object (refused.Busy told now) → ⊥
   loop_busy seen added past after object told now (AtFinish frame finish) = never object Finish seen added told now finish.finish
-  loop_busy seen added past after object told now (AtScan sent finished loop) = never_scanned (Store loop.frame) object 1 _ loop.last told now loop.scan
+  loop_busy seen added past after object told now (AtScan sent finished loop) =
+      never_scanned (Store loop.frame) object 1 _ loop.last told now loop.scan
 
   transfers : (back : Bool) (sends : RoundLine) (seen added : List Event) (past after : BusPast) (ended : RoundAnswer)
       → Transfers back terms sends tries seen added past after ended → IsNotBusy (answer.Round ended)
@@ -121,22 +138,30 @@ module _ (terms : Terms) (alone : terms.alone ≡ true) (tries : ℕ) (some : 1 
   transfers back sends seen added past after round.NoAck h = tt
   transfers back sends seen added past after round.Fault h = tt
   transfers back sends seen added past after (round.Looped object finished found) h = tt
-  transfers true sends seen added past after (round.Busy object) (told, now, h) = absurd (loop_busy seen added past after object told now h)
-  transfers false sends seen added past after (round.Busy object) (told, now, h) = absurd (refused_busy sends seen added past after object told now h)
+  transfers true sends seen added past after (round.Busy object) (told, now, h) =
+      absurd (loop_busy seen added past after object told now h)
+  transfers false sends seen added past after (round.Busy object) (told, now, h) =
+      absurd (refused_busy sends seen added past after object told now h)
   transfers back sends seen added past after (round.Spent object) h = tt
 
   continues : (loading : LoadAnswer) (sends : RoundLine) (seen added : List Event) (past after : BusPast) (ended : RoundAnswer)
-      → IsNotBusy (answer.Load loading) → Continues (refusal_of_round loading) terms sends tries seen added past after ended → IsNotBusy (answer.Round ended)
-  continues (load.Loaded object started) sends seen added past after ended fine h = transfers (hears_itself past) sends seen added past after ended h
-  continues (load.Held object) sends seen added past after ended fine h = transfers (hears_itself past) sends seen added past after ended h
-  continues load.Nothing sends seen added past after ended fine h = transfers (hears_itself past) sends seen added past after ended h
+      → IsNotBusy (answer.Load loading) → Continues (refusal_of_round loading) terms sends tries seen added past after ended
+      → IsNotBusy (answer.Round ended)
+  continues (load.Loaded object started) sends seen added past after ended fine h =
+      transfers (hears_itself past) sends seen added past after ended h
+  continues (load.Held object) sends seen added past after ended fine h =
+      transfers (hears_itself past) sends seen added past after ended h
+  continues load.Nothing sends seen added past after ended fine h =
+      transfers (hears_itself past) sends seen added past after ended h
   continues (load.Busy object) sends seen added past after ended fine h = absurd fine
   continues (load.Spent object) sends seen added past after ended fine h = rw h.told tt
 
-  rounds : (sends : RoundLine) (seen added : List Event) (past after : BusPast) (ended : RoundAnswer) → Round terms sends tries seen added past after ended
+  rounds : (sends : RoundLine) (seen added : List Event) (past after : BusPast) (ended : RoundAnswer)
+      → Round terms sends tries seen added past after ended
       → IsNotBusy (answer.Round ended)
   rounds sends seen added past after ended h =
-      continues h.loading sends (h.first ++ seen) h.last h.between after ended (loads seen h.first past h.between h.loading h.loads) h.continues
+      continues h.loading sends (h.first ++ seen) h.last h.between after ended
+      (loads seen h.first past h.between h.loading h.loads) h.continues
 
   bus_line : (line : BusLine) (past : BusPast) (seen added : List Event) (reply : LineAnswer) (after : BusPast)
       → BusLineMeans terms tries line past seen added reply after → IsNotBusy reply
@@ -154,16 +179,22 @@ module _ (terms : Terms) (alone : terms.alone ≡ true) (tries : ℕ) (some : 1 
 module _ (script : ScriptFields) (some : 1 ≤ script.tries) where
   port_line : (line : PortLine) (three : Three) (seen added : List Event) (reply : PortName × LineAnswer) (left : Three)
       → PortLineMeans (terms_of script) script.tries line three seen added reply left → IsNotBusy reply.1
-  port_line (of_if1 line) three seen added reply left (after, port, means, is) = host_line (terms_of script If1) refl script.tries some line three.first seen added reply.1 after means
-  port_line (of_if2 line) three seen added reply left (after, port, means, is) = host_line (terms_of script If2) refl script.tries some line three.second seen added reply.1 after means
-  port_line (of_bus line) three seen added reply left (after, port, means, is) = bus_line (terms_of script Bus) refl script.tries some line three.bus seen added reply.1 after means
+  port_line (of_if1 line) three seen added reply left (after, port, means, is) =
+      host_line (terms_of script If1) refl script.tries some line three.first seen added reply.1 after means
+  port_line (of_if2 line) three seen added reply left (after, port, means, is) =
+      host_line (terms_of script If2) refl script.tries some line three.second seen added reply.1 after means
+  port_line (of_bus line) three seen added reply left (after, port, means, is) =
+      bus_line (terms_of script Bus) refl script.tries some line three.bus seen added reply.1 after means
 
-  port_lines : (lines : List PortLine) (three : Three) (seen added : List Event) (answers : List (PortName × LineAnswer)) (left : Three)
-      → LinesMean (PortLineMeans (terms_of script) script.tries) lines three seen added answers left → All (λ reply. IsNotBusy reply.1) answers
+  port_lines : (lines : List PortLine) (three : Three) (seen added : List Event) (answers : List (PortName × LineAnswer))
+      (left : Three)
+      → LinesMean (PortLineMeans (terms_of script) script.tries) lines three seen added answers left
+      → All (λ reply. IsNotBusy reply.1) answers
   port_lines [] three seen added answers left (none, empty, same) = rw empty (All-nil (λ reply. IsNotBusy reply.1))
   port_lines (line ∷ lines) three seen added answers left (later, first, reply, more, between, whole, all, means, rest) =
       rw all (All-cons (λ reply. IsNotBusy reply.1) reply more (port_line line three seen first reply between means)
       (port_lines lines between (first ++ seen) later more left rest))
 
 pub no_line_is_busy : HasNoBusyLine
-no_line_is_busy script history answers some runs = port_lines script some (lines_of script) (opening script.nodes) [] history answers runs.0 runs.1
+no_line_is_busy script history answers some runs =
+    port_lines script some (lines_of script) (opening script.nodes) [] history answers runs.0 runs.1

@@ -16,7 +16,7 @@ use Rattle.ccan_ram.specs.declared.change.Refused.TheVariants as refused
 use Rattle.ccan_ram.specs.declared.event.Event.{Event}
 use Rattle.ccan_ram.specs.History.{IsLegal}
 use Rattle.ccan_ram.specs.Terms.{Terms}
-use Rattle.ccan_ram.specs.Attempt.{Attempt, IsLook, look_at}
+use Rattle.ccan_ram.specs.Attempt.{Attempt, IsLook}
 use Rattle.ccan_ram.proofs.Histories.{IsLegal-older}
 use Rattle.ccan_handler.specs.Watch.{Interrupts}
 use Rattle.ccan_confine.specs.Status.{IsPending}
@@ -41,9 +41,11 @@ use Rattle.ccan_run.proofs.RoundsOnce.{rounds_once}
 
 -- ---- lines of any kind
 
-module _ {Line State Answer : Type 0} (means : Line → State → List Event → List Event → Answer → State → Type 0) (profile : Profile)
+module _ {Line State Answer : Type 0} (means : Line → State → List Event → List Event → Answer → State → Type 0)
+    (profile : Profile)
     (once : (line : Line) (state left left' : State) (seen added added' : List Event) (answer answer' : Answer)
-    → IsLegal profile (added ++ seen) → IsLegal profile (added' ++ seen) → means line state seen added answer left → means line state seen added' answer' left'
+    → IsLegal profile (added ++ seen) → IsLegal profile (added' ++ seen) → means line state seen added answer left
+    → means line state seen added' answer' left'
     → (added ≡ added') × (answer ≡ answer') × (left ≡ left')) where
   lines_once : (lines : List Line) (state left left' : State) (seen added added' : List Event) (answers answers' : List Answer)
       → IsLegal profile (added ++ seen) → IsLegal profile (added' ++ seen)
@@ -51,9 +53,11 @@ module _ {Line State Answer : Type 0} (means : Line → State → List Event →
       → (added ≡ added') × (answers ≡ answers')
   lines_once [] state left left' seen added added' answers answers' legal legal' m m' = (m.0 ∙ sym m'.0, m.1 ∙ sym m'.1)
   lines_once (line ∷ lines) state left left' seen added added' answers answers' legal legal'
-      (later, first, answer, more, mid, whole, all, told, rest) (later', first', answer', more', mid', whole', all', told', rest') =
+      (later, first, answer, more, mid, whole, all, told, rest)
+      (later', first', answer', more', mid', whole', all', told', rest') =
       let begins : added ++ seen ≡ later ++ (first ++ seen) = ap (λ es. es ++ seen) whole ∙ append_assoc later first seen in
-      let begins' : added' ++ seen ≡ later' ++ (first' ++ seen) = ap (λ es. es ++ seen) whole' ∙ append_assoc later' first' seen in
+      let begins' : added' ++ seen ≡ later' ++ (first' ++ seen) = ap (λ es. es ++ seen) whole'
+      ∙ append_assoc later' first' seen in
       let so_far = subst (IsLegal profile) begins legal in
       let so_far' = subst (IsLegal profile) begins' legal' in
       let one = once line state mid mid' seen first first' answer answer' (IsLegal-older profile later (first ++ seen) so_far)
@@ -72,14 +76,18 @@ module _ {Line State Answer : Type 0} (means : Line → State → List Event →
 ends_once : (object : ℕ) (registers left left' : Registers) (moved moved' : Record) (reply reply' : LineAnswer) → moved ≡ moved'
     → Ends object registers moved reply left → Ends object registers moved' reply' left' → (reply ≡ reply') × (left ≡ left')
 ends_once object registers left left' moved moved' reply reply' same e e' =
-    let leaves : left ≡ left' = e.registers_are ∙ ap (λ (r : Record). filled registers.command r registers) same ∙ sym e'.registers_are in (
-      e.answer_is ∙ ap (λ (i : Registers). cond (is_write registers.command) (answer.Write object i.buffer) (answer.Read object i.buffer)) leaves ∙ sym e'.answer_is,
+    let leaves : left ≡ left' = e.registers_are ∙ ap (λ (r : Record). filled registers.command r registers) same
+    ∙ sym e'.registers_are in (
+      e.answer_is ∙ ap (λ (i : Registers). cond (is_write registers.command) (answer.Write object i.buffer)
+          (answer.Read object i.buffer)) leaves ∙ sym e'.answer_is,
       leaves,
     )
 
 answers_once : (object : ℕ) (registers left left' : Registers) (reply reply' : LineAnswer) (outcome : Result Changed Refused)
-    → Answers object registers outcome reply left → Answers object registers outcome reply' left' → (reply ≡ reply') × (left ≡ left')
-answers_once object registers left left' reply reply' (Ok (Done before after number)) a b = ends_once object registers left left' _ _ reply reply' refl a b
+    → Answers object registers outcome reply left → Answers object registers outcome reply' left'
+    → (reply ≡ reply') × (left ≡ left')
+answers_once object registers left left' reply reply' (Ok (Done before after number)) a b =
+    ends_once object registers left left' _ _ reply reply' refl a b
 answers_once object registers left left' reply reply' (Ok (NotNow found)) a b = absurd a
 answers_once object registers left left' reply reply' (Err (refused.Busy tried now)) a b = (a.0 ∙ sym b.0, a.1 ∙ sym b.1)
 answers_once object registers left left' reply reply' (Err refused.Spent) a b = (a.0 ∙ sym b.0, a.1 ∙ sym b.1)
@@ -92,14 +100,17 @@ pending_once true false P f g = absurd (true≢false (sym (g.1 (f.0 refl))))
 pending_once false true P f g = absurd (true≢false (sym (f.1 (g.0 refl))))
 
 module _ (terms : Terms) (alone : terms.alone ≡ true) (tries : ℕ) (some : 1 ≤ tries) (seen added added' : List Event)
-    (legal : IsLegal terms.profile (added ++ seen)) (legal' : IsLegal terms.profile (added' ++ seen)) (reply reply' : LineAnswer) where
+    (legal : IsLegal terms.profile (added ++ seen)) (legal' : IsLegal terms.profile (added' ++ seen))
+    (reply reply' : LineAnswer) where
   transfer_once : (pure : Bool) (object : ℕ) (registers left left' : Registers)
       → MatchBool pure
       ((shown : Record) × IsLook terms object shown added × Ends object registers shown reply left)
-      ((outcome : Result Changed Refused) × Attempt terms object (change_of registers) tries seen added outcome × Answers object registers outcome reply left)
+      ((outcome : Result Changed Refused) × Attempt terms object (change_of registers) tries seen added outcome
+      × Answers object registers outcome reply left)
       → MatchBool pure
       ((shown : Record) × IsLook terms object shown added' × Ends object registers shown reply' left')
-      ((outcome : Result Changed Refused) × Attempt terms object (change_of registers) tries seen added' outcome × Answers object registers outcome reply' left')
+      ((outcome : Result Changed Refused) × Attempt terms object (change_of registers) tries seen added' outcome
+      × Answers object registers outcome reply' left')
       → (added ≡ added') × (reply ≡ reply') × (left ≡ left')
   transfer_once true object registers left left' (shown, shows, e) (shown', shows', e') =
       let one = once (look terms object seen) added added' shown shown' (look_is terms alone seen added legal object shown shows)
@@ -117,7 +128,8 @@ module _ (terms : Terms) (alone : terms.alone ≡ true) (tries : ℕ) (some : 1 
 
   -- ---- a line of a host
 
-  host_once : (line : HostLine) (registers left left' : Registers) → HostLineMeans terms tries line registers seen added reply left
+  host_once : (line : HostLine) (registers left left' : Registers)
+      → HostLineMeans terms tries line registers seen added reply left
       → HostLineMeans terms tries line registers seen added' reply' left' → (added ≡ added') × (reply ≡ reply') × (left ≡ left')
   host_once (host.Transfer request set) registers left left' m m' =
       let i = with_settings set.items registers in
@@ -134,7 +146,8 @@ module _ (terms : Terms) (alone : terms.alone ≡ true) (tries : ℕ) (some : 1 
 
   -- ---- a line of the bus
 
-  only_once : (is after after' : BusPast) (told : LineAnswer) → Only is after told reply added → Only is after' told reply' added'
+  only_once : (is after after' : BusPast) (told : LineAnswer) → Only is after told reply added
+      → Only is after' told reply' added'
       → (added ≡ added') × (reply ≡ reply') × (after ≡ after')
   only_once is after after' told h h' = (h.quiet ∙ sym h'.quiet, h.answer_is ∙ sym h'.answer_is, h.past_is ∙ sym h'.past_is)
 
@@ -165,28 +178,37 @@ module _ (terms : Terms) (alone : terms.alone ≡ true) (tries : ℕ) (some : 1 
 -- ---- a line of some port
 
 module _ (script : ScriptFields) (some : 1 ≤ script.tries) where
-  port_once : (line : PortLine) (three left left' : Three) (seen added added' : List Event) (reply reply' : PortName × LineAnswer)
+  port_once : (line : PortLine) (three left left' : Three) (seen added added' : List Event)
+      (reply reply' : PortName × LineAnswer)
       → IsLegal script.profile (added ++ seen) → IsLegal script.profile (added' ++ seen)
       → PortLineMeans (terms_of script) script.tries line three seen added reply left
       → PortLineMeans (terms_of script) script.tries line three seen added' reply' left'
       → (added ≡ added') × (reply ≡ reply') × (left ≡ left')
-  port_once (of_if1 line) three left left' seen added added' reply reply' legal legal' (after, port, means, is) (after', port', means', is') =
-      let once = host_once (terms_of script If1) refl script.tries some seen added added' legal legal' reply.1 reply'.1 line three.first after after' means means' in
+  port_once (of_if1 line) three left left' seen added added' reply reply' legal legal' (after, port, means, is)
+      (after', port', means', is') =
+      let once = host_once (terms_of script If1) refl script.tries some seen added added' legal legal'
+      reply.1 reply'.1 line three.first after after' means means' in
       (once.0, ap₂ (λ p a. (p, a)) (port ∙ sym port') once.1, is ∙ ap (λ r. record three { first = r }) once.2 ∙ sym is')
-  port_once (of_if2 line) three left left' seen added added' reply reply' legal legal' (after, port, means, is) (after', port', means', is') =
-      let once = host_once (terms_of script If2) refl script.tries some seen added added' legal legal' reply.1 reply'.1 line three.second after after' means means' in
+  port_once (of_if2 line) three left left' seen added added' reply reply' legal legal' (after, port, means, is)
+      (after', port', means', is') =
+      let once = host_once (terms_of script If2) refl script.tries some seen added added' legal legal'
+      reply.1 reply'.1 line three.second after after' means means' in
       (once.0, ap₂ (λ p a. (p, a)) (port ∙ sym port') once.1, is ∙ ap (λ r. record three { second = r }) once.2 ∙ sym is')
-  port_once (of_bus line) three left left' seen added added' reply reply' legal legal' (after, port, means, is) (after', port', means', is') =
-      let once = bus_once (terms_of script Bus) refl script.tries some seen added added' legal legal' reply.1 reply'.1 line three.bus after after' means means' in
+  port_once (of_bus line) three left left' seen added added' reply reply' legal legal' (after, port, means, is)
+      (after', port', means', is') =
+      let once = bus_once (terms_of script Bus) refl script.tries some seen added added' legal legal'
+      reply.1 reply'.1 line three.bus after after' means means' in
       (once.0, ap₂ (λ p a. (p, a)) (port ∙ sym port') once.1, is ∙ ap (λ r. record three { bus = r }) once.2 ∙ sym is')
 
 pub one_text : HasOneText
 one_text script text other some h h' =
     let legal = subst (IsLegal script.profile) (sym (append-nil h.history)) h.runs.legal in
     let legal' = subst (IsLegal script.profile) (sym (append-nil h'.history)) h'.runs.legal in
-    let once = lines_once (PortLineMeans (terms_of script) script.tries) script.profile (port_once script some) (lines_of script) (opening script.nodes)
+    let once = lines_once (PortLineMeans (terms_of script) script.tries) script.profile (port_once script some) (lines_of script)
+    (opening script.nodes)
     h.runs.lines.0 h'.runs.lines.0 [] h.history h'.history h.answers h'.answers legal legal' h.runs.lines.1 h'.runs.lines.1 in
-    h.is ∙ ap₂ (λ (answers : List (PortName × LineAnswer)) (history : List Event). answers_text answers ++ finals_text script.profile history) once.1 once.0 ∙ sym h'.is
+    h.is ∙ ap₂ (λ (answers : List (PortName × LineAnswer))
+    (history : List Event). answers_text answers ++ finals_text script.profile history) once.1 once.0 ∙ sym h'.is
 
 pub printed_text : WhatWasPrintedIsTheText
 printed_text script old new some p =

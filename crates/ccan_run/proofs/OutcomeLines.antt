@@ -25,46 +25,55 @@ use Rattle.ccan_run.specs.Waiting.{AddsText}
 use Rattle.ccan_run.proofs.Waits.{adds_none, adds_then, part_after}
 
 module _ {X : Type 0} (f : X → List ℕ) where
-  one_more : (xs : List X) (i : ℕ) (d : X) → i < length xs → flat_map f (take (i + 1) xs) ≡ flat_map f (take i xs) ++ f (get_or xs i d)
+  one_more : (xs : List X) (i : ℕ) (d : X) → i < length xs
+      → flat_map f (take (i + 1) xs) ≡ flat_map f (take i xs) ++ f (get_or xs i d)
   one_more xs i d h = ap (flat_map f) (take_more xs i d h) ∙ flat_map-append f (take i xs) (get_or xs i d ∷ [])
       ∙ ap (λ (t : List ℕ). flat_map f (take i xs) ++ t) (append-nil (f (get_or xs i d)))
 
   one_between : (xs rest whole : List X) (i : ℕ) (d : X) → i < length xs → whole ≡ take (i + 1) xs ++ rest
       → flat_map f whole ≡ flat_map f (take i xs) ++ (f (get_or xs i d) ++ flat_map f rest)
   one_between xs rest whole i d h is = ap (flat_map f) is ∙ flat_map-append f (take (i + 1) xs) rest
-      ∙ ap (λ (t : List ℕ). t ++ flat_map f rest) (one_more xs i d h) ∙ append_assoc (flat_map f (take i xs)) (f (get_or xs i d)) (flat_map f rest)
+      ∙ ap (λ (t : List ℕ). t ++ flat_map f rest) (one_more xs i d h)
+      ∙ append_assoc (flat_map f (take i xs)) (f (get_or xs i d)) (flat_map f rest)
 
--- ---- the answers of a port
+-- ---- lines of a row of answers
 
-port_lines_are : (port : PortName) (answers : List LineAnswer) → port_lines port answers ≡ flat_map (line_text port) answers
+module _ {X : Type 0} (text : List X → List ℕ) (f : X → List ℕ) (text_is : (xs : List X) → text xs ≡ flat_map f xs) where
+  pub lines_begin : (a : Option (List ℕ)) (waits : List ℕ) → AddsText a a waits waits (text [])
+  lines_begin a waits = subst (AddsText a a waits waits) (sym (text_is [])) (adds_none a waits)
+
+  module _ (a b c : Option (List ℕ)) (first second : List ℕ) (xs : List X) (i : ℕ) (x : X) (line : List ℕ)
+      (within : i < length xs)
+      (at : x ≡ get_or xs i x) (printed : line ≡ f x) (so_far : AddsText a b first second (text (take i xs))) where
+    here : line ≡ f (get_or xs i x)
+    here = printed ∙ ap f at
+
+    pub lines_go_on : (third : List ℕ) → AddsText b c second third line → AddsText a c first third (text (take (i + 1) xs))
+    lines_go_on third added =
+        let is : text (take i xs) ++ line ≡ text (take (i + 1) xs) =
+        ap (λ (t : List ℕ). t ++ line) (text_is (take i xs)) ∙ ap (λ (t : List ℕ). flat_map f (take i xs) ++ t) here
+        ∙ sym (one_more f xs i x within) ∙ sym (text_is (take (i + 1) xs)) in
+        subst (AddsText a c first third) is (adds_then a b c first second third _ line so_far added)
+
+    pub lines_break : WritesPart b c (second ++ line) → WritesPart a c (first ++ text xs)
+    lines_break part =
+        let rest = drop (i + 1) xs in
+        part_after a b c first second (text (take i xs)) line (flat_map f rest) (text xs) so_far part
+        (text_is xs ∙ one_between f xs rest xs i x within (sym (take-append-drop (i + 1) xs))
+        ∙ ap (λ (t : List ℕ). flat_map f (take i xs) ++ (t ++ flat_map f rest)) (sym here)
+        ∙ ap (λ (t : List ℕ). t ++ (line ++ flat_map f rest)) (sym (text_is (take i xs))))
+
+pub port_lines_are : (port : PortName) (answers : List LineAnswer) → port_lines port answers ≡ flat_map (line_text port) answers
 unfolding port_lines answers_text
 port_lines_are port answers =
     flat_map-map (λ (reply : PortName × LineAnswer). line_text reply.0 reply.1) (λ (answer : LineAnswer). (port, answer)) answers
 
-pub lines_begin : (a : Option (List ℕ)) (waits : List ℕ) (port : PortName) → AddsText a a waits waits (port_lines port [])
-lines_begin a waits port = subst (AddsText a a waits waits) (sym (port_lines_are port [])) (adds_none a waits)
+abbrev pub reply_text : PortName × LineAnswer → List ℕ
+reply_text reply = line_text reply.0 reply.1
 
-module _ (a b c : Option (List ℕ)) (first second : List ℕ) (port : PortName) (answers : List LineAnswer) (i : ℕ) (answer : LineAnswer)
-    (line : List ℕ) (within : i < length answers) (at : answer ≡ get_or answers i answer) (printed : line ≡ line_text port answer)
-    (so_far : AddsText a b first second (port_lines port (take i answers))) where
-  here : line ≡ line_text port (get_or answers i answer)
-  here = printed ∙ ap (line_text port) at
-
-  pub lines_go_on : (third : List ℕ) → AddsText b c second third line → AddsText a c first third (port_lines port (take (i + 1) answers))
-  lines_go_on third added =
-      let is : port_lines port (take i answers) ++ line ≡ port_lines port (take (i + 1) answers) =
-      ap (λ (t : List ℕ). t ++ line) (port_lines_are port (take i answers)) ∙ ap (λ (t : List ℕ). flat_map (line_text port) (take i answers) ++ t) here
-      ∙ sym (one_more (line_text port) answers i answer within) ∙ sym (port_lines_are port (take (i + 1) answers)) in
-      subst (AddsText a c first third) is (adds_then a b c first second third _ line so_far added)
-
-  pub lines_break : WritesPart b c (second ++ line) → WritesPart a c (first ++ port_lines port answers)
-  lines_break part =
-      let rest = drop (i + 1) answers in
-      part_after a b c first second (port_lines port (take i answers)) line (flat_map (line_text port) rest) (port_lines port answers) so_far part
-      (port_lines_are port answers
-      ∙ one_between (line_text port) answers rest answers i answer within (sym (take-append-drop (i + 1) answers))
-      ∙ ap (λ (t : List ℕ). flat_map (line_text port) (take i answers) ++ (t ++ flat_map (line_text port) rest)) (sym here)
-      ∙ ap (λ (t : List ℕ). t ++ (line ++ flat_map (line_text port) rest)) (sym (port_lines_are port (take i answers))))
+pub replies_are : (answers : List (PortName × LineAnswer)) → answers_text answers ≡ flat_map reply_text answers
+unfolding answers_text
+replies_are answers = refl
 
 -- ---- the objects
 
@@ -76,11 +85,13 @@ final_part_is object left printed is = ap (λ (line : Option (List ℕ)). unwrap
 abbrev part_of_object : ℕ × Record → List ℕ
 part_of_object object = final_part object.0 object.1
 
-object_lines_are : (count : ℕ) (records : List Record) → object_lines count records ≡ flat_map part_of_object (take count (enumerate_from 1 records))
+object_lines_are : (count : ℕ) (records : List Record)
+    → object_lines count records ≡ flat_map part_of_object (take count (enumerate_from 1 records))
 unfolding object_lines
 object_lines_are count records = refl
 
-pub objects_begin : (a : Option (List ℕ)) (waits : List ℕ) (records : List Record) → AddsText a a waits waits (object_lines 0 records)
+pub objects_begin : (a : Option (List ℕ)) (waits : List ℕ) (records : List Record)
+    → AddsText a a waits waits (object_lines 0 records)
 objects_begin a waits records = subst (AddsText a a waits waits) (sym (object_lines_are 0 records)) (adds_none a waits)
 
 module _ (a b c : Option (List ℕ)) (first second : List ℕ) (records : List Record) (number object : ℕ) (left : Record)
@@ -110,7 +121,8 @@ module _ (a b c : Option (List ℕ)) (first second : List ℕ) (records : List R
       let is : object_lines (number - 1) records ++ final_part object left ≡ object_lines (number + 1 - 1) records =
       ap (λ (t : List ℕ). t ++ final_part object left) (object_lines_are (number - 1) records)
       ∙ ap (λ (t : List ℕ). flat_map part_of_object (take (number - 1) numbered) ++ t) line_here
-      ∙ sym (one_more part_of_object numbered (number - 1) (0, left) within) ∙ ap (λ (n : ℕ). flat_map part_of_object (take n numbered)) next
+      ∙ sym (one_more part_of_object numbered (number - 1) (0, left) within)
+      ∙ ap (λ (n : ℕ). flat_map part_of_object (take n numbered)) next
       ∙ sym (object_lines_are (number + 1 - 1) records) in
       subst (AddsText a c first third) is (adds_then a b c first second third _ _ so_far added)
 
@@ -126,12 +138,15 @@ module _ (a b c : Option (List ℕ)) (first second : List ℕ) (records : List R
       (object_lines_are count records
       ∙ one_between part_of_object numbered rest (take count numbered) (number - 1) (0, left) within
       (ap (λ (n : ℕ). take n numbered) all ∙ take-add done (count - done) numbered)
-      ∙ ap (λ (t : List ℕ). flat_map part_of_object (take (number - 1) numbered) ++ (t ++ flat_map part_of_object rest)) (sym line_here)
-      ∙ ap (λ (t : List ℕ). t ++ (final_part object left ++ flat_map part_of_object rest)) (sym (object_lines_are (number - 1) records)))
+      ∙ ap (λ (t : List ℕ). flat_map part_of_object (take (number - 1) numbered) ++ (t ++ flat_map part_of_object rest))
+      (sym line_here)
+      ∙ ap (λ (t : List ℕ). t ++ (final_part object left ++ flat_map part_of_object rest))
+      (sym (object_lines_are (number - 1) records)))
 
 -- what a history leaves has the lines of an ordered run of it
 lines_left : (history : List Event) (rest : List Record) (count first : ℕ)
-    → flat_map part_of_object (take count (enumerate_from first (map (λ o. record_at o history) (range_with_len first count) ++ rest)))
+    → flat_map part_of_object
+    (take count (enumerate_from first (map (λ o. record_at o history) (range_with_len first count) ++ rest)))
     ≡ concat (map (λ o. final_part o (record_at o history)) (range_with_len first count))
 lines_left history rest zero first = refl
 lines_left history rest (suc count) first =
@@ -146,9 +161,14 @@ last_lines_are last history is =
 
 -- ---- the whole text
 
-module _ (o : Outcome) (if1 if2 bus : List LineAnswer) (first : if1 ≡ o.if1.items) (second : if2 ≡ o.if2.items) (third : bus ≡ o.bus.items) where
+module _ (o : Outcome) (if1 if2 bus : List LineAnswer) (first : if1 ≡ o.if1.items) (second : if2 ≡ o.if2.items)
+    (third : bus ≡ o.bus.items) where
   pub text_is : outcome_text o ≡ port_lines If1 if1 ++ port_lines If2 if2 ++ port_lines Bus bus ++ last_lines o.last
   unfolding outcome_text
-  text_is = ap (λ (l : List LineAnswer). port_lines If1 l ++ port_lines If2 o.if2.items ++ port_lines Bus o.bus.items ++ last_lines o.last) (sym first)
-      ∙ ap (λ (l : List LineAnswer). port_lines If1 if1 ++ port_lines If2 l ++ port_lines Bus o.bus.items ++ last_lines o.last) (sym second)
-      ∙ ap (λ (l : List LineAnswer). port_lines If1 if1 ++ port_lines If2 if2 ++ port_lines Bus l ++ last_lines o.last) (sym third)
+  text_is =
+      ap (λ (l : List LineAnswer). port_lines If1 l ++ port_lines If2 o.if2.items ++ port_lines Bus o.bus.items
+      ++ last_lines o.last) (sym first)
+      ∙ ap (λ (l : List LineAnswer). port_lines If1 if1 ++ port_lines If2 l ++ port_lines Bus o.bus.items ++ last_lines o.last)
+      (sym second)
+      ∙ ap (λ (l : List LineAnswer). port_lines If1 if1 ++ port_lines If2 if2 ++ port_lines Bus l ++ last_lines o.last)
+      (sym third)

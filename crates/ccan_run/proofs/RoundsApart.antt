@@ -33,11 +33,17 @@ module _ (terms : Terms) (tries : ℕ) (some : 1 ≤ tries) where
   load_choices : (seen added : List Event) (past : BusPast) (chosen : Chosen) → NobodyElse terms.port added
       → IsLoadChoice terms tries seen added past chosen → IsLoadChoice single tries seen added past chosen
   load_choices seen added past chosen alone h =
-      record { empty = h.empty; on = h.on; chooses = choices_apart terms tries some past.choice seen added chosen alone h.chooses }
+      record {
+        empty = h.empty;
+        on =
+            h.on;
+        chooses = choices_apart terms tries some past.choice seen added chosen alone h.chooses;
+      }
 
   load_refused : (seen added : List Event) (past after : BusPast) (object : ℕ) (why : Refused) → NobodyElse terms.port added
       → IsLoadRefused terms tries seen added past after object why → IsLoadRefused single tries seen added past after object why
-  load_refused seen added past after object why alone h = record { choice = load_choices seen added past _ alone h.choice; same = h.same }
+  load_refused seen added past after object why alone h =
+      record { choice = load_choices seen added past _ alone h.choice; same = h.same }
 
   pub loads_apart : (seen added : List Event) (past after : BusPast) (loading : LoadAnswer) → NobodyElse terms.port added
       → Loads terms tries seen added past after loading → Loads single tries seen added past after loading
@@ -169,5 +175,6 @@ module _ (terms : Terms) (tries : ℕ) (some : 1 ≤ tries) where
         last = h.last;
         whole = h.whole;
         loads = loads_apart seen h.first past h.between h.loading parts.1 h.loads;
-        continues = continues sends (h.first ++ seen) h.last h.between after parts.0 (refusal_of_round h.loading) reply h.continues;
+        continues = continues sends (h.first ++ seen) h.last h.between after parts.0
+            (refusal_of_round h.loading) reply h.continues;
       }

@@ -1,5 +1,5 @@
 -- A round, where nobody else acts: it is its steps, and each of them comes out in one way.
-use Rattle.std.proofs.Common.{◌≡◌, ◌≤◌, ℕ, true, List, ◌++◌, Option, Some, None, refl, sym, ap, ap₂, subst, ◌∙◌, append_assoc}
+use Rattle.std.proofs.Common.{◌≡◌, ◌≤◌, ℕ, true, List, ◌++◌, Option, Some, None, sym, ap, subst, ◌∙◌, append_assoc}
 use Rattle.ccan_ram.specs.declared.event.Event.{Event}
 use Rattle.ccan_ram.specs.History.{IsLegal}
 use Rattle.ccan_ram.specs.Terms.{Terms}
@@ -67,7 +67,8 @@ module _ (terms : Terms) (alone : terms.alone ≡ true) (tries : ℕ) (some : 1 
             h.last l.1.0 after report.decision report.end) is h.runs;
       }
 
-  module _ (added added' : List Event) (legal : IsLegal terms.profile (added ++ seen)) (legal' : IsLegal terms.profile (added' ++ seen))
+  module _ (added added' : List Event) (legal : IsLegal terms.profile (added ++ seen))
+      (legal' : IsLegal terms.profile (added' ++ seen))
       (after after' : BusPast) (reply reply' : RoundAnswer) where
     steps_once : RunsStepsTo terms line tries seen added past after reply
         → RunsStepsTo terms line tries seen added' past after' reply' → Same added added' after after' reply reply'

@@ -45,7 +45,8 @@ module _ {Gate : Type 0} (enters : Gate → PortName → List LineAnswer → Boo
       subst (λ (k : ℕ). LetsRun enters port more k old new) next
       (subst (λ (l : List LineAnswer). LetsRun enters port l (suc n) old new) (sym is) there)
 
-pub GoesOn-then : {State Value : Type 0} {led_to : State → Value → Type 0} {x y z : Value} {first second both : State → State → Type 0}
+pub GoesOn-then : {State Value : Type 0} {led_to : State → Value → Type 0} {x y z : Value} {first second both : State → State
+    → Type 0}
     → GoesOn led_to x y first → GoesOn led_to y z second
     → ((state between left : State) → first state between → second between left → both state left)
     → GoesOn led_to x z both
@@ -54,7 +55,8 @@ GoesOn-then f g join =
 
 module _ {Line State Answer : Type 0} (means : Line → State → List Event → List Event → Answer → State → Type 0) where
   -- a line after others
-  pub LinesMean-push : (lines : List Line) (line : Line) (state between left : State) (seen xs ys : List Event) (answers : List Answer) (answer : Answer)
+  pub LinesMean-push : (lines : List Line) (line : Line) (state between left : State) (seen xs ys : List Event)
+      (answers : List Answer) (answer : Answer)
       → LinesMean means lines state seen xs answers between → means line between (xs ++ seen) ys answer left
       → LinesMean means (lines ++ line ∷ []) state seen (ys ++ xs) (answers ++ answer ∷ []) left
   LinesMean-push [] line state between left seen xs ys answers answer r m =
@@ -69,8 +71,10 @@ module _ {Line State Answer : Type 0} (means : Line → State → List Event →
         subst (λ (b : State). means line b seen ys answer left) r.2 here,
         (refl, refl, refl),
       )
-  LinesMean-push (l ∷ ls) line state between left seen xs ys answers answer (later, first, a, more, mid, whole, all, told, rest) m =
-      let here = subst (λ zs. means line between zs ys answer left) (ap (λ zs. zs ++ seen) whole ∙ append_assoc later first seen) m in (
+  LinesMean-push (l ∷ ls) line state between left seen xs ys answers answer
+      (later, first, a, more, mid, whole, all, told, rest) m =
+      let here = subst (λ zs. means line between zs ys answer left)
+      (ap (λ zs. zs ++ seen) whole ∙ append_assoc later first seen) m in (
         ys ++ later,
         first,
         a,
@@ -85,23 +89,28 @@ module _ {Line State Answer : Type 0} (means : Line → State → List Event →
 module _ {Line State Answer Value : Type 0} (led_to : State → Value → Type 0)
     (means : Terms → Line → State → List Event → List Event → Answer → State → Type 0) where
   -- one more line of a run
-  pub runs_more : {x y z : Passes} {a b c : Value} (lines : List Line) (line : Line) (answers answers' : List Answer) (answer : Answer) (lines' : List Line)
+  pub runs_more : {x y z : Passes} {a b c : Value} (lines : List Line) (line : Line) (answers answers' : List Answer)
+      (answer : Answer) (lines' : List Line)
       → lines' ≡ lines ++ line ∷ [] → answers' ≡ answers ++ answer ∷ []
-      → Goes x y (λ terms seen added. GoesOn led_to a b (λ state left. LinesMean (means terms) lines state seen added answers left))
+      → Goes x y (λ terms seen added. GoesOn led_to a b
+      (λ state left. LinesMean (means terms) lines state seen added answers left))
       → Goes y z (λ terms seen added. GoesOn led_to b c (λ state left. means terms line state seen added answer left))
-      → Goes x z (λ terms seen added. GoesOn led_to a c (λ state left. LinesMean (means terms) lines' state seen added answers' left))
+      → Goes x z (λ terms seen added. GoesOn led_to a c
+      (λ state left. LinesMean (means terms) lines' state seen added answers' left))
   runs_more {x} lines line answers answers' answer lines' all told runs more =
       rw (all, told) (Goes-then runs more (λ seen xs ys f g. GoesOn-then f g
       (λ state between left r m. LinesMean-push (means x.terms) lines line state between left seen xs ys answers answer r m)))
 
   -- the lines from this state on
   pub runs_from : {x y : Passes} {a b : Value} (lines : List Line) (answers : List Answer) (start : State) → led_to start a
-      → Goes x y (λ terms seen added. GoesOn led_to a b (λ state left. LinesMean (means terms) lines state seen added answers left))
+      → Goes x y (λ terms seen added. GoesOn led_to a b
+      (λ state left. LinesMean (means terms) lines state seen added answers left))
       → Goes x y (λ terms seen added. Run (means terms) start lines seen added answers)
   runs_from lines answers start led runs = Goes-weaker runs (λ seen added _ _ f. let r = f.each start led in (r.0, r.2))
 
 -- a value that is its own state goes on to the value that it is then
-pub of_equal : {Value : Type 0} {old new : Value} {what : Value → Value → Type 0} → what old new → GoesOn (λ state value. state ≡ value) old new what
+pub of_equal : {Value : Type 0} {old new : Value} {what : Value → Value → Type 0} → what old new
+    → GoesOn (λ state value. state ≡ value) old new what
 of_equal {new = new} {what = what} h = record { each = λ state is. (new, refl, subst (λ s. what s new) (sym is) h) }
 
 -- the same lines, under another name, as far as they ran

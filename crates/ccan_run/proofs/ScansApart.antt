@@ -63,7 +63,8 @@ module _ (terms : Terms) where
     interrupts_apart false value (inl (is, h)) = inl (is, none_apart _ _ _ h)
     interrupts_apart false value (inr (count, less, is, h)) = inr (count, less, is, first_apart _ _ count h)
 
-    pub words_apart : (flag : Flag) (word : ℕ) → ReadsFlags terms flag added word → ReadsFlags (as_one_thread terms) flag added word
+    pub words_apart : (flag : Flag) (word : ℕ) → ReadsFlags terms flag added word
+        → ReadsFlags (as_one_thread terms) flag added word
     words_apart flag word h =
         record { shown = h.shown; looks = looks_apart in_turn h.shown added alone h.looks; counted = h.counted; is = h.is }
 
@@ -71,7 +72,8 @@ module _ (terms : Terms) where
 
 module _ (terms : Terms) (change : Change) (tries : ℕ) (some : 1 ≤ tries) where
   tried_apart : (object : ℕ) (seen added : List Event) (outcome : Result Changed Refused) → NobodyElse terms.port added
-      → IsTried terms object change tries seen added outcome → IsTried (as_one_thread terms) object change tries seen added outcome
+      → IsTried terms object change tries seen added outcome
+      → IsTried (as_one_thread terms) object change tries seen added outcome
   tried_apart object seen added outcome alone h =
       let parts = apart terms added h.tried h.looked h.whole alone in
       record {
@@ -84,13 +86,15 @@ module _ (terms : Terms) (change : Change) (tries : ℕ) (some : 1 ≤ tries) wh
         attempt = attempts_undisturbed terms object change tries (h.looked ++ seen) h.tried outcome some parts.0 h.attempt;
       }
 
-  passed_apart : (object : ℕ) (seen added : List Event) → NobodyElse terms.port added → IsPassed terms object change tries seen added
+  passed_apart : (object : ℕ) (seen added : List Event) → NobodyElse terms.port added
+      → IsPassed terms object change tries seen added
       → IsPassed (as_one_thread terms) object change tries seen added
   passed_apart object seen added alone (inl (shown, unfit, look)) =
       inl (shown, unfit, looks_undisturbed terms object shown added alone look)
   passed_apart object seen added alone (inr (shown, tried)) = inr (shown, tried_apart object seen added _ alone tried)
 
-  passes_apart : (from n : ℕ) (seen added : List Event) → NobodyElse terms.port added → PassesOver terms from n change tries seen added
+  passes_apart : (from n : ℕ) (seen added : List Event) → NobodyElse terms.port added
+      → PassesOver terms from n change tries seen added
       → PassesOver (as_one_thread terms) from n change tries seen added
   passes_apart from zero seen added alone none = none
   passes_apart from (suc n) seen added alone (last, earlier, whole, passed, rest) =

@@ -1,6 +1,6 @@
 -- Scans, where nobody else acts: where a scan ends is a function of the history.
-use Rattle.std.proofs.Common.{◌≡◌, ◌≤◌, ◌+◌, ◌-◌, ℕ, zero, suc, true, false, cond, List, [], ◌++◌, inl, inr, Option, Some, None}
-use Rattle.std.proofs.Common.{Result, Ok, Err, refl, sym, ap, subst, ◌∙◌, arith}
+use Rattle.std.proofs.Common.{◌≡◌, ◌≤◌, ◌+◌, ◌-◌, ℕ, zero, suc, true, cond, List, [], ◌++◌, inl, inr, Option, Some, None}
+use Rattle.std.proofs.Common.{Result, Ok, Err, refl, sym, ap, ◌∙◌, arith}
 use Rattle.ccan_object.specs.declared.record.Record.{Record}
 use Rattle.ccan_object.specs.Profile.{objects_in}
 use Rattle.ccan_ram.specs.declared.change.Change.{Change}
@@ -14,7 +14,7 @@ use Rattle.ccan_ram.specs.History.{IsLegal}
 use Rattle.ccan_ram.specs.Terms.{Terms}
 use Rattle.ccan_handler.specs.declared.scan.ScanRefused.{ScanRefused}
 use Rattle.ccan_handler.specs.declared.scan.Stored.{Stored}
-use Rattle.ccan_handler.specs.Scan.{IsTried, IsPassed, PassesOver, StopsAt, Scan, Scans, ScanEnd, Nowhere, MadeAt, RefusedAt}
+use Rattle.ccan_handler.specs.Scan.{IsTried, IsPassed, PassesOver, StopsAt, Scans}
 use Rattle.ccan_run.proofs.Determined.{Step, Gives, pair, and_then, in_turn, row, one_more, stays, look, attempt, look_is, attempt_is}
 
 -- what a scan answers
@@ -47,7 +47,8 @@ module _ (terms : Terms) (change : Change) where
   scan from seen = let w = row (λ n. visit (from + n)) seen (objects_in terms.profile + 1 - from) in (w.0, found w.1)
 
   module _ (alone : terms.alone ≡ true) (tries : ℕ) (some : 1 ≤ tries) where
-    pub try_is : (object : ℕ) (seen added : List Event) (outcome : Result Changed Refused) → IsLegal terms.profile (added ++ seen)
+    pub try_is : (object : ℕ) (seen added : List Event) (outcome : Result Changed Refused)
+        → IsLegal terms.profile (added ++ seen)
         → Attempt terms object change tries seen added outcome → Gives (try object seen) added (stop_at object outcome)
     try_is object seen added outcome legal h =
         ap (λ (a : List Event × Result Changed Refused). (a.0, stop_at object a.1))
@@ -73,7 +74,8 @@ module _ (terms : Terms) (change : Change) where
       abbrev visits : ℕ → Step (Option Found)
       visits n = visit (from + n)
 
-      passes_are : (n : ℕ) (added : List Event) → IsLegal terms.profile (added ++ seen) → PassesOver terms from n change tries seen added
+      passes_are : (n : ℕ) (added : List Event) → IsLegal terms.profile (added ++ seen)
+          → PassesOver terms from n change tries seen added
           → Gives (row visits seen n) added None
       passes_are zero added legal none = pair none (λ i. None)
       passes_are (suc n) added legal (last, earlier, whole, passed, rest) =
@@ -99,6 +101,7 @@ module _ (terms : Terms) (change : Change) where
       pub scan_is : (added : List Event) (answer : Found) → IsLegal terms.profile (added ++ seen)
           → Scans terms change from tries seen added answer → Gives (scan from seen) added answer
       scan_is added (Ok None) legal h =
-          ap (λ (w : List Event × Option Found). (w.0, found w.1)) (passes_are (objects_in terms.profile + 1 - from) added legal h)
+          ap (λ (w : List Event × Option Found). (w.0, found w.1))
+          (passes_are (objects_in terms.profile + 1 - from) added legal h)
       scan_is added (Ok (Some stored)) legal (number, h) = stops_are stored.object added _ (Ok (Some stored)) legal h refl
       scan_is added (Err refused) legal h = stops_are refused.at added _ (Err refused) legal h refl

@@ -48,7 +48,8 @@ own_more true event first own events more there = elim (Contains-append_cases (f
 ]
 own_more false event first own events more there = Contains-append_right (first ∷ []) events event (more there)
 
-own_step : (port : PortName) (event : Event) (events : List Event) → Contains (events_of port events) event → Contains events event
+own_step : (port : PortName) (event : Event) (events : List Event) → Contains (events_of port events) event
+    → Contains events event
 own_step port event [] there = there
 own_step port event (first ∷ events) there =
     own_more (same_port first.port port) event first (events_of port events) events (own_step port event events) there
@@ -154,6 +155,7 @@ module _ (terms : Terms) where
       let s = shown_law terms flag word object added reads held.least held.greatest in
       let look = look_at terms.port object s.shown in
       let among : Contains (s.later ++ (look ∷ s.earlier)) look =
-      Contains-append_right s.later (look ∷ s.earlier) look (Contains-append_left (look ∷ []) s.earlier look (Contains-push [] look)) in
+      Contains-append_right s.later (look ∷ s.earlier) look
+      (Contains-append_left (look ∷ []) s.earlier look (Contains-push [] look)) in
       let own : Contains (events_of terms.port added) look = subst (λ (es : List Event). Contains es look) (sym s.own) among in
       (s.shown, own_step terms.port look added own, s.so)

@@ -31,7 +31,8 @@ use Rattle.ccan_run.specs.Trio.{IsQuiet, CatchesUp, seen_by}
 -- ---- one turn
 
 -- a port that made no event, at its name
-quiet_at : (old new : Pass) (name : PortName) → old.port ≡ name → IsQuiet old new → events_of name new.seen ≡ events_of name old.seen
+quiet_at : (old new : Pass) (name : PortName) → old.port ≡ name → IsQuiet old new
+    → events_of name new.seen ≡ events_of name old.seen
 quiet_at old new name is quiet = subst (λ (p : PortName). events_of p new.seen ≡ events_of p old.seen) is quiet.own
 
 terms_at : (contends : ℕ → ℕ → Bool) (memory : Memory) (old new : Pass) (name : PortName) → old.memory ≡ memory → old.port ≡ name
@@ -84,7 +85,8 @@ module _ (if1 if2 bus : Pass) (is_if1 : if1.port ≡ If1) (is_if2 : if2.port ≡
         → (registers : Registers) (n : ℕ) (lines : List HostLine) → lines ≡ script.if1
         → (line : HostLine) × (drop old.if1.next lines ≡ line ∷ drop n lines)
         × Goes (passes_of contends met) (passes_of contends last) (λ terms seen added.
-        GoesOn (λ state value. state ≡ value) old.if1.side registers (λ state left. HostLineMeans terms script.tries line state seen added reply left))
+        GoesOn (λ state value. state ≡ value) old.if1.side registers
+        (λ state left. HostLineMeans terms script.tries line state seen added reply left))
         → TakesTurn contends memory script before (seen_by last if2' bus')
         old (record old { if1 = record { side = registers; next = n } }) If1 reply
     by_if1 if2' bus' c m registers n lines is (line, at, goes) = record {
@@ -114,7 +116,8 @@ module _ (if1 if2 bus : Pass) (is_if1 : if1.port ≡ If1) (is_if2 : if2.port ≡
         → (registers : Registers) (n : ℕ) (lines : List HostLine) → lines ≡ script.if2
         → (line : HostLine) × (drop old.if2.next lines ≡ line ∷ drop n lines)
         × Goes (passes_of contends met) (passes_of contends last) (λ terms seen added.
-        GoesOn (λ state value. state ≡ value) old.if2.side registers (λ state left. HostLineMeans terms script.tries line state seen added reply left))
+        GoesOn (λ state value. state ≡ value) old.if2.side registers
+        (λ state left. HostLineMeans terms script.tries line state seen added reply left))
         → TakesTurn contends memory script before (seen_by if1' last bus')
         old (record old { if2 = record { side = registers; next = n } }) If2 reply
     by_if2 if1' bus' c m registers n lines is (line, at, goes) = record {
@@ -179,7 +182,8 @@ same_self Bus = refl
 
 -- before the first turn all are left
 pub all_left : (script : ScriptFields) (ports : Ports) → ((port : PortName) → next_of ports port ≡ 0)
-    → times If1 script.order ≡ length script.if1 → times If2 script.order ≡ length script.if2 → times Bus script.order ≡ length script.bus
+    → times If1 script.order ≡ length script.if1 → times If2 script.order ≡ length script.if2
+    → times Bus script.order ≡ length script.bus
     → (name : PortName) → next_of ports name + times name script.order ≡ count_of script name
 all_left script ports none if1 if2 bus If1 = omega (arith, none If1, if1)
 all_left script ports none if1 if2 bus If2 = omega (arith, none If2, if2)
@@ -199,7 +203,8 @@ module _ (items order : List PortName) (value : items ≡ order) (i : ℕ) (d : 
   -- the port that is named has a line left
   pub has_left : (next : ℕ) (count : ℕ) → next + times port (drop i order) ≡ count → next < count
   has_left next count all =
-      let own : times port (drop i order) ≡ 1 + times port (drop (i + 1) order) = times_left port ∙ ap (λ b. cond b 1 0 + times port (drop (i + 1) order)) (same_self port) in
+      let own : times port (drop i order) ≡ 1 + times port (drop (i + 1) order) = times_left port
+      ∙ ap (λ b. cond b 1 0 + times port (drop (i + 1) order)) (same_self port) in
       omega (arith, all, own)
 
   pub left_after : (next next' : ℕ) (count : ℕ) (name : PortName) → next' ≡ next + cond (same_port name port) 1 0

@@ -37,7 +37,8 @@ pub record SoFar (script : ScriptFields) (seen : PortName → List Event) (ports
       → LinesMean (PortLineMeans (terms_of script) script.tries) done (opening script.nodes) [] (seen front) answers three
 
 module _ (script : ScriptFields) where
-  pub so_far_none : (seen : PortName → List Event) (ports : Ports) (order : List PortName) (answers : List (PortName × LineAnswer))
+  pub so_far_none : (seen : PortName → List Event) (ports : Ports) (order : List PortName)
+      (answers : List (PortName × LineAnswer))
       → ((name : PortName) → seen name ≡ []) → HaveLedTo (opening script.nodes) ports → ports.if1.next ≡ 0 → ports.if2.next ≡ 0
       → ports.bus.next ≡ 0 → order ≡ script.order → answers ≡ [] → SoFar script seen ports order answers
   so_far_none seen ports order answers opens led if1 if2 bus all none = record {
@@ -50,7 +51,8 @@ module _ (script : ScriptFields) where
     ran = λ theirs. (opens If1, none, refl);
   }
 
-  module _ (contends : ℕ → ℕ → Bool) (memory : Memory) (same : IsMemoryOf script.profile script.quota memory) (some : 1 ≤ script.tries)
+  module _ (contends : ℕ → ℕ → Bool) (memory : Memory) (same : IsMemoryOf script.profile script.quota memory)
+      (some : 1 ≤ script.tries)
       (before after : PortName → List Event) (old new : Ports) (port : PortName) (reply : LineAnswer) (order : List PortName)
       (answers : List (PortName × LineAnswer)) (s : SoFar script before old order answers)
       (turn : TakesTurn contends memory script before after old new port reply) where
@@ -97,11 +99,13 @@ module _ (script : ScriptFields) where
 
       of_own : (events_of port gap ≡ []) × (events_of port front ≡ events_of port (before port))
       of_own =
-          no_others port gap front (events_of port (before port)) (s.holds port) (ap (events_of port) (sym start_is) ∙ turn.starts.own)
+          no_others port gap front (events_of port (before port)) (s.holds port)
+          (ap (events_of port) (sym start_is) ∙ turn.starts.own)
 
       of_any : (name : PortName) → (events_of name gap ≡ []) × (events_of name front ≡ events_of name (before name))
       of_any name = elim (same_or_not name port) [
-        | inl is ↦ subst (λ (p : PortName). (events_of p gap ≡ []) × (events_of p front ≡ events_of p (before p))) (sym is) of_own
+        | inl is ↦ subst (λ (p : PortName). (events_of p gap ≡ []) × (events_of p front ≡ events_of p (before p)))
+            (sym is) of_own
         | inr apart ↦ let one = of_another name apart in (one.1, one.2)
       ]
 
@@ -109,7 +113,8 @@ module _ (script : ScriptFields) where
       start_is_front = start_is ∙ ap (λ es. es ++ front) (none_of_all gap (λ name. (of_any name).0))
 
       -- then nobody else acted during the line, which began where the lines before it ended
-      ran_more : LinesMean (PortLineMeans (terms_of script) script.tries) (s.done ++ turn.line ∷ []) (opening script.nodes) [] (after port)
+      ran_more : LinesMean (PortLineMeans (terms_of script) script.tries) (s.done ++ turn.line ∷ []) (opening script.nodes) []
+          (after port)
           (answers ++ (port, reply) ∷ []) left
       ran_more =
           let means = PortLineMeans (terms_of script) script.tries in
@@ -121,7 +126,8 @@ module _ (script : ScriptFields) where
           let earlier = s.ran (λ name. (of_any name).1) in
           let all : after port ≡ added ++ front = each.2 ∙ ap (λ es. added ++ es) start_is_front in
           rw all
-          (LinesMean-push means s.done turn.line (opening script.nodes) s.three left [] front added answers (port, reply) earlier here)
+          (LinesMean-push means s.done turn.line (opening script.nodes) s.three left [] front added answers
+          (port, reply) earlier here)
 
     pub so_far_more : (later : List PortName) (answers' : List (PortName × LineAnswer)) → order ≡ port ∷ later
         → answers' ≡ answers ++ (port, reply) ∷ [] → SoFar script after new later answers'
@@ -166,7 +172,8 @@ module _ (script : ScriptFields) where
         let none = λ (name : PortName). no_others name more.0 front (events_of name (seen name)) (s.holds name)
         (ap (events_of name) (sym more.1) ∙ all_theirs name) in
         let whole : e.history ≡ front = more.1 ∙ ap (λ es. es ++ front) (none_of_all more.0 (λ name. (none name).0)) in
-        let lines : lines_of script ≡ s.done = s.whole ∙ ap (λ names. s.done ++ rest script ports names) is ∙ append-nil s.done in
+        let lines : lines_of script ≡ s.done = s.whole ∙ ap (λ names. s.done ++ rest script ports names) is
+        ∙ append-nil s.done in
         let ran : LinesMean means (lines_of script) (opening script.nodes) [] e.history answers s.three =
         rw (whole, lines) (s.ran (λ name. (none name).1)) in
         let profile : final.profile ≡ script.profile = e.profile_is ∙ same in

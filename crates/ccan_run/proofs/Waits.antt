@@ -17,12 +17,13 @@ adds_then a b c first second third text more p q = record {
       ∙ ap (λ (z : List ℕ). z ++ more) p.is ∙ append_assoc first text more;
 }
 
--- what waited last was written, so all was
-pub adds_all : (a b c : Option (List ℕ)) (start waits last text whole : List ℕ) → start ≡ [] → AddsText a b start waits text
-    → last ≡ waits → whole ≡ text → Appends b c last → Appends a c whole
-adds_all a b c start waits last text whole none p same is written =
-    subst (Appends a c) (ap (λ (z : List ℕ). p.out ++ z) same ∙ p.is ∙ ap (λ (z : List ℕ). z ++ text) none ∙ sym is)
-    (Appends-trans a b c p.out last p.written written)
+-- what waited was written, and then more, where nothing waited at the start
+pub adds_all : (a b c : Option (List ℕ)) (start waits text more whole : List ℕ) → start ≡ [] → AddsText a b start waits text
+    → whole ≡ text ++ more → Appends b c (waits ++ more) → Appends a c whole
+adds_all a b c start waits text more whole none p is written =
+    subst (Appends a c)
+    (sym (append_assoc p.out waits more) ∙ ap (λ (z : List ℕ). z ++ more) (p.is ∙ ap (λ (z : List ℕ). z ++ text) none) ∙ sym is)
+    (Appends-trans a b c p.out (waits ++ more) p.written written)
 
 pub part_more : (a b : Option (List ℕ)) (text more : List ℕ) → WritesPart a b text → WritesPart a b (text ++ more)
 part_more a b text more p = record {
@@ -48,14 +49,21 @@ part_after a b c first second text more rest whole p q is = record {
 }
 
 -- the same, where nothing waited before
-pub part_in : (a b c : Option (List ℕ)) (start second text more rest whole : List ℕ) → start ≡ [] → AddsText a b start second text
+pub part_in : (a b c : Option (List ℕ)) (start second text more rest whole : List ℕ) → start ≡ []
+    → AddsText a b start second text
     → WritesPart b c (second ++ more) → whole ≡ text ++ (more ++ rest) → WritesPart a c whole
 part_in a b c start second text more rest whole none p q is =
     subst (WritesPart a c) (ap (λ (z : List ℕ). z ++ whole) none) (part_after a b c start second text more rest whole p q is)
 
--- and nothing is to come but what waits
-pub part_last : (a b c : Option (List ℕ)) (start waits last text whole : List ℕ) → start ≡ [] → AddsText a b start waits text
-    → last ≡ waits → whole ≡ text → WritesPart b c last → WritesPart a c whole
-part_last a b c start waits last text whole none p same is q =
-    part_in a b c start waits text [] [] whole none p (subst (WritesPart b c) (same ∙ sym (append-nil waits)) q)
-    (is ∙ sym (append-nil text))
+-- ---- all that waits goes out
+
+pub all_out : (a b c : Option (List ℕ)) (start waits last text : List ℕ) → AddsText a b start waits text → last ≡ waits
+    → Appends b c last → Appends a c (start ++ text)
+all_out a b c start waits last text p same written =
+    subst (Appends a c) (ap (λ (z : List ℕ). p.out ++ z) same ∙ p.is) (Appends-trans a b c p.out last p.written written)
+
+pub part_out : (a b c : Option (List ℕ)) (start waits last text : List ℕ) → AddsText a b start waits text → last ≡ waits
+    → WritesPart b c last → WritesPart a c (start ++ text)
+part_out a b c start waits last text p same q =
+    part_after a b c start waits text [] [] text p (subst (WritesPart b c) (same ∙ sym (append-nil waits)) q)
+    (sym (append-nil text))

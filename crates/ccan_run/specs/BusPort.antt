@@ -37,7 +37,8 @@ pub record ReadsInterrupt (terms : Terms) (added : List Event) (past after : Bus
   pub past_is : after ≡ past
 
 -- a flag of all objects
-pub record ReadsWord (terms : Terms) (flag : Flag) (added : List Event) (past after : BusPast) (reply : LineAnswer) : Type 0 where
+pub record ReadsWord (terms : Terms) (flag : Flag) (added : List Event) (past after : BusPast)
+    (reply : LineAnswer) : Type 0 where
   pub word : ℕ
   pub reads : ReadsFlags terms flag added word
   pub answer_is : reply ≡ answer.Flags flag word terms.profile

@@ -13,7 +13,8 @@ module _ {Gate : Type 0} (enters : Gate → PortName → List LineAnswer → Boo
   -- that one, and let it run
   abbrev pub LetsRun : List LineAnswer → ℕ → Gate → Gate → Type 0
   LetsRun answers zero old new = new ≡ old
-  LetsRun answers (suc n) old new = (between : Gate) × LetsRun answers n old between × enters between port (take n answers) true new
+  LetsRun answers (suc n) old new = (between : Gate) × LetsRun answers n old between
+      × enters between port (take n answers) true new
 
   -- of a port with these answers the gate was asked so before each line that has one, and for nothing else; or then once
   -- more, and held the port before its next line

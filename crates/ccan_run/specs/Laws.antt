@@ -24,7 +24,9 @@ IsNotBusy answer = Unit {0}
 
 -- a script has at most one text: nothing about a run is left open
 abbrev pub HasOneText : Type 0
-HasOneText = (script : ScriptFields) (text other : List ℕ) → 1 ≤ script.tries → HasText script text → HasText script other → text ≡ other
+HasOneText =
+    (script : ScriptFields) (text other : List ℕ) → 1 ≤ script.tries → HasText script text → HasText script other
+    → text ≡ other
 
 -- and what a run that ended well has written is a text of the script, which has no other
 abbrev pub WhatWasPrintedIsTheText : Type 0

@@ -6,15 +6,14 @@ ghost use Rattle.ccan_script.specs.Reader.{fields_of};
 ghost use Rattle.ccan_run.specs.Ordered.{Prints, RunsTo, StopsRun};
 ghost use Rattle.ccan_run.specs.Trio.{seen_by};
 
-use crate::output::write_text;
 use crate::ports::Ports;
 use crate::run_error::RunError;
 use crate::side::log_answer;
-use crate::text::{MAX_LINE, push_answers, push_finals};
+use crate::text::print_run;
 use crate::trio::Trio;
 use ccan_bus::{LoadAnswer, RoundAnswer};
 use ccan_confine::NodeState;
-use ccan_object::{MOST_OBJECTS, ObjectNo, Profile, Record};
+use ccan_object::{ObjectNo, Profile, Record};
 use ccan_ram::{Final, Flag, PortName, SharedRam};
 use ccan_script::{LineAnswer, Script};
 use ccan_words::WordRam;
@@ -58,8 +57,9 @@ fn count_lines(script: &Script) -> usize
 /// Runs a script in its order over a lock-free memory, with its three ports in this one thread, and writes the answers
 /// to its lines and then the final objects.
 ///
-/// All memory is taken before the first byte is written, room for the whole text too, so that it goes out in one `write`
-/// where the writer takes all that it is given. After a failed write what was written is a prefix of the text.
+/// All memory is taken before the first byte is written. The text is gathered on the stack and goes out in few writes: where
+/// the writer takes all that it is given, there is at most one `write` for each 65,457 bytes of it, and one for the rest. After
+/// a failed write what was written is a prefix of the text.
 pub fn run_ordered<W: Write>(alloc: Global, script: &Script, writer: &mut W) -> Result<(), RunError>
     ensures ok { OnOk result
         (Prints (fields_of script.now) (W.contents writer.old) (W.contents writer.new)) }
@@ -68,10 +68,7 @@ pub fn run_ordered<W: Write>(alloc: Global, script: &Script, writer: &mut W) -> 
 {
     let lines = count_lines(script);
     let mut answers = Vec::with_capacity(alloc, lines)?;
-    let mut text = Vec::with_capacity(alloc, (lines + MOST_OBJECTS) * MAX_LINE)?;
     let trio = Trio::<WordRam>::open(alloc, script.profile, script.quota)?;
     let left = run_lines_in_order(script, trio, &mut answers);
-    push_answers(&mut text, &answers);
-    push_finals(&mut text, &left);
-    write_text(writer, &text)
+    print_run(&answers, &left, writer)
 }

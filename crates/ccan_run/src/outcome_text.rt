@@ -72,6 +72,22 @@ fn add_finals<W: Write>(waiting: &mut Waiting, last: &Final, writer: &mut W) -> 
     Ok(())
 }
 
+/// Writes what waits, and then the lines of the objects.
+pub(crate) fn print_finals<W: Write>(
+    waiting: &mut Waiting,
+    last: &Final,
+    writer: &mut W,
+) -> Result<(), RunError>
+    ensures ok { OnOk result (Appends (W.contents writer.old) (W.contents writer.new)
+        (waiting.old.items ++ last_lines last.now)) }
+    ensures part { OnErr result (WritesPart (W.contents writer.old) (W.contents writer.new)
+        (waiting.old.items ++ last_lines last.now)) }
+    ensures fault { IfErr result (λ e. e ≡ RunError.Write) }
+{
+    add_finals(waiting, last, writer)?;
+    write_text(writer, waiting.as_slice())
+}
+
 /// Writes the answers of IF1, of IF2 and of the bus, and then the objects at the end.
 ///
 /// It takes no memory of the allocator. Lines are gathered on the stack and go out many at a time: where the writer takes
@@ -88,6 +104,5 @@ pub fn print_outcome<W: Write>(outcome: &Outcome, writer: &mut W) -> Result<(), 
     add_answers(&mut waiting, PortName::If1, &outcome.if1, writer)?;
     add_answers(&mut waiting, PortName::If2, &outcome.if2, writer)?;
     add_answers(&mut waiting, PortName::Bus, &outcome.bus, writer)?;
-    add_finals(&mut waiting, &outcome.last, writer)?;
-    write_text(writer, waiting.as_slice())
+    print_finals(&mut waiting, &outcome.last, writer)
 }

@@ -1,62 +1,50 @@
-ghost use Rattle.std.specs.Prelude.{◌≡◌, ◌+◌, ◌*◌, ◌≤◌, ◌++◌, List, length, vec_len, vec_capacity};
-ghost use Rattle.ccan_object.specs.Profile.{objects_in};
-ghost use Rattle.ccan_ram.specs.declared.event.Event.{Event};
-ghost use Rattle.ccan_ram.specs.Ending.{final_records};
-ghost use Rattle.ccan_run.specs.Ordered.{answers_text, final_part, finals_text};
+ghost use Rattle.std.specs.Prelude.{◌≡◌, ◌++◌, OnOk, OnErr, IfErr};
+ghost use Rattle.std.specs.Io.KnownBytes.{Appends};
+ghost use Rattle.ccan_run.specs.Ordered.{answers_text};
+ghost use Rattle.ccan_run.specs.Outcome.{last_lines};
+ghost use Rattle.ccan_run.specs.Output.{WritesPart};
+ghost use Rattle.ccan_run.specs.Waiting.{AddsText};
 
-use ccan_object::{ObjectNo, Record};
+use crate::outcome_text::print_finals;
+use crate::run_error::RunError;
+use crate::waiting::{Waiting, add_line};
 use ccan_ram::{Final, PortName};
-use ccan_script::{LineAnswer, PrintedLine, print_final, print_line};
+use ccan_script::{LineAnswer, print_line};
+use std::io::Write;
 
-/// The most bytes that a printed line has.
-pub(crate) const MAX_LINE: usize = 80;
-
-/// Appends a line to a text that has room for it.
-fn push_line(text: &mut Vec<u8>, line: &PrintedLine)
-    requires { vec_len text.old + 80 ≤ vec_capacity text.old }
-    ensures items { text.new.items ≡ text.old.items ++ line.now.bytes }
-    ensures len { vec_len text.new ≤ vec_len text.old + 80 }
-    ensures capacity { vec_capacity text.old ≤ vec_capacity text.new }
-{
-    if text.extend_from_slice(line.as_str().as_bytes()).is_err() {
-        unreachable!();
-    }
-}
-
-/// Appends a line for each answer.
-pub(crate) fn push_answers(text: &mut Vec<u8>, answers: &[(PortName, LineAnswer)])
-    requires { vec_len text.old + 80 * length answers.now ≤ vec_capacity text.old }
-    ensures items { text.new.items ≡ text.old.items ++ answers_text answers.now }
-    ensures len { vec_len text.new ≤ vec_len text.old + 80 * length answers.now }
-    ensures capacity { vec_capacity text.old ≤ vec_capacity text.new }
+/// Lets a line wait for each answer.
+fn add_replies<W: Write>(
+    waiting: &mut Waiting,
+    answers: &[(PortName, LineAnswer)],
+    writer: &mut W,
+) -> Result<(), RunError>
+    ensures ok { OnOk result (AddsText (W.contents writer.old) (W.contents writer.new)
+        waiting.old.items waiting.new.items (answers_text answers.now)) }
+    ensures part { OnErr result (WritesPart (W.contents writer.old) (W.contents writer.new)
+        (waiting.old.items ++ answers_text answers.now)) }
+    ensures fault { IfErr result (λ e. e ≡ RunError.Write) }
 {
     for (port, answer) in answers {
-        push_line(text, &print_line(*port, answer));
+        add_line(waiting, &print_line(*port, answer), writer)?;
     }
+    Ok(())
 }
 
-/// Appends the line of an object at the end, if it has one.
-#[tactic(auto, unfolding(crate::specs::Ordered::final_part))]
-fn push_final(text: &mut Vec<u8>, object: ObjectNo, left: &Record)
-    requires { vec_len text.old + 80 ≤ vec_capacity text.old }
-    ensures items { text.new.items ≡ text.old.items ++ final_part object left.now }
-    ensures len { vec_len text.new ≤ vec_len text.old + 80 }
-    ensures capacity { vec_capacity text.old ≤ vec_capacity text.new }
+/// Writes the answers of an ordered run, and then the objects at the end.
+///
+/// It goes out as an outcome without an order does (`print_outcome`).
+pub(crate) fn print_run<W: Write>(
+    answers: &[(PortName, LineAnswer)],
+    left: &Final,
+    writer: &mut W,
+) -> Result<(), RunError>
+    ensures ok { OnOk result (Appends (W.contents writer.old) (W.contents writer.new)
+        (answers_text answers.now ++ last_lines left.now)) }
+    ensures part { OnErr result (WritesPart (W.contents writer.old) (W.contents writer.new)
+        (answers_text answers.now ++ last_lines left.now)) }
+    ensures fault { IfErr result (λ e. e ≡ RunError.Write) }
 {
-    if let Some(line) = print_final(object, left) {
-        push_line(text, &line);
-    }
-}
-
-/// Appends the lines of the objects at the end, in rising order.
-pub(crate) fn push_finals(text: &mut Vec<u8>, left: &Final)
-    requires { vec_len text.old + 80 * objects_in left.now.profile ≤ vec_capacity text.old }
-    ensures { (history : List Event) → left.now.records ≡ final_records left.now.profile history
-        → text.new.items ≡ text.old.items ++ finals_text left.now.profile history }
-{
-    let objects = left.profile.objects();
-    for number in 1..objects + 1 {
-        let object = ObjectNo::new(number).unwrap();
-        push_final(text, object, &left.records[usize::from(number) - 1]);
-    }
+    let mut waiting = Waiting::new();
+    add_replies(&mut waiting, answers, writer)?;
+    print_finals(&mut waiting, left, writer)
 }

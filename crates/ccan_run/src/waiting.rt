@@ -4,10 +4,12 @@ ghost use Rattle.ccan_run.specs.Waiting.{AddsText};
 
 use crate::output::write_text;
 use crate::run_error::RunError;
-use crate::text::MAX_LINE;
 use arrayvec::ArrayVec;
 use ccan_script::PrintedLine;
 use std::io::Write;
+
+/// The most bytes that a printed line has.
+const MAX_LINE: usize = 80;
 
 /// The most bytes that wait to be written.
 const MOST_WAITING: usize = 65_536;

@@ -17,7 +17,10 @@ returns-in-Round-clause-runs g c =
 pub returns-in-Status-clause-runs : goal.returns-in-Status-clause-runs
 returns-in-Status-clause-runs g c =
     rw c.in-Status.is (Goes-none
-    (λ seen _. record { each = λ past led. let a = c.status_read.ensures.goes_on.each past led in (a.0, a.1, (_, refl, refl, a.2)) }))
+    (λ seen _. record {
+      each = λ past led. let a =
+          c.status_read.ensures.goes_on.each past led in (a.0, a.1, (_, refl, refl, a.2));
+    }))
 
 pub returns-in-Control-clause-runs : goal.returns-in-Control-clause-runs
 returns-in-Control-clause-runs g c =
@@ -45,8 +48,16 @@ pub returns-in-Recessive-clause-runs : goal.returns-in-Recessive-clause-runs
 returns-in-Recessive-clause-runs g c =
     rw c.in-Recessive.is (Goes-none (λ seen _. record {
       each = λ past led.
-          let a = c.recessive.ensures.goes_on.each past led in
-          (a.0, a.1, record { quiet = refl; answer_is = c.controller_state.ensures a.0 a.1 ∙ ap state_shown a.2; past_is = a.2 });
+          let a = c.recessive.ensures.goes_on.each past led in (
+            a.0,
+            a.1,
+            record {
+              quiet = refl;
+              answer_is = c.controller_state.ensures a.0 a.1
+                  ∙ ap state_shown a.2;
+              past_is = a.2;
+            },
+          );
     }))
 
 pub returns-in-LoopBack-clause-runs : goal.returns-in-LoopBack-clause-runs

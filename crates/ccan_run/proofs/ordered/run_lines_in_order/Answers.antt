@@ -20,7 +20,8 @@ loop-port-init g c =
       can_run = c.new-ports.ensures.can_run;
       memory = c.requires.memory;
       left = all_left script c.new-ports.result none s.if1_times s.if2_times s.bus_times;
-      so_far = so_far_none script _ _ _ _ c.requires.opens c.new-ports.ensures.opened (none If1) (none If2) (none Bus) refl c.requires.empty;
+      so_far = so_far_none script _ _ _ _ c.requires.opens c.new-ports.ensures.opened (none If1) (none If2)
+          (none Bus) refl c.requires.empty;
     }
 
 pub turn-answer-requires-clause-left : goal.turn-answer-requires-clause-left
@@ -56,6 +57,7 @@ returns-clause-runs g c =
     let trio = c.loop-port.trio in
     let profile = ap (λ (m : Memory). m.profile) trio.if1_memory ∙ c.loop-port.invariant.memory.profile_is in
     let i = c.loop-port.port-index in
-    let none = ap (drop i) (sym c.deref-port-items.ensures.value) ∙ drop_all i c.deref-port-items.result.now c.loop-port-test.false in
-    all_ran script _ _ _ trio.if1_name trio.if2_name trio.bus_name c.close.result c.close.ensures c.loop-port.ports _ _ profile none
-    c.loop-port.invariant.so_far
+    let none = ap (drop i) (sym c.deref-port-items.ensures.value)
+    ∙ drop_all i c.deref-port-items.result.now c.loop-port-test.false in
+    all_ran script _ _ _ trio.if1_name trio.if2_name trio.bus_name c.close.result c.close.ensures c.loop-port.ports _ _
+    profile none c.loop-port.invariant.so_far

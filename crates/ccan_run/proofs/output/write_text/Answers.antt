@@ -14,8 +14,10 @@ pub returns-in-Ok-eq0-clause-part : goal.returns-in-Ok-eq0-clause-part
 returns-in-Ok-eq0-clause-part g c =
     let text = c.args.text.now in
     part_of _ _ text _ (omega (arith, c.loop-written-test.true))
-    (writes_more _ _ _ text c.loop-written.written c.in-Ok-eq0.field-0 c.loop-written.invariant.so_far (rw take_rest at c.in-Ok-eq0.ensures.bytes))
+    (writes_more _ _ _ text c.loop-written.written c.in-Ok-eq0.field-0 c.loop-written.invariant.so_far
+    (rw take_rest at c.in-Ok-eq0.ensures.bytes))
 
 pub returns-in-Err-clause-part : goal.returns-in-Err-clause-part
 returns-in-Err-clause-part g c =
-    part_kept _ _ _ c.args.text.now c.loop-written.written c.loop-written-test.true c.loop-written.invariant.so_far c.in-Err.ensures.bytes
+    part_kept _ _ _ c.args.text.now c.loop-written.written c.loop-written-test.true
+    c.loop-written.invariant.so_far c.in-Err.ensures.bytes

@@ -5,4 +5,5 @@ use Rattle.ccan_run.proofs.Rows.{runs_from}
 use Rattle.ccan_run.proofs.port.run_bus.Goals as goal
 
 pub returns-clause-runs : goal.returns-clause-runs
-returns-clause-runs g c = runs_from LedTo (λ terms. BusLineMeans terms c.args.tries) _ _ (opened c.args.nodes) (search) c.run_lines.ensures.runs
+returns-clause-runs g c =
+    runs_from LedTo (λ terms. BusLineMeans terms c.args.tries) _ _ (opened c.args.nodes) (search) c.run_lines.ensures.runs

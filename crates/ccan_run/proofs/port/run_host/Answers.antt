@@ -5,4 +5,6 @@ use Rattle.ccan_run.proofs.Rows.{runs_from}
 use Rattle.ccan_run.proofs.port.run_host.Goals as goal
 
 pub returns-clause-runs : goal.returns-clause-runs
-returns-clause-runs g c = runs_from (λ state value. state ≡ value) (λ terms. HostLineMeans terms c.args.tries) _ _ zero_registers (search) c.run_lines.ensures.runs
+returns-clause-runs g c =
+    runs_from (λ state value. state ≡ value) (λ terms. HostLineMeans terms c.args.tries) _ _ zero_registers
+    (search) c.run_lines.ensures.runs

@@ -16,6 +16,7 @@ invariant-loop-line g l =
       taken : All (g.S.Side.takes (passes l.fn.access).terms.profile l.side) l.lines;
       runs : Goes (passes l.fn.access) (passes l.access)
           (λ terms seen added. GoesOn g.S.Side.led_to l.fn.side l.side
-          (λ state left. LinesMean (g.S.Side.means terms l.tries) (take l.line-index l.lines) state seen added l.log.items left));
+          (λ state left. LinesMean (g.S.Side.means terms l.tries)
+          (take l.line-index l.lines) state seen added l.log.items left));
       asked : LetsRun g.G.Gate.enters l.port l.log.items l.line-index l.fn.gate l.gate;
     }

@@ -24,5 +24,6 @@ returns-in_err-if1-clause-err g c =
     let enters = g.G.Gate.enters in
     let held = held_first pass contends enters c.args.gate.now memory (fields_of c.args.script.now) c.in_ok-ram.ensures.memory
     c.in_ok-runs.runs _ c.in_ok-runs.ensures.ok c.in_ok-runs.ensures.asked c.in_err-if1.ensures.err in
-    passed_on _ (StopsThreads contends enters c.args.gate.now (fields_of c.args.script.now)) _ _ c.from_residual-in_err-if1.ensures.1
+    passed_on _ (StopsThreads contends enters c.args.gate.now
+    (fields_of c.args.script.now)) _ _ c.from_residual-in_err-if1.ensures.1
     (λ e same. cc) held
