@@ -3,7 +3,7 @@
 use ccan_object::ObjectNo;
 use ccan_outcomes::{
     HistoryKind, Outcomes, all_outcomes, history_of, line_process_laws, machine_laws, place_laws,
-    process_laws, same, seat_laws, way_to,
+    process_laws, quiet_laws, same, seat_laws, way_to,
 };
 use ccan_ram::PortName;
 use ccan_run::read_input;
@@ -55,6 +55,9 @@ fn laws_hold() {
     same::equal_answers_are_the_same();
     machine_laws::all_outcomes_are_reached();
     machine_laws::walks_are_histories();
+    quiet_laws::no_end_is_lost();
+    quiet_laws::hosts_leave_alone();
+    quiet_laws::bus_leaves_alone();
 }
 
 #[test]

@@ -19,6 +19,8 @@ impl Machine for Residues {
 
     ghost follows = { λ _ from to. Contains (((from % 10) * 2) % 10 ∷ ((from % 10) + 3) % 10 ∷ []) to };
 
+    ghost to_follow = { λ _ _ from to. Contains (((from % 10) * 2) % 10 ∷ ((from % 10) + 3) % 10 ∷ []) to };
+
     fn next(&self, alloc: Global, from: &u64) -> Result<Vec<u64>, AllocError> {
         let digit = *from % 10;
         Ok(vec![in alloc; digit * 2 % 10, (digit + 3) % 10]?)

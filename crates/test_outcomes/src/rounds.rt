@@ -54,9 +54,10 @@ fn answers(alloc: Global, outcomes: &Outcomes) -> Result<String, Fail> {
 
 #[test]
 fn lists_a_load_beside_a_write(rt: HostRuntime) -> Result<(), Fail> {
-    // Before the write, with its look made or not, the bus has made 0 to 32 of its looks: 66 states. Behind it as many again
-    // where the look at object 1 came before: 32; and the look at object 1, that of the try, and the start: four more.
-    let outcomes = outcomes_in(rt.alloc(), LOAD_BESIDE_WRITE, 102)?;
+    // Before the write, with its look made or not, the bus has made 0 to 32 of its looks: 66 states. It makes those at objects 2
+    // to 32 at once, so where the look at object 1 came before the write that follows all of them: 1. Else the look at object 1,
+    // that of the try, and the start come behind the write: four more.
+    let outcomes = outcomes_in(rt.alloc(), LOAD_BESIDE_WRITE, 71)?;
     let want = "bus loaded 01 a48c0000 00000000 0188 0000000000000000\n\
         if1 write 01 a48c0000 00000000 0188 0000000000000000\n\
         bus loaded none\n\
@@ -68,7 +69,7 @@ fn lists_a_load_beside_a_write(rt: HostRuntime) -> Result<(), Fail> {
 #[test]
 fn lists_a_message_that_is_lost(rt: HostRuntime) -> Result<(), Fail> {
     // The frame comes before the write, which is no object's then, or before the read, between it and the clearing, or behind.
-    let outcomes = outcomes_in(rt.alloc(), LOST_MESSAGE, 416)?;
+    let outcomes = outcomes_in(rt.alloc(), LOST_MESSAGE, 292)?;
     let want = "bus received 01 848c0000 00000000 8082 2222000000000000\n\
         if1 write 01 848c0000 00000000 8088 1111000000000000\n\
         if1 read 01 848c0000 00000000 8088 1111000000000000\n\

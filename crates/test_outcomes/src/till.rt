@@ -21,6 +21,8 @@ impl Machine for Till {
 
     ghost follows = { λ _ from to. Contains ((from % 10 + 2) % 10 ∷ (from % 10 + 4) % 10 ∷ []) to };
 
+    ghost to_follow = { λ _ _ coins more. (more ≡ 2 ∷ coins) ⊎ (more ≡ 4 ∷ coins) };
+
     fn next(&self, alloc: Global, from: &u64) -> Result<Vec<u64>, AllocError> {
         let digit = *from % 10;
         Ok(vec![in alloc; (digit + 2) % 10, (digit + 4) % 10]?)

@@ -26,6 +26,7 @@ fn finds_more_digits_than_that(rt: HostRuntime) -> Result<(), Fail> {
 fn answers_a_way_by_two_coins(rt: HostRuntime) -> Result<(), Fail> {
     // Two coins show 8 only where both are of 4.
     laws::ways_are_walks(&Till);
+    laws::closed_states_stand_for_all(&Till);
     let Some(reached) = reachable(&Till, rt.alloc(), 0, 5)? else {
         return Err(Fail::new("more than five digits"));
     };
