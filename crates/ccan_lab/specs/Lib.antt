@@ -1,3 +1,6 @@
 pub mod History
 pub mod LabError
 pub mod Report
+pub mod Rows
+pub mod Summary
+pub mod Answer
