@@ -18,7 +18,8 @@ none_text outcomes begin =
     codes "no outcome of " ++ (decimal outcomes ++ (codes " has a line that begins so: " ++ (begin ++ codes "\n")))
 
 -- the first line, and an outcome with a history
-pub record IsFoundText (script : ScriptFields) (endings : List Ending) (states number : ℕ) (text : List ℕ) : Type 0 where
+pub record IsFoundText (script : ScriptFields) (endings : List Ending) (states number : ℕ) (text : List ℕ)
+    : Type 0 where
   pub outcome : List ℕ
   pub is_one : IsOutcomeText script endings number outcome
   pub text_is : text ≡ heading_text (length endings) states ++ outcome

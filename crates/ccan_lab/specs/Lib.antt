@@ -4,3 +4,4 @@ pub mod Report
 pub mod Rows
 pub mod Summary
 pub mod Answer
+pub mod Question

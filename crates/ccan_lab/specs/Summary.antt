@@ -21,8 +21,8 @@ final_head object = codes "final" ++ (object_text (Some object) ++ codes "\n")
 abbrev pub late_head : ℕ → ℕ → List ℕ
 late_head bus place = if nat_lt place bus then line_head Bus (place + 1) else final_head (place - bus + 1)
 
--- the head of a place, where the ports have so many lines: those of IF1 come first, then those of IF2 and of the bus, then
--- the objects
+-- the head of a place, where the ports have so many lines: those of IF1 come first, then those of IF2 and of the bus,
+-- then the objects
 abbrev pub place_head : ℕ → ℕ → ℕ → ℕ → List ℕ
 place_head if1 if2 bus place =
     if nat_lt place if1 then line_head If1 (place + 1)

@@ -65,7 +65,8 @@ pub fn add_line_name(text: &mut String, port: PortName, line: usize) -> Result<(
     Ok(())
 }
 
-/// Adds the line of one step: its number, the port, its line, what it did, and the object in two digits, where it has one.
+/// Adds the line of one step: its number, the port, its line, what it did, and the object in two digits, where it has
+/// one.
 fn add_step(text: &mut String, number: usize, step: &HistoryStep) -> Result<(), AllocError>
     ensures { OnOk result
         (string_bytes text.new ≡ string_bytes text.old ++ step_text number step.now) }

@@ -1,13 +1,13 @@
 //! Answers questions about scripts, by what is proved of the model.
 //!
-//! `ccan-lab outcomes` goes through every outcome that a script can have when its two hosts and its bus run at once. It shows
-//! what each line may be; with `--all` each outcome and a history that leads to it; with `--can LINE` and `--never LINE`
-//! whether an outcome has a line that begins so.
+//! `ccan-lab outcomes` goes through every outcome that a script can have when its two hosts and its bus run at once. It
+//! shows what each line may be; with `--all` each outcome and a history that leads to it; with `--can LINE` and
+//! `--never LINE` whether an outcome has a line that begins so.
 //!
-//! The exit status is 0 where it is as asked, and 6 where no outcome has the line of `--can`, or one has that of `--never`. A
-//! fault is told on standard error, and the exit status: 1 where the script is refused, 2 where the words of the command line
-//! ask no question, 3 where memory ran out, 4 where a stream or a file failed, 5 where the ports can come to more states than
-//! were allowed.
+//! The exit status is 0 where it is as asked, and 6 where no outcome has the line of `--can`, or one has that of
+//! `--never`. A fault is told on standard error, and the exit status: 1 where the script is refused, 2 where the words of
+//! the command line ask no question, 3 where memory ran out, 4 where a stream or a file failed, 5 where the ports can come
+//! to more states than were allowed.
 #![tactic(auto)]
 
 pub mod answer;

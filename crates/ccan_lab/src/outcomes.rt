@@ -1,5 +1,9 @@
 //! The question `ccan-lab outcomes`: its words, and its answer.
 
+ghost use Rattle.std.specs.Prelude.{◌≡◌, codes, option_map};
+ghost use Rattle.clap.specs.Words.{first_value, found_of, one_text};
+ghost use Rattle.ccan_lab.specs.Question.{AsksBy};
+
 use crate::answer::answer_of;
 use crate::asked::Asked;
 use crate::input::script_asked;
@@ -81,19 +85,35 @@ pub fn outcomes_command<'a>(alloc: Global) -> Result<Command<'a>, AllocError> {
 }
 
 /// What the words of that command ask.
-fn asked_of<'a>(words: &ArgMatches<'a>) -> Asked<'a> {
+fn asked_of<'a>(words: &ArgMatches<'a>) -> Asked<'a>
+    ensures all { one_text (found_of words.entry.now) (codes "all") ≡ Some (codes "true")
+        → result ≡ Asked.All }
+    ensures line { one_text (found_of words.entry.now) (codes "all") ≡ Some (codes "false")
+        → AsksBy (first_value (found_of words.entry.now) (codes "can"))
+        (first_value (found_of words.entry.now) (codes "never")) result }
+{
     if words.get_flag("all") {
         return Asked::All;
     }
-    match (words.get_str("can"), words.get_str("never")) {
-        (Some(begin), _) => Asked::Can(begin),
-        (None, Some(begin)) => Asked::Never(begin),
-        (None, None) => Asked::Summary,
+    if let Some(begin) = words.get_str("can") {
+        return Asked::Can(begin);
+    }
+    match words.get_str("never") {
+        Some(begin) => Asked::Never(begin),
+        None => Asked::Summary,
     }
 }
 
 /// The question that the words of that command ask.
-pub fn outcomes_question<'a>(words: &ArgMatches<'a>) -> OutcomesQuestion<'a> {
+pub fn outcomes_question<'a>(words: &ArgMatches<'a>) -> OutcomesQuestion<'a>
+    ensures file { option_map (λ path. path.now) result.file
+        ≡ first_value (found_of words.entry.now) (codes "file") }
+    ensures all { one_text (found_of words.entry.now) (codes "all") ≡ Some (codes "true")
+        → result.asked ≡ Asked.All }
+    ensures line { one_text (found_of words.entry.now) (codes "all") ≡ Some (codes "false")
+        → AsksBy (first_value (found_of words.entry.now) (codes "can"))
+        (first_value (found_of words.entry.now) (codes "never")) result.asked }
+{
     OutcomesQuestion {
         most: words.get_one::<usize>("most").unwrap_or(DEFAULT_MOST),
         file: words.get_str("file"),

@@ -15,8 +15,9 @@ use std::marker::Model;
 /// The most objects that a profile has.
 const MAX_OBJECTS: usize = 64;
 
-/// The lines of an outcome, each in its place: the answers of IF1, those of IF2, those of the bus, and a line for each object,
-/// which is empty where the object is all zero. In the outcomes of one script the same thing stands in the same place.
+/// The lines of an outcome, each in its place: the answers of IF1, those of IF2, those of the bus, and a line for each
+/// object, which is empty where the object is all zero. In the outcomes of one script the same thing stands in the same
+/// place.
 ///
 /// Contracts see the list of the lines' texts.
 #[derive(Drop)]
