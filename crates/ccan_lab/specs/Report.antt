@@ -1,5 +1,19 @@
--- Parts of what is printed of the outcomes of a script. Source: this project's own.
-use Rattle.std.specs.Prelude.{ℕ, ◌++◌, ◌==◌, List, codes, decimal, if◌then◌else◌}
+-- What is printed of the outcomes of a script. Source: this project's own.
+use Rattle.std.specs.Prelude.{ℕ, zero, suc, ◌≡◌, ◌+◌, ◌++◌, ◌==◌, ◌∷◌, List, [], Some, codes, decimal, length, map, slice_get, if◌then◌else◌}
+use Rattle.std.specs.List.{enumerate_from, flat_map}
+use Rattle.ccan_script.specs.Script.{ScriptFields}
+use Rattle.ccan_outcomes.specs.declared.ending.Ending.{Ending}
+use Rattle.ccan_outcomes.specs.declared.history_step.HistoryStep.{HistoryStep}
+use Rattle.ccan_outcomes.specs.History.{IsHistoryOf}
+use Rattle.ccan_lab.specs.History.{step_text}
+use Rattle.ccan_lab.specs.Rows.{is_in_all, line_at, place_count, rows_at, rows_of}
+
+-- ---- parts
+
+-- a text for each number from 0, so many, one after another
+unfoldable pub each : ℕ → (ℕ → List ℕ) → List ℕ
+each zero text = []
+each (suc count) text = each count text ++ text count
 
 -- so many things of a name: `1 state`, `5 states`
 abbrev pub counted_text : ℕ → List ℕ → List ℕ
@@ -10,3 +24,58 @@ counted_text count name =
 abbrev pub heading_text : ℕ → ℕ → List ℕ
 heading_text outcomes states =
     counted_text outcomes (codes "outcome") ++ (codes " in " ++ (counted_text states (codes "state") ++ codes "\n"))
+
+-- ---- what is the same in all
+
+-- a label before a line, nothing where the line is empty
+unfoldable pub labelled : List ℕ → List ℕ → List ℕ
+labelled label [] = []
+labelled label (byte ∷ rest) = label ++ byte ∷ rest
+
+-- the line in a place, where it is the same in all
+unfoldable pub same_line : List (List (List ℕ)) → ℕ → List ℕ
+same_line all place =
+    if is_in_all all place (line_at (rows_at all 0) place)
+    then labelled (codes "same in all: ") (line_at (rows_at all 0) place) else []
+
+abbrev pub same_text : List (List (List ℕ)) → List ℕ
+same_text all = each (place_count all) (same_line all)
+
+-- ---- an outcome with a history
+
+-- its line in a place, where it is not the same in all
+unfoldable pub different_line : List (List (List ℕ)) → ℕ → ℕ → List ℕ
+different_line all number place =
+    if is_in_all all place (line_at (rows_at all number) place) then [] else line_at (rows_at all number) place
+
+-- a line for each step, counted from 1
+unfoldable pub history_text : List HistoryStep → List ℕ
+history_text steps = flat_map (λ step. step_text step.0 step.1) (enumerate_from 1 steps)
+
+-- the outcome of a number from 0: its head, its lines that are not the same in all, and the history
+abbrev pub outcome_text : List (List (List ℕ)) → ℕ → List HistoryStep → List ℕ
+outcome_text all number steps =
+    codes "outcome " ++ (decimal (number + 1) ++ (codes "\n" ++ (each (place_count all) (different_line all number)
+    ++ history_text steps)))
+
+-- the text is that of the outcome of this number, with a history of it
+abbrev pub IsOutcomeText : ScriptFields → List Ending → ℕ → List ℕ → Type 0
+IsOutcomeText script endings number text =
+    (steps : List HistoryStep)
+    × ((ending : Ending) → slice_get endings number ≡ Some ending → IsHistoryOf script ending steps)
+    × (text ≡ outcome_text (map rows_of endings) number steps)
+
+-- the text is that of the outcomes before this number, in turn
+abbrev pub AreOutcomeTexts : ScriptFields → List Ending → ℕ → List ℕ → Type 0
+AreOutcomeTexts script endings zero text = text ≡ []
+AreOutcomeTexts script endings (suc number) text =
+    (before : List ℕ) × (last : List ℕ) × (text ≡ before ++ last)
+    × AreOutcomeTexts script endings number before × IsOutcomeText script endings number last
+
+-- ---- the whole list
+
+-- the first line, what is the same in all, and each outcome with a history
+pub record IsListing (script : ScriptFields) (endings : List Ending) (states : ℕ) (text : List ℕ) : Type 0 where
+  pub outcomes : List ℕ
+  pub are : AreOutcomeTexts script endings (length endings) outcomes
+  pub text_is : text ≡ heading_text (length endings) states ++ (same_text (map rows_of endings) ++ outcomes)

@@ -1,9 +1,24 @@
-ghost use Rattle.std.specs.Prelude.{◌≡◌, IfOk, string_bytes};
-ghost use Rattle.ccan_lab.specs.History.{kind_text, object_text, step_text};
+ghost use Rattle.std.specs.Prelude.{◌≡◌, ◌++◌, OnOk, string_bytes};
+ghost use Rattle.ccan_ram.specs.Port.{port_text};
+ghost use Rattle.ccan_lab.specs.History.{kind_text, line_name, object_text, step_text};
+ghost use Rattle.ccan_lab.specs.Report.{history_text};
 
+use crate::wording::add_number;
 use ccan_object::ObjectNo;
 use ccan_outcomes::{HistoryKind, HistoryStep};
-use std::alloc::{AllocError, Global};
+use ccan_ram::PortName;
+use std::alloc::AllocError;
+
+/// The word for a port.
+pub fn port_word(port: PortName) -> &'static str
+    ensures { result.now ≡ port_text port }
+{
+    match port {
+        PortName::If1 => "if1",
+        PortName::If2 => "if2",
+        PortName::Bus => "bus",
+    }
+}
 
 /// The words for what a port did.
 fn kind_text(kind: HistoryKind) -> &'static str
@@ -24,31 +39,57 @@ fn kind_text(kind: HistoryKind) -> &'static str
     }
 }
 
-/// The object of a step in two digits, with a space before it; nothing where it is none's.
-fn object_text(alloc: Global, object: Option<ObjectNo>) -> Result<String, AllocError>
-    ensures { IfOk result (λ text. string_bytes text ≡ object_text object) }
+/// Adds an object in two digits, with a space before it; nothing where it is none's.
+pub fn add_object(text: &mut String, object: Option<ObjectNo>) -> Result<(), AllocError>
+    ensures { OnOk result
+        (string_bytes text.new ≡ string_bytes text.old ++ object_text object) }
 {
-    match object {
-        Some(object) => {
-            let tens = object.get() / 10;
-            let ones = object.get() % 10;
-            format!(in alloc; " {tens}{ones}")
-        }
-        None => Ok(String::new(alloc)),
+    if let Some(object) = object {
+        text.push_str(" ")?;
+        add_number(text, usize::from(object.get() / 10))?;
+        add_number(text, usize::from(object.get() % 10))?;
     }
+    Ok(())
 }
 
-/// The line of one step: its number, the port, its line, what it did, and the object in two digits, where it has one.
-pub fn step_line(alloc: Global, number: usize, step: &HistoryStep) -> Result<String, AllocError>
-    ensures { IfOk result (λ text. string_bytes text ≡ step_text number step.now) }
+/// Adds a port and the number of its line, from 1.
+#[tactic(auto, unfolding(crate::specs::History::line_name))]
+pub fn add_line_name(text: &mut String, port: PortName, line: usize) -> Result<(), AllocError>
+    ensures { OnOk result
+        (string_bytes text.new ≡ string_bytes text.old ++ line_name port line) }
 {
-    let HistoryStep {
-        port,
-        line,
-        object,
-        kind,
-    } = *step;
-    let what = kind_text(kind);
-    let at = object_text(alloc, object)?;
-    format!(in alloc; "  {number} {port}[{line}] {what}{at}\n")
+    text.push_str(port_word(port))?;
+    text.push_str("[")?;
+    add_number(text, line)?;
+    text.push_str("]")?;
+    Ok(())
+}
+
+/// Adds the line of one step: its number, the port, its line, what it did, and the object in two digits, where it has
+/// one.
+fn add_step(text: &mut String, number: usize, step: &HistoryStep) -> Result<(), AllocError>
+    ensures { OnOk result
+        (string_bytes text.new ≡ string_bytes text.old ++ step_text number step.now) }
+{
+    text.push_str("  ")?;
+    add_number(text, number)?;
+    text.push_str(" ")?;
+    add_line_name(text, step.port, step.line)?;
+    text.push_str(" ")?;
+    text.push_str(kind_text(step.kind))?;
+    add_object(text, step.object)?;
+    text.push_str("\n")?;
+    Ok(())
+}
+
+/// Adds a line for each step.
+#[tactic(auto, unfolding(crate::specs::Report::history_text))]
+pub fn add_steps(text: &mut String, steps: &[HistoryStep]) -> Result<(), AllocError>
+    ensures { OnOk result
+        (string_bytes text.new ≡ string_bytes text.old ++ history_text steps.now) }
+{
+    for (index, step) in steps.iter().enumerate() {
+        add_step(text, index + 1, step)?;
+    }
+    Ok(())
 }

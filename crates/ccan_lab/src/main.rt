@@ -1,60 +1,48 @@
 //! Answers questions about scripts, by what is proved of the model.
 //!
-//! `ccan-lab outcomes` lists every outcome that a script can have when its two hosts and its bus run at once, each with a
-//! history that leads to it.
+//! `ccan-lab outcomes` goes through every outcome that a script can have when its two hosts and its bus run at once. It
+//! shows what each line may be; with `--all` each outcome and a history that leads to it; with `--can LINE` and
+//! `--never LINE` whether an outcome has a line that begins so.
 //!
-//! A fault is told on standard error, and the exit status: 1 where the script is refused, 2 where the words of the command
-//! line ask no question, 3 where memory ran out, 4 where a stream or a file failed, 5 where the ports can come to more
-//! states than were allowed.
+//! The exit status is 0 where it is as asked, and 6 where no outcome has the line of `--can`, or one has that of
+//! `--never`. A fault is told on standard error, and the exit status: 1 where the script is refused, 2 where the words of
+//! the command line ask no question, 3 where memory ran out, 4 where a stream or a file failed, 5 where the ports can come
+//! to more states than were allowed.
 #![tactic(auto)]
 
+pub mod answer;
+pub mod asked;
 pub mod history;
+pub mod input;
 pub mod lab_error;
+pub mod outcomes;
 pub mod question;
 pub mod report;
 pub mod rows;
+pub mod summary;
+pub mod wording;
 
 use crate::lab_error::LabError;
+use crate::outcomes::answer_outcomes;
 use crate::question::{Question, question_asked};
-use crate::report::text_of;
-use ccan_outcomes::all_outcomes;
-use ccan_run::read_input;
-use ccan_script::Script;
 use clap::error::ErrorKind;
 use std::alloc::AllocError;
 use std::env::Env;
 use std::fs::Files;
-use std::io::{Input, Write};
+use std::io::Input;
 use std::process::ExitCode;
-use std::{env, fs, io};
+use std::{env, io};
 
-/// Reads the script that was asked about: of standard input, where no file is named.
-fn script_asked<T: AllocGlobal + Input + Files>(
-    rt: &T,
-    file: Option<&str>,
-) -> Result<Script, LabError> {
-    match file {
-        None | Some("-") => Ok(read_input(rt.alloc(), &mut rt.reader())?),
-        Some(path) => match fs::open(rt, path) {
-            Ok(mut opened) => Ok(read_input(rt.alloc(), &mut opened)?),
-            Err(_) => Err(LabError::Open),
-        },
-    }
-}
+/// The exit status where it is not as asked.
+pub const NOT_SO: u8 = 6;
 
-/// Lists the outcomes of the script, and prints them.
-fn answer<T: AllocGlobal + Input + Files + Print>(
+/// Answers a question, and says whether it is as asked.
+fn answer_question<T: AllocGlobal + Input + Files + Print>(
     rt: &T,
-    asked: &Question<'_>,
-) -> Result<(), LabError> {
-    let script = script_asked(rt, asked.file)?;
-    let Some(outcomes) = all_outcomes(rt.alloc(), &script, asked.most)? else {
-        return Err(LabError::More(asked.most));
-    };
-    let text = text_of(rt.alloc(), &script, &outcomes)?;
-    match io::writer(rt).write_all(text.as_bytes()) {
-        Ok(()) => Ok(()),
-        Err(_) => Err(LabError::Write),
+    question: &Question<'_>,
+) -> Result<bool, LabError> {
+    match question {
+        Question::Outcomes(question) => answer_outcomes(rt, question),
     }
 }
 
@@ -95,12 +83,13 @@ fn main(rt: HostRuntime) -> ExitCode {
         Ok(words) => words,
         Err(fault) => return refuse(&rt, &fault),
     };
-    let asked = match question_asked(rt.alloc(), words.as_slice()) {
-        Ok(asked) => asked,
+    let question = match question_asked(rt.alloc(), words.as_slice()) {
+        Ok(question) => question,
         Err(error) => return explain(&rt, &error),
     };
-    match answer(&rt, &asked) {
-        Ok(()) => ExitCode::SUCCESS,
+    match answer_question(&rt, &question) {
+        Ok(true) => ExitCode::SUCCESS,
+        Ok(false) => ExitCode::from(NOT_SO),
         Err(fault) => refuse(&rt, &fault),
     }
 }

@@ -1,36 +1,14 @@
-use clap::{Arg, ArgAction, Command, Error, value_parser};
+use crate::asked::Asked;
+use crate::outcomes::{DEFAULT_MOST, OutcomesQuestion, outcomes_command, outcomes_question};
+use clap::{Command, Error};
 use std::alloc::{AllocError, Global};
 use std::convert::AsStr;
 
-/// How many states are listed where the command line doesn't say.
-pub const DEFAULT_MOST: usize = 1_000_000;
-
-/// What is asked: all outcomes of a script.
+/// What the command line asks.
 #[derive(Clone, Copy, Debug)]
-pub struct Question<'a> {
-    /// The greatest number of states to list.
-    pub most: usize,
-    /// The file of the script: `None` or `-` means standard input.
-    pub file: Option<&'a str>,
-}
-
-/// The command that lists outcomes.
-fn outcomes_command<'a>(alloc: Global) -> Result<Command<'a>, AllocError> {
-    let most = Arg::new(alloc, "most")
-        .long("most")
-        .value_name("N")
-        .action(ArgAction::Set)
-        .value_parser(value_parser!(usize))
-        .default_value("1000000")
-        .help("The greatest number of states to go through");
-    let file = Arg::new(alloc, "file")
-        .value_name("FILE")
-        .action(ArgAction::Set)
-        .help("The script; left out or -: standard input");
-    Command::new(alloc, "outcomes")
-        .about("Lists every outcome of a script whose two hosts and bus run at once")
-        .arg(most)?
-        .arg(file)
+pub enum Question<'a> {
+    /// About the outcomes of a script.
+    Outcomes(OutcomesQuestion<'a>),
 }
 
 /// The command line.
@@ -47,14 +25,12 @@ fn command<'a>(alloc: Global) -> Result<Command<'a>, AllocError> {
 pub fn question_asked<'a, S: AsStr>(alloc: Global, words: &'a [S]) -> Result<Question<'a>, Error> {
     let matches = command(alloc)?.try_get_matches_from(words)?;
     // The command wants a subcommand and has only this one, so the other case doesn't come; it is not proved here.
-    let Some(asked) = matches.subcommand_matches("outcomes") else {
-        return Ok(Question {
+    let Some(words) = matches.subcommand_matches("outcomes") else {
+        return Ok(Question::Outcomes(OutcomesQuestion {
             most: DEFAULT_MOST,
             file: None,
-        });
+            asked: Asked::Summary,
+        }));
     };
-    Ok(Question {
-        most: asked.get_one::<usize>("most").unwrap_or(DEFAULT_MOST),
-        file: asked.get_str("file"),
-    })
+    Ok(Question::Outcomes(outcomes_question(&words)))
 }

@@ -1,100 +1,168 @@
-ghost use Rattle.std.specs.Prelude.{◌≡◌, ◌<◌, IfOk, length, string_bytes};
+ghost use Rattle.std.specs.Prelude.{◌≡◌, ◌+◌, ◌^◌, ◌<◌, ◌++◌, List, ℕ, IfOk, OnOk, length, map, string_bytes};
 ghost use Rattle.ccan_script.specs.Reader.{fields_of};
 ghost use Rattle.ccan_outcomes.specs.Outcomes.{AreFound};
-ghost use Rattle.ccan_lab.specs.Report.{counted_text, heading_text};
+ghost use Rattle.ccan_lab.specs.Report.{IsListing, IsOutcomeText, AreOutcomeTexts, each, different_line, heading_text, outcome_text};
+ghost use Rattle.ccan_lab.specs.Report.{same_line, same_text};
+ghost use Rattle.ccan_lab.specs.Rows.{place_count, rows_of};
 
-use crate::history::step_line;
-use crate::rows::{Rows, is_in_all, rows_of};
-use ccan_outcomes::{Outcomes, history_of};
+use crate::history::add_steps;
+use crate::rows::{Rows, is_in_all, line_in, place_count};
+use crate::wording::{add_counted, add_number};
+use ccan_outcomes::{HistoryStep, Outcomes, history_of};
 use ccan_script::Script;
 use std::alloc::{AllocError, Global};
 
-/// How many there are, with their name.
-fn counted(alloc: Global, count: usize, name: &str) -> Result<String, AllocError>
-    ensures { IfOk result (λ text. string_bytes text ≡ counted_text count name.now) }
+/// Adds the first line: how many outcomes there are, in how many states.
+pub fn add_heading(text: &mut String, outcomes: usize, states: usize) -> Result<(), AllocError>
+    ensures { OnOk result
+        (string_bytes text.new ≡ string_bytes text.old ++ heading_text outcomes states) }
 {
-    if count == 1 {
-        format!(in alloc; "{count} {name}")
-    } else {
-        format!(in alloc; "{count} {name}s")
-    }
+    add_counted(text, outcomes, "outcome")?;
+    text.push_str(" in ")?;
+    add_counted(text, states, "state")?;
+    text.push_str("\n")?;
+    Ok(())
 }
 
-/// The first line: how many outcomes there are, in how many states.
-fn heading(alloc: Global, outcomes: &Outcomes) -> Result<String, AllocError>
-    ensures { IfOk result (λ text. string_bytes text
-        ≡ heading_text (length outcomes.now.listing.endings.keys)
-        (length outcomes.now.reached.states.keys)) }
+/// Adds the line in a place, where it is the same in all outcomes.
+#[tactic(auto, unfolding(crate::specs::Report::same_line, crate::specs::Report::labelled))]
+fn add_same_line(text: &mut String, all: &[Rows], place: usize) -> Result<(), AllocError>
+    ensures { OnOk result
+        (string_bytes text.new ≡ string_bytes text.old ++ same_line all.now place) }
 {
-    let endings = counted(alloc, outcomes.listing.endings.len(), "outcome")?;
-    let states = counted(alloc, outcomes.reached.states.len(), "state")?;
-    format!(in alloc; "{endings} in {states}\n")
-}
-
-/// The lines of all outcomes.
-fn all_rows(alloc: Global, outcomes: &Outcomes) -> Result<Vec<Rows>, AllocError> {
-    let mut all = Vec::new(alloc);
-    for ending in outcomes.listing.endings.as_slice() {
-        all.push(rows_of(alloc, ending)?)?;
+    let line = line_in(all, 0, place);
+    if !line.is_empty() && is_in_all(all, place, line) {
+        text.push_str("same in all: ")?;
+        text.push_str(line)?;
     }
-    Ok(all)
+    Ok(())
 }
 
 /// Adds the lines that are the same in all outcomes.
-fn add_same(text: &mut String, all: &[Rows]) -> Result<(), AllocError> {
-    let Some(first) = all.first() else {
-        return Ok(());
-    };
-    for (place, line) in first.iter().enumerate() {
-        if !line.is_empty() && is_in_all(all, place, line) {
-            text.push_str("same in all: ")?;
-            text.push_str(line.as_str())?;
-        }
+#[tactic(auto, using(crate::proofs::Texts::each_begins, crate::proofs::Texts::each_goes_on))]
+pub fn add_same(text: &mut String, all: &[Rows]) -> Result<(), AllocError>
+    ensures { OnOk result
+        (string_bytes text.new ≡ string_bytes text.old ++ same_text all.now) }
+{
+    for place in 0..place_count(all) {
+        add_same_line(text, all, place)?;
+    }
+    Ok(())
+}
+
+/// Adds an outcome's line in a place, where it is not the same in all.
+#[tactic(auto, unfolding(crate::specs::Report::different_line))]
+fn add_different_line(
+    text: &mut String,
+    all: &[Rows],
+    number: usize,
+    place: usize,
+) -> Result<(), AllocError>
+    ensures { OnOk result
+        (string_bytes text.new ≡ string_bytes text.old ++ different_line all.now number place) }
+{
+    let line = line_in(all, number, place);
+    if !is_in_all(all, place, line) {
+        text.push_str(line)?;
     }
     Ok(())
 }
 
 /// Adds the lines of an outcome that are not the same in all.
-fn add_different(text: &mut String, all: &[Rows], rows: &Rows) -> Result<(), AllocError> {
-    for (place, line) in rows.iter().enumerate() {
-        if !is_in_all(all, place, line) {
-            text.push_str(line.as_str())?;
-        }
+#[tactic(auto, using(crate::proofs::Texts::each_begins, crate::proofs::Texts::each_goes_on))]
+fn add_different(text: &mut String, all: &[Rows], number: usize) -> Result<(), AllocError>
+    ensures { OnOk result (string_bytes text.new
+        ≡ string_bytes text.old ++ each (place_count all.now) (different_line all.now number)) }
+{
+    for place in 0..place_count(all) {
+        add_different_line(text, all, number, place)?;
     }
     Ok(())
 }
 
-/// Adds a history that leads to an outcome, a line for each step.
-fn add_history(
+/// Adds an outcome with this history: its head, its lines that are not the same in all, and the steps.
+fn add_told_outcome(
+    text: &mut String,
+    all: &[Rows],
+    number: usize,
+    steps: &[HistoryStep],
+) -> Result<(), AllocError>
+    requires { number + 1 < 2 ^ 64 }
+    ensures { OnOk result (string_bytes text.new
+        ≡ string_bytes text.old ++ outcome_text all.now number steps.now) }
+{
+    text.push_str("outcome ")?;
+    add_number(text, number + 1)?;
+    text.push_str("\n")?;
+    add_different(text, all, number)?;
+    add_steps(text, steps)?;
+    Ok(())
+}
+
+/// Adds an outcome: its head, its lines that are not the same in all, and a history that leads to it.
+///
+/// The number is from 0.
+pub fn add_outcome(
     alloc: Global,
     text: &mut String,
     script: &Script,
     outcomes: &Outcomes,
-    place: usize,
+    all: &[Rows],
+    number: usize,
 ) -> Result<(), AllocError>
-    requires within { place < length outcomes.now.listing.endings.keys }
+    requires rows { all.now ≡ map rows_of outcomes.now.listing.endings.keys }
+    requires within { number < length outcomes.now.listing.endings.keys }
     requires found { AreFound (fields_of script.now) outcomes.now }
+    ensures { OnOk result ((added : List ℕ)
+        × (string_bytes text.new ≡ string_bytes text.old ++ added)
+        × IsOutcomeText (fields_of script.now) outcomes.now.listing.endings.keys number added) }
 {
-    let history = history_of(alloc, script, outcomes, place)?;
-    for (index, step) in history.as_slice().iter().enumerate() {
-        text.push_str(step_line(alloc, index + 1, step)?.as_str())?;
+    let history = history_of(alloc, script, outcomes, number)?;
+    add_told_outcome(text, all, number, history.as_slice())?;
+    Ok(())
+}
+
+/// Adds all outcomes.
+fn add_outcomes(
+    alloc: Global,
+    text: &mut String,
+    script: &Script,
+    outcomes: &Outcomes,
+    all: &[Rows],
+) -> Result<(), AllocError>
+    requires rows { all.now ≡ map rows_of outcomes.now.listing.endings.keys }
+    requires found { AreFound (fields_of script.now) outcomes.now }
+    ensures { OnOk result ((added : List ℕ)
+        × (string_bytes text.new ≡ string_bytes text.old ++ added)
+        × AreOutcomeTexts (fields_of script.now) outcomes.now.listing.endings.keys
+        (length outcomes.now.listing.endings.keys) added) }
+{
+    for number in 0..outcomes.listing.endings.len() {
+        add_outcome(alloc, text, script, outcomes, all, number)?;
     }
     Ok(())
 }
 
-/// All that is printed of the outcomes of a script.
-pub fn text_of(alloc: Global, script: &Script, outcomes: &Outcomes) -> Result<String, AllocError>
+/// The list of all outcomes of a script, each with a history that leads to it.
+pub fn listing(
+    alloc: Global,
+    script: &Script,
+    outcomes: &Outcomes,
+    all: &[Rows],
+) -> Result<String, AllocError>
+    requires rows { all.now ≡ map rows_of outcomes.now.listing.endings.keys }
     requires found { AreFound (fields_of script.now) outcomes.now }
+    ensures { IfOk result (λ text. IsListing (fields_of script.now)
+        outcomes.now.listing.endings.keys (length outcomes.now.reached.states.keys)
+        (string_bytes text)) }
 {
-    let mut text = heading(alloc, outcomes)?;
-    let all = all_rows(alloc, outcomes)?;
-    add_same(&mut text, &all)?;
-    for place in 0..outcomes.listing.endings.len() {
-        text.push_str(format!(in alloc; "outcome {}\n", place + 1)?.as_str())?;
-        if let Some(rows) = all.get(place) {
-            add_different(&mut text, &all, rows)?;
-        }
-        add_history(alloc, &mut text, script, outcomes, place)?;
-    }
+    let mut text = String::new(alloc);
+    add_heading(
+        &mut text,
+        outcomes.listing.endings.len(),
+        outcomes.reached.states.len(),
+    )?;
+    add_same(&mut text, all)?;
+    add_outcomes(alloc, &mut text, script, outcomes, all)?;
     Ok(text)
 }

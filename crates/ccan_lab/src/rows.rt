@@ -1,48 +1,200 @@
+ghost use Rattle.std.specs.Prelude.{◌≡◌, ◌≤◌, ◌<◌, ◌++◌, ◌∷◌, [], IfOk, OnOk, length, map, take, nat_lt};
+ghost use Rattle.ccan_object.specs.Profile.{objects_in};
+ghost use Rattle.ccan_object.specs.declared.profile.Profile.TheVariants.{Two};
+ghost use Rattle.std.specs.List.{enumerate_from, list_any};
+ghost use Rattle.ccan_script.specs.Print.{line_text};
+ghost use Rattle.ccan_lab.specs.Rows.{begins_so, final_row, final_rows, has_line, is_before, is_in_all, line_at, place_count, rows_at, rows_of};
+
 use ccan_object::{ObjectNo, Record};
 use ccan_outcomes::Ending;
 use ccan_ram::PortName;
 use ccan_script::{LineAnswer, PrintedLine, print_final, print_line};
 use std::alloc::{AllocError, Global};
+use std::marker::Model;
 
-/// The lines of an outcome, each in its place: the answers of IF1, those of IF2, those of the bus, and a line for each object,
-/// which is empty where the object is all zero. In the outcomes of one script the same thing stands in the same place.
-pub type Rows = Vec<PrintedLine>;
+/// The most objects that a profile has.
+const MAX_OBJECTS: usize = 64;
 
-/// The line of the object of this number, which is empty where the object is all zero or there is none of this number.
-fn final_row(number: u8, left: &Record) -> PrintedLine {
-    let Some(object) = ObjectNo::new(number) else {
-        return PrintedLine::new();
-    };
-    print_final(object, left).unwrap_or(PrintedLine::new())
+/// The lines of an outcome, each in its place: the answers of IF1, those of IF2, those of the bus, and a line for each
+/// object, which is empty where the object is all zero. In the outcomes of one script the same thing stands in the same
+/// place.
+///
+/// Contracts see the list of the lines' texts.
+#[derive(Drop)]
+pub struct Rows {
+    lines: Vec<PrintedLine>,
+}
+
+impl Model for Rows {
+    ghost use Rattle.std.specs.Prelude.{ℕ, List, map};
+
+    ghost Value = { List (List ℕ) };
+
+    ghost view = { λ a. map (λ line. line.bytes) a.lines.items };
+}
+
+impl Rows {
+    /// No line yet.
+    fn new(alloc: Global) -> Rows
+        ensures { result ≡ [] }
+    {
+        Rows {
+            lines: Vec::new(alloc),
+        }
+    }
+
+    /// Adds a line.
+    fn push(&mut self, line: PrintedLine) -> Result<(), AllocError>
+        ensures { OnOk result (self.new ≡ self.old ++ line.bytes ∷ []) }
+    {
+        self.lines.push(line)?;
+        Ok(())
+    }
+
+    /// How many places there are.
+    pub fn len(&self) -> usize
+        ensures { result ≡ length self.now }
+    {
+        self.lines.len()
+    }
+
+    /// The line in a place, empty where there is none.
+    #[tactic(auto, unfolding(crate::specs::Rows::line_at))]
+    pub fn line(&self, place: usize) -> &str
+        ensures { result.now ≡ line_at self.now place }
+    {
+        match self.lines.get(place) {
+            Some(line) => line.as_str(),
+            None => "",
+        }
+    }
+
+    /// Whether a printed line begins so.
+    pub fn has_line(&self, begin: &str) -> bool
+        ensures { result ≡ has_line begin.now self.now }
+    {
+        any_begins_so(&self.lines, begin)
+    }
+}
+
+/// Whether a line is printed, and begins so.
+fn begins_so(line: &str, begin: &str) -> bool
+    ensures { result ≡ begins_so begin.now line.now }
+{
+    !line.is_empty() && line.as_bytes().starts_with(begin.as_bytes())
+}
+
+/// Whether one of these lines is printed, and begins so.
+fn any_begins_so(lines: &[PrintedLine], begin: &str) -> bool
+    ensures { result ≡ list_any (λ line. begins_so begin.now line.bytes) lines.now }
+{
+    lines.iter().any(|line| begins_so(line.as_str(), begin))
+}
+
+/// The line of an object, which is empty where the object is all zero.
+fn final_row(object: ObjectNo, left: &Record) -> PrintedLine
+    ensures { result.bytes ≡ final_row object left.now }
+{
+    match print_final(object, left) {
+        Some(line) => line,
+        None => PrintedLine::new(),
+    }
 }
 
 /// Adds a line for each answer of a port.
-fn add_answers(rows: &mut Rows, port: PortName, answers: &[LineAnswer]) -> Result<(), AllocError> {
+fn add_answers(rows: &mut Rows, port: PortName, answers: &[LineAnswer]) -> Result<(), AllocError>
+    ensures { OnOk result (rows.new ≡ rows.old ++ map (line_text port) answers.now) }
+{
     for answer in answers {
         rows.push(print_line(port, answer))?;
     }
     Ok(())
 }
 
-/// Adds a line for each object.
-fn add_finals(rows: &mut Rows, records: &[Record]) -> Result<(), AllocError> {
-    for (number, left) in (1..=64u8).zip(records) {
-        rows.push(final_row(number, left))?;
+/// Adds a line for each object. There are no more than a profile may have.
+fn add_finals(rows: &mut Rows, records: &[Record]) -> Result<(), AllocError>
+    requires { length records.now ≤ MAX_OBJECTS }
+    ensures { OnOk result (rows.new ≡ rows.old
+        ++ map (λ object. final_row object.0 object.1) (enumerate_from 1 records.now)) }
+{
+    for (index, left) in records.iter().enumerate() {
+        let object = ObjectNo::new(index as u8 + 1).unwrap();
+        rows.push(final_row(object, left))?;
     }
     Ok(())
 }
 
+/// The first records, as many as a profile may have.
+fn first_records(records: &[Record]) -> &[Record]
+    ensures records { result.now ≡ take (objects_in Two) records.now }
+    ensures length { length result.now ≤ MAX_OBJECTS }
+{
+    if records.len() <= MAX_OBJECTS {
+        records
+    } else {
+        &records[..MAX_OBJECTS]
+    }
+}
+
 /// The lines of an outcome.
-pub fn rows_of(alloc: Global, ending: &Ending) -> Result<Rows, AllocError> {
-    let mut rows = Vec::new(alloc);
+#[tactic(auto, unfolding(crate::specs::Rows::rows_of, crate::specs::Rows::final_rows))]
+pub fn rows_of(alloc: Global, ending: &Ending) -> Result<Rows, AllocError>
+    ensures { IfOk result (λ rows. rows ≡ rows_of ending.now) }
+{
+    let mut rows = Rows::new(alloc);
     add_answers(&mut rows, PortName::If1, ending.if1.as_slice())?;
     add_answers(&mut rows, PortName::If2, ending.if2.as_slice())?;
     add_answers(&mut rows, PortName::Bus, ending.bus.as_slice())?;
-    add_finals(&mut rows, ending.records.as_slice())?;
+    add_finals(&mut rows, first_records(ending.records.as_slice()))?;
     Ok(rows)
 }
 
+/// The lines of all these outcomes.
+pub fn all_rows(alloc: Global, endings: &[Ending]) -> Result<Vec<Rows>, AllocError>
+    ensures { IfOk result (λ all. all.items ≡ map rows_of endings.now) }
+{
+    let mut all = Vec::new(alloc);
+    for ending in endings {
+        all.push(rows_of(alloc, ending)?)?;
+    }
+    Ok(all)
+}
+
+/// How many places the outcomes have.
+#[tactic(auto, unfolding(crate::specs::Rows::place_count, crate::specs::Rows::rows_at))]
+pub fn place_count(all: &[Rows]) -> usize
+    ensures { result ≡ place_count all.now }
+{
+    match all.first() {
+        Some(rows) => rows.len(),
+        None => 0,
+    }
+}
+
+/// The line in a place of the outcome of this number, from 0; empty where there is none.
+#[tactic(auto, unfolding(crate::specs::Rows::rows_at, crate::specs::Rows::line_at))]
+pub fn line_in(all: &[Rows], number: usize, place: usize) -> &str
+    ensures { result.now ≡ line_at (rows_at all.now number) place }
+{
+    match all.get(number) {
+        Some(rows) => rows.line(place),
+        None => "",
+    }
+}
+
 /// Whether this line stands in this place in all outcomes.
-pub fn is_in_all(all: &[Rows], place: usize, line: &PrintedLine) -> bool {
-    all.iter().all(|rows| rows.get(place) == Some(line))
+#[tactic(auto, unfolding(crate::specs::Rows::is_in_all))]
+pub fn is_in_all(all: &[Rows], place: usize, line: &str) -> bool
+    ensures { result ≡ is_in_all all.now place line.now }
+{
+    all.iter().all(|rows| rows.line(place) == line)
+}
+
+/// Whether this line stands in this place in an outcome before that of this number.
+#[tactic(auto, unfolding(crate::specs::Rows::is_before))]
+pub fn is_before(all: &[Rows], number: usize, place: usize, line: &str) -> bool
+    requires { number ≤ length all.now }
+    ensures { result ≡ is_before all.now number place line.now }
+{
+    all[..number].iter().any(|rows| rows.line(place) == line)
 }

@@ -1,0 +1,57 @@
+-- The lines of an outcome, each in its place. In the outcomes of one script the same thing stands in the same place.
+-- Source: this project's own.
+use Rattle.std.specs.Prelude.{ℕ, ◌++◌, ◌&&◌, nat_eq, nat_lt, Bool, List, [], map, take, length, slice_get, unwrap_or}
+use Rattle.std.specs.List.{enumerate_from, list_all, list_any, starts_with}
+use Rattle.std.specs.Str.{bytes_eq}
+use Rattle.ccan_object.specs.declared.profile.Profile.TheVariants.{Two}
+use Rattle.ccan_object.specs.declared.record.Record.{Record}
+use Rattle.ccan_object.specs.Profile.{objects_in}
+use Rattle.ccan_ram.specs.declared.port.PortName.TheVariants.{If1, If2, Bus}
+use Rattle.ccan_script.specs.Print.{final_line, line_text}
+use Rattle.ccan_outcomes.specs.declared.ending.Ending.{Ending}
+
+-- ---- the rows of an outcome
+
+-- the line of an object, empty where the object is all zero
+abbrev pub final_row : ℕ → Record → List ℕ
+final_row object left = unwrap_or (final_line object left) []
+
+-- a line for each object, as many as a profile may have
+unfoldable pub final_rows : List Record → List (List ℕ)
+final_rows records = map (λ object. final_row object.0 object.1) (enumerate_from 1 (take (objects_in Two) records))
+
+-- the answers of IF1, those of IF2, those of the bus, and then the objects
+unfoldable pub rows_of : Ending → List (List ℕ)
+rows_of ending =
+    map (line_text If1) ending.if1 ++ (map (line_text If2) ending.if2 ++ (map (line_text Bus) ending.bus
+    ++ final_rows ending.records))
+
+-- ---- the rows of all outcomes
+
+-- the line in a place, empty where there is none
+unfoldable pub line_at : List (List ℕ) → ℕ → List ℕ
+line_at rows place = unwrap_or (slice_get rows place) []
+
+-- the rows of an outcome, by its number from 0
+unfoldable pub rows_at : List (List (List ℕ)) → ℕ → List (List ℕ)
+rows_at all number = unwrap_or (slice_get all number) []
+
+-- how many places there are
+unfoldable pub place_count : List (List (List ℕ)) → ℕ
+place_count all = length (rows_at all 0)
+
+-- this line stands in this place in every outcome
+unfoldable pub is_in_all : List (List (List ℕ)) → ℕ → List ℕ → Bool
+is_in_all all place line = list_all (λ rows. bytes_eq (line_at rows place) line) all
+
+-- this line stands in this place in an outcome before that of this number
+unfoldable pub is_before : List (List (List ℕ)) → ℕ → ℕ → List ℕ → Bool
+is_before all number place line = list_any (λ rows. bytes_eq (line_at rows place) line) (take number all)
+
+-- the line is printed, and begins so
+abbrev pub begins_so : List ℕ → List ℕ → Bool
+begins_so begin line = nat_lt 0 (length line) && starts_with nat_eq line begin
+
+-- a printed line of the outcome begins so
+unfoldable pub has_line : List ℕ → List (List ℕ) → Bool
+has_line begin rows = list_any (begins_so begin) rows

@@ -1,0 +1,111 @@
+ghost use Rattle.std.specs.Prelude.{◌≡◌, ◌++◌, IfOk, OnOk, length, map, position, string_bytes};
+ghost use Rattle.ccan_script.specs.Reader.{fields_of};
+ghost use Rattle.ccan_outcomes.specs.Outcomes.{AreFound};
+ghost use Rattle.ccan_lab.specs.Answer.{Answers, IsSearchText, first_with, holds_of, none_text};
+ghost use Rattle.ccan_lab.specs.Rows.{has_line, rows_of};
+
+use crate::asked::Asked;
+use crate::report::{add_heading, add_outcome, listing};
+use crate::rows::{Rows, all_rows};
+use crate::summary::summary;
+use crate::wording::add_number;
+use ccan_outcomes::Outcomes;
+use ccan_script::Script;
+use std::alloc::{AllocError, Global};
+
+/// The answer to what is asked about the outcomes of a script.
+#[derive(Drop)]
+pub struct Answer {
+    /// What is printed.
+    pub text: String,
+    /// Whether it is as asked: an outcome has the line, or none has it. A list of outcomes always is.
+    pub holds: bool,
+}
+
+/// The first outcome that has a line that begins so, by its number from 0.
+fn first_with(all: &[Rows], begin: &str) -> Option<usize>
+    ensures { result ≡ position (has_line begin.now) all.now }
+{
+    all.iter().position(|rows| rows.has_line(begin))
+}
+
+/// That no outcome has a line that begins so.
+fn none_found(alloc: Global, outcomes: usize, begin: &str) -> Result<String, AllocError>
+    ensures { IfOk result (λ text. string_bytes text ≡ none_text outcomes begin.now) }
+{
+    let mut text = String::new(alloc);
+    text.push_str("no outcome of ")?;
+    add_number(&mut text, outcomes)?;
+    text.push_str(" has a line that begins so: ")?;
+    text.push_str(begin)?;
+    text.push_str("\n")?;
+    Ok(text)
+}
+
+/// What is told of a search that came to this outcome, or to none.
+fn search_text(
+    alloc: Global,
+    script: &Script,
+    outcomes: &Outcomes,
+    all: &[Rows],
+    begin: &str,
+    found: Option<usize>,
+) -> Result<String, AllocError>
+    requires rows { all.now ≡ map rows_of outcomes.now.listing.endings.keys }
+    requires is { found ≡ first_with begin.now outcomes.now.listing.endings.keys }
+    requires found { AreFound (fields_of script.now) outcomes.now }
+    ensures { IfOk result (λ text. IsSearchText (fields_of script.now)
+        outcomes.now.listing.endings.keys (length outcomes.now.reached.states.keys) begin.now found
+        (string_bytes text)) }
+{
+    let count = outcomes.listing.endings.len();
+    let Some(number) = found else {
+        return none_found(alloc, count, begin);
+    };
+    let mut text = String::new(alloc);
+    add_heading(&mut text, count, outcomes.reached.states.len())?;
+    add_outcome(alloc, &mut text, script, outcomes, all, number)?;
+    Ok(text)
+}
+
+/// What is answered to a question about the outcomes of a script.
+pub fn answer_of(
+    alloc: Global,
+    script: &Script,
+    outcomes: &Outcomes,
+    asked: Asked<'_>,
+) -> Result<Answer, AllocError>
+    requires { AreFound (fields_of script.now) outcomes.now }
+    ensures text { IfOk result (λ answer. Answers (fields_of script.now)
+        outcomes.now.listing.endings.keys (length outcomes.now.reached.states.keys) asked.entry
+        (string_bytes answer.text)) }
+    ensures holds { IfOk result (λ answer.
+        answer.holds ≡ holds_of outcomes.now.listing.endings.keys asked.entry) }
+{
+    let all = all_rows(alloc, outcomes.listing.endings.as_slice())?;
+    let all = all.as_slice();
+    match asked {
+        Asked::Summary => Ok(Answer {
+            text: summary(alloc, outcomes, all)?,
+            holds: true,
+        }),
+        Asked::All => Ok(Answer {
+            text: listing(alloc, script, outcomes, all)?,
+            holds: true,
+        }),
+        Asked::Can(begin) => {
+            let found = first_with(all, begin);
+            Ok(Answer {
+                text: search_text(alloc, script, outcomes, all, begin, found)?,
+                holds: found.is_some(),
+            })
+        }
+        Asked::Never(begin) => {
+            let found = first_with(all, begin);
+            Ok(Answer {
+                text: search_text(alloc, script, outcomes, all, begin, found)?,
+                holds: found.is_none(),
+            })
+        }
+    }
+}

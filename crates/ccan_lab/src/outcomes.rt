@@ -1,0 +1,138 @@
+//! The question `ccan-lab outcomes`: its words, and its answer.
+
+ghost use Rattle.std.specs.Prelude.{◌≡◌, codes, option_map};
+ghost use Rattle.clap.specs.Words.{first_value, found_of, one_text};
+ghost use Rattle.ccan_lab.specs.Question.{AsksBy};
+
+use crate::answer::answer_of;
+use crate::asked::Asked;
+use crate::input::script_asked;
+use crate::lab_error::LabError;
+use ccan_outcomes::all_outcomes;
+use clap::{Arg, ArgAction, ArgMatches, Command, value_parser};
+use std::alloc::{AllocError, Global};
+use std::fs::Files;
+use std::io;
+use std::io::{Input, Write};
+
+/// How many states are listed where the command line doesn't say.
+pub const DEFAULT_MOST: usize = 1_000_000;
+
+/// What is asked about the outcomes of a script.
+#[derive(Clone, Copy, Debug)]
+pub struct OutcomesQuestion<'a> {
+    /// The greatest number of states to list.
+    pub most: usize,
+    /// The file of the script: `None` or `-` means standard input.
+    pub file: Option<&'a str>,
+    /// What is asked.
+    pub asked: Asked<'a>,
+}
+
+/// The option that a number of states is given by.
+fn most_option<'a>(alloc: Global) -> Arg<'a> {
+    Arg::new(alloc, "most")
+        .long("most")
+        .value_name("N")
+        .action(ArgAction::Set)
+        .value_parser(value_parser!(usize))
+        .default_value("1000000")
+        .help("The greatest number of states to go through")
+}
+
+/// The flag that asks for the whole list.
+fn all_flag<'a>(alloc: Global) -> Result<Arg<'a>, AllocError> {
+    Arg::new(alloc, "all")
+        .long("all")
+        .action(ArgAction::SetTrue)
+        .help("Show each outcome, with a history that leads to it")
+        .conflicts_with("can")?
+        .conflicts_with("never")
+}
+
+/// The option that asks whether an outcome has a line.
+fn can_option<'a>(alloc: Global) -> Result<Arg<'a>, AllocError> {
+    Arg::new(alloc, "can")
+        .long("can")
+        .value_name("LINE")
+        .action(ArgAction::Set)
+        .help("Ask whether an outcome has a line that begins so; exit status 6 where none has")
+        .conflicts_with("never")
+}
+
+/// The option that asks whether no outcome has a line.
+fn never_option<'a>(alloc: Global) -> Arg<'a> {
+    Arg::new(alloc, "never")
+        .long("never")
+        .value_name("LINE")
+        .action(ArgAction::Set)
+        .help("Ask whether no outcome has a line that begins so; exit status 6 where one has")
+}
+
+/// The command that asks about outcomes.
+pub fn outcomes_command<'a>(alloc: Global) -> Result<Command<'a>, AllocError> {
+    let file = Arg::new(alloc, "file")
+        .value_name("FILE")
+        .action(ArgAction::Set)
+        .help("The script; left out or -: standard input");
+    Command::new(alloc, "outcomes")
+        .about("Shows what can come of a script whose two hosts and bus run at once")
+        .arg(all_flag(alloc)?)?
+        .arg(can_option(alloc)?)?
+        .arg(never_option(alloc))?
+        .arg(most_option(alloc))?
+        .arg(file)
+}
+
+/// What the words of that command ask.
+fn asked_of<'a>(words: &ArgMatches<'a>) -> Asked<'a>
+    ensures all { one_text (found_of words.entry.now) (codes "all") ≡ Some (codes "true")
+        → result ≡ Asked.All }
+    ensures line { one_text (found_of words.entry.now) (codes "all") ≡ Some (codes "false")
+        → AsksBy (first_value (found_of words.entry.now) (codes "can"))
+        (first_value (found_of words.entry.now) (codes "never")) result }
+{
+    if words.get_flag("all") {
+        return Asked::All;
+    }
+    if let Some(begin) = words.get_str("can") {
+        return Asked::Can(begin);
+    }
+    match words.get_str("never") {
+        Some(begin) => Asked::Never(begin),
+        None => Asked::Summary,
+    }
+}
+
+/// The question that the words of that command ask.
+pub fn outcomes_question<'a>(words: &ArgMatches<'a>) -> OutcomesQuestion<'a>
+    ensures file { option_map (λ path. path.now) result.file
+        ≡ first_value (found_of words.entry.now) (codes "file") }
+    ensures all { one_text (found_of words.entry.now) (codes "all") ≡ Some (codes "true")
+        → result.asked ≡ Asked.All }
+    ensures line { one_text (found_of words.entry.now) (codes "all") ≡ Some (codes "false")
+        → AsksBy (first_value (found_of words.entry.now) (codes "can"))
+        (first_value (found_of words.entry.now) (codes "never")) result.asked }
+{
+    OutcomesQuestion {
+        most: words.get_one::<usize>("most").unwrap_or(DEFAULT_MOST),
+        file: words.get_str("file"),
+        asked: asked_of(words),
+    }
+}
+
+/// Lists the outcomes of the script, prints what is answered, and says whether it is as asked.
+pub fn answer_outcomes<T: AllocGlobal + Input + Files + Print>(
+    rt: &T,
+    question: &OutcomesQuestion<'_>,
+) -> Result<bool, LabError> {
+    let script = script_asked(rt, question.file)?;
+    let Some(outcomes) = all_outcomes(rt.alloc(), &script, question.most)? else {
+        return Err(LabError::More(question.most));
+    };
+    let answer = answer_of(rt.alloc(), &script, &outcomes, question.asked)?;
+    match io::writer(rt).write_all(answer.text.as_bytes()) {
+        Ok(()) => Ok(answer.holds),
+        Err(_) => Err(LabError::Write),
+    }
+}
