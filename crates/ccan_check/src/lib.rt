@@ -25,6 +25,6 @@ mod walk;
 mod warning;
 
 pub use place::Place;
-pub use print::{fault_line, print_report, warning_line};
+pub use print::{print_report, remark_line};
 pub use report::{Fault, Remark, Report};
 pub use script_check::check;

@@ -1,38 +1,24 @@
-ghost use Rattle.std.specs.Prelude.{◌≡◌, ◌++◌, IfOk, codes, string_bytes};
+ghost use Rattle.std.specs.Prelude.{◌≡◌, IfOk, string_bytes};
 ghost use Rattle.ccan_check.specs.Print.{told_text};
 
 use crate::place::Place;
 use crate::report::{Remark, Report};
 use std::alloc::{AllocError, Global};
 
-/// The line of a fault: the file, the line and the column, and what is said.
-pub fn fault_line(
+/// The line of a remark on a file that has these bytes: the file, the line and the column, and what is said, after a label.
+pub fn remark_line(
     alloc: Global,
     file: &str,
     bytes: &[u8],
+    label: &str,
     remark: &Remark,
 ) -> Result<String, AllocError>
     ensures { IfOk result (λ text. string_bytes text
-        ≡ told_text file.now bytes.now remark.now.offset (string_bytes remark.now.text)) }
+        ≡ told_text file.now bytes.now remark.now.offset label.now (string_bytes remark.now.text)) }
 {
     let Place { line, column } = Place::of(bytes, remark.offset);
     let words = remark.text.as_str();
-    format!(in alloc; "{file}:{line}:{column}: {words}\n")
-}
-
-/// The line of a warning, which has the word `warning` before what is said.
-pub fn warning_line(
-    alloc: Global,
-    file: &str,
-    bytes: &[u8],
-    remark: &Remark,
-) -> Result<String, AllocError>
-    ensures { IfOk result (λ text. string_bytes text ≡ told_text file.now bytes.now
-        remark.now.offset (codes "warning: " ++ string_bytes remark.now.text)) }
-{
-    let Place { line, column } = Place::of(bytes, remark.offset);
-    let words = remark.text.as_str();
-    format!(in alloc; "{file}:{line}:{column}: warning: {words}\n")
+    format!(in alloc; "{file}:{line}:{column}: {label}{words}\n")
 }
 
 /// Adds the lines of the warnings.
@@ -44,7 +30,7 @@ fn add_warnings(
     warnings: &[Remark],
 ) -> Result<(), AllocError> {
     for remark in warnings {
-        let line = warning_line(alloc, file, bytes, remark)?;
+        let line = remark_line(alloc, file, bytes, "warning: ", remark)?;
         text.push_str(line.as_str())?;
     }
     Ok(())
@@ -59,7 +45,7 @@ pub fn print_report(
 ) -> Result<String, AllocError> {
     let mut text = String::new(alloc);
     for fault in report.faults.as_slice() {
-        let line = fault_line(alloc, file, bytes, &fault.remark)?;
+        let line = remark_line(alloc, file, bytes, "", &fault.remark)?;
         text.push_str(line.as_str())?;
     }
     add_warnings(alloc, &mut text, file, bytes, report.warnings.as_slice())?;
