@@ -1,6 +1,7 @@
 ghost use Rattle.std.specs.Prelude.{◌≡◌, IfOk, Some};
 ghost use Rattle.ccan_check.specs.ScriptCheck.{first_error, IsFirstOf};
 
+use crate::json_text::after_spaces;
 use crate::not_json::json_fault;
 use crate::report::{Fault, Remark, Report};
 use crate::spot::{Spot, joined};
@@ -14,7 +15,7 @@ fn json_report(alloc: Global, bytes: &[u8], error: &Error) -> Result<Report, All
     if error.is_memory() {
         return Err(AllocError);
     }
-    let (offset, fault) = json_fault(bytes, error.line(), error.column());
+    let (offset, fault) = json_fault(bytes, error);
     let mut report = Report {
         faults: Vec::new(alloc),
         warnings: Vec::new(alloc),
@@ -35,7 +36,7 @@ fn walked(alloc: Global, bytes: &[u8]) -> Result<Report, AllocError> {
             Spot {
                 value: &value,
                 text: bytes,
-                offset: crate::json_text::after_spaces(bytes, 0),
+                offset: after_spaces(bytes, 0),
             },
         ),
         Err(error) => json_report(alloc, bytes, &error),

@@ -2,6 +2,6 @@ mod first_day;
 mod frames;
 mod hosts;
 mod places;
-mod top;
 mod told;
+mod top;
 mod warnings;

@@ -72,11 +72,11 @@ fn tells_what_is_no_json(rt: HostRuntime) -> Result<(), Fail> {
         ),
         (
             "{\"quota\": 0x10}",
-            "s:1:12: not JSON: JSON has no hexadecimal numbers; write a text of four digits, or a decimal number\n",
+            "s:1:11: not JSON: JSON has no hexadecimal numbers; write a text of four digits, or a decimal number\n",
         ),
         (
             "{\"quota\": 01}",
-            "s:1:12: not JSON: a number begins with no needless 0\n",
+            "s:1:11: not JSON: a number begins with no needless 0\n",
         ),
         (
             "{'quota': 1}",
@@ -91,6 +91,14 @@ fn tells_what_is_no_json(rt: HostRuntime) -> Result<(), Fail> {
             "s:1:13: not JSON: a comma is missing before this\n",
         ),
         ("{\"quota\": 1}}", "s:1:13: not JSON\n"),
+        (
+            "{\"quota\": \u{b9}}",
+            "s:1:11: not JSON: this character stands outside of a text\n",
+        ),
+        (
+            "{\"if1\": [",
+            "s:1:10: not JSON: the text ends here; a bracket, a brace or a quote is open\n",
+        ),
     ] {
         tells(&rt, rt.alloc(), script.as_bytes(), want)?;
     }
@@ -100,12 +108,17 @@ fn tells_what_is_no_json(rt: HostRuntime) -> Result<(), Fail> {
 #[test]
 fn tells_other_encodings(rt: HostRuntime) -> Result<(), Fail> {
     let sixteen = [0xff, 0xfe, b'{', 0, b'}', 0];
-    tells(&rt, rt.alloc(), &sixteen, "s:1:1: not JSON: UTF-16; save the file as UTF-8\n")?;
+    tells(
+        &rt,
+        rt.alloc(),
+        &sixteen,
+        "s:1:1: not JSON: UTF-16; save the file as UTF-8\n",
+    )?;
     let latin = [b'{', b'"', 0xe9, b'"'];
     tells(
         &rt,
         rt.alloc(),
         &latin,
-        "s:1:3: not JSON: these bytes are no UTF-8, or stand outside of a text\n",
+        "s:1:3: not JSON: these bytes are no UTF-8\n",
     )
 }

@@ -5,7 +5,10 @@ use std::test::Fail;
 fn tells_the_script_itself(rt: HostRuntime) -> Result<(), Fail> {
     for (script, want) in [
         ("{}", ""),
-        ("[]", "s:1:1: the script: a list is not an object, such as {}\n"),
+        (
+            "[]",
+            "s:1:1: the script: a list is not an object, such as {}\n",
+        ),
         (
             r#"{"if3":[]}"#,
             "s:1:8: the script: \"if3\" is unknown here; known: profile quota tries nodes if1 if2 bus order\n",
@@ -31,8 +34,10 @@ fn tells_the_script_itself(rt: HostRuntime) -> Result<(), Fail> {
 
 #[test]
 fn tells_each_fault(rt: HostRuntime) -> Result<(), Fail> {
-    let script = "{\n\"if1\": [\n{\"op\":\"x\"},\n{\"op\":\"flags\",\"flag\":\"newdat\"},\n{}],\n\"if2\": [1]\n}";
-    let want = "s:3:7: if1[0].op: \"x\" is no operation of a host: transfer, until, interrupt or flags\n\
+    let script =
+        "{\n\"if1\": [\n{\"op\":\"x\"},\n{\"op\":\"flags\",\"flag\":\"newdat\"},\n{}],\n\"if2\": [1]\n}";
+    let want =
+        "s:3:7: if1[0].op: \"x\" is no operation of a host: transfer, until, interrupt or flags\n\
                 s:5:1: if1[2]: \"op\" is missing\n\
                 s:6:9: if2[0]: 1 is not an object\n\
                 s:1:1: warning: order: is missing, so all lines of if1 run first, then those of if2, then those of bus\n";
@@ -46,5 +51,10 @@ fn tells_too_many_lines(rt: HostRuntime) -> Result<(), Fail> {
         script.push_str(",0")?;
     }
     script.push_str("]}")?;
-    tells(&rt, rt.alloc(), script.as_bytes(), "s:1:8: if1: has more than 2000 lines\n")
+    tells(
+        &rt,
+        rt.alloc(),
+        script.as_bytes(),
+        "s:1:8: if1: has more than 2000 lines\n",
+    )
 }

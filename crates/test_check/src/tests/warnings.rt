@@ -12,18 +12,30 @@ fn warns(rt: HostRuntime) -> Result<(), Fail> {
             r#"{"if1":[{"op":"transfer","request":"0000"}]}"#,
             "s:1:36: warning: if1[0].request: \"0000\" means object 32\n",
         ),
-        (r#"{"profile":2,"if1":[{"op":"transfer","request":"0021"}]}"#, ""),
+        (
+            r#"{"profile":2,"if1":[{"op":"transfer","request":"0021"}]}"#,
+            "",
+        ),
         (
             r#"{"if1":[{"op":"transfer","request":"0001","set":{"arb2":"8123"}}]}"#,
             "s:1:57: warning: if1[0].set.arb2: \"8123\" has bits of an extended identifier: a standard one is shifted left by 2\n",
         ),
-        (r#"{"if1":[{"op":"transfer","request":"0001","set":{"arb2":"c123"}}]}"#, ""),
-        (r#"{"if1":[{"op":"transfer","request":"0001","set":{"arb2":"848c"}}]}"#, ""),
+        (
+            r#"{"if1":[{"op":"transfer","request":"0001","set":{"arb2":"c123"}}]}"#,
+            "",
+        ),
+        (
+            r#"{"if1":[{"op":"transfer","request":"0001","set":{"arb2":"848c"}}]}"#,
+            "",
+        ),
         (
             r#"{"if1":[{"op":"interrupt"}],"bus":[{"op":"round"}]}"#,
             "s:1:1: warning: order: is missing, so all lines of if1 run first, then those of if2, then those of bus\n",
         ),
-        (r#"{"if1":[{"op":"interrupt"}],"bus":[{"op":"status"}]}"#, ""),
+        (
+            r#"{"if1":[{"op":"interrupt"}],"bus":[{"op":"status"}]}"#,
+            "",
+        ),
         (
             r#"{"quota":1,"quota":2}"#,
             "s:1:12: warning: the script: \"quota\" stands twice, and the last one counts\n",
