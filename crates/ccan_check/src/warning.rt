@@ -56,20 +56,6 @@ fn warn_of_shift(
     Ok(())
 }
 
-/// Adds what is rarely meant in a transfer.
-pub(crate) fn warn_of_transfer(
-    alloc: Global,
-    path: &str,
-    line: Spot<'_>,
-    context: LineContext,
-    request: u16,
-    set: &RegisterSet,
-    warnings: &mut Vec<Remark>,
-) -> Result<(), AllocError> {
-    warn_of_request(alloc, path, line, context, request, warnings)?;
-    warn_of_shift(alloc, path, line, set, warnings)
-}
-
 /// The name of a member, as it is written between its quotes.
 fn written_name(text: &[u8], child: Child) -> &[u8] {
     text.get(child.begin.saturating_add(1)..child.name_end.saturating_sub(1))
@@ -117,4 +103,23 @@ pub(crate) fn warn_of_twice(
         offset = child.end;
     }
     Ok(())
+}
+
+/// Adds what is rarely meant in a transfer.
+pub(crate) fn warn_of_transfer(
+    alloc: Global,
+    path: &str,
+    line: Spot<'_>,
+    context: LineContext,
+    request: u16,
+    set: &RegisterSet,
+    warnings: &mut Vec<Remark>,
+) -> Result<(), AllocError> {
+    warn_of_request(alloc, path, line, context, request, warnings)?;
+    warn_of_shift(alloc, path, line, set, warnings)?;
+    let Some(spot) = line.member("set") else {
+        return Ok(());
+    };
+    let path = joined(alloc, &[path, ".set"])?;
+    warn_of_twice(alloc, path.as_str(), spot, warnings)
 }

@@ -1,21 +1,25 @@
 //! Answers questions about scripts, by what is proved of the model.
 //!
 //! `ccan-lab outcomes` lists every outcome that a script can have when its two hosts and its bus run at once, each with a
-//! history that leads to it.
+//! history that leads to it. `ccan-lab check` tells all faults of scripts, each with its file, line and column.
 //!
 //! A fault is told on standard error, and the exit status: 1 where the script is refused, 2 where the words of the command
 //! line ask no question, 3 where memory ran out, 4 where a stream or a file failed, 5 where the ports can come to more
-//! states than were allowed.
+//! states than were allowed. A check ends with 1 where a script has faults, and else with 7 where there are warnings and
+//! `--strict` asks for that.
 #![tactic(auto)]
 
+pub mod check_command;
+pub mod check_end;
 pub mod history;
 pub mod lab_error;
 pub mod question;
 pub mod report;
 pub mod rows;
 
+use crate::check_command::answer_check;
 use crate::lab_error::LabError;
-use crate::question::{Question, question_asked};
+use crate::question::{OutcomesQuestion, Question, question_asked};
 use crate::report::text_of;
 use ccan_outcomes::all_outcomes;
 use ccan_run::read_input;
@@ -45,7 +49,7 @@ fn script_asked<T: AllocGlobal + Input + Files>(
 /// Lists the outcomes of the script, and prints them.
 fn answer<T: AllocGlobal + Input + Files + Print>(
     rt: &T,
-    asked: &Question<'_>,
+    asked: &OutcomesQuestion<'_>,
 ) -> Result<(), LabError> {
     let script = script_asked(rt, asked.file)?;
     let Some(outcomes) = all_outcomes(rt.alloc(), &script, asked.most)? else {
@@ -99,8 +103,14 @@ fn main(rt: HostRuntime) -> ExitCode {
         Ok(asked) => asked,
         Err(error) => return explain(&rt, &error),
     };
-    match answer(&rt, &asked) {
-        Ok(()) => ExitCode::SUCCESS,
+    let answered = match &asked {
+        Question::Outcomes(question) => answer(&rt, question).map(|_told| 0),
+        Question::Check(question) => {
+            answer_check(&rt, question).map(|end| end.status(question.is_strict))
+        }
+    };
+    match answered {
+        Ok(status) => ExitCode::from(status),
         Err(fault) => refuse(&rt, &fault),
     }
 }

@@ -43,3 +43,20 @@ fn tells_members_of_lines(rt: HostRuntime) -> Result<(), Fail> {
     }
     Ok(())
 }
+
+#[test]
+fn tells_three_lines(rt: HostRuntime) -> Result<(), Fail> {
+    let script = r#"{
+  "if1": [
+    { "op": "transfer", "request": 1 },
+    { "op": "transfer", "request": "0001", "set": { "CTRL": "0088" } },
+    { "op": "flags", "flag": "newdata" }
+  ]
+}
+"#;
+    let want =
+        "s:3:36: if1[0].request: 1 is no text: write four hexadecimal digits in quotes, such as \"0088\"\n\
+                s:4:61: if1[1].set: \"CTRL\" is no register: register names are lower case, such as arb2\n\
+                s:5:30: if1[2].flag: \"newdata\" is no flag: newdat, msglst, intpnd, txrqst or msgval\n";
+    tells(&rt, rt.alloc(), script.as_bytes(), want)
+}

@@ -44,6 +44,10 @@ fn warns(rt: HostRuntime) -> Result<(), Fail> {
             r#"{"if1":[{"op":"interrupt","op":"interrupt"}]}"#,
             "s:1:27: warning: if1[0]: \"op\" stands twice, and the last one counts\n",
         ),
+        (
+            r#"{"if1":[{"op":"transfer","request":"0001","set":{"ctrl":"0088","ctrl":"0080"}}]}"#,
+            "s:1:64: warning: if1[0].set: \"ctrl\" stands twice, and the last one counts\n",
+        ),
     ] {
         tells(&rt, rt.alloc(), script.as_bytes(), want)?;
     }
