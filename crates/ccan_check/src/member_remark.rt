@@ -4,12 +4,12 @@ use crate::member::{Kind, Member};
 use crate::report::Remark;
 use crate::spot::{Spot, joined};
 use ccan_object::Profile;
-use ccan_script::LineContext;
 use ccan_script::fault_name::fault_in;
 use ccan_script::flag_name::flag_in;
 use ccan_script::frame_data::data_in;
 use ccan_script::json::word_in;
 use ccan_script::register_set::register_named;
+use ccan_script::{LineContext, MAX_FRAMES};
 use serde_json::Value;
 use std::alloc::{AllocError, Global};
 
@@ -42,7 +42,7 @@ fn whole_fault(value: &Value) -> Option<&'static str> {
 fn frames_fault(value: &Value) -> Option<&'static str> {
     match value.as_array() {
         None => Some("is not a list of frames"),
-        Some(frames) if frames.len() > 8 => Some("has more than 8 frames"),
+        Some(frames) if frames.len() > MAX_FRAMES => Some("has more than 8 frames"),
         Some(_) => None,
     }
 }

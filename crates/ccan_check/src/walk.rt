@@ -253,6 +253,42 @@ fn warn_of_default(alloc: Global, top: Spot<'_>, report: &mut Report) -> Result<
     Ok(())
 }
 
+/// Adds the faults of the numbers of a script, and answers what the ranges of its lines depend on.
+fn add_numbers(alloc: Global, top: Spot<'_>, report: &mut Report) -> Result<LineContext, AllocError>
+    ensures { IfOk result (λ context. context.nodes ≤ most_nodes) }
+{
+    let profile = add_number(
+        alloc,
+        top,
+        "profile",
+        (1, MAX_PROFILE),
+        DEFAULT_PROFILE,
+        report,
+    )?;
+    add_number(alloc, top, "quota", (1, MAX_QUOTA), DEFAULT_QUOTA, report)?;
+    add_number(alloc, top, "tries", (1, MAX_TRIES), DEFAULT_TRIES, report)?;
+    let nodes = add_number(alloc, top, "nodes", (0, MAX_NODES), DEFAULT_NODES, report)?;
+    Ok(LineContext {
+        profile: profile_numbered(profile),
+        nodes: nodes as u8,
+    })
+}
+
+/// Adds what is said of the lines of a port.
+fn add_port<L: ToldLine>(
+    alloc: Global,
+    top: Spot<'_>,
+    list: ListName,
+    name: &str,
+    context: LineContext,
+    report: &mut Report,
+) -> Result<(), AllocError>
+    requires { context.nodes ≤ most_nodes }
+{
+    let member = top.member(name);
+    add_list::<L>(alloc, list, MAX_LINES, member, context, report)
+}
+
 /// All that is said of a script, in the order of the checks.
 pub(crate) fn walk(alloc: Global, top: Spot<'_>) -> Result<Report, AllocError> {
     let mut report = Report {
@@ -261,66 +297,10 @@ pub(crate) fn walk(alloc: Global, top: Spot<'_>) -> Result<Report, AllocError> {
     };
     warn_of_twice(alloc, "the script", top, &mut report.warnings)?;
     add_unknown(alloc, top, &mut report)?;
-    let profile = add_number(
-        alloc,
-        top,
-        "profile",
-        (1, MAX_PROFILE),
-        DEFAULT_PROFILE,
-        &mut report,
-    )?;
-    add_number(
-        alloc,
-        top,
-        "quota",
-        (1, MAX_QUOTA),
-        DEFAULT_QUOTA,
-        &mut report,
-    )?;
-    add_number(
-        alloc,
-        top,
-        "tries",
-        (1, MAX_TRIES),
-        DEFAULT_TRIES,
-        &mut report,
-    )?;
-    let nodes = add_number(
-        alloc,
-        top,
-        "nodes",
-        (0, MAX_NODES),
-        DEFAULT_NODES,
-        &mut report,
-    )?;
-    let context = LineContext {
-        profile: profile_numbered(profile),
-        nodes: nodes as u8,
-    };
-    add_list::<HostLine>(
-        alloc,
-        ListName::If1,
-        MAX_LINES,
-        top.member("if1"),
-        context,
-        &mut report,
-    )?;
-    add_list::<HostLine>(
-        alloc,
-        ListName::If2,
-        MAX_LINES,
-        top.member("if2"),
-        context,
-        &mut report,
-    )?;
-    add_list::<BusLine>(
-        alloc,
-        ListName::Bus,
-        MAX_LINES,
-        top.member("bus"),
-        context,
-        &mut report,
-    )?;
+    let context = add_numbers(alloc, top, &mut report)?;
+    add_port::<HostLine>(alloc, top, ListName::If1, "if1", context, &mut report)?;
+    add_port::<HostLine>(alloc, top, ListName::If2, "if2", context, &mut report)?;
+    add_port::<BusLine>(alloc, top, ListName::Bus, "bus", context, &mut report)?;
     add_order(alloc, top, context, &mut report)?;
     Ok(report)
 }
