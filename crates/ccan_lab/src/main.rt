@@ -104,7 +104,7 @@ fn main(rt: HostRuntime) -> ExitCode {
         Err(error) => return explain(&rt, &error),
     };
     let answered = match &asked {
-        Question::Outcomes(question) => answer(&rt, question).map(|_told| 0),
+        Question::Outcomes(question) => answer(&rt, question).map(|_told| 0u8),
         Question::Check(question) => {
             answer_check(&rt, question).map(|end| end.status(question.is_strict))
         }
