@@ -1,3 +1,4 @@
+pub mod CheckCommand
 pub mod History
 pub mod LabError
 pub mod Report

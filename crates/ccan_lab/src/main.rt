@@ -2,16 +2,22 @@
 //!
 //! `ccan-lab outcomes` goes through every outcome that a script can have when its two hosts and its bus run at once. It
 //! shows what each line may be; with `--all` each outcome and a history that leads to it; with `--can LINE` and
-//! `--never LINE` whether an outcome has a line that begins so.
+//! `--never LINE` whether an outcome has a line that begins so. `ccan-lab check` tells all faults of scripts, each with its
+//! file, line and column. `ccan-lab explain` runs a script in its order and tells each line decoded, and
+//! `ccan-lab from-candump` makes a script of a log of a bus.
 //!
 //! The exit status is 0 where it is as asked, and 6 where no outcome has the line of `--can`, or one has that of
-//! `--never`. A fault is told on standard error, and the exit status: 1 where the script is refused, 2 where the words of
-//! the command line ask no question, 3 where memory ran out, 4 where a stream or a file failed, 5 where the ports can come
-//! to more states than were allowed.
+//! `--never`. A check ends with 1 where a script has faults, and else with 7 where there are warnings and `--strict` asks
+//! for that. A fault is told on standard error, and the exit status: 1 where the script or the log is refused, 2 where the
+//! words of the command line ask no question, 3 where memory ran out, 4 where a stream or a file failed, 5 where the ports
+//! can come to more states than were allowed.
 #![tactic(auto)]
 
 pub mod answer;
 pub mod asked;
+pub mod check_command;
+pub mod check_end;
+pub mod explaining;
 pub mod history;
 pub mod input;
 pub mod lab_error;
@@ -22,6 +28,8 @@ pub mod rows;
 pub mod summary;
 pub mod wording;
 
+use crate::check_command::answer_check;
+use crate::explaining::{answer_explain, answer_log};
 use crate::lab_error::LabError;
 use crate::outcomes::answer_outcomes;
 use crate::question::{Question, question_asked};
@@ -29,25 +37,43 @@ use clap::error::ErrorKind;
 use std::alloc::AllocError;
 use std::env::Env;
 use std::fs::Files;
-use std::io::Input;
+use std::io::{Input, IsTerminal};
 use std::process::ExitCode;
 use std::{env, io};
 
 /// The exit status where it is not as asked.
 pub const NOT_SO: u8 = 6;
 
-/// Answers a question, and says whether it is as asked.
-fn answer_question<T: AllocGlobal + Input + Files + Print>(
+/// Answers a question, and gives the exit status.
+fn answer_question<T: AllocGlobal + Input + Files + Print + Eprint>(
     rt: &T,
     question: &Question<'_>,
-) -> Result<bool, LabError> {
+) -> Result<u8, LabError>
+where
+    T::Reader: IsTerminal,
+{
     match question {
-        Question::Outcomes(question) => answer_outcomes(rt, question),
+        Question::Outcomes(question) => {
+            let is_so = answer_outcomes(rt, question)?;
+            Ok(if is_so { 0 } else { NOT_SO })
+        }
+        Question::Check(question) => {
+            let end = answer_check(rt, question)?;
+            Ok(end.status(question.is_strict))
+        }
+        Question::Explain(question) => {
+            answer_explain(rt, question)?;
+            Ok(0)
+        }
+        Question::FromCandump(file) => {
+            answer_log(rt, *file)?;
+            Ok(0)
+        }
     }
 }
 
 /// Tells help, the version or a fault of the words.
-fn explain(rt: &(impl Print + Eprint), error: &clap::Error) -> ExitCode {
+fn tell_words(rt: &(impl Print + Eprint), error: &clap::Error) -> ExitCode {
     let told = error.print(rt);
     let status = match error.kind() {
         ErrorKind::OutOfMemory => 3,
@@ -85,11 +111,10 @@ fn main(rt: HostRuntime) -> ExitCode {
     };
     let question = match question_asked(rt.alloc(), words.as_slice()) {
         Ok(question) => question,
-        Err(error) => return explain(&rt, &error),
+        Err(error) => return tell_words(&rt, &error),
     };
     match answer_question(&rt, &question) {
-        Ok(true) => ExitCode::SUCCESS,
-        Ok(false) => ExitCode::from(NOT_SO),
+        Ok(status) => ExitCode::from(status),
         Err(fault) => refuse(&rt, &fault),
     }
 }

@@ -1,14 +1,22 @@
 use crate::asked::Asked;
+use crate::check_command::{CheckQuestion, check_command, check_question};
+use crate::explaining::{ExplainQuestion, explain_command, explain_question, from_candump_command};
 use crate::outcomes::{DEFAULT_MOST, OutcomesQuestion, outcomes_command, outcomes_question};
 use clap::{Command, Error};
 use std::alloc::{AllocError, Global};
 use std::convert::AsStr;
 
 /// What the command line asks.
-#[derive(Clone, Copy, Debug)]
+#[derive(Drop)]
 pub enum Question<'a> {
     /// About the outcomes of a script.
     Outcomes(OutcomesQuestion<'a>),
+    /// All faults of scripts.
+    Check(CheckQuestion<'a>),
+    /// One run of a script in its order.
+    Explain(ExplainQuestion<'a>),
+    /// A script of a log. The file: `None` or `-` means standard input.
+    FromCandump(Option<&'a str>),
 }
 
 /// The command line.
@@ -18,13 +26,25 @@ fn command<'a>(alloc: Global) -> Result<Command<'a>, AllocError> {
         .about("Answers questions about scripts of the C_CAN model")
         .subcommand_required(true)
         .disable_help_subcommand(true)
-        .subcommand(outcomes_command(alloc)?)
+        .subcommand(outcomes_command(alloc)?)?
+        .subcommand(check_command(alloc)?)?
+        .subcommand(explain_command(alloc)?)?
+        .subcommand(from_candump_command(alloc)?)
 }
 
 /// The question that the words of the command line ask. The first of them is the program's name.
 pub fn question_asked<'a, S: AsStr>(alloc: Global, words: &'a [S]) -> Result<Question<'a>, Error> {
     let matches = command(alloc)?.try_get_matches_from(words)?;
-    // The command wants a subcommand and has only this one, so the other case doesn't come; it is not proved here.
+    if let Some(words) = matches.subcommand_matches("check") {
+        return Ok(Question::Check(check_question(alloc, words)?));
+    }
+    if let Some(words) = matches.subcommand_matches("explain") {
+        return Ok(Question::Explain(explain_question(words)));
+    }
+    if let Some(words) = matches.subcommand_matches("from-candump") {
+        return Ok(Question::FromCandump(words.get_str("file")));
+    }
+    // The command wants a subcommand and has no other than this one, so the other case doesn't come; it is not proved here.
     let Some(words) = matches.subcommand_matches("outcomes") else {
         return Ok(Question::Outcomes(OutcomesQuestion {
             most: DEFAULT_MOST,
@@ -32,5 +52,5 @@ pub fn question_asked<'a, S: AsStr>(alloc: Global, words: &'a [S]) -> Result<Que
             asked: Asked::Summary,
         }));
     };
-    Ok(Question::Outcomes(outcomes_question(&words)))
+    Ok(Question::Outcomes(outcomes_question(words)))
 }

@@ -54,7 +54,7 @@ mod waiting;
 
 pub use cli_error::CliError;
 pub use gate::{FreeGate, Gate};
-pub use input::{MAX_INPUT, read_input};
+pub use input::{MAX_INPUT, read_all, read_input};
 pub use ordered::run_ordered;
 pub use outcome::Outcome;
 pub use outcome_text::print_outcome;

@@ -6,7 +6,7 @@ use serde_json::Value;
 
 /// What a line of the bus does.
 #[derive(Clone, Copy, PartialEq, Eq, PartialOrd, Ord, Hash, Debug)]
-pub(crate) enum BusOp {
+pub enum BusOp {
     Load,
     Round,
     Status,
@@ -21,7 +21,7 @@ pub(crate) enum BusOp {
 
 /// What the member `op` of a line names, `None` where it names nothing that the bus does.
 #[tactic(auto, unfolding(crate::specs::BusOp::bus_op, crate::specs::BusOp::bus_op_named))]
-pub(crate) fn bus_op(line: &Value) -> Option<BusOp>
+pub fn bus_op(line: &Value) -> Option<BusOp>
     ensures { result ≡ bus_op (view line.now) }
 {
     match line.get("op")?.as_str()? {

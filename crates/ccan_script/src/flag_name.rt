@@ -22,7 +22,7 @@ pub(crate) fn flag_name(flag: Flag) -> &'static str
 
 /// The flag that the member `flag` of a line names, if it names one.
 #[tactic(auto, unfolding(crate::specs::FlagName::flag_in, crate::specs::FlagName::flag_named))]
-pub(crate) fn flag_in(line: &Value) -> Option<Flag>
+pub fn flag_in(line: &Value) -> Option<Flag>
     ensures { result ≡ flag_in (view line.now) }
 {
     match line.get("flag")?.as_str()? {

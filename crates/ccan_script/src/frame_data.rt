@@ -26,7 +26,7 @@ fn data_text(text: &str) -> Option<&str>
 
 /// The text of the member `data` of a frame, empty where there is no such member, `None` where it is no data.
 #[tactic(auto, unfolding(crate::specs::FrameLine::data_in, crate::specs::FrameLine::is_data_text))]
-pub(crate) fn data_in(frame: &Value) -> Option<&str>
+pub fn data_in(frame: &Value) -> Option<&str>
     ensures value { option_map (λ digits. digits.now) result ≡ data_in (view frame.now) }
     ensures data { IfSome result (λ digits. is_data_text digits.now ≡ true) }
 {

@@ -91,7 +91,7 @@ fn frame_of(parts: FrameParts) -> Frame
 
 /// A frame with its sender, one of so many nodes: its shape first, then its numbers, then the length of its data.
 #[tactic(auto, unfolding(crate::specs::FrameLine::frame_fault, crate::specs::FrameLine::sending_of))]
-pub(crate) fn read_frame(value: &Value, nodes: u8) -> Result<(u8, Frame), LineFault>
+pub fn read_frame(value: &Value, nodes: u8) -> Result<(u8, Frame), LineFault>
     requires { nodes ≤ most_nodes }
     ensures reads { let d = view value.now in
         ReadsLine (frame_fault nodes d) (λ sending. sending ≡ sending_of d) result }

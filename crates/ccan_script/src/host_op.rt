@@ -6,7 +6,7 @@ use serde_json::Value;
 
 /// What a line of a host port does.
 #[derive(Clone, Copy, PartialEq, Eq, PartialOrd, Ord, Hash, Debug)]
-pub(crate) enum HostOp {
+pub enum HostOp {
     Transfer,
     Until,
     Interrupt,
@@ -15,7 +15,7 @@ pub(crate) enum HostOp {
 
 /// What the member `op` of a line names, `None` where it names nothing that a host port does.
 #[tactic(auto, unfolding(crate::specs::HostOp::host_op, crate::specs::HostOp::host_op_named))]
-pub(crate) fn host_op(line: &Value) -> Option<HostOp>
+pub fn host_op(line: &Value) -> Option<HostOp>
     ensures { result ≡ host_op (view line.now) }
 {
     match line.get("op")?.as_str()? {

@@ -62,7 +62,7 @@ fn four_digits(text: &str) -> Option<u16>
 
 /// The number of a value that is a text of four hexadecimal digits.
 #[tactic(auto, unfolding(crate::specs::Json::word_in))]
-pub(crate) fn word_in(value: &Value) -> Option<u16>
+pub fn word_in(value: &Value) -> Option<u16>
     ensures { result ≡ word_in (view value.now) }
 {
     four_digits(value.as_str()?)

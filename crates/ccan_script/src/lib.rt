@@ -16,24 +16,24 @@
 #![tactic(auto)]
 
 pub mod bus_line;
-mod bus_op;
-mod fault_name;
+pub mod bus_op;
+pub mod fault_name;
 mod flag_line;
-mod flag_name;
-mod frame_data;
-mod frame_line;
+pub mod flag_name;
+pub mod frame_data;
+pub mod frame_line;
 pub mod host_line;
-mod host_op;
-mod json;
+pub mod host_op;
+pub mod json;
 pub mod laws;
 pub mod limits;
 pub mod line_answer;
-mod line_context;
+pub mod line_context;
 mod line_counts;
-mod line_fault;
+pub mod line_fault;
 pub mod list_name;
 mod list_reader;
-mod number;
+pub mod number;
 mod order;
 mod port_line;
 pub mod print;
@@ -45,7 +45,7 @@ pub mod register_set;
 mod round;
 pub mod script;
 pub mod script_error;
-mod script_line;
+pub mod script_line;
 
 pub use bus_line::BusLine;
 pub use host_line::HostLine;
@@ -54,6 +54,8 @@ pub use limits::{
     MAX_LINES, MAX_NAMES, MAX_NODES, MAX_PROFILE, MAX_QUOTA, MAX_TRIES, MAX_TURNS,
 };
 pub use line_answer::LineAnswer;
+pub use line_context::LineContext;
+pub use line_fault::LineFault;
 pub use list_name::ListName;
 pub use print::{print_final, print_line};
 pub use printed_line::PrintedLine;
@@ -61,3 +63,4 @@ pub use reader::read_script;
 pub use register_set::RegisterSet;
 pub use script::Script;
 pub use script_error::ScriptError;
+pub use script_line::ScriptLine;

@@ -2,8 +2,8 @@ use ccan_object::Profile;
 
 /// What the ranges of a script's lines depend on.
 #[derive(Clone, Copy, PartialEq, Eq, Hash, Debug)]
-pub(crate) struct LineContext {
-    pub(crate) profile: Profile,
+pub struct LineContext {
+    pub profile: Profile,
     /// How many nodes the bus has besides the controller.
-    pub(crate) nodes: u8,
+    pub nodes: u8,
 }

@@ -3,7 +3,7 @@ use crate::script_error::ScriptError;
 
 /// What is wrong with a line of a script.
 #[derive(Clone, Copy, PartialEq, Eq, PartialOrd, Ord, Hash, Debug)]
-pub(crate) enum LineFault {
+pub enum LineFault {
     /// It isn't of the shape that its kind of line has.
     Shape,
     /// A number in it is out of its range.
@@ -15,7 +15,7 @@ impl LineFault {
     ghost use Rattle.ccan_script.specs.LineFault.{refusal_at};
 
     /// The refusal of a script with such a line.
-    pub(crate) fn at(self, list: ListName, index: usize) -> ScriptError
+    pub fn at(self, list: ListName, index: usize) -> ScriptError
         ensures { result ≡ refusal_at list index self }
     {
         match self {

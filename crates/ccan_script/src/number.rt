@@ -23,7 +23,7 @@ const TOP_RANGE: ScriptError = ScriptError::Range {
 
 /// A whole number in a range, or the default where there is no such member.
 #[tactic(auto, unfolding(crate::specs::Script::number_fault, crate::specs::Script::number_or))]
-pub(crate) fn number_member(
+pub fn number_member(
     value: &Value,
     name: &str,
     least: u64,
@@ -48,7 +48,7 @@ pub(crate) fn number_member(
 }
 
 /// The profile of this number.
-pub(crate) fn profile_numbered(number: u64) -> Profile
+pub fn profile_numbered(number: u64) -> Profile
     ensures { result ≡ profile_numbered number }
 {
     match number {

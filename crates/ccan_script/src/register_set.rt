@@ -13,7 +13,7 @@ pub type RegisterSet = ArrayVec<(Reg, u16), 10>;
 
 /// The register of a name in a script.
 #[tactic(auto, unfolding(crate::specs::RegisterSet::register_named))]
-fn register_named(name: &str) -> Option<Reg>
+pub fn register_named(name: &str) -> Option<Reg>
     ensures { result ≡ register_named name.now }
 {
     match name {

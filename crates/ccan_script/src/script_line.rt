@@ -11,7 +11,7 @@ use crate::line_fault::LineFault;
 use serde_json::Value;
 
 /// A line of a script, read from its JSON value.
-pub(crate) trait ScriptLine: Sized + Drop {
+pub trait ScriptLine: Sized + Drop {
     /// What is wrong with the value as such a line, if something is.
     ghost fault: { LineContext → Data → Option LineFault };
 

@@ -1,0 +1,97 @@
+//! Places in a JSON text. Whether the text is JSON is not checked here: these functions are safe for all bytes, and find the
+//! places where it is.
+
+/// Where a scan of a text stands.
+#[derive(Clone, Copy, PartialEq, Eq, PartialOrd, Ord, Hash, Debug)]
+enum Inside {
+    Nothing,
+    Text,
+    /// In a text, after a backslash.
+    Escape,
+}
+
+/// A member of an object or an item of a list, in the text: offsets from the text's begin.
+#[derive(Clone, Copy, PartialEq, Eq, PartialOrd, Ord, Hash, Debug)]
+pub(crate) struct Child {
+    /// Where its name begins, with the quote; of an item where its value does.
+    pub(crate) begin: usize,
+    /// Where the name ends; of an item where it begins.
+    pub(crate) name_end: usize,
+    /// Where its value begins.
+    pub(crate) value: usize,
+    /// Where its value ends.
+    pub(crate) end: usize,
+}
+
+fn is_space(byte: u8) -> bool {
+    matches!(byte, b' ' | b'\t' | b'\n' | b'\r')
+}
+
+/// Where the next byte stands that is no space, from an offset on.
+pub(crate) fn after_spaces(text: &[u8], offset: usize) -> usize {
+    let rest = text.get(offset..).unwrap_or(&[]);
+    offset.saturating_add(rest.iter().take_while(|byte| is_space(**byte)).count())
+}
+
+/// How a text goes on after a byte of it.
+fn inside_after(inside: Inside, byte: u8) -> Inside {
+    match (inside, byte) {
+        (Inside::Text, b'\\') => Inside::Escape,
+        (Inside::Text, b'"') => Inside::Nothing,
+        (Inside::Nothing, b'"') | (Inside::Text | Inside::Escape, _) => Inside::Text,
+        (Inside::Nothing, _) => Inside::Nothing,
+    }
+}
+
+/// Where the value ends that begins at an offset.
+pub(crate) fn value_end(text: &[u8], offset: usize) -> usize {
+    let rest = text.get(offset..).unwrap_or(&[]);
+    let mut inside = Inside::Nothing;
+    let mut depth = 0usize;
+    for (place, byte) in rest.iter().enumerate() {
+        let was = inside;
+        inside = inside_after(was, *byte);
+        let ends_text = was == Inside::Text && inside == Inside::Nothing;
+        if was == Inside::Nothing {
+            match *byte {
+                b'{' | b'[' => depth = depth.saturating_add(1),
+                b'}' | b']' if depth > 0 => depth -= 1,
+                b'}' | b']' | b',' | b':' if depth == 0 => return offset.saturating_add(place),
+                _ if depth == 0 && is_space(*byte) => return offset.saturating_add(place),
+                _ => {}
+            }
+        }
+        if depth == 0 && (ends_text || matches!(*byte, b'}' | b']') && inside == Inside::Nothing) {
+            return offset.saturating_add(place).saturating_add(1);
+        }
+    }
+    text.len()
+}
+
+/// The member or item that follows an offset, after a comma or an opening bracket.
+pub(crate) fn child_after(text: &[u8], offset: usize) -> Option<Child> {
+    let mut begin = after_spaces(text, offset);
+    if let Some(b',' | b'{' | b'[') = text.get(begin) {
+        begin = after_spaces(text, begin.saturating_add(1));
+    }
+    if let None | Some(b'}' | b']') = text.get(begin) {
+        return None;
+    }
+    let first_end = value_end(text, begin);
+    let colon = after_spaces(text, first_end);
+    if text.get(colon) != Some(&b':') {
+        return Some(Child {
+            begin,
+            name_end: begin,
+            value: begin,
+            end: first_end,
+        });
+    }
+    let value = after_spaces(text, colon.saturating_add(1));
+    Some(Child {
+        begin,
+        name_end: first_end,
+        value,
+        end: value_end(text, value),
+    })
+}

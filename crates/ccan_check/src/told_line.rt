@@ -1,0 +1,140 @@
+ghost use Rattle.std.specs.Prelude.{◌≤◌};
+ghost use Rattle.ccan_script.specs.Limits.{most_nodes};
+
+use crate::line_remark::{line_remark, operation_remark};
+use crate::member::{bus_members, host_members};
+use crate::member_remark::remark_on;
+use crate::report::Remark;
+use crate::spot::Spot;
+use crate::warning::warn_of_transfer;
+use ccan_ram::PortName;
+use ccan_script::bus_op::bus_op;
+use ccan_script::host_op::host_op;
+use ccan_script::{BusLine, HostLine, LineContext, ScriptLine};
+use std::alloc::{AllocError, Global};
+
+/// A line of a script, of which something can be said.
+pub(crate) trait ToldLine: ScriptLine {
+    /// A remark on a value that is no such line.
+    fn remark(
+        alloc: Global,
+        path: &str,
+        line: Spot<'_>,
+        context: LineContext,
+    ) -> Result<Remark, AllocError>
+        requires { context.nodes ≤ most_nodes };
+
+    /// Adds what is rarely meant in a line.
+    fn warn(
+        &self,
+        alloc: Global,
+        path: &str,
+        line: Spot<'_>,
+        context: LineContext,
+        warnings: &mut Vec<Remark>,
+    ) -> Result<(), AllocError>;
+}
+
+impl ToldLine for HostLine {
+    fn remark(
+        alloc: Global,
+        path: &str,
+        line: Spot<'_>,
+        context: LineContext,
+    ) -> Result<Remark, AllocError> {
+        match host_op(line.value) {
+            Some(op) => line_remark(alloc, path, line, host_members(op), context),
+            None if bus_op(line.value).is_some() => {
+                operation_remark(
+                    alloc,
+                    path,
+                    line,
+                    "is an operation of the bus, not of a host",
+                )
+            }
+            None => operation_remark(
+                alloc,
+                path,
+                line,
+                "is no operation of a host: transfer, until, interrupt or flags",
+            ),
+        }
+    }
+
+    fn warn(
+        &self,
+        alloc: Global,
+        path: &str,
+        line: Spot<'_>,
+        context: LineContext,
+        warnings: &mut Vec<Remark>,
+    ) -> Result<(), AllocError> {
+        match self {
+            HostLine::Transfer { request, set } => {
+                warn_of_transfer(alloc, path, line, context, *request, set, warnings)
+            }
+            HostLine::Until { .. } | HostLine::Interrupt | HostLine::Flags(_) => Ok(()),
+        }
+    }
+}
+
+impl ToldLine for BusLine {
+    fn remark(
+        alloc: Global,
+        path: &str,
+        line: Spot<'_>,
+        context: LineContext,
+    ) -> Result<Remark, AllocError> {
+        match bus_op(line.value) {
+            Some(op) => line_remark(alloc, path, line, bus_members(op), context),
+            None if host_op(line.value).is_some() => {
+                operation_remark(
+                    alloc,
+                    path,
+                    line,
+                    "is an operation of a host, not of the bus",
+                )
+            }
+            None => operation_remark(
+                alloc,
+                path,
+                line,
+                "is no operation of the bus: load, round, status, control, interrupt, flags, \
+                 counters, init, recessive or loopback",
+            ),
+        }
+    }
+
+    fn warn(
+        &self,
+        _alloc: Global,
+        _path: &str,
+        _line: Spot<'_>,
+        _context: LineContext,
+        _warnings: &mut Vec<Remark>,
+    ) -> Result<(), AllocError> {
+        Ok(())
+    }
+}
+
+impl ToldLine for PortName {
+    fn remark(
+        alloc: Global,
+        path: &str,
+        line: Spot<'_>,
+        _context: LineContext,
+    ) -> Result<Remark, AllocError> {
+        remark_on(alloc, path, line, "is no port: if1, if2 or bus")
+    }
+
+    fn warn(
+        &self,
+        _alloc: Global,
+        _path: &str,
+        _line: Spot<'_>,
+        _context: LineContext,
+        _warnings: &mut Vec<Remark>,
+    ) -> Result<(), AllocError> {
+        Ok(())
+    }
+}

@@ -1,0 +1,306 @@
+ghost use Rattle.std.specs.Prelude.{◌≤◌, IfOk, true};
+ghost use Rattle.ccan_script.specs.Limits.{most_nodes};
+
+use crate::json_text::child_after;
+use crate::member_remark::{remark_on, remark_on_name};
+use crate::report::{Fault, Remark, Report};
+use crate::spot::{Spot, joined};
+use crate::told_line::ToldLine;
+use crate::warning::warn_of_twice;
+use ccan_object::Profile;
+use ccan_ram::PortName;
+use ccan_script::bus_op::{BusOp, bus_op};
+use ccan_script::number::{number_member, profile_numbered};
+use ccan_script::{
+    BusLine, DEFAULT_NODES, DEFAULT_PROFILE, DEFAULT_QUOTA, DEFAULT_TRIES, HostLine, LineContext,
+    ListName, MAX_LINES, MAX_NAMES, MAX_NODES, MAX_PROFILE, MAX_QUOTA, MAX_TRIES, ScriptError,
+};
+use serde_json::Value;
+use std::alloc::{AllocError, Global};
+
+/// The members that a script has.
+const KNOWN: [&str; 8] = [
+    "profile", "quota", "tries", "nodes", "if1", "if2", "bus", "order",
+];
+
+const UNKNOWN: &str = "is unknown here; known: profile quota tries nodes if1 if2 bus order";
+
+const TOP_SHAPE: ScriptError = ScriptError::Shape {
+    list: ListName::Top,
+    index: 0,
+};
+
+/// Adds a fault for each member that a script can't have.
+fn add_unknown(alloc: Global, top: Spot<'_>, report: &mut Report) -> Result<(), AllocError> {
+    let Some(members) = top.value.as_object() else {
+        let remark = remark_on(alloc, "the script", top, "is not an object, such as {}")?;
+        report.faults.push(Fault {
+            error: TOP_SHAPE,
+            remark,
+        })?;
+        return Ok(());
+    };
+    for name in members.keys() {
+        if KNOWN.iter().any(|known| *known == name.as_str()) {
+            continue;
+        }
+        let offset = top
+            .member(name.as_str())
+            .map_or(top.offset, |spot| spot.offset);
+        let remark = remark_on_name(alloc, "the script", name.as_str(), UNKNOWN, offset)?;
+        report.faults.push(Fault {
+            error: TOP_SHAPE,
+            remark,
+        })?;
+    }
+    Ok(())
+}
+
+/// The number of a member of the script. Where it is at fault, adds that, and takes the greatest, so that no fault of a line
+/// comes of it.
+fn add_number(
+    alloc: Global,
+    top: Spot<'_>,
+    name: &str,
+    range: (u64, u64),
+    default: u64,
+    report: &mut Report,
+) -> Result<u64, AllocError>
+    requires default_least { range.0 ≤ default }
+    requires default_greatest { default ≤ range.1 }
+    ensures { IfOk result (λ n. (range.0 ≤ n) × (n ≤ range.1)) }
+{
+    let (least, greatest) = range;
+    let error = match number_member(top.value, name, least, greatest, default) {
+        Ok(number) => return Ok(number),
+        Err(error) => error,
+    };
+    let spot = top.member(name).unwrap_or(top);
+    let wrong = format!(in alloc; "is not a whole number in {least} to {greatest}")?;
+    let remark = remark_on(alloc, name, spot, wrong.as_str())?;
+    report.faults.push(Fault { error, remark })?;
+    Ok(greatest)
+}
+
+/// Adds the faults of the lines of a list, and what is rarely meant in the others.
+fn add_lines<L: ToldLine>(
+    alloc: Global,
+    list: ListName,
+    values: &[Value],
+    spot: Spot<'_>,
+    context: LineContext,
+    report: &mut Report,
+) -> Result<(), AllocError>
+    requires { context.nodes ≤ most_nodes }
+{
+    let mut offset = spot.offset;
+    for (index, value) in values.iter().enumerate() {
+        let child = child_after(spot.text, offset);
+        let line = Spot {
+            value,
+            text: spot.text,
+            offset: child.map_or(offset, |child| child.value),
+        };
+        let path = format!(in alloc; "{list}[{index}]")?;
+        match L::read(value, context) {
+            Ok(read) => read.warn(alloc, path.as_str(), line, context, &mut report.warnings)?,
+            Err(fault) => {
+                let remark = L::remark(alloc, path.as_str(), line, context)?;
+                report.faults.push(Fault {
+                    error: fault.at(list, index),
+                    remark,
+                })?;
+            }
+        }
+        warn_of_twice(alloc, path.as_str(), line, &mut report.warnings)?;
+        offset = child.map_or(offset, |child| child.end);
+    }
+    Ok(())
+}
+
+/// Adds the faults of a list of at most so many lines, if the script has it.
+fn add_list<L: ToldLine>(
+    alloc: Global,
+    list: ListName,
+    most: usize,
+    member: Option<Spot<'_>>,
+    context: LineContext,
+    report: &mut Report,
+) -> Result<(), AllocError>
+    requires { context.nodes ≤ most_nodes }
+{
+    let Some(spot) = member else {
+        return Ok(());
+    };
+    let path = format!(in alloc; "{list}")?;
+    let Some(values) = spot.value.as_array() else {
+        let error = ScriptError::Shape { list, index: 0 };
+        let remark = remark_on(alloc, path.as_str(), spot, "is not a list")?;
+        report.faults.push(Fault { error, remark })?;
+        return Ok(());
+    };
+    if values.len() > most {
+        let error = ScriptError::TooMany { list };
+        let text = format!(in alloc; "{path}: has more than {most} lines")?;
+        report.faults.push(Fault {
+            error,
+            remark: Remark {
+                offset: spot.offset,
+                text,
+            },
+        })?;
+        return Ok(());
+    }
+    add_lines::<L>(alloc, list, values, spot, context, report)
+}
+
+/// How many lines a list of the script has.
+fn lines_in(top: Spot<'_>, name: &str) -> usize {
+    match top.value.get(name).and_then(Value::as_array) {
+        Some(lines) => lines.len(),
+        None => 0,
+    }
+}
+
+/// Adds a fault where the order doesn't name a port as often as it has lines.
+fn add_times(
+    alloc: Global,
+    top: Spot<'_>,
+    order: Spot<'_>,
+    port: PortName,
+    name: &str,
+    report: &mut Report,
+) -> Result<(), AllocError> {
+    let Some(names) = order.value.as_array() else {
+        return Ok(());
+    };
+    let lines = lines_in(top, name);
+    let times = names
+        .iter()
+        .filter(|value| value.as_str() == Some(name))
+        .count();
+    if times != lines {
+        let error = ScriptError::Order { port };
+        let text = format!(in alloc;
+            "order: names {name} {times} times, and {name} has {lines} lines"
+        )?;
+        report.faults.push(Fault {
+            error,
+            remark: Remark {
+                offset: order.offset,
+                text,
+            },
+        })?;
+    }
+    Ok(())
+}
+
+/// Adds the faults of the order.
+fn add_order(
+    alloc: Global,
+    top: Spot<'_>,
+    context: LineContext,
+    report: &mut Report,
+) -> Result<(), AllocError>
+    requires { context.nodes ≤ most_nodes }
+{
+    let Some(order) = top.member("order") else {
+        return warn_of_default(alloc, top, report);
+    };
+    let before = report.faults.len();
+    add_list::<PortName>(
+        alloc,
+        ListName::Order,
+        MAX_NAMES,
+        Some(order),
+        context,
+        report,
+    )?;
+    if report.faults.len() != before {
+        return Ok(());
+    }
+    add_times(alloc, top, order, PortName::If1, "if1", report)?;
+    add_times(alloc, top, order, PortName::If2, "if2", report)?;
+    add_times(alloc, top, order, PortName::Bus, "bus", report)
+}
+
+/// Whether the bus has a line that sends.
+fn has_sends(top: Spot<'_>) -> bool {
+    match top.value.get("bus").and_then(Value::as_array) {
+        Some(lines) => lines.iter().any(|line| matches!(
+            bus_op(line),
+            Some(BusOp::Load | BusOp::Round)
+        )),
+        None => false,
+    }
+}
+
+/// Adds a warning where two ports that depend on each other run one after the other, since no order is given.
+fn warn_of_default(alloc: Global, top: Spot<'_>, report: &mut Report) -> Result<(), AllocError> {
+    let hosts = usize::from(lines_in(top, "if1") > 0) + usize::from(lines_in(top, "if2") > 0);
+    if hosts == 2 || hosts == 1 && has_sends(top) {
+        let text = joined(
+            alloc,
+            &[
+                "order: is missing, so all lines of if1 run first, then those of if2, then those of bus",
+            ],
+        )?;
+        report.warnings.push(Remark {
+            offset: top.offset,
+            text,
+        })?;
+    }
+    Ok(())
+}
+
+/// Adds the faults of the numbers of a script, and answers what the ranges of its lines depend on.
+fn add_numbers(alloc: Global, top: Spot<'_>, report: &mut Report) -> Result<LineContext, AllocError>
+    ensures { IfOk result (λ context. context.nodes ≤ most_nodes) }
+{
+    let profile = add_number(
+        alloc,
+        top,
+        "profile",
+        (1, MAX_PROFILE),
+        DEFAULT_PROFILE,
+        report,
+    )?;
+    add_number(alloc, top, "quota", (1, MAX_QUOTA), DEFAULT_QUOTA, report)?;
+    add_number(alloc, top, "tries", (1, MAX_TRIES), DEFAULT_TRIES, report)?;
+    let nodes = add_number(alloc, top, "nodes", (0, MAX_NODES), DEFAULT_NODES, report)?;
+    Ok(LineContext {
+        profile: profile_numbered(profile),
+        nodes: nodes as u8,
+    })
+}
+
+/// Adds what is said of the lines of a port.
+fn add_port<L: ToldLine>(
+    alloc: Global,
+    top: Spot<'_>,
+    list: ListName,
+    name: &str,
+    context: LineContext,
+    report: &mut Report,
+) -> Result<(), AllocError>
+    requires { context.nodes ≤ most_nodes }
+{
+    let member = top.member(name);
+    add_list::<L>(alloc, list, MAX_LINES, member, context, report)
+}
+
+/// All that is said of a script, in the order of the checks.
+pub(crate) fn walk(alloc: Global, top: Spot<'_>) -> Result<Report, AllocError> {
+    let mut report = Report {
+        faults: Vec::new(alloc),
+        warnings: Vec::new(alloc),
+    };
+    warn_of_twice(alloc, "the script", top, &mut report.warnings)?;
+    add_unknown(alloc, top, &mut report)?;
+    let context = add_numbers(alloc, top, &mut report)?;
+    add_port::<HostLine>(alloc, top, ListName::If1, "if1", context, &mut report)?;
+    add_port::<HostLine>(alloc, top, ListName::If2, "if2", context, &mut report)?;
+    add_port::<BusLine>(alloc, top, ListName::Bus, "bus", context, &mut report)?;
+    add_order(alloc, top, context, &mut report)?;
+    Ok(report)
+}

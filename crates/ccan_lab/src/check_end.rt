@@ -1,0 +1,26 @@
+/// What came of a check of scripts, the worst last.
+#[derive(Clone, Copy, PartialEq, Eq, PartialOrd, Ord, Hash, Debug)]
+pub enum CheckEnd {
+    /// Nothing is said of them.
+    Clean,
+    /// There are warnings and no faults.
+    Warned,
+    /// There are faults.
+    Faulty,
+}
+
+impl CheckEnd {
+    ghost use Rattle.std.specs.Prelude.{◌≡◌};
+    ghost use Rattle.ccan_lab.specs.CheckCommand.{check_status};
+
+    /// The exit status: 7 for warnings where they are asked for by `--strict`.
+    pub fn status(self, is_strict: bool) -> u8
+        ensures { result ≡ check_status is_strict self }
+    {
+        match self {
+            CheckEnd::Faulty => 1,
+            CheckEnd::Warned if is_strict => 7,
+            CheckEnd::Warned | CheckEnd::Clean => 0,
+        }
+    }
+}

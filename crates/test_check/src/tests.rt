@@ -1,0 +1,7 @@
+mod first_day;
+mod frames;
+mod hosts;
+mod places;
+mod told;
+mod top;
+mod warnings;
