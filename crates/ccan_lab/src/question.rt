@@ -1,3 +1,4 @@
+use crate::explaining::{Form, explain_command, form_asked, from_candump_command};
 use clap::{Arg, ArgAction, Command, Error, value_parser};
 use std::alloc::{AllocError, Global};
 use std::convert::AsStr;
@@ -12,6 +13,17 @@ pub struct Question<'a> {
     pub most: usize,
     /// The file of the script: `None` or `-` means standard input.
     pub file: Option<&'a str>,
+}
+
+/// What the words of the command line ask.
+#[derive(Clone, Copy, Debug)]
+pub enum Asked<'a> {
+    /// All outcomes of a script.
+    Outcomes(Question<'a>),
+    /// One run of a script in its order, in this form. The file is as in a question.
+    Explain(Form, Option<&'a str>),
+    /// A script of a log. The file is as in a question.
+    FromCandump(Option<&'a str>),
 }
 
 /// The command that lists outcomes.
@@ -40,21 +52,29 @@ fn command<'a>(alloc: Global) -> Result<Command<'a>, AllocError> {
         .about("Answers questions about scripts of the C_CAN model")
         .subcommand_required(true)
         .disable_help_subcommand(true)
-        .subcommand(outcomes_command(alloc)?)
+        .subcommand(outcomes_command(alloc)?)?
+        .subcommand(explain_command(alloc)?)?
+        .subcommand(from_candump_command(alloc)?)
 }
 
 /// The question that the words of the command line ask. The first of them is the program's name.
-pub fn question_asked<'a, S: AsStr>(alloc: Global, words: &'a [S]) -> Result<Question<'a>, Error> {
+pub fn question_asked<'a, S: AsStr>(alloc: Global, words: &'a [S]) -> Result<Asked<'a>, Error> {
     let matches = command(alloc)?.try_get_matches_from(words)?;
-    // The command wants a subcommand and has only this one, so the other case doesn't come; it is not proved here.
+    if let Some(asked) = matches.subcommand_matches("explain") {
+        return Ok(Asked::Explain(form_asked(asked), asked.get_str("file")));
+    }
+    if let Some(asked) = matches.subcommand_matches("from-candump") {
+        return Ok(Asked::FromCandump(asked.get_str("file")));
+    }
+    // The command wants a subcommand and has no other than this one, so the other case doesn't come; it is not proved here.
     let Some(asked) = matches.subcommand_matches("outcomes") else {
-        return Ok(Question {
+        return Ok(Asked::Outcomes(Question {
             most: DEFAULT_MOST,
             file: None,
-        });
+        }));
     };
-    Ok(Question {
+    Ok(Asked::Outcomes(Question {
         most: asked.get_one::<usize>("most").unwrap_or(DEFAULT_MOST),
         file: asked.get_str("file"),
-    })
+    }))
 }

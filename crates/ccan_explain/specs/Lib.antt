@@ -1,0 +1,3 @@
+pub mod Bench
+pub mod Reported
+pub mod Told

@@ -1,0 +1,126 @@
+//! Records and flags for people.
+ghost use Rattle.std.specs.Prelude.{◌≡◌};
+ghost use Rattle.ccan_object.specs.Bits.{part};
+ghost use Rattle.ccan_accept.specs.Send.{number_of};
+
+use crate::digits::{push_decimal, push_hex};
+use crate::frame_text::push_id;
+use crate::step::Touched;
+use ccan_object::{DataLength, Record};
+use std::alloc::AllocError;
+
+/// The number of an object's identifier: of 29 bits where it is extended, and else of the 11 in ID28 to ID18.
+pub(crate) fn id_of(object: &Record) -> u32
+    ensures { result ≡ number_of object.now }
+{
+    if object.xtd {
+        object.id.get()
+    } else {
+        object.id.get() >> 18
+    }
+}
+
+/// The part of an object's mask that stands at the places of its identifier.
+pub(crate) fn mask_of(object: &Record) -> u32 {
+    if object.xtd {
+        object.mask.get()
+    } else {
+        object.mask.get() >> 18
+    }
+}
+
+/// Appends a word where it is so.
+pub(crate) fn push_if(text: &mut String, is: bool, word: &str) -> Result<(), AllocError> {
+    if is { text.push_str(word) } else { Ok(()) }
+}
+
+/// Appends the mask, where acceptance uses it, and whether it compares Xtd and Dir.
+fn push_mask(text: &mut String, object: &Record) -> Result<(), AllocError> {
+    if object.umask {
+        text.push_str(", mask ")?;
+        push_id(text, mask_of(object), object.xtd)?;
+        push_if(text, object.mxtd, " MXtd")?;
+        push_if(text, object.mdir, " MDir")?;
+    }
+    Ok(())
+}
+
+/// Appends the data that the length means: `2 bytes 11 22`, and the data length code where it is above 8.
+fn push_bytes(text: &mut String, dlc: DataLength, bytes: &[u8; 8]) -> Result<(), AllocError> {
+    let count = dlc.byte_count();
+    push_decimal(text, count as u64)?;
+    text.push_str(if count == 1 { " byte" } else { " bytes" })?;
+    push_if(text, dlc.get() > 8, " (DLC above 8)")?;
+    for byte in &bytes[..count] {
+        text.push_str(" ")?;
+        push_hex(text, 2, u64::from(*byte))?;
+    }
+    Ok(())
+}
+
+/// Appends what a record says of an object, but for its four flags: `id 123 std, transmit, valid, EoB, 2 bytes 11 22`.
+pub(crate) fn push_record(text: &mut String, object: &Record) -> Result<(), AllocError> {
+    text.push_str("id ")?;
+    push_id(text, id_of(object), object.xtd)?;
+    text.push_str(if object.xtd { " ext" } else { " std" })?;
+    text.push_str(if object.dir { ", transmit" } else { ", receive" })?;
+    text.push_str(if object.valid { ", valid" } else { ", not valid" })?;
+    push_mask(text, object)?;
+    push_if(text, object.txie, ", TxIE")?;
+    push_if(text, object.rxie, ", RxIE")?;
+    push_if(text, object.rmten, ", RmtEn")?;
+    push_if(text, object.eob, ", EoB")?;
+    text.push_str(", ")?;
+    push_bytes(text, object.dlc, &object.bytes)
+}
+
+/// What stands before a flag: `+` where it was set, `-` where it was cleared, nothing where it stayed set. None: it is not set,
+/// and was not.
+fn mark(before: bool, after: bool) -> Option<&'static str> {
+    match (before, after) {
+        (false, false) => None,
+        (true, true) => Some(" "),
+        (false, true) => Some(" +"),
+        (true, false) => Some(" -"),
+    }
+}
+
+/// Appends a flag with its mark.
+fn push_flag(text: &mut String, name: &str, before: bool, after: bool) -> Result<(), AllocError> {
+    match mark(before, after) {
+        Some(mark) => {
+            text.push_str(mark)?;
+            text.push_str(name)
+        }
+        None => Ok(()),
+    }
+}
+
+/// Whether one of the four flags is set.
+fn has_flag(object: &Record) -> bool {
+    object.newdat || object.msglst || object.intpnd || object.txrqst
+}
+
+/// Appends the flags of an object, those that changed with a mark: ` | NewDat +MsgLst -TxRqst`. Nothing where none is set and
+/// none was.
+pub(crate) fn push_flags(text: &mut String, before: &Record, after: &Record) -> Result<(), AllocError> {
+    push_if(text, has_flag(before) || has_flag(after), " |")?;
+    push_flag(text, "NewDat", before.newdat, after.newdat)?;
+    push_flag(text, "MsgLst", before.msglst, after.msglst)?;
+    push_flag(text, "IntPnd", before.intpnd, after.intpnd)?;
+    push_flag(text, "TxRqst", before.txrqst, after.txrqst)
+}
+
+/// Appends an object as a line left it, with its flags, behind some words.
+pub(crate) fn push_touched(
+    text: &mut String,
+    words: &str,
+    touched: &Touched,
+) -> Result<(), AllocError> {
+    text.push_str(words)?;
+    text.push_str(" object ")?;
+    push_decimal(text, u64::from(touched.object.get()))?;
+    text.push_str(": ")?;
+    push_record(text, &touched.after)?;
+    push_flags(text, &touched.before, &touched.after)
+}
