@@ -1,16 +1,22 @@
 -- Turns of three ports over a plain memory, one after another: the lines so far stand for what the memory has seen.
-use Rattle.std.proofs.Common.{◌≡◌, ℕ, List, [], ◌∷◌, ◌++◌, refl, sym, ap, subst, ◌∙◌, append_assoc, append-nil}
+use Rattle.std.proofs.Common.{◌≡◌, ◌+◌, ℕ, length, arith, List, [], ◌∷◌, ◌++◌, refl, sym, ap, subst, ◌∙◌, append_assoc, append-nil}
+use Rattle.std.proofs.lemmas.List.{map-append}
 use Rattle.ccan_ram.specs.declared.port.PortName.{PortName}
+use Rattle.ccan_ram.specs.declared.port.PortName.TheVariants.{If1, If2, Bus}
 use Rattle.ccan_ram.specs.declared.event.Event.{Event}
 use Rattle.ccan_ram.specs.Access.{Passes}
 use Rattle.ccan_ram.specs.History.{IsLegal}
 use Rattle.ccan_script.specs.declared.line_answer.LineAnswer.{LineAnswer}
 use Rattle.ccan_script.specs.Script.{ScriptFields}
+use Rattle.ccan_script.specs.Order.{times}
+use Rattle.ccan_run.specs.Port.{count_of}
 use Rattle.ccan_run.specs.Lines.{LinesMean}
 use Rattle.ccan_run.specs.Ordered.{PortLine, lines_of, Three, opening, PortLineMeans, terms_of, RunsInOrder}
 use Rattle.ccan_run.proofs.Rows.{LinesMean-push}
 use Rattle.ccan_explain.specs.declared.bench.Bench.{Bench}
-use Rattle.ccan_explain.specs.Bench.{rest, HaveLedTo, TakesTurn}
+use Rattle.ccan_explain.specs.Bench.{next_of, rest, HaveLedTo, TakesTurn}
+use Rattle.ccan_explain.specs.declared.step.Step.{Step}
+use Rattle.ccan_explain.specs.Told.{answers_of}
 
 pub record SoFar (memory : Passes) (script : ScriptFields) (bench : Bench) (order : List PortName)
     (answers : List (PortName × LineAnswer)) : Type 0 where
@@ -68,3 +74,19 @@ module _ (script : ScriptFields) where
         legal = legal;
         lines = (s.three, subst (λ (ls : List PortLine). LinesMean means ls (opening script.nodes) [] s.history answers s.three) (sym lines) s.ran);
       }
+
+-- before the first turn all lines are left
+pub all_left : (script : ScriptFields) (bench : Bench) → ((port : PortName) → next_of bench port ≡ 0)
+    → times If1 script.order ≡ length script.if1 → times If2 script.order ≡ length script.if2 → times Bus script.order ≡ length script.bus
+    → (name : PortName) → next_of bench name + times name script.order ≡ count_of script name
+all_left script bench none if1 if2 bus If1 = omega (arith, none If1, if1)
+all_left script bench none if1 if2 bus If2 = omega (arith, none If2, if2)
+all_left script bench none if1 if2 bus Bus = omega (arith, none Bus, bus)
+
+-- one more step has one more answer
+pub answers_more : (steps more : List Step) (step : Step) (port : PortName) → more ≡ steps ++ step ∷ [] → step.port ≡ port
+    → answers_of more ≡ answers_of steps ++ (port, step.answer) ∷ []
+answers_more steps more step port is named =
+    let f : Step → PortName × LineAnswer = λ s. (s.port, s.answer) in
+    ap answers_of is ∙ map-append f steps (step ∷ [])
+    ∙ ap (λ (p : PortName). answers_of steps ++ (p, step.answer) ∷ []) named

@@ -7,7 +7,7 @@ use Rattle.ccan_bus.specs.declared.round_report.RoundReport.{RoundReport}
 use Rattle.ccan_bus.specs.Bus.{GoesOnWith}
 use Rattle.ccan_bus.specs.RoundReport.{RunsSteps}
 use Rattle.ccan_script.specs.declared.bus_line.BusLine.{BusLine}
-use Rattle.ccan_script.specs.declared.bus_line.BusLine.TheVariants as line
+use Rattle.ccan_script.specs.declared.bus_line.BusLine.TheVariants as bus
 use Rattle.ccan_script.specs.declared.line_answer.LineAnswer.{LineAnswer}
 use Rattle.ccan_script.specs.declared.line_answer.LineAnswer.TheVariants as answer
 
@@ -15,7 +15,7 @@ use Rattle.ccan_script.specs.declared.line_answer.LineAnswer.TheVariants as answ
 pub record IsReportOf (before after : Passes) (old new : Bus) (line : BusLine) (tries : ℕ) (reply : LineAnswer)
     (report : RoundReport) : Type 0 where
   pub round : RoundLine
-  pub is : line ≡ line.Round round
+  pub is : line ≡ bus.Round round
   pub told : reply ≡ answer.Round report.end.answer
   pub steps : GoesOnWith before after old new (λ terms seen added past left.
       RunsSteps terms round tries seen added past left report)

@@ -1,4 +1,4 @@
-ghost use Rattle.std.specs.Prelude.{◌≡◌, ◌+◌, ◌<◌, [], ◌∷◌, length, drop, if◌then◌else◌};
+ghost use Rattle.std.specs.Prelude.{◌≡◌, ◌+◌, ◌<◌, [], ◌∷◌, length, drop, slice_index_or, if◌then◌else◌};
 ghost use Rattle.ccan_ram.specs.Port.{same_port};
 ghost use Rattle.ccan_script.specs.Reader.{fields_of};
 ghost use Rattle.ccan_run.specs.Ordered.{opening};
@@ -15,7 +15,8 @@ use ccan_script::{LineAnswer, Script};
 /// The line of this index.
 fn line_at<L>(lines: &[L], index: usize) -> &L
     requires { index < length lines.now }
-    ensures { drop index lines.now ≡ result.now ∷ drop (index + 1) lines.now }
+    ensures item { result.now ≡ slice_index_or lines.now index result.now }
+    ensures rest { drop index lines.now ≡ result.now ∷ drop (index + 1) lines.now }
 {
     &lines[index]
 }

@@ -3,7 +3,8 @@ use crate::contest::{controller_contends, has_lost, node_contends, round_of, win
 use crate::digits::push_decimal;
 use crate::json_members::{push_frame, push_name, push_number, push_record, push_switch, push_word};
 use crate::step::{Step, Touched};
-use crate::told::{Told, record_of};
+use crate::stepping::record_of;
+use crate::told::Told;
 use crate::words::{flag_name, port_word, state_word};
 use ccan_bus::{LoadAnswer, MemoryStep, RoundAnswer, RoundLine, RoundReport};
 use ccan_object::{ObjectNo, Record};

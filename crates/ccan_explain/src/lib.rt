@@ -27,6 +27,7 @@ mod record_words;
 pub mod reported;
 mod round_words;
 pub mod step;
+mod stepping;
 pub mod told;
 mod words;
 

@@ -2,7 +2,8 @@
 use crate::digits::push_decimal;
 use crate::line_words::push_step;
 use crate::record_words::{push_flags, push_record};
-use crate::told::{Told, record_of};
+use crate::stepping::record_of;
+use crate::told::Told;
 use ccan_object::{ObjectNo, Record};
 use ccan_ram::Access;
 use ccan_script::{Script, print_final};

@@ -1,6 +1,7 @@
 ghost use Rattle.std.specs.Prelude.{◌≡◌, IfSome};
+ghost use Rattle.ccan_object.specs.declared.profile.Profile.{Profile};
 ghost use Rattle.ccan_ram.specs.Access.{Goes};
-ghost use Rattle.ccan_bus.specs.Bus.{IsSameBus, LedTo};
+ghost use Rattle.ccan_bus.specs.Bus.{LedTo};
 ghost use Rattle.ccan_run.specs.BusPort.{BusLineMeans, TakesLine};
 ghost use Rattle.ccan_run.specs.Side.{GoesOn};
 ghost use Rattle.ccan_explain.specs.Reported.{IsReportOf};
@@ -20,16 +21,22 @@ pub struct Reported {
 impl Reported {
     ghost use Rattle.std.specs.Prelude.{None, Some};
 
+    /// An answer with the report of its round.
+    fn of_parts(answer: LineAnswer, report: RoundReport) -> Reported
+        ensures { result ≡ record { answer = answer; report = Some report } }
+    {
+        Reported {
+            answer,
+            report: Some(report),
+        }
+    }
+
     /// The answer to a round with this report.
     fn of_round(report: RoundReport) -> Reported
         ensures { result
             ≡ record { answer = LineAnswer.Round report.end.answer; report = Some report } }
     {
-        let answer = LineAnswer::Round(report.end.answer);
-        Reported {
-            answer,
-            report: Some(report),
-        }
+        Reported::of_parts(answer_of(&report), report)
     }
 
     /// The answer to another line.
@@ -43,6 +50,13 @@ impl Reported {
     }
 }
 
+/// The answer of a round with this report.
+fn answer_of(report: &RoundReport) -> LineAnswer
+    ensures { result ≡ LineAnswer.Round report.now.end.answer }
+{
+    LineAnswer::Round(report.end.answer)
+}
+
 /// Runs a line of the bus as [`Side::run_line`] does, and keeps the report of a round.
 pub(crate) fn run_reported<A: Access>(
     bus: &mut Bus,
@@ -51,7 +65,8 @@ pub(crate) fn run_reported<A: Access>(
     tries: Tries,
 ) -> Reported
     requires { TakesLine (A.passes access.old).terms.profile bus.old line.now }
-    ensures same { IsSameBus bus.old bus.new }
+    ensures takes { (profile : Profile) (other : BusLine)
+        → TakesLine profile bus.old other → TakesLine profile bus.new other }
     ensures runs { Goes (A.passes access.old) (A.passes access.new) (λ terms seen added.
         GoesOn LedTo bus.old bus.new (λ past after.
         BusLineMeans terms tries line.now past seen added result.answer after)) }

@@ -1,7 +1,10 @@
+ghost use Rattle.std.specs.Prelude.{◌≡◌, [], ◌∷◌, ◌++◌, OnOk};
+
 use ccan_bus::RoundReport;
 use ccan_object::{ObjectNo, Record};
 use ccan_ram::PortName;
 use ccan_script::LineAnswer;
+use std::alloc::AllocError;
 
 /// An object that a line concerns, with its records before the line and after it.
 #[derive(Clone, Copy, PartialEq, Eq, Debug)]
@@ -31,4 +34,14 @@ pub struct Step {
     pub own: Option<Touched>,
     /// The object that stored a frame.
     pub stored: Option<Touched>,
+}
+
+/// Adds one more. It is for any type, since the prover makes no plan for a push of a step itself.
+pub(crate) fn push_one<T: Copy>(all: &mut Vec<T>, one: T) -> Result<(), AllocError>
+    ensures { OnOk result (all.new.items ≡ all.old.items ++ one ∷ []) }
+{
+    match all.push(one) {
+        Ok(()) => Ok(()),
+        Err(refused) => Err(AllocError::from(refused)),
+    }
 }

@@ -7,7 +7,7 @@ use Rattle.ccan_run.specs.Port.{count_of}
 use Rattle.ccan_explain.specs.Bench.{Serves, next_of}
 use Rattle.ccan_explain.specs.Told.{answers_of}
 use Rattle.ccan_explain.proofs.SoFar.{SoFar}
-use Rattle.ccan_explain.proofs.told.tell.Given as goal
+use Rattle.ccan_explain.proofs.told.run_all.Given as goal
 
 -- the lines so far have run, and each port has as many left as the rest of the order names it
 abbrev pub invariant-loop-port : goal.invariant-loop-port
