@@ -49,7 +49,7 @@ fn push_round(text: &mut String, is_first: bool, frame: &Frame) -> Result<(), Al
 pub fn script_of_log(alloc: Global, log: &str) -> Result<FromLog, LogError> {
     let mut script = String::from_str(alloc, "{\"nodes\":1,\"bus\":[")?;
     let mut left_out = Vec::new(alloc);
-    let mut frames = 0;
+    let mut left = MAX_LINES;
     let mut number = 0usize;
     for line in log.lines() {
         number = number.saturating_add(1);
@@ -57,11 +57,11 @@ pub fn script_of_log(alloc: Global, log: &str) -> Result<FromLog, LogError> {
             None => {}
             Some(Err(why)) => left_out.push((number, why)).map_err(AllocError::from)?,
             Some(Ok(frame)) => {
-                if frames == MAX_LINES {
+                if left == 0 {
                     return Err(LogError::TooMany);
                 }
-                push_round(&mut script, frames == 0, &frame)?;
-                frames += 1;
+                push_round(&mut script, left == MAX_LINES, &frame)?;
+                left -= 1;
             }
         }
     }
