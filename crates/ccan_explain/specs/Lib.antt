@@ -1,3 +1,4 @@
 pub mod Bench
+pub mod FrameText
 pub mod Reported
 pub mod Told

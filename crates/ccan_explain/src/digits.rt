@@ -1,11 +1,15 @@
 //! Numbers as text.
-ghost use Rattle.std.specs.Prelude.{◌<◌, ◌≤◌};
+ghost use Rattle.std.specs.Prelude.{◌≡◌, ◌<◌, ◌≤◌, ◌++◌, OnOk, string_bytes};
+ghost use Rattle.std.specs.Fmt.{digit_glyph};
+ghost use Rattle.ccan_explain.specs.FrameText.{capital_hex};
 
 use std::alloc::AllocError;
 
 /// The digit of a number below 16.
 fn digit(value: u64, is_upper: bool) -> char
     requires { value < 16 }
+    ensures glyph { result ≡ digit_glyph is_upper value }
+    ensures ascii { result < 128 }
 {
     if value < 10 {
         (b'0' + value as u8) as char
@@ -17,8 +21,11 @@ fn digit(value: u64, is_upper: bool) -> char
 }
 
 /// Appends a number in hexadecimal with so many digits, in capitals.
+#[tactic(auto, unfolding(crate::specs::FrameText::capital_hex))]
 pub(crate) fn push_hex(text: &mut String, digits: u32, value: u64) -> Result<(), AllocError>
     requires { digits ≤ 16 }
+    ensures { OnOk result
+        (string_bytes text.new ≡ string_bytes text.old ++ capital_hex digits value) }
 {
     for place in (0..digits).rev() {
         text.push(digit((value >> (4 * place)) % 16, true))?;
