@@ -1,7 +1,8 @@
 //! Records and flags for people.
-ghost use Rattle.std.specs.Prelude.{◌≡◌};
+ghost use Rattle.std.specs.Prelude.{◌≡◌, [], ◌++◌, OnOk, string_bytes, if◌then◌else◌};
 ghost use Rattle.ccan_object.specs.Bits.{part};
 ghost use Rattle.ccan_accept.specs.Send.{number_of};
+ghost use Rattle.ccan_explain.specs.RecordWords.{flag_text, flags_text, has_flag, mask_number};
 
 use crate::digits::{push_decimal, push_hex};
 use crate::frame_text::push_id;
@@ -21,7 +22,9 @@ pub(crate) fn id_of(object: &Record) -> u32
 }
 
 /// The part of an object's mask that stands at the places of its identifier.
-pub(crate) fn mask_of(object: &Record) -> u32 {
+pub(crate) fn mask_of(object: &Record) -> u32
+    ensures { result ≡ mask_number object.now }
+{
     if object.xtd {
         object.mask.get()
     } else {
@@ -30,7 +33,10 @@ pub(crate) fn mask_of(object: &Record) -> u32 {
 }
 
 /// Appends a word where it is so.
-pub(crate) fn push_if(text: &mut String, is: bool, word: &str) -> Result<(), AllocError> {
+pub(crate) fn push_if(text: &mut String, is: bool, word: &str) -> Result<(), AllocError>
+    ensures { OnOk result
+        (string_bytes text.new ≡ string_bytes text.old ++ (if is then word.now else [])) }
+{
     if is { text.push_str(word) } else { Ok(()) }
 }
 
@@ -74,36 +80,38 @@ pub(crate) fn push_record(text: &mut String, object: &Record) -> Result<(), Allo
     push_bytes(text, object.dlc, &object.bytes)
 }
 
-/// What stands before a flag: `+` where it was set, `-` where it was cleared, nothing where it stayed set. None: it is not set,
-/// and was not.
-fn mark(before: bool, after: bool) -> Option<&'static str> {
+/// Appends a flag behind its mark: `+` where it was set, `-` where it was cleared, a space alone where it stayed set. Nothing
+/// where it is not set, and was not.
+fn push_flag(text: &mut String, name: &str, before: bool, after: bool) -> Result<(), AllocError>
+    ensures { OnOk result
+        (string_bytes text.new ≡ string_bytes text.old ++ flag_text before after name.now) }
+{
     match (before, after) {
-        (false, false) => None,
-        (true, true) => Some(" "),
-        (false, true) => Some(" +"),
-        (true, false) => Some(" -"),
+        (false, false) => return Ok(()),
+        (true, true) => text.push_str(" ")?,
+        (false, true) => text.push_str(" +")?,
+        (true, false) => text.push_str(" -")?,
     }
-}
-
-/// Appends a flag with its mark.
-fn push_flag(text: &mut String, name: &str, before: bool, after: bool) -> Result<(), AllocError> {
-    match mark(before, after) {
-        Some(mark) => {
-            text.push_str(mark)?;
-            text.push_str(name)
-        }
-        None => Ok(()),
-    }
+    text.push_str(name)
 }
 
 /// Whether one of the four flags is set.
-fn has_flag(object: &Record) -> bool {
+fn has_flag(object: &Record) -> bool
+    ensures { result ≡ has_flag object.now }
+{
     object.newdat || object.msglst || object.intpnd || object.txrqst
 }
 
 /// Appends the flags of an object, those that changed with a mark: ` | NewDat +MsgLst -TxRqst`. Nothing where none is set and
 /// none was.
-pub(crate) fn push_flags(text: &mut String, before: &Record, after: &Record) -> Result<(), AllocError> {
+pub(crate) fn push_flags(
+    text: &mut String,
+    before: &Record,
+    after: &Record,
+) -> Result<(), AllocError>
+    ensures { OnOk result
+        (string_bytes text.new ≡ string_bytes text.old ++ flags_text before.now after.now) }
+{
     push_if(text, has_flag(before) || has_flag(after), " |")?;
     push_flag(text, "NewDat", before.newdat, after.newdat)?;
     push_flag(text, "MsgLst", before.msglst, after.msglst)?;
