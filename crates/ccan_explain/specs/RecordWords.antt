@@ -3,10 +3,34 @@
 use Rattle.std.specs.Prelude.{ℕ, List, [], ◌++◌, Bool, true, false, ◌||◌, codes, if◌then◌else◌}
 use Rattle.ccan_object.specs.declared.record.Record.{Record}
 use Rattle.ccan_object.specs.Bits.{part}
+use Rattle.ccan_accept.specs.Send.{number_of}
+use Rattle.ccan_explain.specs.FrameText.{id_text}
 
 -- the mask at the places of the identifier: all its bits, or of a standard one bits 28 to 18
 abbrev pub mask_number : Record → ℕ
 mask_number r = if r.xtd then r.mask else part r.mask 18 11
+
+-- the identifier and its width
+abbrev pub identifier_text : Record → List ℕ
+identifier_text r = codes "id " ++ (id_text (number_of r) r.xtd ++ (if r.xtd then codes " ext" else codes " std"))
+
+-- Dir and MsgVal
+abbrev pub part_text : Record → List ℕ
+part_text r =
+    (if r.dir then codes ", transmit" else codes ", receive") ++ (if r.valid then codes ", valid" else codes ", not valid")
+
+-- the mask, where acceptance uses it, and whether it compares Xtd and Dir
+abbrev pub mask_text : Record → List ℕ
+mask_text r =
+    if r.umask then codes ", mask " ++ (id_text (mask_number r) r.xtd ++ ((if r.mxtd then codes " MXtd" else [])
+    ++ (if r.mdir then codes " MDir" else [])))
+    else []
+
+-- what is enabled, and EoB
+abbrev pub enables_text : Record → List ℕ
+enables_text r =
+    (if r.txie then codes ", TxIE" else []) ++ ((if r.rxie then codes ", RxIE" else [])
+    ++ ((if r.rmten then codes ", RmtEn" else []) ++ (if r.eob then codes ", EoB" else [])))
 
 -- a flag with its mark: nothing before it where it stayed set, `+` where it was set, `-` where it was cleared
 abbrev pub flag_text : Bool → Bool → List ℕ → List ℕ

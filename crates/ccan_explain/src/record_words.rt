@@ -1,8 +1,8 @@
 //! Records and flags for people.
 ghost use Rattle.std.specs.Prelude.{◌≡◌, [], ◌++◌, OnOk, string_bytes, if◌then◌else◌};
-ghost use Rattle.ccan_object.specs.Bits.{part};
 ghost use Rattle.ccan_accept.specs.Send.{number_of};
-ghost use Rattle.ccan_explain.specs.RecordWords.{flag_text, flags_text, has_flag, mask_number};
+ghost use Rattle.ccan_explain.specs.RecordWords.{enables_text, flag_text, flags_text, has_flag, identifier_text};
+ghost use Rattle.ccan_explain.specs.RecordWords.{mask_number, mask_text, part_text};
 
 use crate::digits::{push_decimal, push_hex};
 use crate::frame_text::push_id;
@@ -40,8 +40,19 @@ pub(crate) fn push_if(text: &mut String, is: bool, word: &str) -> Result<(), All
     if is { text.push_str(word) } else { Ok(()) }
 }
 
+/// Appends one of two words.
+fn push_either(text: &mut String, is: bool, yes: &str, no: &str) -> Result<(), AllocError>
+    ensures { OnOk result
+        (string_bytes text.new ≡ string_bytes text.old ++ (if is then yes.now else no.now)) }
+{
+    text.push_str(if is { yes } else { no })
+}
+
 /// Appends the mask, where acceptance uses it, and whether it compares Xtd and Dir.
-fn push_mask(text: &mut String, object: &Record) -> Result<(), AllocError> {
+fn push_mask(text: &mut String, object: &Record) -> Result<(), AllocError>
+    ensures { OnOk result
+        (string_bytes text.new ≡ string_bytes text.old ++ mask_text object.now) }
+{
     if object.umask {
         text.push_str(", mask ")?;
         push_id(text, mask_of(object), object.xtd)?;
@@ -64,18 +75,42 @@ fn push_bytes(text: &mut String, dlc: DataLength, bytes: &[u8; 8]) -> Result<(),
     Ok(())
 }
 
-/// Appends what a record says of an object, but for its four flags: `id 123 std, transmit, valid, EoB, 2 bytes 11 22`.
-pub(crate) fn push_record(text: &mut String, object: &Record) -> Result<(), AllocError> {
+/// Appends the identifier and its width: `id 123 std`.
+fn push_identifier(text: &mut String, object: &Record) -> Result<(), AllocError>
+    ensures { OnOk result
+        (string_bytes text.new ≡ string_bytes text.old ++ identifier_text object.now) }
+{
     text.push_str("id ")?;
     push_id(text, id_of(object), object.xtd)?;
-    text.push_str(if object.xtd { " ext" } else { " std" })?;
-    text.push_str(if object.dir { ", transmit" } else { ", receive" })?;
-    text.push_str(if object.valid { ", valid" } else { ", not valid" })?;
-    push_mask(text, object)?;
+    push_either(text, object.xtd, " ext", " std")
+}
+
+/// Appends Dir and MsgVal: `, transmit, valid`.
+fn push_part(text: &mut String, object: &Record) -> Result<(), AllocError>
+    ensures { OnOk result
+        (string_bytes text.new ≡ string_bytes text.old ++ part_text object.now) }
+{
+    push_either(text, object.dir, ", transmit", ", receive")?;
+    push_either(text, object.valid, ", valid", ", not valid")
+}
+
+/// Appends what is enabled, and EoB: `, RxIE, EoB`.
+fn push_enables(text: &mut String, object: &Record) -> Result<(), AllocError>
+    ensures { OnOk result
+        (string_bytes text.new ≡ string_bytes text.old ++ enables_text object.now) }
+{
     push_if(text, object.txie, ", TxIE")?;
     push_if(text, object.rxie, ", RxIE")?;
     push_if(text, object.rmten, ", RmtEn")?;
-    push_if(text, object.eob, ", EoB")?;
+    push_if(text, object.eob, ", EoB")
+}
+
+/// Appends what a record says of an object, but for its four flags: `id 123 std, transmit, valid, EoB, 2 bytes 11 22`.
+pub(crate) fn push_record(text: &mut String, object: &Record) -> Result<(), AllocError> {
+    push_identifier(text, object)?;
+    push_part(text, object)?;
+    push_mask(text, object)?;
+    push_enables(text, object)?;
     text.push_str(", ")?;
     push_bytes(text, object.dlc, &object.bytes)
 }
