@@ -5,7 +5,10 @@ use ccan_bus::{Decision, LoadAnswer, RoundLine, RoundReport};
 use ccan_script::{BusLine, Script};
 
 /// The round that a step is, with its report.
-pub(crate) fn round_of<'a>(script: &'a Script, step: &Step) -> Option<(&'a RoundLine, RoundReport)> {
+pub(crate) fn round_of<'a>(
+    script: &'a Script,
+    step: &Step,
+) -> Option<(&'a RoundLine, RoundReport)> {
     let report = step.report?;
     match script.bus.get(step.line.checked_sub(1)?)? {
         BusLine::Round(round) => Some((round, report)),

@@ -1,7 +1,9 @@
 //! A run as JSON: one object a line.
 use crate::contest::{controller_contends, has_lost, node_contends, round_of, winner_of};
 use crate::digits::push_decimal;
-use crate::json_members::{push_frame, push_name, push_number, push_record, push_switch, push_word};
+use crate::json_members::{
+    push_frame, push_name, push_number, push_record, push_switch, push_word,
+};
 use crate::step::{Step, Touched};
 use crate::stepping::record_of;
 use crate::told::Told;

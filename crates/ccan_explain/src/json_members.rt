@@ -1,10 +1,9 @@
 //! Members of JSON objects.
 use crate::digits::{push_data, push_decimal};
+use crate::record_words::{id_of, mask_of};
 use ccan_accept::Frame;
 use ccan_object::Record;
 use std::alloc::AllocError;
-
-use crate::record_words::{id_of, mask_of};
 
 /// Appends a comma, a name and a colon.
 pub(crate) fn push_name(text: &mut String, name: &str) -> Result<(), AllocError> {
@@ -59,7 +58,11 @@ fn push_flags(text: &mut String, object: &Record) -> Result<(), AllocError> {
 }
 
 /// Appends a member that is a record, decoded.
-pub(crate) fn push_record(text: &mut String, name: &str, object: &Record) -> Result<(), AllocError> {
+pub(crate) fn push_record(
+    text: &mut String,
+    name: &str,
+    object: &Record,
+) -> Result<(), AllocError> {
     push_name(text, name)?;
     text.push_str("{\"id\":")?;
     push_decimal(text, u64::from(id_of(object)))?;
@@ -85,7 +88,11 @@ pub(crate) fn push_frame(text: &mut String, node: u8, frame: &Frame) -> Result<(
     push_switch(text, "rtr", frame.rtr())?;
     push_number(text, "dlc", u64::from(frame.dlc().get()))?;
     let bytes = frame.bytes();
-    let count = if frame.rtr() { 0 } else { frame.dlc().byte_count() };
+    let count = if frame.rtr() {
+        0
+    } else {
+        frame.dlc().byte_count()
+    };
     push_bytes(text, &bytes[..count])?;
     text.push_str("}")
 }

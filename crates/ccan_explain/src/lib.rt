@@ -11,7 +11,6 @@
 //! and a script has at most one such text. The frame and its sender are those that the steps of the round itself report.
 #![tactic(auto)]
 
-
 pub mod bench;
 pub mod bus_log;
 mod contest;
@@ -36,7 +35,5 @@ pub use from_log::{FromLog, LogError, script_of_log};
 pub use json_lines::json_of;
 pub use log_line::LeftOut;
 pub use people::text_of;
-
 pub use step::{Step, Touched};
 pub use told::{Told, tell};
-

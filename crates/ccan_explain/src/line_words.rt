@@ -37,7 +37,12 @@ fn push_transfer(
 }
 
 /// Appends a wait for a flag.
-fn push_until(text: &mut String, object: ObjectNo, flag: Flag, shown: bool) -> Result<(), AllocError> {
+fn push_until(
+    text: &mut String,
+    object: ObjectNo,
+    flag: Flag,
+    shown: bool,
+) -> Result<(), AllocError> {
     push_object(text, " until", object)?;
     text.push_str(" shows ")?;
     text.push_str(flag_word(flag))?;
@@ -62,7 +67,11 @@ fn push_interrupt(text: &mut String, value: u16) -> Result<(), AllocError> {
 fn push_word(text: &mut String, flag: Flag, word: u64, profile: Profile) -> Result<(), AllocError> {
     text.push_str(" flags ")?;
     text.push_str(flag_word(flag))?;
-    text.push_str(if word == 0 { ": no object" } else { ": objects" })?;
+    text.push_str(if word == 0 {
+        ": no object"
+    } else {
+        ": objects"
+    })?;
     for place in 0..profile.objects() {
         if (word >> place) % 2 == 1 {
             text.push_str(" ")?;
@@ -134,7 +143,11 @@ fn push_setting(text: &mut String, answer: &LineAnswer) -> Result<(), AllocError
     match answer {
         LineAnswer::Status(word) => push_status(text, *word),
         LineAnswer::Control(sie, eie) => {
-            text.push_str(if *sie { " control: SIE 1" } else { " control: SIE 0" })?;
+            text.push_str(if *sie {
+                " control: SIE 1"
+            } else {
+                " control: SIE 0"
+            })?;
             text.push_str(if *eie { ", EIE 1" } else { ", EIE 0" })
         }
         LineAnswer::Counters {
@@ -149,7 +162,11 @@ fn push_setting(text: &mut String, answer: &LineAnswer) -> Result<(), AllocError
             text.push_str(state_word(*state))
         }
         LineAnswer::LoopBack(on) => {
-            text.push_str(if *on { " loopback: on" } else { " loopback: off" })
+            text.push_str(if *on {
+                " loopback: on"
+            } else {
+                " loopback: off"
+            })
         }
         _ => Ok(()),
     }

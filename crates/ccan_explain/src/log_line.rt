@@ -203,7 +203,14 @@ fn long(front: &str, length: &str, words: &[&str]) -> Result<Frame, LeftOut> {
     let rtr = words.first().copied() == Some("remote");
     let count = usize::from(dlc.min(8));
     if rtr {
-        return frame_of(identifier, Payload { rtr, dlc, bytes: [0; 8] });
+        return frame_of(
+            identifier,
+            Payload {
+                rtr,
+                dlc,
+                bytes: [0; 8],
+            },
+        );
     }
     if words.len() < count {
         return Err(LeftOut::Unreadable);

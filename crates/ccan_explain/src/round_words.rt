@@ -111,7 +111,12 @@ fn own_word(report: &RoundReport) -> &'static str {
 }
 
 /// Appends that a memory step was given up, and where.
-fn push_given_up(text: &mut String, step: MemoryStep, object: ObjectNo, why: &str) -> Result<(), AllocError> {
+fn push_given_up(
+    text: &mut String,
+    step: MemoryStep,
+    object: ObjectNo,
+    why: &str,
+) -> Result<(), AllocError> {
     text.push_str(match step {
         MemoryStep::Start => "  start of object ",
         MemoryStep::Finish => "  finish of object ",
@@ -126,8 +131,12 @@ fn push_given_up(text: &mut String, step: MemoryStep, object: ObjectNo, why: &st
 /// Appends why no object stored the frame, or which memory step was refused.
 fn push_refusal(text: &mut String, report: &RoundReport) -> Result<(), AllocError> {
     match (&report.end.answer, report.end.refused) {
-        (RoundAnswer::Received(None), _) => text.push_str("  stored nowhere: no object accepts it\n"),
-        (RoundAnswer::Looped(_, _, None), _) => text.push_str("  stored nowhere: no object accepts it\n"),
+        (RoundAnswer::Received(None), _) => text.push_str(
+            "  stored nowhere: no object accepts it\n",
+        ),
+        (RoundAnswer::Looped(_, _, None), _) => text.push_str(
+            "  stored nowhere: no object accepts it\n",
+        ),
         (RoundAnswer::Busy(object), Some(step)) => {
             push_given_up(text, step, *object, "each try was lost")
         }
