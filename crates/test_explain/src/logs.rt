@@ -5,13 +5,16 @@ use std::alloc::Global;
 use std::test::Fail;
 
 /// Frames in both forms, and lines that give none: an error frame, two frames of CAN FD, a word, an empty line.
-const LOG: &str = "(1436509052.249713) can0 123#1122\n  can0  12345678   [3]  AA BB CC\n(1436509052.3) can0 7FF#R\n(1436509052.4) can0 20000004#0000000000000000\n(1436509052.5) can0 123##1112233\n  can0  123   [08]  11 22 33 44 55 66 77 88\ncan0  00000001   [3]  remote request\nhello\n\n(1436509052.6) can0 123#1122334455667788_9\n";
+const LOG: &str =
+    "(1436509052.249713) can0 123#1122\n  can0  12345678   [3]  AA BB CC\n(1436509052.3) can0 7FF#R\n(1436509052.4) can0 20000004#0000000000000000\n(1436509052.5) can0 123##1112233\n  can0  123   [08]  11 22 33 44 55 66 77 88\ncan0  00000001   [3]  remote request\nhello\n\n(1436509052.6) can0 123#1122334455667788_9\n";
 
 /// Its script: 0x123 is 291, 0x12345678 is 305419896, 0x7ff is 2047.
-const SCRIPT: &str = "{\"nodes\":1,\"bus\":[\n{\"op\":\"round\",\"send\":[{\"node\":1,\"id\":291,\"xtd\":0,\"rtr\":0,\"dlc\":2,\"data\":\"1122\"}]},\n{\"op\":\"round\",\"send\":[{\"node\":1,\"id\":305419896,\"xtd\":1,\"rtr\":0,\"dlc\":3,\"data\":\"aabbcc\"}]},\n{\"op\":\"round\",\"send\":[{\"node\":1,\"id\":2047,\"xtd\":0,\"rtr\":1,\"dlc\":0,\"data\":\"\"}]},\n{\"op\":\"round\",\"send\":[{\"node\":1,\"id\":1,\"xtd\":1,\"rtr\":1,\"dlc\":3,\"data\":\"\"}]},\n{\"op\":\"round\",\"send\":[{\"node\":1,\"id\":291,\"xtd\":0,\"rtr\":0,\"dlc\":9,\"data\":\"1122334455667788\"}]}\n]}\n";
+const SCRIPT: &str =
+    "{\"nodes\":1,\"bus\":[\n{\"op\":\"round\",\"send\":[{\"node\":1,\"id\":291,\"xtd\":0,\"rtr\":0,\"dlc\":2,\"data\":\"1122\"}]},\n{\"op\":\"round\",\"send\":[{\"node\":1,\"id\":305419896,\"xtd\":1,\"rtr\":0,\"dlc\":3,\"data\":\"aabbcc\"}]},\n{\"op\":\"round\",\"send\":[{\"node\":1,\"id\":2047,\"xtd\":0,\"rtr\":1,\"dlc\":0,\"data\":\"\"}]},\n{\"op\":\"round\",\"send\":[{\"node\":1,\"id\":1,\"xtd\":1,\"rtr\":1,\"dlc\":3,\"data\":\"\"}]},\n{\"op\":\"round\",\"send\":[{\"node\":1,\"id\":291,\"xtd\":0,\"rtr\":0,\"dlc\":9,\"data\":\"1122334455667788\"}]}\n]}\n";
 
 /// The log of that script's run.
-const AGAIN: &str = "(0000000000.000000) can0 123#1122\n(0000000001.000000) can0 12345678#AABBCC\n(0000000002.000000) can0 7FF#R\n(0000000003.000000) can0 00000001#R3\n(0000000004.000000) can0 123#1122334455667788_9\n";
+const AGAIN: &str =
+    "(0000000000.000000) can0 123#1122\n(0000000001.000000) can0 12345678#AABBCC\n(0000000002.000000) can0 7FF#R\n(0000000003.000000) can0 00000001#R3\n(0000000004.000000) can0 123#1122334455667788_9\n";
 
 /// The log of a script's run.
 fn log_told(alloc: Global, script: &str) -> Result<String, Fail> {
@@ -52,6 +55,9 @@ fn the_time_counts_rounds(rt: HostRuntime) -> Result<(), Fail> {
         rt.alloc(),
         r#"{"nodes":1,"bus":[{"op":"round"},{"op":"round","send":[{"node":1,"id":1}]},{"op":"round","send":[{"node":1,"id":2}],"fault":"form"},{"op":"round","send":[{"node":1,"id":3}]}]}"#,
     )?;
-    assert_eq!(rt; log.as_str(), "(0000000001.000000) can0 001#\n(0000000003.000000) can0 003#\n");
+    assert_eq!(rt;
+        log.as_str(),
+        "(0000000001.000000) can0 001#\n(0000000003.000000) can0 003#\n"
+    );
     Ok(())
 }

@@ -19,7 +19,10 @@ fn nobody_acknowledges(rt: HostRuntime) -> Result<(), Fail> {
         rt.alloc(),
         r#"{"if1":[{"op":"transfer","request":"0001","set":{"cmask":"00b0","arb2":"a48c","ctrl":"0180"}}],"bus":[{"op":"round"},{"op":"counters","node":0}]}"#,
     )?;
-    assert_eq!(rt; text.as_str(), "if1[1] write object 1: id 123 std, transmit, valid, EoB, 0 bytes | +TxRqst\nbus[1] round: can0 123# from the chip, not acknowledged: no other node is on\n  the chip's object 1: id 123 std, transmit, valid, EoB, 0 bytes | TxRqst\nbus[2] counters node 0: TEC 8, REC 0, active\nfinal object 1: id 123 std, transmit, valid, EoB, 0 bytes | TxRqst\n");
+    assert_eq!(rt;
+        text.as_str(),
+        "if1[1] write object 1: id 123 std, transmit, valid, EoB, 0 bytes | +TxRqst\nbus[1] round: can0 123# from the chip, not acknowledged: no other node is on\n  the chip's object 1: id 123 std, transmit, valid, EoB, 0 bytes | TxRqst\nbus[2] counters node 0: TEC 8, REC 0, active\nfinal object 1: id 123 std, transmit, valid, EoB, 0 bytes | TxRqst\n"
+    );
     Ok(())
 }
 
@@ -30,7 +33,10 @@ fn a_fault_spoils_the_frame(rt: HostRuntime) -> Result<(), Fail> {
         rt.alloc(),
         r#"{"nodes":1,"if1":[{"op":"transfer","request":"0001","set":{"cmask":"00b0","arb2":"a48c","ctrl":"0180"}}],"bus":[{"op":"round","fault":"crc"}]}"#,
     )?;
-    assert_eq!(rt; text.as_str(), "if1[1] write object 1: id 123 std, transmit, valid, EoB, 0 bytes | +TxRqst\nbus[1] round: can0 123# from the chip, spoiled by fault crc\n  the chip's object 1: id 123 std, transmit, valid, EoB, 0 bytes | TxRqst\nfinal object 1: id 123 std, transmit, valid, EoB, 0 bytes | TxRqst\n");
+    assert_eq!(rt;
+        text.as_str(),
+        "if1[1] write object 1: id 123 std, transmit, valid, EoB, 0 bytes | +TxRqst\nbus[1] round: can0 123# from the chip, spoiled by fault crc\n  the chip's object 1: id 123 std, transmit, valid, EoB, 0 bytes | TxRqst\nfinal object 1: id 123 std, transmit, valid, EoB, 0 bytes | TxRqst\n"
+    );
     Ok(())
 }
 
@@ -41,7 +47,10 @@ fn frames_collide(rt: HostRuntime) -> Result<(), Fail> {
         rt.alloc(),
         r#"{"nodes":2,"bus":[{"op":"round","send":[{"node":1,"id":291},{"node":2,"id":291}]}]}"#,
     )?;
-    assert_eq!(rt; text.as_str(), "bus[1] round: no frame, frames with the same arbitration bits collided\n  contended: can0 123# from node 1\n  contended: can0 123# from node 2\n");
+    assert_eq!(rt;
+        text.as_str(),
+        "bus[1] round: no frame, frames with the same arbitration bits collided\n  contended: can0 123# from node 1\n  contended: can0 123# from node 2\n"
+    );
     Ok(())
 }
 
@@ -52,7 +61,10 @@ fn frames_loop_back(rt: HostRuntime) -> Result<(), Fail> {
         rt.alloc(),
         r#"{"nodes":1,"if1":[{"op":"transfer","request":"0001","set":{"cmask":"00b0","arb2":"a48c","ctrl":"0180"}},{"op":"transfer","request":"0002","set":{"arb2":"848c","ctrl":"0080"}}],"bus":[{"op":"loopback","on":1},{"op":"round","send":[{"node":1,"id":1}]}]}"#,
     )?;
-    assert_eq!(rt; text.as_str(), "if1[1] write object 1: id 123 std, transmit, valid, EoB, 0 bytes | +TxRqst\nif1[2] write object 2: id 123 std, receive, valid, EoB, 0 bytes\nbus[1] loopback: on\nbus[2] round: can0 123# from the chip, looped back\n  not heard in loop back mode: can0 001# from node 1\n  sent from object 1: id 123 std, transmit, valid, EoB, 0 bytes | -TxRqst\n  stored in object 2: id 123 std, receive, valid, EoB, 0 bytes | +NewDat\nfinal object 1: id 123 std, transmit, valid, EoB, 0 bytes\nfinal object 2: id 123 std, receive, valid, EoB, 0 bytes | NewDat\n");
+    assert_eq!(rt;
+        text.as_str(),
+        "if1[1] write object 1: id 123 std, transmit, valid, EoB, 0 bytes | +TxRqst\nif1[2] write object 2: id 123 std, receive, valid, EoB, 0 bytes\nbus[1] loopback: on\nbus[2] round: can0 123# from the chip, looped back\n  not heard in loop back mode: can0 001# from node 1\n  sent from object 1: id 123 std, transmit, valid, EoB, 0 bytes | -TxRqst\n  stored in object 2: id 123 std, receive, valid, EoB, 0 bytes | +NewDat\nfinal object 1: id 123 std, transmit, valid, EoB, 0 bytes\nfinal object 2: id 123 std, receive, valid, EoB, 0 bytes | NewDat\n"
+    );
     Ok(())
 }
 
@@ -63,6 +75,9 @@ fn nothing_is_stored(rt: HostRuntime) -> Result<(), Fail> {
         rt.alloc(),
         r#"{"quota":1,"nodes":1,"if1":[{"op":"transfer","request":"0001","set":{"cmask":"00b0","arb2":"d234","arb1":"5678","ctrl":"0082"}},{"op":"transfer","request":"0001"}],"bus":[{"op":"round","send":[{"node":1,"id":1,"xtd":1,"rtr":1,"dlc":2}]}]}"#,
     )?;
-    assert_eq!(rt; text.as_str(), "if1[1] write object 1: id 12345678 ext, receive, valid, EoB, 2 bytes 00 00\nif1[2] transfer object 1: given up, the quota of changes is used up\nbus[1] round: can0 00000001#R2 from node 1\n  stored nowhere: no object accepts it\nfinal object 1: id 12345678 ext, receive, valid, EoB, 2 bytes 00 00\n");
+    assert_eq!(rt;
+        text.as_str(),
+        "if1[1] write object 1: id 12345678 ext, receive, valid, EoB, 2 bytes 00 00\nif1[2] transfer object 1: given up, the quota of changes is used up\nbus[1] round: can0 00000001#R2 from node 1\n  stored nowhere: no object accepts it\nfinal object 1: id 12345678 ext, receive, valid, EoB, 2 bytes 00 00\n"
+    );
     Ok(())
 }
