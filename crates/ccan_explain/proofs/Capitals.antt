@@ -1,5 +1,6 @@
 -- One hexadecimal digit more, in capitals.
-use Rattle.std.proofs.Common.{◌≡◌, ◌<◌, ◌-◌, ◌*◌, ◌/◌, ◌%◌, ◌^◌, ℕ, zero, suc, List, ◌∷◌, ◌++◌, [], true, refl, ap, sym, ◌∙◌, arith, append_assoc, sub-one}
+use Rattle.std.proofs.Common.{◌≡◌, ◌<◌, ◌-◌, ◌*◌, ◌/◌, ◌%◌, ◌^◌, ℕ, zero, suc, List, ◌∷◌, ◌++◌, [], true}
+use Rattle.std.proofs.Common.{refl, ap, sym, ◌∙◌, arith, append_assoc, sub-one}
 use Rattle.std.specs.Fmt.{digit_glyph}
 use Rattle.ccan_script.proofs.Digits.{pow_sixteen}
 use Rattle.ccan_explain.specs.FrameText.{capital_hex}

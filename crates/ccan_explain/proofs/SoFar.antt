@@ -50,7 +50,8 @@ module _ (script : ScriptFields) where
     so_far_more later answers' is told =
         let means = PortLineMeans (terms_of script) script.tries in
         let each = turn.each s.three s.history s.led s.seen in
-        let here = subst (λ (es : List Event). means turn.line s.three es each.0 (port, reply) each.1) (sym (append-nil s.history)) each.4 in
+        let here = subst (λ (es : List Event). means turn.line s.three es each.0 (port, reply) each.1)
+        (sym (append-nil s.history)) each.4 in
         record {
           three = each.1;
           done = s.done ++ turn.line ∷ [];
@@ -60,7 +61,8 @@ module _ (script : ScriptFields) where
               ∙ sym (append_assoc s.done (turn.line ∷ []) (rest script new later));
           seen = each.2;
           ran = rw told
-              (LinesMean-push means s.done turn.line (opening script.nodes) s.three each.1 [] s.history each.0 answers (port, reply) s.ran here);
+              (LinesMean-push means s.done turn.line (opening script.nodes) s.three each.1 [] s.history each.0 answers
+              (port, reply) s.ran here);
         }
 
   -- where no turn is left, all lines have run
@@ -72,12 +74,16 @@ module _ (script : ScriptFields) where
       let means = PortLineMeans (terms_of script) script.tries in
       record {
         legal = legal;
-        lines = (s.three, subst (λ (ls : List PortLine). LinesMean means ls (opening script.nodes) [] s.history answers s.three) (sym lines) s.ran);
+        lines = (
+          s.three,
+          subst (λ (ls : List PortLine). LinesMean means ls (opening script.nodes) [] s.history answers s.three) (sym lines) s.ran,
+        );
       }
 
 -- before the first turn all lines are left
 pub all_left : (script : ScriptFields) (bench : Bench) → ((port : PortName) → next_of bench port ≡ 0)
-    → times If1 script.order ≡ length script.if1 → times If2 script.order ≡ length script.if2 → times Bus script.order ≡ length script.bus
+    → times If1 script.order ≡ length script.if1 → times If2 script.order ≡ length script.if2
+    → times Bus script.order ≡ length script.bus
     → (name : PortName) → next_of bench name + times name script.order ≡ count_of script name
 all_left script bench none if1 if2 bus If1 = omega (arith, none If1, if1)
 all_left script bench none if1 if2 bus If2 = omega (arith, none If2, if2)

@@ -29,14 +29,17 @@ fits_at Fits p q lines items i line same value is all h =
     subst (λ r. Fits r line) (sym same) (subst (λ l. Fits p l) (sym is) here)
 
 module _ (before at after : Passes) (script : ScriptFields) (old : Bench) (reply : LineAnswer)
-    (profile : before.terms.profile ≡ script.profile) (quota : before.terms.quota ≡ script.quota) (seen : SameSeen before at) where
+    (profile : before.terms.profile ≡ script.profile) (quota : before.terms.quota ≡ script.quota)
+    (seen : SameSeen before at) where
   -- the terms under which the port's line ran
   terms_at : (port : PortName) → at.terms ≡ one_thread_terms before.terms.profile port before.terms.quota
       → at.terms ≡ terms_of script port
   terms_at port terms = terms ∙ ap₂ (λ p q. one_thread_terms p port q) profile quota
 
-  pub by_if1 : (terms : at.terms ≡ one_thread_terms before.terms.profile If1 before.terms.quota) (ram : Array) (registers : Registers)
-      (lines : List HostLine) (line : HostLine) → lines ≡ script.if1 → drop old.next_if1 lines ≡ line ∷ drop (old.next_if1 + 1) lines
+  pub by_if1 : (terms : at.terms ≡ one_thread_terms before.terms.profile If1 before.terms.quota) (ram : Array)
+      (registers : Registers)
+      (lines : List HostLine) (line : HostLine) → lines ≡ script.if1
+      → drop old.next_if1 lines ≡ line ∷ drop (old.next_if1 + 1) lines
       → Goes at after (λ terms seen added. GoesOn (λ state value. state ≡ value) old.if1 registers
       (λ state left. HostLineMeans terms script.tries line state seen added reply left))
       → TakesTurn before after script old (record old { ram = ram; if1 = registers; next_if1 = old.next_if1 + 1 }) If1 reply
@@ -60,8 +63,10 @@ module _ (before at after : Passes) (script : ScriptFields) (old : Bench) (reply
         );
   }
 
-  pub by_if2 : (terms : at.terms ≡ one_thread_terms before.terms.profile If2 before.terms.quota) (ram : Array) (registers : Registers)
-      (lines : List HostLine) (line : HostLine) → lines ≡ script.if2 → drop old.next_if2 lines ≡ line ∷ drop (old.next_if2 + 1) lines
+  pub by_if2 : (terms : at.terms ≡ one_thread_terms before.terms.profile If2 before.terms.quota) (ram : Array)
+      (registers : Registers)
+      (lines : List HostLine) (line : HostLine) → lines ≡ script.if2
+      → drop old.next_if2 lines ≡ line ∷ drop (old.next_if2 + 1) lines
       → Goes at after (λ terms seen added. GoesOn (λ state value. state ≡ value) old.if2 registers
       (λ state left. HostLineMeans terms script.tries line state seen added reply left))
       → TakesTurn before after script old (record old { ram = ram; if2 = registers; next_if2 = old.next_if2 + 1 }) If2 reply
@@ -85,8 +90,10 @@ module _ (before at after : Passes) (script : ScriptFields) (old : Bench) (reply
         );
   }
 
-  pub by_bus : (terms : at.terms ≡ one_thread_terms before.terms.profile Bus before.terms.quota) (ram : Array) (side : a_bus.Bus)
-      (lines : List BusLine) (line : BusLine) → lines ≡ script.bus → drop old.next_bus lines ≡ line ∷ drop (old.next_bus + 1) lines
+  pub by_bus : (terms : at.terms ≡ one_thread_terms before.terms.profile Bus before.terms.quota) (ram : Array)
+      (side : a_bus.Bus)
+      (lines : List BusLine) (line : BusLine) → lines ≡ script.bus
+      → drop old.next_bus lines ≡ line ∷ drop (old.next_bus + 1) lines
       → Goes at after (λ terms seen added. GoesOn LedTo old.bus side
       (λ past left. BusLineMeans terms script.tries line past seen added reply left))
       → TakesTurn before after script old (record old { ram = ram; bus = side; next_bus = old.next_bus + 1 }) Bus reply

@@ -16,7 +16,8 @@ pub run_line-requires-in-If2 : goal.run_line-requires-in-If2
 run_line-requires-in-If2 c =
     let profile = ap (λ (t : Terms). t.profile) c.at.ensures.terms ∙ c.requires.serves.profile_is in
     let left = rw c.in-If2.is at c.requires.left in
-    fits_at HostFits _ _ _ _ _ _ profile c.as_slice-in-If2.ensures.value c.line_at-line-in-If2.ensures.item c.args.script.now.if2_fits left
+    fits_at HostFits _ _ _ _ _ _ profile c.as_slice-in-If2.ensures.value c.line_at-line-in-If2.ensures.item
+    c.args.script.now.if2_fits left
 
 pub run_reported-requires : goal.run_reported-requires
 run_reported-requires c =
