@@ -17,6 +17,12 @@ pub enum LabError {
     /// The ports can come to more states than this.
     #[error("ccan-lab: outcomes: more than {0} states")]
     More(usize),
+    /// The log is no text.
+    #[error("ccan-lab: log: not UTF-8")]
+    Log,
+    /// The log has more frames than a script may have lines.
+    #[error("ccan-lab: log: more than 2000 frames")]
+    Frames,
     /// Memory ran out.
     #[error("ccan-lab: out of memory")]
     Memory,
@@ -35,6 +41,7 @@ impl LabError {
     {
         match self {
             LabError::Input(fault) => fault.status(),
+            LabError::Log | LabError::Frames => 1,
             LabError::Words => 2,
             LabError::Memory => 3,
             LabError::Open | LabError::Write => 4,

@@ -1,0 +1,3 @@
+pub mod Capitals
+pub mod SoFar
+pub mod Turns

@@ -1,0 +1,5 @@
+pub mod Bench
+pub mod FrameText
+pub mod RecordWords
+pub mod Reported
+pub mod Told

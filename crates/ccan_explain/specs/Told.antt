@@ -1,0 +1,21 @@
+-- What is told of a script: the lines in their order, over a plain memory. Source: this project's own, over the meaning of a
+-- script.
+use Rattle.std.specs.Prelude.{List, map}
+use Rattle.ccan_ram.specs.declared.port.PortName.{PortName}
+use Rattle.ccan_ram.specs.declared.event.Event.{Event}
+use Rattle.ccan_ram.specs.Access.{Passes}
+use Rattle.ccan_script.specs.declared.line_answer.LineAnswer.{LineAnswer}
+use Rattle.ccan_script.specs.Script.{ScriptFields}
+use Rattle.ccan_run.specs.Ordered.{RunsInOrder}
+use Rattle.ccan_explain.specs.declared.step.Step.{Step}
+
+-- the answers of the steps, each with its port
+abbrev pub answers_of : List Step → List (PortName × LineAnswer)
+answers_of steps = map (λ step. (step.port, step.answer)) steps
+
+-- the lines of the script have run in their order with the answers of these steps, and the memory has seen just what they
+-- stand for
+pub record AreStepsOf (script : ScriptFields) (steps : List Step) (memory : Passes) : Type 0 where
+  pub history : List Event
+  pub runs : RunsInOrder script history (answers_of steps)
+  pub seen : memory.has_seen history

@@ -1,0 +1,60 @@
+//! Who contended for the bus in a round, by its report and by its line.
+use crate::step::Step;
+use ccan_accept::Frame;
+use ccan_bus::{Decision, LoadAnswer, RoundLine, RoundReport};
+use ccan_script::{BusLine, Script};
+
+/// The round that a step is, with its report.
+pub(crate) fn round_of<'a>(
+    script: &'a Script,
+    step: &Step,
+) -> Option<(&'a RoundLine, RoundReport)> {
+    let report = step.report?;
+    match script.bus.get(step.line.checked_sub(1)?)? {
+        BusLine::Round(round) => Some((round, report)),
+        _ => None,
+    }
+}
+
+/// The frame that won the bus, and its node; the controller is node 0.
+pub(crate) fn winner_of(report: &RoundReport) -> Option<(u8, Frame)> {
+    match &report.decision {
+        Some(decision) => decision.winner(),
+        None => None,
+    }
+}
+
+/// Whether the frames of the other nodes were on the bus: not where the load was refused, and not in loop back mode.
+pub(crate) fn are_heard(report: &RoundReport) -> bool {
+    !matches!(
+        report.decision,
+        None | Some(Decision::Idle) | Some(Decision::LoopBack(_, _))
+    )
+}
+
+/// Whether the controller contended: it had something loaded, and the others' frames were on the bus.
+pub(crate) fn controller_contends(report: &RoundReport) -> bool {
+    are_heard(report)
+        && matches!(
+            report.loading,
+            LoadAnswer::Loaded(_, _) | LoadAnswer::Held(_)
+        )
+}
+
+/// Whether a node was bus off as the round began.
+pub(crate) fn is_off(step: &Step, node: u8) -> bool {
+    step.off.get(usize::from(node)).copied().unwrap_or(true)
+}
+
+/// Whether a node that sends contended: it was on, and its frame was on the bus.
+pub(crate) fn node_contends(step: &Step, report: &RoundReport, node: u8) -> bool {
+    are_heard(report) && !is_off(step, node)
+}
+
+/// Whether a node that contended lost arbitration to the winner.
+pub(crate) fn has_lost(report: &RoundReport, node: u8) -> bool {
+    match winner_of(report) {
+        Some((winner, _)) => winner != node,
+        None => false,
+    }
+}

@@ -1,0 +1,39 @@
+//! A run of a script, told line by line for the writers of drivers: the records decoded, and of each round the frame that
+//! was on the bus.
+//!
+//! ```text
+//!   Script --> tell: the lines in their order, over a plain memory --> Told { steps, ram }
+//!                                                                        |
+//!                            each step: answer, report of the round, the objects before and after
+//! ```
+//!
+//! The answers are those of an ordered run. [`tell`] is proved to answer what [`ccan_run::run_ordered`] is proved to write,
+//! and a script has at most one such text. The frame and its sender are those that the steps of the round itself report.
+#![tactic(auto)]
+
+pub mod bench;
+pub mod bus_log;
+mod contest;
+mod digits;
+mod frame_text;
+pub mod from_log;
+pub mod json_lines;
+mod json_members;
+mod line_words;
+pub mod log_line;
+pub mod people;
+mod record_words;
+pub mod reported;
+mod round_words;
+pub mod step;
+mod stepping;
+pub mod told;
+mod words;
+
+pub use bus_log::log_of;
+pub use from_log::{FromLog, LogError, script_of_log};
+pub use json_lines::json_of;
+pub use log_line::LeftOut;
+pub use people::text_of;
+pub use step::{Step, Touched};
+pub use told::{Told, tell};

@@ -1,0 +1,207 @@
+//! The answers to lines for people.
+use crate::contest::round_of;
+use crate::digits::{push_decimal, push_hex};
+use crate::record_words::{push_flags, push_if, push_record, push_touched};
+use crate::round_words::push_round;
+use crate::step::Step;
+use crate::words::{code_word, flag_word, port_word, state_word};
+use ccan_bus::LoadAnswer;
+use ccan_confine::NodeState;
+use ccan_object::{ObjectNo, Profile, Record};
+use ccan_ram::Flag;
+use ccan_script::{LineAnswer, Script};
+use std::alloc::AllocError;
+
+/// Appends words and the number of an object.
+fn push_object(text: &mut String, words: &str, object: ObjectNo) -> Result<(), AllocError> {
+    text.push_str(words)?;
+    text.push_str(" object ")?;
+    push_decimal(text, u64::from(object.get()))
+}
+
+/// Appends a transfer: the registers as it left them, and the flags of the object.
+fn push_transfer(
+    text: &mut String,
+    step: &Step,
+    words: &str,
+    object: ObjectNo,
+    shown: &Record,
+) -> Result<(), AllocError> {
+    push_object(text, words, object)?;
+    text.push_str(": ")?;
+    push_record(text, shown)?;
+    match &step.own {
+        Some(own) => push_flags(text, &own.before, &own.after),
+        None => Ok(()),
+    }
+}
+
+/// Appends a wait for a flag.
+fn push_until(
+    text: &mut String,
+    object: ObjectNo,
+    flag: Flag,
+    shown: bool,
+) -> Result<(), AllocError> {
+    push_object(text, " until", object)?;
+    text.push_str(" shows ")?;
+    text.push_str(flag_word(flag))?;
+    text.push_str(if shown { ": yes" } else { ": no" })
+}
+
+/// Appends the interrupt value and what it names.
+fn push_interrupt(text: &mut String, value: u16) -> Result<(), AllocError> {
+    text.push_str(" interrupt ")?;
+    push_hex(text, 4, u64::from(value))?;
+    if value == 0 {
+        return text.push_str(": none");
+    }
+    if value == 0x8000 {
+        return text.push_str(": status");
+    }
+    text.push_str(": object ")?;
+    push_decimal(text, u64::from(value))
+}
+
+/// Appends a flag of all objects: the numbers of those that have it.
+fn push_word(text: &mut String, flag: Flag, word: u64, profile: Profile) -> Result<(), AllocError> {
+    text.push_str(" flags ")?;
+    text.push_str(flag_word(flag))?;
+    text.push_str(if word == 0 {
+        ": no object"
+    } else {
+        ": objects"
+    })?;
+    for place in 0..profile.objects() {
+        if (word >> place) % 2 == 1 {
+            text.push_str(" ")?;
+            push_decimal(text, u64::from(place) + 1)?;
+        }
+    }
+    Ok(())
+}
+
+/// Appends what came of a load.
+fn push_load(text: &mut String, step: &Step, loading: &LoadAnswer) -> Result<(), AllocError> {
+    match loading {
+        LoadAnswer::Loaded(_, _) => match &step.own {
+            Some(own) => push_touched(text, " load", own),
+            None => Ok(()),
+        },
+        LoadAnswer::Held(object) => {
+            push_object(text, " load", *object)?;
+            text.push_str(": it is loaded already")
+        }
+        LoadAnswer::Nothing => text.push_str(" load: nothing to send"),
+        LoadAnswer::Busy(object) => {
+            push_object(text, " load", *object)?;
+            text.push_str(": given up, each try was lost")
+        }
+        LoadAnswer::Spent(object) => {
+            push_object(text, " load", *object)?;
+            text.push_str(": given up, the quota of changes is used up")
+        }
+    }
+}
+
+/// Appends the Status register, bit by bit (C_CAN User's Manual 1.2, "Status Register").
+fn push_status(text: &mut String, word: u16) -> Result<(), AllocError> {
+    text.push_str(" status ")?;
+    push_hex(text, 4, u64::from(word))?;
+    text.push_str(":")?;
+    push_if(text, (word >> 7) % 2 == 1, " BOff")?;
+    push_if(text, (word >> 6) % 2 == 1, " EWarn")?;
+    push_if(text, (word >> 5) % 2 == 1, " EPass")?;
+    push_if(text, (word >> 4) % 2 == 1, " RxOk")?;
+    push_if(text, (word >> 3) % 2 == 1, " TxOk")?;
+    text.push_str(" LEC ")?;
+    push_decimal(text, u64::from(word % 8))?;
+    text.push_str(" ")?;
+    text.push_str(code_word(word))
+}
+
+/// Appends the error counters of a node.
+fn push_counters(
+    text: &mut String,
+    node: u8,
+    tec: u16,
+    rec: u16,
+    state: NodeState,
+) -> Result<(), AllocError> {
+    text.push_str(" counters node ")?;
+    push_decimal(text, u64::from(node))?;
+    text.push_str(": TEC ")?;
+    push_decimal(text, u64::from(tec))?;
+    text.push_str(", REC ")?;
+    push_decimal(text, u64::from(rec))?;
+    text.push_str(", ")?;
+    text.push_str(state_word(state))
+}
+
+/// Appends the answer to a line of the bus that concerns no object.
+fn push_setting(text: &mut String, answer: &LineAnswer) -> Result<(), AllocError> {
+    match answer {
+        LineAnswer::Status(word) => push_status(text, *word),
+        LineAnswer::Control(sie, eie) => {
+            text.push_str(if *sie {
+                " control: SIE 1"
+            } else {
+                " control: SIE 0"
+            })?;
+            text.push_str(if *eie { ", EIE 1" } else { ", EIE 0" })
+        }
+        LineAnswer::Counters {
+            node,
+            tec,
+            rec,
+            state,
+        } => push_counters(text, *node, *tec, *rec, *state),
+        LineAnswer::Init => text.push_str(" init: cleared"),
+        LineAnswer::Recessive(state) => {
+            text.push_str(" recessive: the chip is ")?;
+            text.push_str(state_word(*state))
+        }
+        LineAnswer::LoopBack(on) => {
+            text.push_str(if *on {
+                " loopback: on"
+            } else {
+                " loopback: off"
+            })
+        }
+        _ => Ok(()),
+    }
+}
+
+/// Appends the answer to a line that is no round.
+fn push_answer(text: &mut String, step: &Step) -> Result<(), AllocError> {
+    match &step.answer {
+        LineAnswer::Write(object, shown) => push_transfer(text, step, " write", *object, shown),
+        LineAnswer::Read(object, shown) => push_transfer(text, step, " read", *object, shown),
+        LineAnswer::Busy(object) => {
+            push_object(text, " transfer", *object)?;
+            text.push_str(": given up, each try was lost")
+        }
+        LineAnswer::Spent(object) => {
+            push_object(text, " transfer", *object)?;
+            text.push_str(": given up, the quota of changes is used up")
+        }
+        LineAnswer::Until(object, flag, shown) => push_until(text, *object, *flag, *shown),
+        LineAnswer::Interrupt(value) => push_interrupt(text, *value),
+        LineAnswer::Flags(flag, word, profile) => push_word(text, *flag, *word, *profile),
+        LineAnswer::Load(loading) => push_load(text, step, loading),
+        other => push_setting(text, other),
+    }
+}
+
+/// Appends the lines of a step: its port and its number, and what came of it.
+pub(crate) fn push_step(text: &mut String, script: &Script, step: &Step) -> Result<(), AllocError> {
+    text.push_str(port_word(step.port))?;
+    text.push_str("[")?;
+    push_decimal(text, step.line as u64)?;
+    text.push_str("]")?;
+    if let Some((round, report)) = round_of(script, step) {
+        return push_round(text, step, round, &report);
+    }
+    push_answer(text, step)?;
+    text.push_str("\n")
+}

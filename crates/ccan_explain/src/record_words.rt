@@ -1,0 +1,169 @@
+//! Records and flags for people.
+ghost use Rattle.std.specs.Prelude.{◌≡◌, [], ◌++◌, OnOk, string_bytes, if◌then◌else◌};
+ghost use Rattle.ccan_accept.specs.Send.{number_of};
+ghost use Rattle.ccan_explain.specs.RecordWords.{enables_text, flag_text, flags_text, has_flag, identifier_text};
+ghost use Rattle.ccan_explain.specs.RecordWords.{mask_number, mask_text, part_text};
+
+use crate::digits::{push_decimal, push_hex};
+use crate::frame_text::push_id;
+use crate::step::Touched;
+use ccan_object::{DataLength, Record};
+use std::alloc::AllocError;
+
+/// The number of an object's identifier: of 29 bits where it is extended, and else of the 11 in ID28 to ID18.
+pub(crate) fn id_of(object: &Record) -> u32
+    ensures { result ≡ number_of object.now }
+{
+    if object.xtd {
+        object.id.get()
+    } else {
+        object.id.get() >> 18
+    }
+}
+
+/// The part of an object's mask that stands at the places of its identifier.
+pub(crate) fn mask_of(object: &Record) -> u32
+    ensures { result ≡ mask_number object.now }
+{
+    if object.xtd {
+        object.mask.get()
+    } else {
+        object.mask.get() >> 18
+    }
+}
+
+/// Appends a word where it is so.
+pub(crate) fn push_if(text: &mut String, is: bool, word: &str) -> Result<(), AllocError>
+    ensures { OnOk result
+        (string_bytes text.new ≡ string_bytes text.old ++ (if is then word.now else [])) }
+{
+    if is { text.push_str(word) } else { Ok(()) }
+}
+
+/// Appends one of two words.
+fn push_either(text: &mut String, is: bool, yes: &str, no: &str) -> Result<(), AllocError>
+    ensures { OnOk result
+        (string_bytes text.new ≡ string_bytes text.old ++ (if is then yes.now else no.now)) }
+{
+    text.push_str(if is { yes } else { no })
+}
+
+/// Appends the mask, where acceptance uses it, and whether it compares Xtd and Dir.
+fn push_mask(text: &mut String, object: &Record) -> Result<(), AllocError>
+    ensures { OnOk result
+        (string_bytes text.new ≡ string_bytes text.old ++ mask_text object.now) }
+{
+    if object.umask {
+        text.push_str(", mask ")?;
+        push_id(text, mask_of(object), object.xtd)?;
+        push_if(text, object.mxtd, " MXtd")?;
+        push_if(text, object.mdir, " MDir")?;
+    }
+    Ok(())
+}
+
+/// Appends the data that the length means: `2 bytes 11 22`, and the data length code where it is above 8.
+fn push_bytes(text: &mut String, dlc: DataLength, bytes: &[u8; 8]) -> Result<(), AllocError> {
+    let count = dlc.byte_count();
+    push_decimal(text, count as u64)?;
+    text.push_str(if count == 1 { " byte" } else { " bytes" })?;
+    push_if(text, dlc.get() > 8, " (DLC above 8)")?;
+    for byte in &bytes[..count] {
+        text.push_str(" ")?;
+        push_hex(text, 2, u64::from(*byte))?;
+    }
+    Ok(())
+}
+
+/// Appends the identifier and its width: `id 123 std`.
+fn push_identifier(text: &mut String, object: &Record) -> Result<(), AllocError>
+    ensures { OnOk result
+        (string_bytes text.new ≡ string_bytes text.old ++ identifier_text object.now) }
+{
+    text.push_str("id ")?;
+    push_id(text, id_of(object), object.xtd)?;
+    push_either(text, object.xtd, " ext", " std")
+}
+
+/// Appends Dir and MsgVal: `, transmit, valid`.
+fn push_part(text: &mut String, object: &Record) -> Result<(), AllocError>
+    ensures { OnOk result
+        (string_bytes text.new ≡ string_bytes text.old ++ part_text object.now) }
+{
+    push_either(text, object.dir, ", transmit", ", receive")?;
+    push_either(text, object.valid, ", valid", ", not valid")
+}
+
+/// Appends what is enabled, and EoB: `, RxIE, EoB`.
+fn push_enables(text: &mut String, object: &Record) -> Result<(), AllocError>
+    ensures { OnOk result
+        (string_bytes text.new ≡ string_bytes text.old ++ enables_text object.now) }
+{
+    push_if(text, object.txie, ", TxIE")?;
+    push_if(text, object.rxie, ", RxIE")?;
+    push_if(text, object.rmten, ", RmtEn")?;
+    push_if(text, object.eob, ", EoB")
+}
+
+/// Appends what a record says of an object, but for its four flags: `id 123 std, transmit, valid, EoB, 2 bytes 11 22`.
+pub(crate) fn push_record(text: &mut String, object: &Record) -> Result<(), AllocError> {
+    push_identifier(text, object)?;
+    push_part(text, object)?;
+    push_mask(text, object)?;
+    push_enables(text, object)?;
+    text.push_str(", ")?;
+    push_bytes(text, object.dlc, &object.bytes)
+}
+
+/// Appends a flag behind its mark: `+` where it was set, `-` where it was cleared, a space alone where it stayed set. Nothing
+/// where it is not set, and was not.
+fn push_flag(text: &mut String, name: &str, before: bool, after: bool) -> Result<(), AllocError>
+    ensures { OnOk result
+        (string_bytes text.new ≡ string_bytes text.old ++ flag_text before after name.now) }
+{
+    match (before, after) {
+        (false, false) => return Ok(()),
+        (true, true) => text.push_str(" ")?,
+        (false, true) => text.push_str(" +")?,
+        (true, false) => text.push_str(" -")?,
+    }
+    text.push_str(name)
+}
+
+/// Whether one of the four flags is set.
+fn has_flag(object: &Record) -> bool
+    ensures { result ≡ has_flag object.now }
+{
+    object.newdat || object.msglst || object.intpnd || object.txrqst
+}
+
+/// Appends the flags of an object, those that changed with a mark: ` | NewDat +MsgLst -TxRqst`. Nothing where none is set and
+/// none was.
+pub(crate) fn push_flags(
+    text: &mut String,
+    before: &Record,
+    after: &Record,
+) -> Result<(), AllocError>
+    ensures { OnOk result
+        (string_bytes text.new ≡ string_bytes text.old ++ flags_text before.now after.now) }
+{
+    push_if(text, has_flag(before) || has_flag(after), " |")?;
+    push_flag(text, "NewDat", before.newdat, after.newdat)?;
+    push_flag(text, "MsgLst", before.msglst, after.msglst)?;
+    push_flag(text, "IntPnd", before.intpnd, after.intpnd)?;
+    push_flag(text, "TxRqst", before.txrqst, after.txrqst)
+}
+
+/// Appends an object as a line left it, with its flags, behind some words.
+pub(crate) fn push_touched(
+    text: &mut String,
+    words: &str,
+    touched: &Touched,
+) -> Result<(), AllocError> {
+    text.push_str(words)?;
+    text.push_str(" object ")?;
+    push_decimal(text, u64::from(touched.object.get()))?;
+    text.push_str(": ")?;
+    push_record(text, &touched.after)?;
+    push_flags(text, &touched.before, &touched.after)
+}

@@ -1,0 +1,168 @@
+//! A round for people.
+use crate::contest::{controller_contends, has_lost, is_off, winner_of};
+use crate::digits::push_decimal;
+use crate::frame_text::push_frame;
+use crate::record_words::push_touched;
+use crate::step::Step;
+use crate::words::fault_word;
+use ccan_accept::Frame;
+use ccan_bus::{Decision, MemoryStep, RoundAnswer, RoundLine, RoundReport};
+use ccan_object::ObjectNo;
+use std::alloc::AllocError;
+
+/// Appends which node it is.
+fn push_node(text: &mut String, node: u8) -> Result<(), AllocError> {
+    if node == 0 {
+        return text.push_str("the chip");
+    }
+    text.push_str("node ")?;
+    push_decimal(text, u64::from(node))
+}
+
+/// Appends the frame that was on the bus and its sender.
+fn push_winner(text: &mut String, winner: u8, frame: &Frame) -> Result<(), AllocError> {
+    text.push_str("can0 ")?;
+    push_frame(text, frame)?;
+    text.push_str(" from ")?;
+    push_node(text, winner)
+}
+
+/// What a round came to, where no frame was on the bus alone.
+fn no_winner(report: &RoundReport) -> &'static str {
+    match report.decision {
+        None => "no frame, the load was given up",
+        Some(Decision::Collision) => "no frame, frames with the same arbitration bits collided",
+        _ => "no frame",
+    }
+}
+
+/// What came of the frame beside its objects.
+fn fate(report: &RoundReport) -> &'static str {
+    match report.decision {
+        Some(Decision::NoAck(_, _)) => ", not acknowledged: no other node is on",
+        Some(Decision::Passed(_, _)) => ", not received: the chip is bus off",
+        Some(Decision::LoopBack(_, _)) => ", looped back",
+        Some(Decision::Fault(_, _)) => ", spoiled by fault ",
+        _ => "",
+    }
+}
+
+/// Appends the first line of a round: the frame, its sender and what came of it.
+fn push_head(text: &mut String, round: &RoundLine, report: &RoundReport) -> Result<(), AllocError> {
+    text.push_str(" round: ")?;
+    match winner_of(report) {
+        Some((winner, frame)) => push_winner(text, winner, &frame)?,
+        None => text.push_str(no_winner(report))?,
+    }
+    text.push_str(fate(report))?;
+    if matches!(report.decision, Some(Decision::Fault(_, _))) {
+        text.push_str(fault_word(round.fault()))?;
+    }
+    text.push_str("\n")
+}
+
+/// What the frame of a node came to that is no winner.
+fn loser_word(report: &RoundReport, is_off: bool) -> &'static str {
+    if is_off {
+        return "  not sent, bus off: ";
+    }
+    match report.decision {
+        None => "  not sent: ",
+        Some(Decision::Idle) => "  not heard in loop back mode: ",
+        Some(Decision::LoopBack(_, _)) => "  not heard in loop back mode: ",
+        Some(Decision::Collision) => "  contended: ",
+        _ => "  lost arbitration: ",
+    }
+}
+
+/// Whether this node's frame was the one on the bus.
+fn has_won(report: &RoundReport, node: u8) -> bool {
+    match winner_of(report) {
+        Some((winner, _)) => winner == node,
+        None => false,
+    }
+}
+
+/// Appends the frames of the other nodes that were not on the bus alone.
+fn push_others(
+    text: &mut String,
+    step: &Step,
+    round: &RoundLine,
+    report: &RoundReport,
+) -> Result<(), AllocError> {
+    for (node, frame) in round.sends() {
+        if !has_won(report, *node) {
+            text.push_str(loser_word(report, is_off(step, *node)))?;
+            push_winner(text, *node, frame)?;
+            text.push_str("\n")?;
+        }
+    }
+    Ok(())
+}
+
+/// The words for what the object was that the controller was about to send.
+fn own_word(report: &RoundReport) -> &'static str {
+    match &report.end.answer {
+        RoundAnswer::Sent(_, _) => "  sent from",
+        RoundAnswer::Looped(_, _, _) => "  sent from",
+        _ if controller_contends(report) && has_lost(report, 0) => "  lost arbitration, the chip's",
+        _ => "  the chip's",
+    }
+}
+
+/// Appends that a memory step was given up, and where.
+fn push_given_up(
+    text: &mut String,
+    step: MemoryStep,
+    object: ObjectNo,
+    why: &str,
+) -> Result<(), AllocError> {
+    text.push_str(match step {
+        MemoryStep::Start => "  start of object ",
+        MemoryStep::Finish => "  finish of object ",
+        MemoryStep::Store => "  store into object ",
+    })?;
+    push_decimal(text, u64::from(object.get()))?;
+    text.push_str(" given up: ")?;
+    text.push_str(why)?;
+    text.push_str("\n")
+}
+
+/// Appends why no object stored the frame, or which memory step was refused.
+fn push_refusal(text: &mut String, report: &RoundReport) -> Result<(), AllocError> {
+    match (&report.end.answer, report.end.refused) {
+        (RoundAnswer::Received(None), _) => text.push_str(
+            "  stored nowhere: no object accepts it\n",
+        ),
+        (RoundAnswer::Looped(_, _, None), _) => text.push_str(
+            "  stored nowhere: no object accepts it\n",
+        ),
+        (RoundAnswer::Busy(object), Some(step)) => {
+            push_given_up(text, step, *object, "each try was lost")
+        }
+        (RoundAnswer::Spent(object), Some(step)) => {
+            push_given_up(text, step, *object, "the quota of changes is used up")
+        }
+        _ => Ok(()),
+    }
+}
+
+/// Appends a round, whose first line has its name already.
+pub(crate) fn push_round(
+    text: &mut String,
+    step: &Step,
+    round: &RoundLine,
+    report: &RoundReport,
+) -> Result<(), AllocError> {
+    push_head(text, round, report)?;
+    push_others(text, step, round, report)?;
+    if let Some(own) = &step.own {
+        push_touched(text, own_word(report), own)?;
+        text.push_str("\n")?;
+    }
+    if let Some(stored) = &step.stored {
+        push_touched(text, "  stored in", stored)?;
+        text.push_str("\n")?;
+    }
+    push_refusal(text, report)
+}
