@@ -87,7 +87,7 @@ goes_more more log h g =
 
 -- ---- views that agree
 
-agree_saw : (log : ChipHistory) (r : History) (x y : Option Held) (h : Option ChipHistory) → r ≡ ram_of log
+pub agree_saw : (log : ChipHistory) (r : History) (x y : Option Held) (h : Option ChipHistory) → r ≡ ram_of log
     → Both (λ a b. b.seen ≡ r) x y → Agree x h → Agree y (held_as (λ old. log) h)
 agree_saw log r None None None is b a = tt
 agree_saw log r None None (Some h) is b a = absurd a
@@ -96,7 +96,7 @@ agree_saw log r (Some x) None h is b a = absurd b
 agree_saw log r (Some x) (Some y) None is b a = absurd a
 agree_saw log r (Some x) (Some y) (Some h) is b a = b ∙ is
 
-agree_kept : (x y : Option Held) (h : Option ChipHistory) → Both (λ a b. b.seen ≡ a.seen) x y → Agree x h → Agree y h
+pub agree_kept : (x y : Option Held) (h : Option ChipHistory) → Both (λ a b. b.seen ≡ a.seen) x y → Agree x h → Agree y h
 agree_kept None None h b a = a
 agree_kept None (Some y) h b a = absurd b
 agree_kept (Some x) None h b a = absurd b
@@ -104,7 +104,7 @@ agree_kept (Some x) (Some y) None b a = absurd a
 agree_kept (Some x) (Some y) (Some h) b a = b ∙ a
 
 -- of two that agree, one has something where the other has
-agree_some : (x : Option Held) (h : Option ChipHistory) (g : ChipHistory) → Agree x h → h ≡ Some g → (y : Held) × (x ≡ Some y)
+pub agree_some : (x : Option Held) (h : Option ChipHistory) (g : ChipHistory) → Agree x h → h ≡ Some g → (y : Held) × (x ≡ Some y)
 agree_some (Some x) h g a e = (x, refl)
 agree_some None None g a e = absurd (cc)
 agree_some None (Some h) g a e = absurd a

@@ -1,21 +1,26 @@
 -- The rule of a chip's words: there is one history of the whole chip, whose part of the message RAM keeps the rule of the objects'
 -- words (`Rule`), and the controller's word holds the controller that the history leaves. Source: this project's own.
-use Rattle.std.specs.Prelude.{◌≡◌, ℕ, List, map, slice_index, Option, Some, None}
+use Rattle.std.specs.Prelude.{◌≡◌, ◌≢◌, ℕ, List, ◌∷◌, map, slice_index, Option, Some, None}
 use mathlib.Core.Option.{some}
 use lib.ListN.{get_elem?}
 use Rattle.atomic_table.specs.Table.{State, Me}
 use Rattle.ccan_object.specs.declared.profile.Profile.{Profile}
-use Rattle.ccan_confine.specs.Controller.{packed}
+use Rattle.ccan_confine.specs.declared.controller.Controller.{Controller}
+use Rattle.ccan_confine.specs.declared.controller_change.ControllerChange.{ControllerChange}
+use Rattle.ccan_confine.specs.Controller.{packed, IsController, controller_after}
 use Rattle.ccan_ram.specs.declared.port.PortName.{PortName}
 use Rattle.ccan_ram.specs.declared.by_port.ByPort.{ByPort}
 use Rattle.ccan_ram.specs.ByPort.{holding, each_as}
 use Rattle.ccan_endless.specs.declared.view.Held.{Held}
 use Rattle.ccan_endless.specs.declared.view.ChipView.{ChipView}
-use Rattle.ccan_endless.specs.View.{View}
-use Rattle.ccan_endless.specs.Plays.{Knows}
+use Rattle.ccan_endless.specs.declared.chip.ChipEvent.TheVariants.{OfController}
+use Rattle.ccan_endless.specs.declared.chip.ControllerStep.TheVariants.{Look, Make}
+use Rattle.ccan_endless.specs.View.{View, see_all}
+use Rattle.ccan_endless.specs.Plays.{Knows, GoesOn}
 use Rattle.ccan_endless.specs.Layout.{controller_cell}
 use Rattle.ccan_endless.specs.Rule.{Keeps}
 use Rattle.ccan_endless.specs.Chip.{ChipHistory, ram_of, controller_at, steps_of, IsControllerLegal, GoesFrom}
+use Rattle.ccan_endless.specs.Chip.{MayMake, step_at}
 
 -- a seat's view of a chip, beside the slots that it holds: these memories have none
 abbrev pub ChipKnows : Type 0
@@ -72,3 +77,44 @@ abbrev pub GoOn : ChipKnows → ChipKnows → Type 0
 GoOn m n =
     (p : PortName) (h : ChipHistory) → holding p m.0.chip ≡ Some h
     → (g : ChipHistory) × (holding p n.0.chip ≡ Some g) × Onward p h g
+
+-- what each port of a seat has seen is all of this history
+abbrev pub SawAll : ChipHistory → ChipKnows → ChipKnows → Type 0
+SawAll log m n = n ≡ (record { ram = see_all (ram_of log) m.0.ram; chip = chip_see log m.0.chip }, m.1)
+
+-- the history goes on from what was seen for the port, with no step of the port at the controller
+pub record ChipGoesOn (p : PortName) (h log : ChipHistory) : Type 0 where
+  pub part : GoesFrom log h
+  pub own : steps_of p log ≡ steps_of p h
+  pub legal : IsControllerLegal log
+
+-- the history, with the controller that it left
+pub record FindsController (profile : Profile) (log : ChipHistory) (m : ChipKnows) (found : ℕ) : Type 0 where
+  pub found_is : found ≡ packed (controller_at log)
+  pub is : IsController (controller_at log)
+  pub ram : (p : PortName) (x : Held) → holding p m.0.ram ≡ Some x → GoesOn profile p x (ram_of log)
+  pub goes_on : (p : PortName) (h : ChipHistory) → holding p m.0.chip ≡ Some h → ChipGoesOn p h log
+
+-- a look at the controller: it is the last event of a history that was seen
+pub record LooksController (profile : Profile) (p : PortName) (m : ChipKnows) (found : ℕ) (n : ChipKnows) : Type 0 where
+  pub log : ChipHistory
+  pub finds : FindsController profile log m found
+  pub view : SawAll (OfController (step_at p Look (controller_at log)) ∷ log) m n
+  pub legal : IsControllerLegal (OfController (step_at p Look (controller_at log)) ∷ log)
+
+-- what a change of the controller asks: it was computed of this controller, and the port may make it
+pub record IsSetting (p : PortName) (change : ControllerChange) (before : Controller) : Type 0 where
+  pub may : MayMake p change
+  pub is_before : IsController before
+  pub is_after : IsController (controller_after change before)
+
+-- the word still held that controller, and the change was made, as the last event of a history that was seen; or such a
+-- history was seen, without it
+pub record SetsController (profile : Profile) (p : PortName) (change : ControllerChange) (before : Controller) (m : ChipKnows)
+    (found : ℕ) (n : ChipKnows) : Type 0 where
+  pub log : ChipHistory
+  pub finds : FindsController profile log m found
+  pub done : found ≡ packed before → (before ≡ controller_at log)
+      × SawAll (OfController (step_at p (Make change) before) ∷ log) m n
+      × IsControllerLegal (OfController (step_at p (Make change) before) ∷ log)
+  pub lost : found ≢ packed before → SawAll log m n
