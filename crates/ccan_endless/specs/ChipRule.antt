@@ -1,6 +1,6 @@
 -- The rule of a chip's words: there is one history of the whole chip, whose part of the message RAM keeps the rule of the objects'
 -- words (`Rule`), and the controller's word holds the controller that the history leaves. Source: this project's own.
-use Rattle.std.specs.Prelude.{◌≡◌, ◌≢◌, ℕ, List, ◌∷◌, map, slice_index, Option, Some, None}
+use Rattle.std.specs.Prelude.{◌≡◌, ◌≢◌, ℕ, List, [], ◌∷◌, map, slice_index, Option, Some, None}
 use mathlib.Core.Option.{some}
 use lib.ListN.{get_elem?}
 use Rattle.atomic_table.specs.Table.{State, Me}
@@ -10,12 +10,12 @@ use Rattle.ccan_confine.specs.declared.controller_change.ControllerChange.{Contr
 use Rattle.ccan_confine.specs.Controller.{packed, IsController, controller_after}
 use Rattle.ccan_ram.specs.declared.port.PortName.{PortName}
 use Rattle.ccan_ram.specs.declared.by_port.ByPort.{ByPort}
-use Rattle.ccan_ram.specs.ByPort.{holding, each_as}
+use Rattle.ccan_ram.specs.ByPort.{holding, each_as, with_held, only, together, nothing}
 use Rattle.ccan_endless.specs.declared.view.Held.{Held}
 use Rattle.ccan_endless.specs.declared.view.ChipView.{ChipView}
 use Rattle.ccan_endless.specs.declared.chip.ChipEvent.TheVariants.{OfController}
 use Rattle.ccan_endless.specs.declared.chip.ControllerStep.TheVariants.{Look, Make}
-use Rattle.ccan_endless.specs.View.{View, see_all}
+use Rattle.ccan_endless.specs.View.{View, see_all, all_ports}
 use Rattle.ccan_endless.specs.Plays.{Knows, GoesOn}
 use Rattle.ccan_endless.specs.Layout.{controller_cell}
 use Rattle.ccan_endless.specs.Rule.{Keeps}
@@ -118,3 +118,22 @@ pub record SetsController (profile : Profile) (p : PortName) (change : Controlle
       × SawAll (OfController (step_at p (Make change) before) ∷ log) m n
       × IsControllerLegal (OfController (step_at p (Make change) before) ∷ log)
   pub lost : found ≢ packed before → SawAll log m n
+
+-- a seat is cut in two: the second has one port
+abbrev pub chip_without : PortName → ChipView → ChipView
+chip_without p v = record { ram = with_held p None v.ram; chip = with_held p None v.chip }
+
+abbrev pub chip_only : PortName → ChipView → ChipView
+chip_only p v = record { ram = only p (holding p v.ram); chip = only p (holding p v.chip) }
+
+-- a seat takes the ports of another
+abbrev pub chip_together : ChipView → ChipView → ChipView
+chip_together v w = record { ram = together v.ram w.ram; chip = together v.chip w.chip }
+
+abbrev pub chip_nothing : ChipView
+chip_nothing = record { ram = nothing; chip = nothing }
+
+-- the view of the first seat
+abbrev pub chip_all_ports : ℕ → ChipView
+chip_all_ports quota =
+    record { ram = all_ports quota; chip = record { if1 = Some []; if2 = Some []; bus = Some [] } }
