@@ -3,7 +3,7 @@ use Rattle.std.proofs.Common.{◌≡◌, ◌≢◌, ℕ, zero, suc, ◌⊎◌, L
 use Rattle.std.proofs.Common.{⊎_elim, inl, inr, Option, Some, None, get_or-set_other}
 use mathlib.Core.Option.{some, some-injective, some-ne-none}
 use lib.ListN.{get_elem?}
-use Rattle.atomic_table.specs.Table.{State, keeps, Allows}
+use Rattle.atomic_table.specs.Table.{State, keeps, Allows, stepped}
 use Rattle.atomic_table.proofs.Lists.{at_set}
 use Rattle.ccan_object.specs.declared.profile.Profile.{Profile}
 use Rattle.ccan_confine.specs.Controller.{packed}
@@ -23,6 +23,7 @@ use Rattle.ccan_endless.specs.Plays.{Knows}
 use Rattle.ccan_endless.specs.Chip.{ChipHistory, ram_of, controller_at, steps_of, IsControllerLegal, GoesFrom}
 use Rattle.ccan_endless.specs.ChipRule.{ChipKnows, ram_knows, ram_view, ram_state, chip_see, Agree, IsBeginning, ChipKeeps}
 use Rattle.ccan_endless.specs.ChipRule.{Onward, GoOn}
+use Rattle.ccan_endless.specs.Seat.{IsSeated}
 use Rattle.ccan_endless.proofs.SeatMoves.{TableState, with_view, KeepsAt}
 use Rattle.ccan_endless.proofs.Moves.{Both, AllSaw, AllKept, Moves, Moved}
 
@@ -42,6 +43,11 @@ pub map_at : {A B : Type 0} (f : A → B) (l : List A) (i : ℕ) (a : A) → get
 map_at f [] i a e = absurd (some-ne-none a (sym e))
 map_at f (x ∷ xs) zero a e = ap (λ b. some (f b)) (some-injective x a e)
 map_at f (x ∷ xs) (suc i) a e = map_at f xs i a e
+
+set_here : {A : Type 0} (l : List A) (i : ℕ) (a b : A) → get_elem? l i ≡ some b → get_elem? (set l i a) i ≡ some a
+set_here [] i a b e = absurd (some-ne-none b (sym e))
+set_here (x ∷ xs) zero a b e = refl
+set_here (x ∷ xs) (suc i) a b e = set_here xs i a b e
 
 -- ---- a history that goes on by events of the message RAM
 
@@ -228,3 +234,24 @@ module _ (profile : Profile) where
         ),
       ))
       m.seen
+
+  -- of a seat of a chip
+  is_seated : (s : ChipState) (c : ChipKeeps profile s) (id : ℕ) (w : ChipView) → get_elem? s.views id ≡ some w → IsSeated w
+  is_seated s c id w at p =
+      (c.agree id p w at, λ h e. let b = c.seats id p w h at e in legal_before c.log h b.part c.legal)
+
+  -- a step leaves such a seat
+  pub seated : (slots id : ℕ) (me : ChipKnows) (word : ℕ) (f : ℕ → ℕ) (told : ℕ → ChipKnows → Type 0)
+      → Allows (ChipKeeps profile) slots id me word f told
+      → Allows (ChipKeeps profile) slots id me word f (λ found n. told found n × IsSeated n.0)
+  seated slots id me word f told allows s c homes at small =
+      let a = allows s c homes at small in (
+        a.0,
+        a.1,
+        a.2,
+        a.3,
+        (
+          a.4,
+          is_seated (stepped s word (f (get_or s.words word 0)) id me.1 a.0 a.1) a.3 id a.0 (set_here s.views id a.0 me.0 at),
+        ),
+      )
