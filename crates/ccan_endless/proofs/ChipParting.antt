@@ -17,7 +17,8 @@ use Rattle.ccan_endless.specs.declared.view.Held.{Held}
 use Rattle.ccan_endless.specs.declared.view.ChipView.{ChipView}
 use Rattle.ccan_endless.specs.View.{View}
 use Rattle.ccan_endless.specs.Layout.{most, words_in_all, controller_cell}
-use Rattle.ccan_endless.specs.Chip.{ChipHistory}
+use Rattle.ccan_endless.specs.Chip.{ChipHistory, IsControllerLegal}
+use Rattle.ccan_endless.specs.Seat.{IsSeated}
 use Rattle.ccan_endless.specs.ChipRule.{ram_view, ram_state, Agree, IsBeginning, ChipKeeps, chip_without, chip_only, chip_together}
 use Rattle.ccan_endless.specs.ChipRule.{chip_nothing, chip_all_ports}
 use Rattle.ccan_endless.proofs.SeatMoves.{KeepsAt}
@@ -114,6 +115,10 @@ start_holds c Bus g e = cc
 first_of : (l : List ChipView) (v u : ChipView) (i : ℕ) → l ≡ [] → get_elem? (v ∷ l) i ≡ some u → v ≡ u
 first_of l v u zero e h = some-injective v u h
 first_of l v u (suc i) e h = absurd (some-ne-none u (sym (subst (λ (z : List ChipView). get_elem? z i ≡ some u) e h)))
+
+-- of the first seat
+pub start_seated : (c : ℕ) → IsSeated (chip_all_ports c)
+start_seated c p = (agree_start c p, λ h e. subst IsControllerLegal (start_holds c p h e) tt)
 
 module _ (profile : Profile) where
   abbrev with_chip_views : ChipState → List ChipView → ChipState
