@@ -115,6 +115,11 @@ agree_some (Some x) h g a e = (x, refl)
 agree_some None None g a e = absurd (cc)
 agree_some None (Some h) g a e = absurd a
 
+pub agree_back : (x : Option Held) (h : Option ChipHistory) (y : Held) → Agree x h → x ≡ Some y → (g : ChipHistory) × (h ≡ Some g)
+agree_back None h y a e = absurd (cc)
+agree_back (Some x) None y a e = absurd a
+agree_back (Some x) (Some h) y a e = (h, refl)
+
 seen_before : (p : PortName) (log : ChipHistory) (v : ByPort ChipHistory) (g : ChipHistory) → holding p (chip_see log v) ≡ Some g
     → (h : ChipHistory) × (holding p v ≡ Some h) × (log ≡ g)
 seen_before p log v g e = held_before (λ old. log) p v g e
