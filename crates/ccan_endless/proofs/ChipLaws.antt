@@ -1,6 +1,5 @@
 -- The laws of the history of a chip.
-use Rattle.std.proofs.Common.{◌≡◌, ◌≢◌, Bool, true, false, cond, List, [], ◌∷◌, ◌++◌, sym, refl, ap, ◌∙◌, subst, true≢false}
-use Rattle.std.proofs.Common.{⊎_elim, inl, inr, ◌⊎◌}
+use Rattle.std.proofs.Common.{◌≡◌, Bool, true, false, cond, List, [], ◌∷◌, sym, refl, ap, ◌∙◌, subst, true≢false}
 use Rattle.ccan_confine.specs.declared.controller.Controller.{Controller}
 use Rattle.ccan_confine.specs.declared.controller_change.ControllerChange.{ControllerChange}
 use Rattle.ccan_confine.specs.Controller.{controller_after, is_handlers}
@@ -15,7 +14,7 @@ use Rattle.ccan_endless.specs.declared.chip.ChipEvent.TheVariants.{OfRam, OfCont
 use Rattle.ccan_endless.specs.declared.chip.ControllerEvent.{ControllerEvent}
 use Rattle.ccan_endless.specs.declared.chip.ControllerStep.{ControllerStep}
 use Rattle.ccan_endless.specs.declared.chip.ControllerStep.TheVariants.{Look, Make}
-use Rattle.ccan_endless.specs.Chip.{ChipHistory, controller_at, steps_of, IsControllerLegal, IsControllerStep, MayMake, MayStand, left_by}
+use Rattle.ccan_endless.specs.Chip.{steps_of, MayMake, MayStand, left_by}
 use Rattle.ccan_endless.specs.ChipLaws.{add_change, changes_in, ControllerIsItsChanges, CountersAreAsDefined, LevelsAreTheHandlers}
 
 left_of : (st : ControllerStep) (changes : List ControllerChange) (before : Controller) → before ≡ controller_of changes

@@ -1,17 +1,16 @@
 -- A chip's seat that is split, two that are joined, and the chip at the start: what `Parting` shows of the message RAM, with what
 -- the seats have seen of the chip.
-use Rattle.std.proofs.Common.{◌≡◌, ◌≢◌, ℕ, zero, suc, ◌≤◌, ◌⊎◌, List, [], ◌∷◌, ◌++◌, map, set, get_or, length, replicate}
-use Rattle.std.proofs.Common.{sym, refl, ap, ◌∙◌, subst, inl, inr, ⊎_elim, Option, Some, None}
+use Rattle.std.proofs.Common.{◌≡◌, ◌≢◌, ℕ, zero, suc, ◌≤◌, List, [], ◌∷◌, ◌++◌, map, set, length, replicate}
+use Rattle.std.proofs.Common.{sym, refl, ap, ◌∙◌, subst, ⊎_elim, Option, Some, None}
 use mathlib.Core.Option.{some, some-injective, some-ne-none}
 use lib.ListN.{get_elem?}
-use Rattle.atomic_table.specs.Table.{State, Splits, Joins, opening}
+use Rattle.atomic_table.specs.Table.{Splits, Joins, opening}
 use Rattle.atomic_table.proofs.Lists.{at_set, set_else}
 use Rattle.ccan_object.specs.declared.profile.Profile.{Profile}
 use Rattle.ccan_ram.specs.declared.port.PortName.{PortName}
 use Rattle.ccan_ram.specs.declared.port.PortName.TheVariants.{If1, If2, Bus}
 use Rattle.ccan_ram.specs.declared.by_port.ByPort.{ByPort}
-use Rattle.ccan_ram.specs.ByPort.{holding, with_held, only, together, or_held, nothing}
-use Rattle.ccan_ram.specs.History.{History}
+use Rattle.ccan_ram.specs.ByPort.{holding, with_held, only, or_held, nothing}
 use Rattle.ccan_ram.proofs.Holding.{one_of, holding-together}
 use Rattle.ccan_endless.specs.declared.view.Held.{Held}
 use Rattle.ccan_endless.specs.declared.view.ChipView.{ChipView}

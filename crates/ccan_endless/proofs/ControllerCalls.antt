@@ -1,5 +1,5 @@
 -- What a port knows after a step at the controller.
-use Rattle.std.proofs.Common.{◌≡◌, ℕ, [], ◌∷◌, sym, refl, ap, ◌∙◌, subst, Some}
+use Rattle.std.proofs.Common.{◌≡◌, ◌∷◌, sym, refl, ap, ◌∙◌, subst, Some}
 use Rattle.ccan_object.specs.declared.profile.Profile.{Profile}
 use Rattle.ccan_confine.specs.declared.controller.Controller.{Controller}
 use Rattle.ccan_ram.specs.declared.port.PortName.{PortName}
@@ -14,10 +14,10 @@ use Rattle.ccan_endless.specs.declared.port.Port.TheInside.{Inside}
 use Rattle.ccan_endless.specs.declared.view.Held.{Held}
 use Rattle.ccan_endless.specs.View.{see}
 use Rattle.ccan_endless.specs.Plays.{GoesOn}
-use Rattle.ccan_endless.specs.Chip.{ChipHistory, ram_of, IsControllerLegal, IsControllerStep, GoesFrom, step_at}
+use Rattle.ccan_endless.specs.Chip.{ChipHistory, ram_of, IsControllerStep, step_at}
 use Rattle.ccan_endless.specs.ChipRule.{ChipKnows, ram_knows, SawAll, ChipGoesOn}
 use Rattle.ccan_endless.specs.ChipPort.{ChipPass, whole_in, AddsController, AddsNone}
-use Rattle.ccan_endless.specs.Seat.{SeatKnows, chip_me}
+use Rattle.ccan_endless.specs.Seat.{chip_me}
 use Rattle.ccan_endless.proofs.Seats.{only_sees, only_holds}
 use Rattle.ccan_endless.proofs.Tables.{memory_is}
 use Rattle.ccan_endless.proofs.Ports.{WordSeat, pass, chip_pass, pass_is, IsPortOf, with_seat, kept, same_port_as}

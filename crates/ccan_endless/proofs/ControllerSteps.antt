@@ -1,14 +1,13 @@
 -- The steps on the controller's word keep the rule of the chip. No word of an object or a place is written, so the rule of the
 -- objects' words stays; and a word tells its controller, so that an exchange that succeeds found the controller of which its
 -- change was computed.
-use Rattle.std.proofs.Common.{◌≡◌, ◌≢◌, ℕ, ◌+◌, ◌<◌, ◌≤◌, Bool, List, [], ◌∷◌, set, get_or, length, map, sym, eqb, true, false}
+use Rattle.std.proofs.Common.{◌≡◌, ◌≢◌, ℕ, ◌<◌, Bool, List, [], ◌∷◌, set, get_or, sym, eqb}
 use Rattle.std.proofs.Common.{refl, ap, ◌∙◌, subst, arith, Some, None, eq-eqb, ne_eqb, length-set, get_or-set_other, get_or-set_same}
 use Rattle.std.proofs.Common.{lit<, lit≤}
 use mathlib.Core.Option.{some}
 use mathlib.Core.Logic.{dite}
 use native.Mathlib.Decide.{ℕ_discrete}
 use lib.ListN.{get_elem?}
-use lib.Seq.{set-get_or}
 use prog.Atomic.{either}
 use Rattle.atomic_table.specs.Table.{keeps, Allows}
 use Rattle.ccan_object.specs.declared.profile.Profile.{Profile}
@@ -28,16 +27,15 @@ use Rattle.ccan_ram.proofs.Holding.{held_before, not_held, holding-each_as}
 use Rattle.ccan_endless.specs.declared.chip.ChipEvent.TheVariants.{OfRam, OfController}
 use Rattle.ccan_endless.specs.declared.chip.ControllerEvent.{ControllerEvent}
 use Rattle.ccan_endless.specs.declared.chip.ControllerStep.TheVariants.{Look, Make}
-use Rattle.ccan_endless.specs.declared.view.Held.{Held}
 use Rattle.ccan_endless.specs.declared.view.ChipView.{ChipView}
 use Rattle.ccan_endless.specs.View.{see, see_all, View}
 use Rattle.ccan_endless.specs.Layout.{cell, place, spot, side_for, object_words, controller_cell}
 use Rattle.ccan_endless.specs.Rule.{IsHead, Keeps}
 use Rattle.ccan_endless.specs.Plays.{GoesOn}
-use Rattle.ccan_endless.specs.Chip.{ChipHistory, ram_of, controller_at, steps_of, IsControllerLegal, IsControllerStep, GoesFrom}
-use Rattle.ccan_endless.specs.Chip.{step_at, MayMake}
-use Rattle.ccan_endless.specs.ChipRule.{ChipKnows, ram_view, ram_state, chip_see, Agree, IsBeginning, ChipKeeps, SawAll}
-use Rattle.ccan_endless.specs.ChipRule.{ChipGoesOn, FindsController, LooksController, IsSetting, SetsController}
+use Rattle.ccan_endless.specs.Chip.{ChipHistory, ram_of, controller_at, steps_of, IsControllerLegal, GoesFrom}
+use Rattle.ccan_endless.specs.Chip.{step_at}
+use Rattle.ccan_endless.specs.ChipRule.{ChipKnows, ram_view, ram_state, chip_see, Agree, ChipKeeps}
+use Rattle.ccan_endless.specs.ChipRule.{FindsController, LooksController, IsSetting, SetsController}
 use Rattle.ccan_endless.proofs.Layouts.{cell_inside, spot_inside, place_inside, side_for-small}
 use Rattle.ccan_endless.proofs.SeatMoves.{TableState, with_view, KeepsAt, Still, moved, within-see_all, sees, goes_by, still, on_for}
 use Rattle.ccan_endless.proofs.Moves.{saw_all}

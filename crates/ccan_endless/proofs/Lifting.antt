@@ -1,6 +1,6 @@
 -- A step on the objects' words is one of the chip. The chip's history goes on by the same events, and the controller's word stays.
-use Rattle.std.proofs.Common.{◌≡◌, ◌≢◌, ℕ, zero, suc, ◌⊎◌, List, [], ◌∷◌, ◌++◌, map, set, get_or, sym, refl, ap, ◌∙◌, subst}
-use Rattle.std.proofs.Common.{⊎_elim, inl, inr, Option, Some, None, get_or-set_other}
+use Rattle.std.proofs.Common.{◌≡◌, ◌≢◌, ℕ, zero, suc, List, [], ◌∷◌, ◌++◌, map, set, get_or, sym, refl, ap, ◌∙◌, subst}
+use Rattle.std.proofs.Common.{⊎_elim, Option, Some, None, get_or-set_other}
 use mathlib.Core.Option.{some, some-injective, some-ne-none}
 use lib.ListN.{get_elem?}
 use Rattle.atomic_table.specs.Table.{State, keeps, Allows, stepped}
@@ -12,20 +12,18 @@ use Rattle.ccan_ram.specs.declared.by_port.ByPort.{ByPort}
 use Rattle.ccan_ram.specs.ByPort.{holding, held_as}
 use Rattle.ccan_ram.specs.History.{History}
 use Rattle.ccan_ram.proofs.Holding.{holding-each_as, held_before, held_or_not}
-use Rattle.ccan_endless.specs.declared.chip.ChipEvent.{ChipEvent}
 use Rattle.ccan_endless.specs.declared.chip.ChipEvent.TheVariants.{OfRam, OfController}
 use Rattle.ccan_endless.specs.declared.view.Held.{Held}
 use Rattle.ccan_endless.specs.declared.view.ChipView.{ChipView}
 use Rattle.ccan_endless.specs.View.{View}
 use Rattle.ccan_endless.specs.Layout.{controller_cell}
-use Rattle.ccan_endless.specs.Rule.{Keeps}
 use Rattle.ccan_endless.specs.Plays.{Knows}
 use Rattle.ccan_endless.specs.Chip.{ChipHistory, ram_of, controller_at, steps_of, IsControllerLegal, GoesFrom}
 use Rattle.ccan_endless.specs.ChipRule.{ChipKnows, ram_knows, ram_view, ram_state, chip_see, Agree, IsBeginning, ChipKeeps}
 use Rattle.ccan_endless.specs.ChipRule.{Onward, GoOn}
 use Rattle.ccan_endless.specs.Seat.{IsSeated}
-use Rattle.ccan_endless.proofs.SeatMoves.{TableState, with_view, KeepsAt}
-use Rattle.ccan_endless.proofs.Moves.{Both, AllSaw, AllKept, Moves, Moved}
+use Rattle.ccan_endless.proofs.SeatMoves.{with_view, KeepsAt}
+use Rattle.ccan_endless.proofs.Moves.{Both, AllSaw, AllKept, Moves}
 
 -- what a table of a chip's words is at one time
 abbrev pub ChipState : Type 0

@@ -1,6 +1,6 @@
 -- What a step of a seat does to the table, with the history named. `Moves` is what each step shows; the rule of the table
 -- (`allowed`) and that of the whole chip (`Lifting`) follow from it.
-use Rattle.std.proofs.Common.{◌≡◌, ◌≢◌, ℕ, ◌⊎◌, List, [], ◌++◌, set, get_or, sym, refl, ap, ◌∙◌, subst, ⊎_elim, inl, inr}
+use Rattle.std.proofs.Common.{◌≡◌, ◌≢◌, ℕ, ◌⊎◌, [], ◌++◌, set, get_or, sym, refl, subst, ⊎_elim}
 use Rattle.std.proofs.Common.{Option, Some, None}
 use mathlib.Core.Option.{some}
 use lib.ListN.{get_elem?}

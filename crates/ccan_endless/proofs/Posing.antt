@@ -11,7 +11,6 @@ use Rattle.ccan_ram.specs.ByPort.{holding}
 use Rattle.ccan_endless.specs.View.{see_all, View}
 use Rattle.ccan_endless.specs.Layout.{same_object}
 use Rattle.ccan_ram.specs.Sound.{IsSound}
-use Rattle.ccan_endless.specs.Rule.{Keeps}
 use Rattle.ccan_endless.specs.Plays.{Knows}
 use Rattle.ccan_endless.specs.Picture.{Poses}
 use Rattle.ccan_ram.proofs.Numbers.{stands_more}

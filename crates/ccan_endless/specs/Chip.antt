@@ -1,6 +1,6 @@
 -- The history of a whole chip: the events of its message RAM and those of its controller, the newest first. The history of the
 -- message RAM is its part of it. Source: this project's own; what a change makes of the controller is `controller_after`.
-use Rattle.std.specs.Prelude.{◌≡◌, true, List, [], ◌∷◌, ◌++◌, map, if◌then◌else◌}
+use Rattle.std.specs.Prelude.{◌≡◌, true, List, [], ◌∷◌, ◌++◌, if◌then◌else◌}
 use Rattle.ccan_confine.specs.declared.controller.Controller.{Controller}
 use Rattle.ccan_confine.specs.declared.controller_change.ControllerChange.{ControllerChange}
 use Rattle.ccan_confine.specs.Controller.{IsController, CanMake, controller_after, is_handlers, new_controller}

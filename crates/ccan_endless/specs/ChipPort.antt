@@ -1,10 +1,10 @@
 -- What a port of a chip knows, and what its steps at the controller add to that. Source: this project's own.
-use Rattle.std.specs.Prelude.{◌≡◌, ◌∷◌, ◌++◌, [], Option, Some, None}
+use Rattle.std.specs.Prelude.{◌≡◌, ◌∷◌, [], Option, Some, None}
 use Rattle.ccan_confine.specs.declared.controller.Controller.{Controller}
 use Rattle.ccan_ram.specs.SharedRam.{Pass, IsSamePort}
 use Rattle.ccan_endless.specs.declared.chip.ChipEvent.TheVariants.{OfController}
 use Rattle.ccan_endless.specs.declared.chip.ControllerStep.{ControllerStep}
-use Rattle.ccan_endless.specs.Chip.{ChipHistory, IsControllerStep, IsControllerLegal, GoesFrom, steps_of, step_at}
+use Rattle.ccan_endless.specs.Chip.{ChipHistory, IsControllerStep, GoesFrom, steps_of, step_at}
 
 -- a port of a memory with what it has seen of the message RAM, and of the whole chip
 pub record ChipPass : Type 0 where

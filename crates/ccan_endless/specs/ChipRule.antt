@@ -1,6 +1,6 @@
 -- The rule of a chip's words: there is one history of the whole chip, whose part of the message RAM keeps the rule of the objects'
 -- words (`Rule`), and the controller's word holds the controller that the history leaves. Source: this project's own.
-use Rattle.std.specs.Prelude.{◌≡◌, ◌≢◌, ℕ, List, [], ◌∷◌, map, slice_index, Option, Some, None}
+use Rattle.std.specs.Prelude.{◌≡◌, ◌≢◌, ℕ, [], ◌∷◌, map, slice_index, Option, Some, None}
 use mathlib.Core.Option.{some}
 use lib.ListN.{get_elem?}
 use Rattle.atomic_table.specs.Table.{State, Me}

@@ -1,4 +1,4 @@
-use Rattle.std.proofs.Common.{◌≡◌, ℕ, Some, sym, subst, arith, ap, ◌∙◌, eqb}
+use Rattle.std.proofs.Common.{◌≡◌, Some, sym, subst, arith, ◌∙◌}
 use Rattle.atomic_table.specs.Table.{Allows}
 use Rattle.ccan_object.specs.declared.profile.Profile.{Profile}
 use Rattle.ccan_ram.specs.ByPort.{holding}

@@ -1,7 +1,7 @@
-use Rattle.std.proofs.Common.{◌≡◌, ◌∷◌, sym, refl, ap, ◌∙◌, subst}
+use Rattle.std.proofs.Common.{◌≡◌, ◌∷◌, sym, refl, subst}
 use Rattle.ccan_confine.specs.declared.controller.Controller.{Controller}
 use Rattle.ccan_confine.specs.Controller.{IsController}
-use Rattle.ccan_endless.specs.Chip.{ChipHistory, controller_at, step_at}
+use Rattle.ccan_endless.specs.Chip.{controller_at, step_at}
 use Rattle.ccan_endless.specs.ChipPort.{AddsController}
 use Rattle.ccan_endless.specs.declared.chip.ChipEvent.TheVariants.{OfController}
 use Rattle.ccan_endless.specs.declared.chip.ControllerStep.TheVariants.{Look}

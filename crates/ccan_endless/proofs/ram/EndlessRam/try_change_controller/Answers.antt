@@ -1,15 +1,8 @@
-use Rattle.std.proofs.Common.{◌≡◌, ◌≢◌, ◌∷◌, sym, refl, ap, ◌∙◌, subst}
-use mathlib.Core.Logic.{dite}
-use native.Mathlib.Decide.{ℕ_discrete}
-use Rattle.ccan_confine.specs.declared.controller.Controller.{Controller}
-use Rattle.ccan_confine.specs.Controller.{IsController, packed}
-use Rattle.ccan_ram.specs.declared.port.PortName.{PortName}
-use Rattle.ccan_endless.specs.Chip.{ChipHistory, MayMake, controller_at, step_at}
-use Rattle.ccan_endless.specs.ChipPort.{AddsController, ChipPass}
-use Rattle.ccan_endless.specs.ChipRule.{IsSetting}
+use Rattle.std.proofs.Common.{◌∷◌, sym, refl, ◌∙◌, subst}
+use Rattle.ccan_confine.specs.Controller.{IsController}
+use Rattle.ccan_endless.specs.Chip.{controller_at, step_at}
 use Rattle.ccan_endless.specs.declared.chip.ChipEvent.TheVariants.{OfController}
 use Rattle.ccan_endless.specs.declared.chip.ControllerStep.TheVariants.{Make}
-use Rattle.ccan_endless.proofs.Ports.{chip_pass, with_seat}
 use Rattle.ccan_endless.proofs.Seats.{only_holds}
 use Rattle.ccan_endless.proofs.ControllerCalls.{stepped_after, adds_step, adds_none}
 use Rattle.ccan_endless.proofs.ram.EndlessRam.try_change_controller.Goals as goal
