@@ -47,7 +47,7 @@ module _ (s : Inside) (i : IsPortOf s) {was : ChipPass} (is_was : chip_pass s �
   old_whole : (chip_pass s).whole ≡ h
   old_whole = ap whole_in had
 
-  new_whole : new.whole ≡ log'
+  pub new_whole : new.whole ≡ log'
   new_whole =
       ap (λ (m : ChipKnows). whole_in (holding s.name m.0.chip)) view
       ∙ ap whole_in (holding-each_as (λ old. log') s.name s.seat.chip ∙ ap (held_as (λ (old : ChipHistory). log')) had)

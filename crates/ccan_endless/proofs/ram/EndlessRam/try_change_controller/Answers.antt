@@ -1,10 +1,10 @@
-use Rattle.std.proofs.Common.{◌∷◌, sym, refl, ◌∙◌, subst}
+use Rattle.std.proofs.Common.{ap, ◌∷◌, sym, refl, ◌∙◌, subst}
 use Rattle.ccan_confine.specs.Controller.{IsController}
 use Rattle.ccan_endless.specs.Chip.{controller_at, step_at}
 use Rattle.ccan_endless.specs.declared.chip.ChipEvent.TheVariants.{OfController}
 use Rattle.ccan_endless.specs.declared.chip.ControllerStep.TheVariants.{Make}
 use Rattle.ccan_endless.proofs.Seats.{only_holds}
-use Rattle.ccan_endless.proofs.ControllerCalls.{stepped_after, adds_step, adds_none}
+use Rattle.ccan_endless.proofs.ControllerCalls.{stepped_after, adds_step, adds_none, new_whole}
 use Rattle.ccan_endless.proofs.ram.EndlessRam.try_change_controller.Goals as goal
 
 pub set_aside-found-requires-clause-held : goal.set_aside-found-requires-clause-held
@@ -38,6 +38,11 @@ returns-clause-lost c =
     let t = c.set_aside-found.ensures.told in
     let h = c.set_aside-found.ensures.had in
     let now = c.unpack.ensures (controller_at t.log) t.finds.is (sym t.finds.found_is) in (
+      now
+          ∙ ap controller_at (sym (new_whole c.port.inside c.port.invariant c.port.view_is c.requires.memory
+          c.set_aside-found.new.seat c.set_aside-found.ensures.same h.0 h.1 t.log t.log refl t.finds.ram
+          (t.finds.goes_on c.port.inside.name h.0 h.1)
+          (t.lost (λ e. c.if-found-pack.false (e ∙ sym c.pack.ensures.word))))),
       subst IsController (sym now) t.finds.is,
       adds_none c.port.inside c.port.invariant c.port.view_is c.requires.memory c.set_aside-found.new.seat
           c.set_aside-found.ensures.same h.0 h.1 t.log t.log refl t.finds.ram
