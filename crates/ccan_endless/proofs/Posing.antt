@@ -1,7 +1,5 @@
 -- A load that adds looks at all objects keeps the rule.
-use Rattle.std.proofs.Common.{◌≡◌, ℕ, List, ◌++◌, sym, refl, subst, Some}
-use lib.Seq.{set-get_or}
-use Rattle.atomic_table.specs.Table.{keeps, Allows}
+use Rattle.std.proofs.Common.{◌≡◌, ℕ, List, ◌++◌, refl, inl, Some}
 use Rattle.ccan_object.specs.declared.profile.Profile.{Profile}
 use Rattle.ccan_object.specs.Profile.{objects_in}
 use Rattle.ccan_ram.specs.declared.port.PortName.{PortName}
@@ -13,12 +11,13 @@ use Rattle.ccan_ram.specs.ByPort.{holding}
 use Rattle.ccan_endless.specs.View.{see_all, View}
 use Rattle.ccan_endless.specs.Layout.{same_object}
 use Rattle.ccan_ram.specs.Sound.{IsSound}
-use Rattle.ccan_endless.specs.Rule.{Keeps}
 use Rattle.ccan_endless.specs.Plays.{Knows}
 use Rattle.ccan_endless.specs.Picture.{Poses}
 use Rattle.ccan_ram.proofs.Numbers.{stands_more}
 use Rattle.ccan_ram.proofs.Holding.{not_held}
-use Rattle.ccan_endless.proofs.SeatMoves.{with_view, sound_for, Still, on_for, saw}
+use Rattle.ccan_endless.proofs.SeatMoves.{sound_for, Still, on_for, saw}
+use Rattle.ccan_endless.proofs.Moves.{Moves, saw_all}
+use Rattle.ccan_endless.proofs.Loads.{loaded}
 use Rattle.ccan_ram.proofs.Sounding.{pictured_others, pictured_sound}
 
 pictured_still : (profile : Profile) (ws : List ℕ) (p : PortName) (h : History)
@@ -33,23 +32,23 @@ pictured_still profile ws p h = record {
 -- ---- the step
 
 module _ (profile : Profile) where
-  pub poses : (slots id : ℕ) (me : Knows) (word : ℕ) (p : PortName) (x : Held) → holding p me.0 ≡ Some x
-      → Allows (Keeps profile) slots id me word (λ n. n) (λ _ n. Poses profile p me n)
-  poses slots id me word p x held s r _ at _ =
+  pub poses : (id : ℕ) (me : Knows) (word : ℕ) (p : PortName) (x : Held) → holding p me.0 ≡ Some x
+      → Moves profile id me word (λ n. n) (λ _ n. Poses profile p me n)
+  poses id me word p x held s r at =
       let v : View = me.0 in
       let shots : History = pictured p (objects_in profile) r.log in
       let log' : History = shots ++ r.log in
-      let sound : IsSound profile r.quota log' = pictured_sound profile r.quota p r.log r.sound in (
-        see_all log' v,
-        keeps,
-        tt,
-        subst (λ (ws : List ℕ). Keeps profile (with_view s ws id (see_all log' v))) (sym (set-get_or s.words word 0))
+      let sound : IsSound profile r.quota log' = pictured_sound profile r.quota p r.log r.sound in record {
+        view = see_all log' v;
+        added = shots;
+        seen = inl (saw_all v log');
+        keeps = loaded profile s log' id word (see_all log' v)
             (saw profile s r id v log' at sound (shots, refl) (pictured_still profile s.words p r.log)
-            (λ q none. pictured_others p q (objects_in profile) r.log r.log (not_held p q v x held none))),
-        record {
+            (λ q none. pictured_others p q (objects_in profile) r.log r.log (not_held p q v x held none)));
+        told = record {
           log = r.log;
           view = refl;
           goes_on = λ y h.
               (on_for profile s r id p v y at h, sound_for r.quota y.quota log' (r.one_quota id p v y at h) sound);
-        },
-      )
+        };
+      }
