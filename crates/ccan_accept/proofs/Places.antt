@@ -18,7 +18,7 @@ pub each_below : (test : ℕ → Bool) (n : ℕ) → list_all test (range_with_l
 each_below test n all place low =
     let inside : place < length (range_with_len 0 n) = rw (length-range_with_len 0 n) low in
     let passes : test (get_or (range_with_len 0 n) place 0) ≡ true =
-        AllPass-from_list_all test (range_with_len 0 n) all place 0 inside in
+    AllPass-from_list_all test (range_with_len 0 n) all place 0 inside in
     let is : get_or (range_with_len 0 n) place 0 ≡ place = get_or-range_with_len 0 n place 0 low ∙ zero-add place in
     ap test (sym is) ∙ passes
 
@@ -118,7 +118,7 @@ upper n place fits high =
 -- identifiers that agree in each place that they have are the same number
 pub same_number : (xtd : Bool) (object frame : ℕ) → object < 2 ^ 29 → frame < 2 ^ identifier_bits xtd
     → ((place : ℕ) → place < 29 → (nat_le 18 place || xtd) ≡ true
-        → bit_at object place ≡ bit_at (if xtd then frame else at 18 frame) place)
+    → bit_at object place ≡ bit_at (if xtd then frame else at 18 frame) place)
     → frame ≡ (if xtd then object else part object 18 11)
 same_number true object frame fits small same =
     same_from_bits_below 29 frame object small fits (λ place low. sym (same place low (or_right (nat_le 18 place) true refl)))

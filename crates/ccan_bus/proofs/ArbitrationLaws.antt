@@ -37,7 +37,7 @@ data_first : (xtd : Bool) (id : ℕ)
     (cond xtd (extended_list (id / 2 ^ 18) id true) (standard_list id true)) ≡ true
 data_first true id =
     precedes-same (lowest_bits 11 (id / 2 ^ 18)) (true ∷ true ∷ (lowest_bits 18 id ++ false ∷ []))
-        (true ∷ true ∷ (lowest_bits 18 id ++ true ∷ []))
+    (true ∷ true ∷ (lowest_bits 18 id ++ true ∷ []))
     ∙ precedes-same (lowest_bits 18 id) (false ∷ []) (true ∷ [])
 data_first false id = precedes-same (lowest_bits 11 id) (false ∷ false ∷ []) (true ∷ false ∷ [])
 
@@ -56,12 +56,14 @@ by_kind true rest = refl
 standard_before : (id : ℕ) (a b : Bool) (lower : ℕ) → precedes (standard_list id a) (extended_list id lower b) ≡ true
 standard_before id a b lower =
     precedes-same (lowest_bits 11 id) (a ∷ false ∷ []) (true ∷ true ∷ (lowest_bits 18 lower ++ b ∷ []))
-        ∙ by_kind a (lowest_bits 18 lower ++ b ∷ [])
+    ∙ by_kind a (lowest_bits 18 lower ++ b ∷ [])
 
 pub standard_wins : StandardBeatsExtended
 standard_wins standard extended s e same =
-    rw (list_of standard false (extended.id / 2 ^ 18) standard.rtr s same refl,
-        list_of extended true extended.id extended.rtr e refl refl)
+    rw (
+      list_of standard false (extended.id / 2 ^ 18) standard.rtr s same refl,
+      list_of extended true extended.id extended.rtr e refl refl,
+    )
     (standard_before (extended.id / 2 ^ 18) standard.rtr extended.rtr extended.id)
 
 -- ---- the upper part of the identifier

@@ -71,7 +71,7 @@ back_scanned tries object frame finished outcome end told finish scan =
 module _ (line : RoundLine) (tries : ℕ) where
   pub steps_run : {x y z : Passes} (a b c : Bus) (loading : LoadAnswer) (decided : Decision) (end : RoundEnd)
       (report : RoundReport) → refusal_of_round loading ≡ None
-          → report ≡ record { loading = loading; decision = Some decided; end = end }
+      → report ≡ record { loading = loading; decision = Some decided; end = end }
       → GoesOnWith x y a b (λ terms seen added past after. Loads terms tries seen added past after loading)
       → GoesOn b c (λ past after. Decides (hears_itself past) line past after decided)
       → Goes y z (λ terms seen added. Completes terms tries seen added decided end)

@@ -102,7 +102,7 @@ module _ where
   pub in_order : (frames : List Frame) (j k : ℕ) → j < length (map arbitration_bits frames)
       → k < length (map arbitration_bits frames)
       → precedes (list_at (map arbitration_bits frames) j) (list_at (map arbitration_bits frames) k)
-          ≡ nat_lt (key_of frames j) (key_of frames k)
+      ≡ nat_lt (key_of frames j) (key_of frames k)
   unfolding packed
   in_order frames j k p q =
       let a = field frames j p in

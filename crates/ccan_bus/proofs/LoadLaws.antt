@@ -48,7 +48,7 @@ own_is_loaded : (on : ℕ → Bool) (line : RoundLine) (object : ℕ) (started :
 own_is_loaded on line object started frame won =
     let kept = own_frames on line object started in
     let at = All-get_or (IsOwn started) (contenders on (Some (object, started)) line.send.items) won.place (0, frame)
-        won.within kept in
+    won.within kept in
     ap (λ (c : ℕ × Frame). c.1) won.sent ∙ at (sym (ap (λ (c : ℕ × Frame). c.0) won.sent))
 
 -- what was loaded
@@ -80,9 +80,11 @@ module _ (terms : Terms) (line : RoundLine) (tries : ℕ) (past : BusPast) (obje
     sent_by false h =
         let same = same_object place object h.finish.started started past.loaded h.finish.sent is in
         let won : IsWonBy (contenders (is_on past) (Some (object, started)) line.send.items) 0 h.finish.frame =
-        subst (λ l. IsWonBy (contenders (is_on past) l line.send.items) 0 h.finish.frame) is h.finish.success.won in
-        (same.0, subst (IsWonBy (contenders_of past line) 0)
-            (own_is_loaded (is_on past) line object started h.finish.frame won) h.finish.success.won)
+        subst (λ l. IsWonBy (contenders (is_on past) l line.send.items) 0 h.finish.frame) is h.finish.success.won in (
+          same.0,
+          subst (IsWonBy (contenders_of past line) 0)
+              (own_is_loaded (is_on past) line object started h.finish.frame won) h.finish.success.won,
+        )
 
   -- nothing was to be loaded
   module _ (seen first rest last : List Event) (between after : BusPast) (place : ℕ) (finished : Record) where
@@ -133,15 +135,15 @@ module _ (terms : Terms) (line : RoundLine) (tries : ℕ) (past : BusPast) (obje
       (finished : Record) (found : Option (ℕ × Record)) where
     round_looped : (loading : LoadAnswer) → Loads terms tries seen first past between loading
         → Continues (refusal_of_round loading) terms line tries (first ++ seen) last between after
-            (answer.Looped place finished found)
+        (answer.Looped place finished found)
         → (place ≡ object) × IsFinishAndScan terms tries object finished (frame_of started) seen added found
     round_looped (load.Loaded o s) l h = absurd (let e = sym l.choice.empty ∙ is in cc)
     round_looped (load.Held o) l h =
         let all : added ≡ last = whole ∙ ap (λ es. last ++ es) l.quiet ∙ append-nil last in
         let here = subst (λ b. Transfers (hears_itself b) terms line tries (first ++ seen) last b after
-            (answer.Looped place finished found)) l.same h in
+        (answer.Looped place finished found)) l.same h in
         let alone = subst (λ es. Transfers (hears_itself past) terms line tries (es ++ seen) last past after
-            (answer.Looped place finished found)) l.quiet here in
+        (answer.Looped place finished found)) l.quiet here in
         subst (λ es. (place ≡ object) × IsFinishAndScan terms tries object finished (frame_of started) seen es found) (sym all)
         (looped_by seen last after place finished (hears_itself past) found alone)
     round_looped load.Nothing (inl l) h = absurd (let e = sym l.empty ∙ is in cc)
@@ -213,11 +215,11 @@ each_sends_loaded terms line tries earlier loading seen added before loaded past
 pub sends_loaded : SendsWhatWasLoaded
 sends_loaded terms line tries earlier loading seen added before loaded past after object place started finished l same r =
     round_sent terms line tries past object started
-        (loaded_then terms tries earlier loading before loaded past object started l same)
+    (loaded_then terms tries earlier loading before loaded past object started l same)
     seen r.first _ r.last r.between after place finished r.loading r.loads r.continues
 
 pub loops_loaded : LoopsWhatWasLoaded
 loops_loaded terms line tries earlier loading seen added before loaded past after object place started finished found l same r =
     round_looped terms line tries past object started
-        (loaded_then terms tries earlier loading before loaded past object started l same)
+    (loaded_then terms tries earlier loading before loaded past object started l same)
     seen r.first r.last added r.whole r.between after place finished found r.loading r.loads r.continues

@@ -23,7 +23,7 @@ module _ (tries : ℕ) (bus : Bus) where
       → Goes x x (λ terms seen added. GoesOn bus bus (λ past after. Loads terms tries seen added past after (load.Held object)))
   held object started is =
       Goes-none (λ seen here. GoesOn-none bus _
-          (λ past led. record { started = started; held = sym led.loaded ∙ is; quiet = refl; same = refl }))
+      (λ past led. record { started = started; held = sym led.loaded ∙ is; quiet = refl; same = refl }))
 
   module _ (empty : bus.loaded ≡ None) where
     pub off : {x : Passes} → is_on_now bus 0 ≡ false
@@ -71,7 +71,7 @@ module _ (tries : ℕ) (bus : Bus) where
       by_why : (why : Refused) → {x y : Passes} (at : ℕ)
           → Goes x y (λ terms seen added. Chooses bus.choice terms tries seen added (Err (record { at = at; why = why })))
           → Goes x y (λ terms seen added. GoesOn bus bus
-              (λ past after. Loads terms tries seen added past after (refusal_of_load at why)))
+          (λ past after. Loads terms tries seen added past after (refusal_of_load at why)))
       by_why (Busy told now) {x} at scan =
           Goes-weaker scan (λ seen added here after s. GoesOn-none bus _ (λ past led.
           (told, now, record { choice = chosen x.terms seen added past _ led s; same = refl })))

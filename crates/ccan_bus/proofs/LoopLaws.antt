@@ -67,7 +67,7 @@ pub others_rest : OthersRestInLoopBack
 others_rest terms line tries seen added past after reply r hears node other =
     let same = still_hears terms tries seen r.first past r.between r.loading r.loads in
     rest_continued terms line tries _ r.last r.between after node other (refusal_of_round r.loading) reply
-        (same.0 ∙ hears) r.continues ∙ same.1 node
+    (same.0 ∙ hears) r.continues ∙ same.1 node
 
 unheard : (refusal : Option RoundAnswer) (terms : Terms) (line other : RoundLine) (tries : ℕ) (seen added : List Event)
     (past after : BusPast) (reply : RoundAnswer)

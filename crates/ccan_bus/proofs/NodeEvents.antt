@@ -85,7 +85,7 @@ unfolding contenders
 winner_on on loaded sends winner frame won =
     let passes = filter_passes (λ (c : ℕ × Frame). on c.0) (own_frame loaded ++ sends) in
     let at = All-get_or (λ (c : ℕ × Frame). on c.0 ≡ true) (contenders on loaded sends) won.place (winner, frame)
-        won.within passes in
+    won.within passes in
     ap (λ (c : ℕ × Frame). on c.0) won.sent ∙ at
 
 pub success : (line : RoundLine) (past after : BusPast) (winner : ℕ) (frame : Frame) → IsSuccess line past after winner frame

@@ -140,7 +140,7 @@ off_holds_nothing =
           (λ on. ap (λ es. is_off (levels_after_all true es)) (clear_events past) ∙ clear_stays (past.events 0) on) rests;
       recovers = λ groups past rests. stays_empty past (recovers groups past) refl
           (λ on. ap (λ es. is_off (levels_after_all true es)) (groups_events groups past)
-              ∙ groups_stay groups (past.events 0) on) rests;
+          ∙ groups_stay groups (past.events 0) on) rests;
       notes = λ steps past rests. stays_empty past (record past { steps = steps }) refl (λ on. on) rests;
       sets = λ loops past rests. stays_empty past (record past { loops_back = loops }) refl (λ on. on) rests;
     }

@@ -122,7 +122,7 @@ in_order : (x y : Bool) (f g : Frame) → f.xtd ≡ x → g.xtd ≡ y
     ≡ nat_lt (value_of 32 (cond x (extended_bits f) (standard_bits f))) (value_of 32 (cond y (extended_bits g) (standard_bits g)))
 in_order true true f g p q =
     joined 21 11 (lowest_bits 11 _) (lowest_bits 11 _) (low_extended f) (low_extended g) (length-lowest_bits 11 _)
-        (length-lowest_bits 11 _)
+    (length-lowest_bits 11 _)
     (both_extended _ _ (joined 1 18 (lowest_bits 18 _) (lowest_bits 18 _) (f.rtr ∷ []) (g.rtr ∷ []) (length-lowest_bits 18 _)
     (length-lowest_bits 18 _) (ends f.rtr g.rtr)))
 in_order true false f g p q =
@@ -163,7 +163,7 @@ value_of-lowest_bits m (suc n) x c =
     let split : x % 2 ^ (1 + n) ≡ (x / 2 ^ n % 2 ^ 1) * 2 ^ n + x % 2 ^ n = mod-pow-add x 1 n in
     let one : 1 + n ≡ suc n = omega arith in
     let split' : x % 2 ^ suc n ≡ bit_at x n * 2 ^ n + x % 2 ^ n =
-        subst (λ k. x % 2 ^ k ≡ bit_at x n * 2 ^ n + x % 2 ^ n) one split in
+    subst (λ k. x % 2 ^ k ≡ bit_at x n * 2 ^ n + x % 2 ^ n) one split in
     let power : 2 ^ raised m n ≡ 2 ^ n * 2 ^ m = ap (λ k. 2 ^ k) (raised-is m n) ∙ pow-add 2 n m in
     by_bit (raised m n) (bit x n) (lowest_bits n x ++ c)
     ∙ (ap (λ v. cond (bit x n) (2 ^ raised m n) 0 + v) (value_of-lowest_bits m n x c)
@@ -192,7 +192,7 @@ pub packed_standard : (f : Frame) → f.xtd ≡ false → f.id < 2048 → packed
 packed_standard f is within =
     let small : f.id % 2048 ≡ f.id = omega arith in
     by_width false f is ∙ (value_of-lowest_bits 21 11 f.id (low_standard f)
-        ∙ (rw small (ap (λ v. f.id * 2097152 + v) (low_bits f.rtr))))
+    ∙ (rw small (ap (λ v. f.id * 2097152 + v) (low_bits f.rtr))))
 
 pub packed_extended : (f : Frame) → f.xtd ≡ true → f.id < 536870912
     → packed f ≡ (f.id / 262144) * 2097152 + (1572864 + ((f.id % 262144) * 2 + flag f.rtr))

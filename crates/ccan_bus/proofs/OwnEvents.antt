@@ -48,7 +48,7 @@ only_own event old new k d others loops chooses all nodes adds =
           rw nodes (subst (λ (old_counts : Counts). AddsEvent event old_counts (get_or (set old.nodes 0 k) 0 (new_counts false)))
           (get_or_default old.nodes 0 d (new_counts false) (omega (arith, all)))
           (subst (AddsEvent event (get_or old.nodes 0 d))
-              (sym (get_or-set_same old.nodes 0 k (new_counts false) (omega (arith, all)))) adds));
+          (sym (get_or-set_same old.nodes 0 k (new_counts false) (omega (arith, all)))) adds));
       rest = λ node other. rw nodes (get_or-set_other old.nodes 0 node k (new_counts false)
           (λ is. absurd (let e = ap is_controller is in cc)));
       loops_back = loops;
@@ -105,7 +105,7 @@ sent_to_itself old new k d between writes loaded event sends receives =
           status =
               subst (λ l. IsHeldAfter (Happened status.Received l ∷ Happened status.Sent l ∷ past.steps) new.status)
               (own_is old new k old.all writes.nodes ∙ levels_own (BusEventOf Sent) old new has past led)
-                  (receives _ (sends past.steps led.status));
+              (receives _ (sends past.steps led.status));
           loaded = loaded;
           loops_back = has.loops_back ∙ led.loops_back;
           choice = has.choice ∙ led.choice;

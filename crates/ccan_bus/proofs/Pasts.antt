@@ -125,11 +125,13 @@ GoesOn-none bus what h = record { each = λ past led. (past, led, h past led) }
 
 pub GoesOn-then : {x y z : Bus} {first second both : BusPast → BusPast → Type 0} → GoesOn x y first → GoesOn y z second
     → ((past between after : BusPast) → LedTo past x → LedTo between y → LedTo after z → first past between
-        → second between after → both past after)
+    → second between after → both past after)
     → GoesOn x z both
 GoesOn-then f g join =
-    record { each = λ past led. let a = f.each past led in let b = g.each a.0 a.1 in
-        (b.0, b.1, join past a.0 b.0 led a.1 b.1 a.2 b.2) }
+    record {
+      each = λ past led. let a = f.each past led in let b = g.each a.0 a.1 in
+          (b.0, b.1, join past a.0 b.0 led a.1 b.1 a.2 b.2);
+    }
 
 pub GoesOn-weaker : {x y : Bus} {what weaker : BusPast → BusPast → Type 0} → GoesOn x y what
     → ((past after : BusPast) → LedTo past x → LedTo after y → what past after → weaker past after) → GoesOn x y weaker

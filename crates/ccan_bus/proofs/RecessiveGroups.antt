@@ -37,7 +37,7 @@ pub recovered : (groups : ℕ) (old new : Bus) (recovering : Bool) (event : Stat
     → HaveAllGroups groups old new
     → length new.nodes ≡ 9
     → ((host : Bool) (events : List NodeEvent) → AreAfter host events (get_or old.nodes 0 d)
-        → recovering ≡ is_recovering_after host events)
+    → recovering ≡ is_recovering_after host events)
     → event ≡ recovery_event groups recovering
     → AddsStep (Happened event (get_or new.nodes 0 e).levels) old.status new.status
     → GoesOn old new (λ past after. after ≡ recovers groups past)
@@ -46,7 +46,7 @@ recovered groups old new recovering event d e has all tells_read event_is adds_r
     let tells : (host : Bool) (events : List NodeEvent) → AreAfter host events (counters_at old 0)
     → recovering ≡ is_recovering_after host events =
     subst (λ (k : Counts). (host : Bool) (events : List NodeEvent) → AreAfter host events k
-        → recovering ≡ is_recovering_after host events)
+    → recovering ≡ is_recovering_after host events)
     (get_or_default old.nodes 0 d (new_counts false) (omega (arith, old.all))) tells_read in
     let adds : AddsStep (Happened (recovery_event groups recovering) (counters_at new 0).levels) old.status new.status =
     subst (λ (k : Counts). AddsStep (Happened (recovery_event groups recovering) k.levels) old.status new.status)

@@ -55,7 +55,7 @@ unfolding contenders
 no_own on line frame won =
     let others = All-filter (λ c. on c.0) (λ s. (1 ≤ s.0) × (s.0 ≤ 8)) line.send.items line.senders.others in
     let at = All-get_or (λ s. (1 ≤ s.0) × (s.0 ≤ 8)) (filter (λ c. on c.0) line.send.items) won.place (0, frame)
-        won.within others in
+    won.within others in
     let zero_is = ap (λ c. c.0) won.sent in
     let low = at.0 in
     omega arith
@@ -66,14 +66,17 @@ none_left (Some x) h = absurd (h x refl)
 
 module _ (bus : Bus) (line : RoundLine) where
   pub idle : contenders_now bus line ≡ [] → GoesOn bus bus (λ past after. DecidesBetween line past after decision.Idle)
-  idle nobody = GoesOn-none bus _ (λ past led. record { nobody = sym (contenders_same past bus led line) ∙ nobody;
-      quiet = refl; same = refl })
+  idle nobody = GoesOn-none bus _ (λ past led. record {
+    nobody = sym (contenders_same past bus led line) ∙ nobody;
+    quiet = refl;
+    same = refl;
+  })
 
   -- events that are shared out by the places of an array
   abbrev pub Happens : Bus → List Bool → BusEvent → BusEvent → StatusEvent → Type 0
   Happens new senders sending listening noted =
       (each : ℕ → BusEvent) → IsSharedOut senders sending listening each
-          → GoesOn bus new (λ past after. after ≡ happens each noted past)
+      → GoesOn bus new (λ past after. after ≡ happens each noted past)
 
   share : (senders : List Bool) (sends : ℕ → Bool) (sending listening : BusEvent)
       → ((node : ℕ) → node < 9 → sends_at senders node ≡ sends node)
@@ -87,7 +90,7 @@ module _ (bus : Bus) (line : RoundLine) where
       → GoesOn bus new (λ past after. DecidesBetween line past after decision.Collision)
   collided new senders code tie sends told first happen =
       GoesOn-weaker (happen (shared (sends_least (contenders_now bus line)) SendFault ReceiveFault)
-          (share senders _ SendFault ReceiveFault sends))
+      (share senders _ SendFault ReceiveFault sends))
       (λ past after led here e.
       let same = contenders_same past bus led line in
       let code_is : code ≡ cond (sends_least (contenders_now bus line) 0) 4 1 = told ∙ ap (λ b. cond b 4 1) (sends 0 first) in
@@ -98,7 +101,7 @@ module _ (bus : Bus) (line : RoundLine) where
             subst (λ cs. after ≡ happens (shared (sends_least cs) SendFault ReceiveFault)
             (status.Fault (cond (sends_least cs 0) 4 1)) past) same
             (e ∙ ap (λ n. happens (shared (sends_least (contenders_now bus line)) SendFault ReceiveFault)
-                (status.Fault n) past) code_is);
+            (status.Fault n) past) code_is);
       })
 
   module _ (winner : ℕ) (frame : Frame) (won : IsWonBy (contenders_now bus line) winner frame) (new : Bus) (senders : List Bool)
@@ -162,14 +165,14 @@ module _ (bus : Bus) (line : RoundLine) where
           on = on_same past bus led 0 ∙ on;
           success =
               subst (λ f. IsSuccess line past after node f) (sym same)
-                  (subst (λ n. IsSuccess line past after n frame) (sym at) s);
+              (subst (λ n. IsSuccess line past after n frame) (sym at) s);
         }
     by_due past after led s (decision.Passed node sent) (off, at, same) =
         record {
           off = on_same past bus led 0 ∙ off;
           success =
               subst (λ f. IsSuccess line past after node f) (sym same)
-                  (subst (λ n. IsSuccess line past after n frame) (sym at) s);
+              (subst (λ n. IsSuccess line past after n frame) (sym at) s);
         }
     by_due past after led s decision.Idle (own, none) =
         absurd (no_own (is_on past) line frame

@@ -34,8 +34,10 @@ first_of node i sends =
 -- fewer nodes are other nodes too
 pub more_nodes : (nodes most : ℕ) (sends : List (ℕ × Frame)) → nodes ≤ most → AreSenders nodes sends → AreSenders most sends
 more_nodes nodes most sends few h =
-    record { others = All-weaker (IsOther nodes) (IsOther most) (λ s o. let high = o.1 in (o.0, omega arith)) sends h.others;
-        once = h.once }
+    record {
+      others = All-weaker (IsOther nodes) (IsOther most) (λ s o. let high = o.1 in (o.0, omega arith)) sends h.others;
+      once = h.once;
+    }
 
 -- the first senders are good ones, and those who have sent are marked
 pub record AreMarked (nodes : ℕ) (sends : List (ℕ × Frame)) (i : ℕ) (sent : List Bool) : Type 0 where
@@ -93,7 +95,7 @@ module _ (nodes : ℕ) (sends : List (ℕ × Frame)) (i : ℕ) (sent : List Bool
             others = rw (take_more sends i s within)
                 (All-append (IsOther nodes) (take i sends) (get_or sends i s ∷ []) so_far.senders.others
                 (All-cons (IsOther nodes) (get_or sends i s) [] (subst (IsOther nodes) is (low, high))
-                    (All-nil (IsOther nodes))));
+                (All-nil (IsOther nodes))));
             once = λ node. rw (more_of node) (once_by node (s.0 == node) refl);
           };
           marks = λ node small. more_of node ∙ mark_by node small (s.0 == node) refl;
@@ -105,7 +107,7 @@ module _ (nodes : ℕ) (sends : List (ℕ × Frame)) (i : ℕ) (sent : List Bool
       let other : IsOther nodes s = subst (IsOther nodes) (sym is) (All-get_or (IsOther nodes) sends i s within good.others) in
       let h = other.1 in
       let there : length (sends_of s.0 (take i sends)) ≡ 1 = so_far.marks s.0 (omega arith)
-          ∙ ap (λ b. cond b 1 0) (taken other.0 other.1) in
+      ∙ ap (λ b. cond b 1 0) (taken other.0 other.1) in
       let more = more_of s.0 in
       let one : ◌≡◌ {A = ℕ} (cond (s.0 == s.0) 1 0) 1 = ap (λ b. cond b 1 0) (self s.0) in
       let whole = first_of s.0 (i + 1) sends in

@@ -185,7 +185,7 @@ module _ (terms : Terms) (line : RoundLine) (tries : ℕ) (seen added : List Eve
 
 pub round_of : (terms : Terms) (line : RoundLine) (tries : ℕ) (seen added : List Event) (past after : BusPast)
     (report : RoundReport) → RunsSteps terms line tries seen added past after report
-        → Round terms line tries seen added past after report.end.answer
+    → Round terms line tries seen added past after report.end.answer
 round_of terms line tries seen added past after report r =
     record {
       between = r.between;

@@ -22,7 +22,7 @@ sees_part : (memory : Memory) (pass : Pass) (history : List Event) → pass.memo
     → BeginsWith history pass.seen → CanSee pass
 sees_part memory pass history same within (more, is) =
     subst (λ (m : Memory). IsWithin m pass.seen) (sym same)
-        (within_older memory more pass.seen (subst (IsWithin memory) is within))
+    (within_older memory more pass.seen (subst (IsWithin memory) is within))
 
 -- the port has the events that it had, by another name of it
 own_as : (p q : PortName) (newer older : List Event) → q ≡ p → events_of q newer ≡ events_of q older

@@ -101,7 +101,7 @@ made_law terms change tries from object number before after seen added legal s =
     let earlier = ((others ++ (a.looked ++ a.lost)) ++ t.looked) ++ s.passed in
     let last : added ≡ event ∷ earlier =
     s.whole ∙ ap (λ zs. zs ++ s.passed) (t.whole
-        ∙ ap (λ zs. zs ++ t.looked) (a.whole ∙ ap (λ zs. zs ++ (a.looked ++ a.lost)) a.make.2)) in
+    ∙ ap (λ zs. zs ++ t.looked) (a.whole ∙ ap (λ zs. zs ++ (a.looked ++ a.lost)) a.make.2)) in
     let step = (subst (λ (es : List Event). IsLegal terms.profile (es ++ seen)) last legal).0 in
     record { earlier = earlier; last = last; found = step.before; fit = a.fit; left = a.left }
 

@@ -59,8 +59,13 @@ module _ (terms : Terms) (among : ℕ → Type 0) where
       let port = terms.port in
       let parts = ap (events_of port) whole ∙ events_of-append port ys xs in
       record {
-        looked = omega (arith, ap looks_in parts, looks_in-append (events_of port ys) (events_of port xs),
-            own_ys.looked, own_xs.looked);
+        looked = omega (
+          arith,
+          ap looks_in parts,
+          looks_in-append (events_of port ys) (events_of port xs),
+          own_ys.looked,
+          own_xs.looked,
+        );
         changed = omega (arith, ap (changes_by port) whole, changes_by-append port ys xs, own_ys.changed, own_xs.changed);
         each = rw parts (All-append holds (events_of port ys) (events_of port xs) own_ys.each own_xs.each);
       }
@@ -89,7 +94,7 @@ module _ (terms : Terms) (among : ℕ → Type 0) where
       let port = terms.port in
       let own = events_of-EndsIn terms added (change_at port object change before) (its_own port) (others, foreign, whole) in
       let counted : changes_by port (change_at port object change before ∷ others) ≡ changes_by port others + 1 =
-          rw (its_own port) refl in
+      rw (its_own port) refl in
       record {
         looked = rw own (omega arith);
         changed = ap (changes_by port) whole ∙ (counted ∙ ap (λ n. n + 1) (changes_by-foreign port others foreign.not_own));
@@ -98,8 +103,11 @@ module _ (terms : Terms) (among : ℕ → Type 0) where
 
   foreign_only : (added : List Event) → events_of terms.port added ≡ [] → Own terms among 0 0 added
   foreign_only added none =
-      record { looked = rw none (omega arith); changed = changes_by-foreign terms.port added none;
-          each = rw none (All-nil holds) }
+      record {
+        looked = rw none (omega arith);
+        changed = changes_by-foreign terms.port added none;
+        each = rw none (All-nil holds);
+      }
 
   module _ (object : ℕ) (here : among object) (change : Change) where
     pub lost : (n : ℕ) (added : List Event) → LostTries terms object change n added → Own terms among n 0 added
@@ -107,7 +115,7 @@ module _ (terms : Terms) (among : ℕ → Type 0) where
     lost (suc n) added (last, earlier, whole, try, lose) =
         let looked = one_look object try.shown try.looked here try.look in
         let tried = Own-append 0 1 0 0 try.others try.looked last try.whole (foreign_only try.others try.foreign.not_own)
-            looked in
+        looked in
         Own-less _ _ _ _ (omega arith) (Own-append 1 n 0 0 last earlier added whole tried (lost n earlier lose))
 
     attempted : (tries : ℕ) (seen added : List Event) (outcome : Result Changed Refused)
@@ -168,7 +176,7 @@ module _ (terms : Terms) (change : Change) (tries from : ℕ) where
       → Own terms in_reach ((objects_in terms.profile + 1 - from) * (tries + 1)) (made_by outcome) added
   stops object seen added outcome s =
       let own = Own-append terms in_reach (tries + 1) ((object - from) * (tries + 1)) (made_by outcome) 0 s.last
-          s.passed added s.whole
+      s.passed added s.whole
       (tried terms in_reach object s.in_turn change tries (s.passed ++ seen) s.last outcome s.try)
       (passes (object - from) seen s.passed s.passes) in
       let within : object - from < objects_in terms.profile + 1 - from = omega (arith, s.in_turn, s.held.greatest) in
@@ -242,7 +250,7 @@ module _ (terms : Terms) (change : Change) (tries object : ℕ) where
       let a = t.attempt in
       shows_last terms object unfit t.tried t.looked added t.whole
       (shows_last terms object unfit a.looked a.lost t.tried a.whole
-          (shows_look terms object unfit shown a.looked a.unfit a.look))
+      (shows_look terms object unfit shown a.looked a.unfit a.look))
 
   pub passed_shown : (from n : ℕ) (seen added : List Event) → PassesOver terms from n change tries seen added → from ≤ object
       → object < from + n

@@ -103,7 +103,7 @@ few_earlier tries why goes few = subst (λ (t : Terms). FewTries t.quota tries (
 
 module _ {x y : Passes} {what : Terms → List Event → List Event
     → Type 0} (goes : Goes x y what) (change : Change) (from number object : ℕ) (below : from ≤ number)
-        (is : object ≡ number) where
+    (is : object ≡ number) where
   pub made_in_turn : (found : Stored) → IsMade y.terms change object found × (found.object ≡ object)
       → IsMade x.terms change from found
   made_in_turn found (made, at) =

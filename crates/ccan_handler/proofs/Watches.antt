@@ -30,7 +30,7 @@ more terms place n object shown before xs ys at counted looks here =
 
 module _ {x y z : Passes} (place : ℕ
     → ℕ) (n object : ℕ) (shown : Record) (look : Goes y z (λ terms seen added. IsLook terms object shown added))
-        (at : object ≡ place n)
+    (at : object ≡ place n)
   where
     module _ (flag : Flag) where
       -- it does not show the flag

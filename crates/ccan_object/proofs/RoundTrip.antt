@@ -71,7 +71,7 @@ packs_back w c d is false h = rw h (unpacked-is w c d, packs w c d is h)
 some_record : (words : List ℕ) → IsNone (unpacked_from words) → NoRecordPacks words
 some_record words none = λ object is packs.
     let held : unpacked_from words ≡ Some object =
-        subst (λ (ws : List ℕ). unpacked_from ws ≡ Some object) packs (from_packed object is) in
+    subst (λ (ws : List ℕ). unpacked_from ws ≡ Some object) packs (from_packed object is) in
     let both : true ≡ false = sym (ap is_some held) ∙ none in
     absurd cc
 

@@ -48,8 +48,17 @@ pub packed-unpacked : (w c d : ℕ) → w < 2 ^ 64 → c < 2 ^ 16 → d < 2 ^ 64
 packed-unpacked w c d small short fits none clear =
     let zero : bit_at w 61 ≡ 0 = sym (flag-bit w 61) ∙ is_zero (bit w 61) none in
     rw (flag-bit w 63, flag-bit w 62, flag-bit w 31, flag-bit w 30, flag-bit w 29)
-    (rw (flag-bit c 15, flag-bit c 14, flag-bit c 13, flag-bit c 12, flag-bit c 11, flag-bit c 10, flag-bit c 9,
-        flag-bit c 8, flag-bit c 7)
+    (rw (
+      flag-bit c 15,
+      flag-bit c 14,
+      flag-bit c 13,
+      flag-bit c 12,
+      flag-bit c 11,
+      flag-bit c 10,
+      flag-bit c 9,
+      flag-bit c 8,
+      flag-bit c 7,
+    )
     (rw (whole w small zero, whole_control c short clear, from_le_bytes-to_le_bytes_8 d fits) refl))
 
 -- each byte of a list of bytes, and what stands past its end

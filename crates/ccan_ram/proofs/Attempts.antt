@@ -102,7 +102,7 @@ module _ (object : ℕ) (change : Change) where
         let all = ap (λ zs. zs ++ seen) l.whole ∙ append_assoc l.looked l.lost seen in
         let place = ap (λ zs. zs ++ (l.lost ++ seen)) l.for.whole in
         let after = m.contended [] (l.for.others ++ (l.lost ++ seen))
-            (record { whole = all ∙ place; numbered = l.for.numbered }) in
+        (record { whole = all ∙ place; numbered = l.for.numbered }) in
         let there = subst (λ k. SomeContends t k ys) is (subst (λ zs. SomeContends t draft.object zs) (append-nil ys) after) in
         record {
           room = l.room;

@@ -61,7 +61,7 @@ total events = changes_by If1 events + (changes_by If2 events + changes_by Bus e
 one_in_total : (change contends foreign : Bool) (port : PortName) (n a b c : ℕ) → n ≤ a + (b + c)
     → cond (change && (contends && foreign)) (n + 1) n
     ≤ cond (change && same_port port If1) (a + 1) a +
-        (cond (change && same_port port If2) (b + 1) b + cond (change && same_port port Bus) (c + 1) c)
+    (cond (change && same_port port If2) (b + 1) b + cond (change && same_port port Bus) (c + 1) c)
 one_in_total false contends foreign port n a b c h = h
 one_in_total true true true If1 n a b c h = omega arith
 one_in_total true true true If2 n a b c h = omega arith

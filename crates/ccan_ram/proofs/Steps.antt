@@ -127,7 +127,7 @@ module _ (contends : ℕ → ℕ → Bool) (old new : Pass) (history : List Even
       → changes_by old.port old.seen < old.memory.quota → fits change draft.held ≡ true
       → now ≡ last_number contends draft.object history → (now ≡ draft.number → ⊥)
       → Goes (passes_of contends old) (passes_of contends new)
-          (λ terms seen added. Commits terms draft change seen added (Err (Lost now)))
+      (λ terms seen added. Commits terms draft change seen added (Err (Lost now)))
   lost_goes draft change now all within room fit is other =
       sees [] (λ terms seen added. Commits terms draft change seen added (Err (Lost now))) all within
       (record {
@@ -138,7 +138,7 @@ module _ (contends : ℕ → ℕ → Bool) (old new : Pass) (history : List Even
             let look = look_at old.port draft.object draft.held in
             let place : history ≡ (part.begins.0 ++ later) ++ look ∷ earlier =
             part.begins.1 ∙ (ap (λ zs. part.begins.0 ++ zs) drawn.whole
-                ∙ sym (append_assoc part.begins.0 later (look ∷ earlier))) in
+            ∙ sym (append_assoc part.begins.0 later (look ∷ earlier))) in
             some_contends (passes_of contends old).terms draft.object (part.begins.0 ++ later) (look ∷ earlier)
             (λ e. other (is ∙ (ap (last_number contends draft.object) place ∙ (e ∙ sym drawn.numbered))));
         last = is ∙ ap (last_number contends draft.object) part.begins.1;

@@ -59,7 +59,7 @@ module _ (terms : Terms) where
         }
     undisturbed tries seen added (Ok (Done before after number)) some alone h =
         let parts = undisturbed_parts terms.port h.made (h.looked ++ h.lost)
-            (subst (λ es. NobodyElse terms.port es) h.whole alone) in
+        (subst (λ es. NobodyElse terms.port es) h.whole alone) in
         let rest = undisturbed_parts terms.port h.looked h.lost parts.1 in
         let none = none_lost h.times h.lost rest.1 h.lose in
         record {

@@ -76,7 +76,7 @@ module _ (profile : Profile) (quota made used : ℕ) where
         each = λ seen h.
             let a = look.each seen h.seen_below in
             let all = lone (one_thread_terms profile Bus quota) refl object (Clear (record { 0 = 0 })) a.0
-                (look_at Bus object shown)
+            (look_at Bus object shown)
             (subst (λ t. IsLook t object shown a.0) is a.2) in
             let here = subst (λ (es : List Event). y.has_seen (es ++ seen)) all a.1 in (
               look_at Bus object shown ∷ [],
@@ -132,7 +132,7 @@ module _ (profile : Profile) (quota made used : ℕ) where
         each = λ seen h.
             let a = attempt.each seen h.seen_below in
             let e = one_try (one_thread_terms profile Bus quota) refl object change tries seen a.0 outcome some
-                (omega (arith, h.own))
+            (omega (arith, h.own))
             (subst (λ t. Attempt t object change tries seen a.0 outcome) is a.2) in
             (a.0, counted outcome seen a.0 h a.1 e, as_port outcome seen a.0 e);
       } where
@@ -229,7 +229,7 @@ acts_for old new profile quota made used transfer number bus acts room =
     let what : Terms → List Event → List Event → Type 0 = λ terms seen added. TheyAct transfer number terms seen added in
     subst (λ (p : Profile). Goes (contended p quota old made used) (contended p quota new (made + 1) used) what) same_profile
     (subst (λ (q : ℕ). Goes (contended old.terms.profile q old made used)
-        (contended old.terms.profile q new (made + 1) used) what)
+    (contended old.terms.profile q new (made + 1) used) what)
     same_quota (acts made used (omega (arith, same_quota, room))))
 
 -- ---- the other host, before and after so many transfers

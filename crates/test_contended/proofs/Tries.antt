@@ -43,7 +43,7 @@ module _ (theirs : Host) (object : ℕ) (change : Change) where
   -- before the first try
   pub no_try : (profile : Profile) (quota made used last : ℕ) (x : Passes) → used < quota
       → Goes (contended profile quota x made used) (contended profile quota x made used)
-          (λ terms seen added. SoFar 0 last terms seen added)
+      (λ terms seen added. SoFar 0 last terms seen added)
   no_try profile quota made used last x room =
       Goes-none
       (λ seen h. record { room = omega (arith, h.own); lose = refl; told = λ some. absurd (omega arith); lose_to = refl })
@@ -77,7 +77,7 @@ module _ (theirs : Host) (object : ℕ) (change : Change) where
       Goes-then (parts so_far look)
       act (λ seen added zs p t.
       let all : zs ++ added ≡ (zs ++ p.later) ++ p.earlier = ap (λ es. zs ++ es) p.whole
-          ∙ sym (append_assoc zs p.later p.earlier) in
+      ∙ sym (append_assoc zs p.later p.earlier) in
       record {
         room = p.one.room;
         lose = rw add-one (
@@ -212,6 +212,8 @@ module _ (theirs : Host) (object : ℕ) (change : Change) where
           all = refl;
           last = s.told (omega arith);
         },
-        (subst (λ k. AreLostTo theirs object change k x.terms added) all s.lose_to,
-            subst (λ k. made ≡ theirs.made + k) all count),
+        (
+          subst (λ k. AreLostTo theirs object change k x.terms added) all s.lose_to,
+          subst (λ k. made ≡ theirs.made + k) all count,
+        ),
       ))

@@ -8,7 +8,7 @@ loop-place-init c = rw c.of-lead.ensures (Leads-first _ _ (key_at _ 0 _ c.requir
 pub loop-place-preserved : goal.loop-place-preserved
 loop-place-preserved c =
     Leads-more _ _ _ (c.packed.ensures ∙ key_at _ _ _ c.loop-place-test.true c.index-frames-place.is) _ _
-        c.next-lead.ensures c.loop-place.invariant
+    c.next-lead.ensures c.loop-place.invariant
 
 pub returns-then-lead : goal.returns-then-lead
 returns-then-lead c =

@@ -25,4 +25,4 @@ returns-in-Some-play-clause-call c =
     ) in
     on_open _ _ _ _ _ c.as_mut.ensures.value
     (on_true _ _ _ (few_frames _ c.if-offers-gt-MAX_FRAMES.false)
-        (on_true _ _ _ read.0 (on_known _ fault _ _ c.in-Some-fault_numbered.ensures played)))
+    (on_true _ _ _ read.0 (on_known _ fault _ _ c.in-Some-fault_numbered.ensures played)))

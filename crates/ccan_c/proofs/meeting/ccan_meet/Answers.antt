@@ -11,11 +11,11 @@ returns-clause-done c _ =
     let was = c.replace-if1.ensures.value in
     let new = c.meet_held.new in
     let first = subst (λ (h : Held). MeetHeld h c.deref_mut-2.result.now c.deref_mut-3.result.now new.if1 new.if2 new.bus)
-        c.deref_mut.ensures.value c.meet_held.ensures.meet in
+    c.deref_mut.ensures.value c.meet_held.ensures.meet in
     let second = subst (λ (h : Held). MeetHeld taken.if1.value h c.deref_mut-3.result.now new.if1 new.if2 new.bus)
-        c.deref_mut-2.ensures.value first in
+    c.deref_mut-2.ensures.value first in
     let all = subst (λ (h : Held). MeetHeld taken.if1.value taken.if2.value h new.if1 new.if2 new.bus)
-        c.deref_mut-3.ensures.value second in (
+    c.deref_mut-3.ensures.value second in (
       taken.if1.value,
       taken.if2.value,
       taken.bus.value,

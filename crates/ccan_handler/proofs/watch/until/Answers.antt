@@ -14,6 +14,6 @@ loop-turn-preserved g c =
 pub returns-then-of : goal.returns-then-of
 returns-then-of g c =
     Goes-weaker (first_shows (λ before. c.args.object) c.loop-turn.turn c.args.object c.look-shown.result
-        c.look-shown.ensures refl
+    c.look-shown.ensures refl
     c.args.flag (sym c.of.ensures ∙ c.if-of.true) c.loop-turn.invariant)
     (λ seen added here after p. (c.loop-turn.turn, omega arith, p))

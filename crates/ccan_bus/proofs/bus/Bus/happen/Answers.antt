@@ -17,7 +17,7 @@ returns-clause-goes_on c = λ each shared.
       noted_on = λ on.
           subst (λ (k : Counts). AddsStep (Happened c.args.event k.levels) c.args.self.now.status c.noted-self.result)
           (get_or_default c.counted-self.result 0 c.index-self-0.result (new_counts false)
-              (omega (arith, c.counted-self.ensures.all)))
+          (omega (arith, c.counted-self.ensures.all)))
           (c.noted-self.ensures.on (c.is_on-is_on.ensures ∙ on));
       noted_off = λ off. c.noted-self.ensures.off (c.is_on-is_on.ensures ∙ off);
       loaded = refl;

@@ -7,8 +7,13 @@ returns-clause-goes_on c =
     record {
       each = λ past led. (
         _,
-        LedTo-loaded past c.args.self.now _ _ record { others = refl; nodes = refl; status = refl; loops_back = refl;
-            choice = refl }
+        LedTo-loaded past c.args.self.now _ _ record {
+          others = refl;
+          nodes = refl;
+          status = refl;
+          loops_back = refl;
+          choice = refl;
+        }
             c.loaded-self.ensures led,
         refl,
       );

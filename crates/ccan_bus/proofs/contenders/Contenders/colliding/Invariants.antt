@@ -10,5 +10,5 @@ invariant-loop-place l =
       all : length l.senders ≡ 9;
       so_far : (node : ℕ) → node < 9
           → sends_at l.senders node ≡ list_any (λ c. c.0 == node && is_least c.1 (frames_of l.self.all.items))
-              (take l.place l.self.all.items);
+          (take l.place l.self.all.items);
     }

@@ -13,5 +13,5 @@ invariant_of-self c =
       known = (run.takes profile (Counters old.nodes) (record { same_profile = old.same_profile; known = old.known })).known;
       same_profile =
           (run.takes profile Load (record { same_profile = old.same_profile; known = tt })).same_profile
-              ∙ sym (ap (λ (t : Terms). t.profile) run.runs.same);
+          ∙ sym (ap (λ (t : Terms). t.profile) run.runs.same);
     }

@@ -16,7 +16,7 @@ returns c =
     let waits : Waits c.in-Some.object flag c.args.turns c.args.self.now (Some c.until.new.self) done (number_of c.until.result)
     = (refl, (c.until.result, refl, (c.until.new.self, refl, c.until.ensures))) in
     let told = subst (λ (k : ℕ). Waits k flag c.args.turns c.args.self.now (Some c.until.new.self) done
-        (number_of c.until.result)) c.in-Some.ensures.value.0 waits in
+    (number_of c.until.result)) c.in-Some.ensures.value.0 waits in
     on_true _ _ _ (c.in-Some.ensures.known.0 refl)
     (on_known _ flag _ _ (sym c.in-Some-flag_numbered.is ∙ c.flag_numbered.ensures)
     (on_true _ _ _ (few_turns c.args.turns c.if-turns-eq0.false c.if-turns-gt1000000.false) told))

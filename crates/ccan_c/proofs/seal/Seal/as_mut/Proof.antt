@@ -96,8 +96,8 @@ module _ {M : Type 1} {𝓤 : Ura M} (𝓛 : Logic 𝓤) (at_mem : Memory → SP
 
     exits : (x : Hd.Denot) → d.value ≡ Some x → (γ' : GName)
         → ent 𝓤
-            (sep 𝓤 (sem 𝓛 ((MutRef (named 0) κ Hd).own_val (record { ref_ptr = (b', o'); ghost_name = γ'; now = x })
-            (vptr b' o' ∷ [])))
+        (sep 𝓤 (sem 𝓛 ((MutRef (named 0) κ Hd).own_val (record { ref_ptr = (b', o'); ghost_name = γ'; now = x })
+        (vptr b' o' ∷ [])))
         (sep 𝓤 (A.lft κ q) (sem 𝓛 (follows Sl Hd γ γ' (sealing d))))) (Post (vptr b' o'))
     exits x held γ' =
         let lent : MutBor Hd.Denot = record { ref_ptr = (b', o'); ghost_name = γ'; now = x } in
@@ -110,7 +110,7 @@ module _ {M : Type 1} {𝓤 : Ura M} (𝓛 : Logic 𝓤) (at_mem : Memory → SP
   -- by what the seal has: the box
   walk_at : (v : Option Hd.Denot) → d.value ≡ v → IsSome v
       → ent 𝓤 (on_entry 𝓛 F.signature (κ, tt) (q, tt) (self, tt) (vptr b o ∷ [], tt))
-          (WpFn 𝓤 𝓛.H 𝓣.C 𝓣.Λ code.function (vptr b o ∷ []) Post)
+      (WpFn 𝓤 𝓛.H 𝓣.C 𝓣.Λ code.function (vptr b o ∷ []) Post)
   walk_at None e full = absurd (true≢false (sym full))
   walk_at (Some x) held full =
       qed 𝓛 ((‵ (flft κ q) ⊛ ‵ ftrue) ∷ ‵ (owns (MutRef (named 0) κ Sl ∷ []) (self, tt) (vptr b o ∷ [], tt)) ∷ []) ∵
@@ -131,11 +131,11 @@ module _ {M : Type 1} {𝓤 : Ura M} (𝓛 : Logic 𝓤) (at_mem : Memory → SP
       sets ! (of_opd ! (get ! refl)) refl (tt, tt) $
       move ! (1 ∷ 2 ∷ []) $ fjoin ! $ move ! (0 ∷ 2 ∷ []) $ fjoin ! $ move ! (2 ∷ 3 ∷ 4 ∷ 1 ∷ 0 ∷ []) $ group ! 5 $
       use1 𝓛
-          (later
-          (some (λ (γ' : GName). raw (Part 𝓛 Sl Hd (sealing d) (named 0) κ q b o b' o' γ (sem 𝓛 (Rest b' o' hv))
-          (back b' o' hv e) x γ'))))
+      (later
+      (some (λ (γ' : GName). raw (Part 𝓛 Sl Hd (sealing d) (named 0) κ q b o b' o' γ (sem 𝓛 (Rest b' o' hv))
+      (back b' o' hv e) x γ'))))
       (lends_Part 𝓛 Sl Hd (sealing d) (named 0) κ q b o b' o' γ (sem 𝓛 (Rest b' o' hv)) (back b' o' hv e)
-          (Sl.coded.code d) (Sl.coded.code d) x) $
+      (Sl.coded.code d) (Sl.coded.code d) x) $
       await ! tt $ pick ! (λ γ'.
       returns ! (look_at ! 0 refl) $ free_all ! refl $
       keep ! (0 ∷ []) $ by ! (exits b' o' hv x held γ')))))
@@ -154,6 +154,6 @@ as_mut_spec 𝓤 𝓛 𝓜 𝓡 wired =
     let wp = WpFn 𝓤 𝓛.H 𝓣.C 𝓣.Λ code.function in
     entered 𝓤 𝓛.H (triple_of 𝓛 F.signature (F.spec 𝓛 𝓜.mem 𝓡.returns)) 𝓣.C 𝓣.Λ #self code.function (code.unfolded 𝓤 𝓛.H 𝓜 𝓡 wired)
     (walk_Meets 𝓛 F.ended stayed (Goes-spent_ref 𝓛 1 (0 ∷ []) tt (plain (λ _. Sl)), tt) held wp
-        (WpFn-mono 𝓤 𝓛.H 𝓛.laws 𝓣 code.function)
+    (WpFn-mono 𝓤 𝓛.H 𝓛.laws 𝓣 code.function)
     (walked 𝓛 F.ended stayed held wp (λ κs. (mut_vals, tt)) (λ κs. (mut_Tells (named 0) κs.0 Sl, tt))
     (λ κs qs bounds a g are. walk 𝓛 𝓜.mem 𝓡.returns 𝓣 κs.0 qs.0 a.0.ref_ptr.0 a.0.ref_ptr.1 a.0.ghost_name a.0.now)))

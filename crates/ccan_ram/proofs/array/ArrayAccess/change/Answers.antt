@@ -20,7 +20,7 @@ returns-clause-attempts c =
     let held = c.place_of.ensures.within in
     let at_place = c.place_of.ensures.place in
     rw c.done.ensures (makes a.profile a.records a.used a.port c.args.object c.requires.held a.quota c.args.change.now
-        c.args.tries
+    c.args.tries
     _ _ _ _ _ record {
       some = omega (arith, c.get-tries.ensures.range.least);
       all = omega (arith, a.all_records);

@@ -27,7 +27,7 @@ returns-in-None-clause-course c =
       (rests _ _ _ (λ next. let no = c.in-None.ensures.known.1 (subst HasNext (sym same) next) in cc), refl),
     )))
     (begins_same first.profile _ first.quota _ _ first.used _ _ _ so_far.profile so_far.quota so_far.used
-        c.exchange.ensures.exchanges)
+    c.exchange.ensures.exchanges)
 
 pub returns-in-None-clause-attempts : goal.returns-in-None-clause-attempts
 returns-in-None-clause-attempts c = Goes-weaker (returns-in-None-clause-course c) (λ seen added here after w. w.0)

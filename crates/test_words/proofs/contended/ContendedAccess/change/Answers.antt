@@ -21,7 +21,7 @@ pub returns-in-Ok-clause-attempts : goal.returns-in-Ok-clause-attempts
 returns-in-Ok-clause-attempts g c =
     let drafted = c.prepare-draft.ensures in
     committed _ _ _ _ c.prepare-draft.result drafted.object c.loop-turn.invariant.lost drafted.looks _ c.in-Ok.changed
-        (omega arith)
+    (omega arith)
     c.in-Ok.ensures.commits
 
 pub returns-in-Err-Spent-clause-attempts : goal.returns-in-Err-Spent-clause-attempts
@@ -35,6 +35,6 @@ returns-clause-few g c =
     let ram = g.R.SharedRam in
     let few =
     few_so_far ram.contends (ram.pass c.args.self.now.port) (ram.pass c.loop-turn.self.port) c.args.object
-        c.args.change.now c.loop-turn.turn
+    c.args.change.now c.loop-turn.turn
     c.loop-turn.last c.used.ensures.possible c.loop-turn.invariant.lost in
     omega arith
