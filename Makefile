@@ -47,6 +47,8 @@ hostile:
 soak:
 	@tools/build
 	tools/soak crates/ccan/out/ccan
+	@tools/build ccan_lab
+	tools/check_listed crates/ccan/out/ccan crates/ccan_lab/out/ccan_lab 1000 examples/threads/claims.json examples/outcomes/*.json
 
 c-test:
 	@tools/c_test
