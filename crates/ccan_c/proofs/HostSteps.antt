@@ -28,7 +28,7 @@ module _ (held : Held) (after : Option Held) (sees : CanSee (pass_of held)) wher
       → SetsRegister register value held new
       → Step HasRegisters held after (λ added left. Rests done (set_register register value held.registers) left added result)
   sets register value result new code is_open h =
-      let pass : pass_of new ≡ pass_of held = ap (λ (a : SharedPort). a.port) h.access in
+      let pass : pass_of new ≡ pass_of held = ap (λ (a : SharedPort). a.port.pass) h.access in
       record {
         new = new;
         is_open = is_open;

@@ -10,7 +10,7 @@ use Rattle.ccan_c.specs.declared.held.Held.{Held}
 
 -- what its port has seen
 abbrev pub pass_of : Held → Pass
-pass_of held = held.access.port
+pass_of held = held.access.port.pass
 
 -- what its port works under, and what it has seen
 abbrev pub passes : Held → Passes

@@ -17,12 +17,12 @@ use std::sync::Arc;
 
 /// The records of a memory that its three ports give back. None where somebody else holds it.
 fn ended(if1: SharedPort, if2: SharedPort, bus: SharedPort) -> Option<Final>
-    requires second { if1.port.memory ≡ if2.port.memory }
-    requires third { if1.port.memory ≡ bus.port.memory }
-    requires named_if1 { if1.port.port ≡ If1 }
-    requires named_if2 { if2.port.port ≡ If2 }
-    requires named_bus { bus.port.port ≡ Bus }
-    ensures { IfSome result (Ends if1.port if2.port bus.port) }
+    requires second { if1.port.pass.memory ≡ if2.port.pass.memory }
+    requires third { if1.port.pass.memory ≡ bus.port.pass.memory }
+    requires named_if1 { if1.port.pass.port ≡ If1 }
+    requires named_if2 { if2.port.pass.port ≡ If2 }
+    requires named_bus { bus.port.pass.port ≡ Bus }
+    ensures { IfSome result (Ends if1.port.pass if2.port.pass bus.port.pass) }
 {
     let SharedPort { ram, port: if1 } = if1;
     let SharedPort {

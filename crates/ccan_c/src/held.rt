@@ -19,5 +19,5 @@ pub struct Held {
     pub bus: Bus,
     ghost few: { nodes ≤ most_nodes },
     ghost known: { nodes ≤ bus.others },
-    ghost same_profile: { bus.profile ≡ access.port.memory.profile },
+    ghost same_profile: { bus.profile ≡ access.port.pass.memory.profile },
 }

@@ -16,13 +16,13 @@ use std::mem::replace;
 
 /// Shows each of three ports what the others have seen.
 fn meet_ports(if1: &mut SharedPort, if2: &mut SharedPort, bus: &mut SharedPort)
-    requires second { if1.old.port.memory ≡ if2.old.port.memory }
-    requires third { if1.old.port.memory ≡ bus.old.port.memory }
-    requires named_if1 { if1.old.port.port ≡ If1 }
-    requires named_if2 { if2.old.port.port ≡ If2 }
-    requires named_bus { bus.old.port.port ≡ Bus }
-    ensures { HaveMet if1.old.port if2.old.port bus.old.port
-        if1.new.port if2.new.port bus.new.port }
+    requires second { if1.old.port.pass.memory ≡ if2.old.port.pass.memory }
+    requires third { if1.old.port.pass.memory ≡ bus.old.port.pass.memory }
+    requires named_if1 { if1.old.port.pass.port ≡ If1 }
+    requires named_if2 { if2.old.port.pass.port ≡ If2 }
+    requires named_bus { bus.old.port.pass.port ≡ Bus }
+    ensures { HaveMet if1.old.port.pass if2.old.port.pass bus.old.port.pass
+        if1.new.port.pass if2.new.port.pass bus.new.port.pass }
 {
     if1.ram.meet(&mut if1.port, &mut if2.port);
     if1.ram.meet(&mut if1.port, &mut bus.port);

@@ -25,10 +25,10 @@ fn hold(
     port: Port,
     settings: &Settings,
 ) -> Option<Handle>
-    requires belongs { port.memory ≡ ram.now.value.words }
-    requires profile { port.memory.profile ≡ settings.now.profile }
+    requires belongs { port.pass.memory ≡ ram.now.value.words }
+    requires profile { port.pass.memory.profile ≡ settings.now.profile }
     ensures { IfSome result (λ handle.
-        IsOpenAs (IsOpening port settings.now.nodes settings.now.tries) handle.seal.value) }
+        IsOpenAs (IsOpening port.pass settings.now.nodes settings.now.tries) handle.seal.value) }
 {
     let Ok(ram) = Arc::try_clone(ram) else {
         return None;

@@ -13,14 +13,14 @@ use std::sync::Arc;
 pub struct SharedPort {
     pub ram: Arc<EndlessRam, Global>,
     pub port: Port,
-    ghost belongs: { port.memory ≡ (arc_value ram).words },
+    ghost belongs: { port.pass.memory ≡ (arc_value ram).words },
 }
 
 impl Access for SharedPort {
     ghost use Rattle.ccan_ram.specs.SharedRam.{passes_of};
     ghost use Rattle.ccan_endless.specs.Layout.{same_object};
 
-    ghost passes = { λ shared. passes_of same_object shared.port };
+    ghost passes = { λ shared. passes_of same_object shared.port.pass };
 
     fn profile(&self) -> Profile {
         self.ram.profile()

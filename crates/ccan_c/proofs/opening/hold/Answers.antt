@@ -10,7 +10,7 @@ returns-in-Ok-new c =
       c.in-Ok-new.held.value,
       c.open.ensures,
       record {
-        port_is = ap (λ (h : Held). h.access.port) same;
+        port_is = ap (λ (h : Held). h.access.port.pass) same;
         tries_are = ap (λ (h : Held). h.tries) same;
         nodes_are = ap (λ (h : Held). h.nodes) same;
         registers_are = ap (λ (h : Held). h.registers) same ∙ c.new.ensures;

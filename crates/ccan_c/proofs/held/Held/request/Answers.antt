@@ -18,7 +18,7 @@ returns c =
       nodes = refl;
       bus = refl;
       runs =
-          subst (λ (set : List (Reg × ℕ)). Goes (passes old) (passes_of same_object new.access.port)
+          subst (λ (set : List (Reg × ℕ)). Goes (passes old) (passes_of same_object new.access.port.pass)
           (λ terms seen added. HostLineMeans terms old.tries (Transfer c.args.request (record { items = set }))
           old.registers seen added c.run_line.result new.self))
           c.new.ensures (as_values old.registers new.self _ c.run_line.ensures.runs);

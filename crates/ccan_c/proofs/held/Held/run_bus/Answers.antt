@@ -7,7 +7,7 @@ pub invariant_of-self : goal.invariant_of-self
 invariant_of-self c =
     let old = c.args.self.now in
     let run = c.run_line.ensures in
-    let profile = old.access.port.memory.profile in
+    let profile = old.access.port.pass.memory.profile in
     record {
       few = old.few;
       known = (run.takes profile (Counters old.nodes) (record { same_profile = old.same_profile; known = old.known })).known;
