@@ -1,4 +1,5 @@
-//! All faults of a register script, each with its place and the remedy, and what is taken but rarely meant.
+//! The faults of a register script, of each of its lines the first, each with its place and the remedy, and what is taken but
+//! rarely meant.
 //!
 //! ```text
 //!   bytes --> Report { faults, warnings }

@@ -77,7 +77,7 @@ fn told_first(
     }
 }
 
-/// All faults of a script and what is taken but rarely meant. It has no faults just where [`read_script`] answers a script,
+/// The faults of a script, of each of its lines the first, and what is taken but rarely meant. It has no faults just where [`read_script`] answers a script,
 /// and else the first is the fault that `read_script` answers.
 pub fn check(alloc: Global, bytes: &[u8]) -> Result<Report, AllocError>
     ensures { IfOk result (λ report. IsFirstOf bytes.now (first_error report.faults.items)) }

@@ -13,7 +13,7 @@ use std::fs::Files;
 use std::io::{Input, IsTerminal, Write};
 use std::{fs, io};
 
-/// What is asked about scripts: all their faults.
+/// What is asked about scripts: their faults.
 #[derive(Drop)]
 pub struct CheckQuestion<'a> {
     /// Whether warnings have an exit status of their own.
@@ -22,7 +22,7 @@ pub struct CheckQuestion<'a> {
     pub files: Vec<&'a str>,
 }
 
-/// The command that tells all faults of scripts.
+/// The command that tells the faults of scripts.
 pub fn check_command<'a>(alloc: Global) -> Result<Command<'a>, AllocError> {
     let strict = Arg::new(alloc, "strict")
         .long("strict")
@@ -34,7 +34,7 @@ pub fn check_command<'a>(alloc: Global) -> Result<Command<'a>, AllocError> {
         .num_args(0..)
         .help("The scripts; left out or -: standard input");
     Command::new(alloc, "check")
-        .about("Tells all faults of scripts, each with its file, line and column")
+        .about("Tells the faults of scripts, each with its file, line and column")
         .arg(strict)?
         .arg(files)
 }

@@ -2,7 +2,7 @@
 //!
 //! `ccan-lab outcomes` goes through every outcome that a script can have when its two hosts and its bus run at once. It
 //! shows what each line may be; with `--all` each outcome and a history that leads to it; with `--can LINE` and
-//! `--never LINE` whether an outcome has a line that begins so. `ccan-lab check` tells all faults of scripts, each with its
+//! `--never LINE` whether an outcome has a line that begins so. `ccan-lab check` tells the faults of scripts, each with its
 //! file, line and column. `ccan-lab explain` runs a script in its order and tells each line decoded, and
 //! `ccan-lab from-candump` makes a script of a log of a bus.
 //!

@@ -11,7 +11,7 @@ use std::convert::AsStr;
 pub enum Question<'a> {
     /// About the outcomes of a script.
     Outcomes(OutcomesQuestion<'a>),
-    /// All faults of scripts.
+    /// The faults of scripts.
     Check(CheckQuestion<'a>),
     /// One run of a script in its order.
     Explain(ExplainQuestion<'a>),
