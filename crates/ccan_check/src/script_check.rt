@@ -77,8 +77,9 @@ fn told_first(
     }
 }
 
-/// The faults of a script, of each of its lines the first, and what is taken but rarely meant. It has no faults just where [`read_script`] answers a script,
-/// and else the first is the fault that `read_script` answers.
+/// The faults of a script, of each of its lines the first, and what is taken but rarely meant.
+///
+/// It has no faults just where [`read_script`] answers a script, and else the first is the fault that `read_script` answers.
 pub fn check(alloc: Global, bytes: &[u8]) -> Result<Report, AllocError>
     ensures { IfOk result (λ report. IsFirstOf bytes.now (first_error report.faults.items)) }
 {
