@@ -8,8 +8,8 @@ use Rattle.ccan_ram.specs.declared.event.Event.{Event}
 use Rattle.ccan_ram.specs.History.{events_of}
 use Rattle.ccan_ram.proofs.Histories.{events_of-append}
 use Rattle.ccan_ram.specs.SharedRam.{Memory, terms_of}
-use Rattle.ccan_script.specs.declared.line_answer.LineAnswer.{LineAnswer}
-use Rattle.ccan_script.specs.Script.{ScriptFields}
+use Rattle.ccan_line.specs.declared.line_answer.LineAnswer.{LineAnswer}
+use Rattle.ccan_line.specs.Script.{ScriptFields}
 use Rattle.ccan_run.specs.Threads.{HasPart}
 use Rattle.ccan_run.specs.Answered.{HostInOrder, BusInOrder}
 use Rattle.ccan_run.specs.Laws.{AnswersHaveEvents}

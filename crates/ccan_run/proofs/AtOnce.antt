@@ -11,15 +11,15 @@ use Rattle.ccan_ram.specs.History.{IsLegal, events_of}
 use Rattle.ccan_ram.specs.Access.{Goes}
 use Rattle.ccan_ram.specs.Ending.{Ends, IsPart, final_records}
 use Rattle.ccan_ram.specs.SharedRam.{Memory, Pass, IsMemoryOf, opened, passes_of, terms_of}
-use Rattle.ccan_script.specs.declared.line_answer.LineAnswer.{LineAnswer}
-use Rattle.ccan_script.specs.Script.{ScriptFields}
+use Rattle.ccan_line.specs.declared.line_answer.LineAnswer.{LineAnswer}
+use Rattle.ccan_line.specs.Script.{ScriptFields}
 use Rattle.ccan_run.specs.declared.outcome.Outcome.{Outcome}
 use Rattle.ccan_run.specs.declared.run_error.RunError.{RunError}
 use Rattle.ccan_run.specs.declared.run_error.RunError.TheVariants as stop
 use Rattle.ccan_run.specs.declared.per_port.PerPort.{PerPort}
 use Rattle.ccan_run.specs.declared.port_run.PortRun.{PortRun}
-use Rattle.ccan_run.specs.Gate.{IsHeldAt, WasAsked}
-use Rattle.ccan_run.specs.Port.{PortMeans, count_of}
+use Rattle.ccan_line.specs.Gate.{IsHeldAt, WasAsked}
+use Rattle.ccan_line.specs.Port.{PortMeans, count_of}
 use Rattle.ccan_run.specs.Threads.{AllRan, HasPart, HasRun, HaveAsked, HaveRun, IsFirstHeld, RunsAtOnce, StopsThreads, WasHeld}
 
 -- the memory of a port, by what the port works under

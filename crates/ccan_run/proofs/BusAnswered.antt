@@ -36,12 +36,12 @@ use Rattle.ccan_bus.specs.Load.{Loads}
 use Rattle.ccan_bus.specs.LoopBack.{AtFinish, AtScan, LoopsBack}
 use Rattle.ccan_bus.specs.Round.{Round, RefusedFinish, RefusedScan, Contends, Transfers, Continues, refusal_of_round}
 use Rattle.ccan_bus.proofs.AfterRounds.{nothing_after}
-use Rattle.ccan_script.specs.declared.bus_line.BusLine.{BusLine}
-use Rattle.ccan_script.specs.declared.bus_line.BusLine.TheVariants as line
-use Rattle.ccan_script.specs.declared.line_answer.LineAnswer.{LineAnswer}
-use Rattle.ccan_script.specs.declared.line_answer.LineAnswer.TheVariants as answer
-use Rattle.ccan_run.specs.Lines.{LinesMean}
-use Rattle.ccan_run.specs.BusPort.{BusLineMeans}
+use Rattle.ccan_line.specs.declared.bus_line.BusLine.{BusLine}
+use Rattle.ccan_line.specs.declared.bus_line.BusLine.TheVariants as line
+use Rattle.ccan_line.specs.declared.line_answer.LineAnswer.{LineAnswer}
+use Rattle.ccan_line.specs.declared.line_answer.LineAnswer.TheVariants as answer
+use Rattle.ccan_line.specs.Lines.{LinesMean}
+use Rattle.ccan_line.specs.BusPort.{BusLineMeans}
 use Rattle.ccan_run.specs.Answered.{HasStep, NamesPending, WordWasShown, WasChanged, WasSent, WasStored, RoundShownBy}
 use Rattle.ccan_run.specs.Answered.{BusShownBy, IsBusReplyTo, IsBusPart, BusInOrder, BusMakes, RoundMakes, IsAtMost, changes_in}
 use Rattle.ccan_run.proofs.HostChanges.{changes_by-attempt, changes_by-interrupt, changes_by-flags}

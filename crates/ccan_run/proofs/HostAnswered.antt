@@ -20,13 +20,13 @@ use Rattle.ccan_ram.specs.History.{changes_by, events_of}
 use Rattle.ccan_ram.specs.Terms.{Terms}
 use Rattle.ccan_ram.specs.Attempt.{Attempt, IsLook}
 use Rattle.ccan_handler.specs.Watch.{Watches}
-use Rattle.ccan_script.specs.declared.host_line.HostLine.{HostLine}
-use Rattle.ccan_script.specs.declared.host_line.HostLine.TheVariants as host
-use Rattle.ccan_script.specs.declared.line_answer.LineAnswer.{LineAnswer}
-use Rattle.ccan_script.specs.declared.line_answer.LineAnswer.TheVariants as answer
-use Rattle.ccan_run.specs.Lines.{LinesMean}
-use Rattle.ccan_run.specs.Transfer.{Answers, Ends, change_of, with_settings}
-use Rattle.ccan_run.specs.Host.{HostLineMeans}
+use Rattle.ccan_line.specs.declared.host_line.HostLine.{HostLine}
+use Rattle.ccan_line.specs.declared.host_line.HostLine.TheVariants as host
+use Rattle.ccan_line.specs.declared.line_answer.LineAnswer.{LineAnswer}
+use Rattle.ccan_line.specs.declared.line_answer.LineAnswer.TheVariants as answer
+use Rattle.ccan_line.specs.Lines.{LinesMean}
+use Rattle.ccan_line.specs.Transfer.{Answers, Ends, change_of, with_settings}
+use Rattle.ccan_line.specs.Host.{HostLineMeans}
 use Rattle.ccan_run.specs.Answered.{HasStep, HostShownBy, IsHostPart, IsOfTransfer, IsReplyTo, HostInOrder, changes_told, reading, registers_set, registers_after}
 use Rattle.ccan_run.proofs.StepsShown.{looked_at, done_at, watch_shown, watch_in_vain, interrupt_shown, word_shown}
 use Rattle.ccan_run.proofs.HostChanges.{changes_by-look, changes_by-attempt, changes_by-watch, changes_by-interrupt, changes_by-flags}

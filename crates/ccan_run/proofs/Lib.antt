@@ -1,7 +1,6 @@
 pub mod Writes
 pub mod Waits
 pub mod OutcomeLines
-pub mod Rows
 pub mod Meetings
 pub mod Turns
 pub mod TurnsSoFar
@@ -21,11 +20,6 @@ pub mod CommandLine
 pub mod CommandWords
 pub mod OtherWords
 pub mod AtOnce
-pub mod ScansApart
-pub mod ChoicesApart
-pub mod RoundsApart
-pub mod LinesApart
-pub mod Apart
 pub mod HostChanges
 pub mod StepsShown
 pub mod HostAnswered

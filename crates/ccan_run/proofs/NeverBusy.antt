@@ -30,18 +30,19 @@ use Rattle.ccan_bus.specs.Choice.{Chooses}
 use Rattle.ccan_bus.specs.Load.{Loads}
 use Rattle.ccan_bus.specs.LoopBack.{IsLoopRefused, AtFinish, AtScan}
 use Rattle.ccan_bus.specs.Round.{Round, Transfers, Continues, IsRefused, RefusedFinish, RefusedScan, refusal_of_round}
-use Rattle.ccan_script.specs.declared.host_line.HostLine.{HostLine}
-use Rattle.ccan_script.specs.declared.host_line.HostLine.TheVariants as host
-use Rattle.ccan_script.specs.declared.bus_line.BusLine.{BusLine}
-use Rattle.ccan_script.specs.declared.bus_line.BusLine.TheVariants as line
-use Rattle.ccan_script.specs.declared.line_answer.LineAnswer.{LineAnswer}
-use Rattle.ccan_script.specs.declared.line_answer.LineAnswer.TheVariants as answer
-use Rattle.ccan_script.specs.Script.{ScriptFields}
-use Rattle.ccan_run.specs.Transfer.{Answers, Ends, change_of, with_settings}
-use Rattle.ccan_run.specs.Host.{HostLineMeans}
-use Rattle.ccan_run.specs.BusPort.{BusLineMeans}
-use Rattle.ccan_run.specs.Lines.{LinesMean}
-use Rattle.ccan_run.specs.Ordered.{PortLine, of_if1, of_if2, of_bus, Three, PortLineMeans, terms_of, opening, lines_of}
+use Rattle.ccan_line.specs.declared.host_line.HostLine.{HostLine}
+use Rattle.ccan_line.specs.declared.host_line.HostLine.TheVariants as host
+use Rattle.ccan_line.specs.declared.bus_line.BusLine.{BusLine}
+use Rattle.ccan_line.specs.declared.bus_line.BusLine.TheVariants as line
+use Rattle.ccan_line.specs.declared.line_answer.LineAnswer.{LineAnswer}
+use Rattle.ccan_line.specs.declared.line_answer.LineAnswer.TheVariants as answer
+use Rattle.ccan_line.specs.Script.{ScriptFields}
+use Rattle.ccan_line.specs.Transfer.{Answers, Ends, change_of, with_settings}
+use Rattle.ccan_line.specs.Host.{HostLineMeans}
+use Rattle.ccan_line.specs.BusPort.{BusLineMeans}
+use Rattle.ccan_line.specs.Lines.{LinesMean}
+use Rattle.ccan_line.specs.Turn.{PortLine, of_if1, of_if2, of_bus, Three, PortLineMeans, terms_of, opening}
+use Rattle.ccan_run.specs.Ordered.{lines_of}
 use Rattle.ccan_run.specs.Laws.{IsNotBusy, HasNoBusyLine}
 
 module _ (terms : Terms) (alone : terms.alone ≡ true) (tries : ℕ) (some : 1 ≤ tries) where

@@ -21,18 +21,19 @@ use Rattle.ccan_ram.proofs.Histories.{IsLegal-older}
 use Rattle.ccan_handler.specs.Watch.{Interrupts}
 use Rattle.ccan_confine.specs.Status.{IsPending}
 use Rattle.ccan_bus.specs.Past.{BusPast}
-use Rattle.ccan_script.specs.declared.host_line.HostLine.{HostLine}
-use Rattle.ccan_script.specs.declared.host_line.HostLine.TheVariants as host
-use Rattle.ccan_script.specs.declared.bus_line.BusLine.{BusLine}
-use Rattle.ccan_script.specs.declared.bus_line.BusLine.TheVariants as line
-use Rattle.ccan_script.specs.declared.line_answer.LineAnswer.{LineAnswer}
-use Rattle.ccan_script.specs.declared.line_answer.LineAnswer.TheVariants as answer
-use Rattle.ccan_script.specs.Script.{ScriptFields}
-use Rattle.ccan_run.specs.Transfer.{Answers, Ends, change_of, with_settings}
-use Rattle.ccan_run.specs.Host.{HostLineMeans}
-use Rattle.ccan_run.specs.BusPort.{BusLineMeans, Only}
-use Rattle.ccan_run.specs.Lines.{LinesMean}
-use Rattle.ccan_run.specs.Ordered.{PortLine, of_if1, of_if2, of_bus, Three, PortLineMeans, terms_of, opening, lines_of, answers_text, finals_text}
+use Rattle.ccan_line.specs.declared.host_line.HostLine.{HostLine}
+use Rattle.ccan_line.specs.declared.host_line.HostLine.TheVariants as host
+use Rattle.ccan_line.specs.declared.bus_line.BusLine.{BusLine}
+use Rattle.ccan_line.specs.declared.bus_line.BusLine.TheVariants as line
+use Rattle.ccan_line.specs.declared.line_answer.LineAnswer.{LineAnswer}
+use Rattle.ccan_line.specs.declared.line_answer.LineAnswer.TheVariants as answer
+use Rattle.ccan_line.specs.Script.{ScriptFields}
+use Rattle.ccan_line.specs.Transfer.{Answers, Ends, change_of, with_settings}
+use Rattle.ccan_line.specs.Host.{HostLineMeans}
+use Rattle.ccan_line.specs.BusPort.{BusLineMeans, Only}
+use Rattle.ccan_line.specs.Lines.{LinesMean}
+use Rattle.ccan_line.specs.Turn.{PortLine, of_if1, of_if2, of_bus, Three, PortLineMeans, terms_of, opening}
+use Rattle.ccan_run.specs.Ordered.{lines_of, answers_text, finals_text}
 use Rattle.ccan_run.specs.Laws.{HasOneText, WhatWasPrintedIsTheText}
 use Rattle.ccan_run.proofs.Determined.{once, look, attempt, look_is, attempt_is}
 use Rattle.ccan_run.proofs.LooksOnce.{watches_once, interrupts_once, words_once}

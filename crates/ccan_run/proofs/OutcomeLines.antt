@@ -14,7 +14,7 @@ use Rattle.ccan_ram.specs.History.{record_at}
 use Rattle.ccan_object.specs.declared.record.Record.{Record}
 use Rattle.ccan_ram.specs.declared.port.PortName.{PortName}
 use Rattle.ccan_ram.specs.declared.port.PortName.TheVariants.{If1, If2, Bus}
-use Rattle.ccan_script.specs.declared.line_answer.LineAnswer.{LineAnswer}
+use Rattle.ccan_line.specs.declared.line_answer.LineAnswer.{LineAnswer}
 use Rattle.ccan_script.specs.Print.{final_line, line_text}
 use Rattle.ccan_run.specs.Laws.{LastLinesAreFinals}
 use Rattle.ccan_run.specs.Ordered.{answers_text, final_part, final_parts}

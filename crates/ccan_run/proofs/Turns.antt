@@ -14,18 +14,19 @@ use Rattle.ccan_ram.specs.SharedRam as shared
 use Rattle.ccan_ram.specs.SharedRam.{Memory, Pass, IsSamePort, passes_of}
 use Rattle.ccan_bus.specs.declared.bus.Bus as a_bus
 use Rattle.ccan_bus.specs.Bus.{LedTo}
-use Rattle.ccan_script.specs.declared.host_line.HostLine.{HostLine}
-use Rattle.ccan_script.specs.declared.bus_line.BusLine.{BusLine}
-use Rattle.ccan_script.specs.declared.line_answer.LineAnswer.{LineAnswer}
-use Rattle.ccan_script.specs.Script.{ScriptFields}
-use Rattle.ccan_script.specs.Order.{times}
+use Rattle.ccan_line.specs.declared.host_line.HostLine.{HostLine}
+use Rattle.ccan_line.specs.declared.bus_line.BusLine.{BusLine}
+use Rattle.ccan_line.specs.declared.line_answer.LineAnswer.{LineAnswer}
+use Rattle.ccan_line.specs.Script.{ScriptFields}
+use Rattle.ccan_line.specs.Order.{times}
 use Rattle.ccan_run.specs.declared.ports.Ports.{Ports}
-use Rattle.ccan_run.specs.Side.{GoesOn}
-use Rattle.ccan_run.specs.Port.{count_of}
-use Rattle.ccan_run.specs.Host.{HostLineMeans}
-use Rattle.ccan_run.specs.BusPort.{BusLineMeans}
-use Rattle.ccan_run.specs.Ordered.{of_if1, of_if2, of_bus, joined}
-use Rattle.ccan_run.specs.Ports.{next_of, StartsFrom, TakesTurn}
+use Rattle.ccan_line.specs.Side.{GoesOn}
+use Rattle.ccan_line.specs.Port.{count_of}
+use Rattle.ccan_line.specs.Host.{HostLineMeans}
+use Rattle.ccan_line.specs.BusPort.{BusLineMeans}
+use Rattle.ccan_line.specs.Turn.{of_if1, of_if2, of_bus, StartsFrom}
+use Rattle.ccan_run.specs.Ordered.{joined}
+use Rattle.ccan_run.specs.Ports.{next_of, TakesTurn}
 use Rattle.ccan_run.specs.Trio.{IsQuiet, CatchesUp, seen_by}
 
 -- ---- one turn

@@ -9,15 +9,16 @@ use Rattle.ccan_ram.specs.History.{BeginsWith, IsLegal, events_of}
 use Rattle.ccan_ram.specs.Ending.{Ends, IsPart, final_records}
 use Rattle.ccan_ram.specs.SharedRam.{Memory, Pass, IsMemoryOf}
 use Rattle.ccan_ram.proofs.Histories.{events_of-append}
-use Rattle.ccan_script.specs.declared.line_answer.LineAnswer.{LineAnswer}
-use Rattle.ccan_script.specs.Script.{ScriptFields}
+use Rattle.ccan_line.specs.declared.line_answer.LineAnswer.{LineAnswer}
+use Rattle.ccan_line.specs.Script.{ScriptFields}
 use Rattle.ccan_run.specs.declared.ports.Ports.{Ports}
-use Rattle.ccan_run.specs.Lines.{LinesMean}
-use Rattle.ccan_run.specs.Ordered.{PortLine, lines_of, Three, opening, PortLineMeans, terms_of, RunsTo}
+use Rattle.ccan_line.specs.Lines.{LinesMean}
+use Rattle.ccan_line.specs.Turn.{PortLine, Three, opening, PortLineMeans, terms_of}
+use Rattle.ccan_run.specs.Ordered.{lines_of, RunsTo}
 use Rattle.ccan_run.specs.Ports.{rest, HaveLedTo, TakesTurn}
 use Rattle.ccan_run.specs.Trio.{seen_by}
-use Rattle.ccan_run.proofs.Apart.{both_empty, no_others, none_of_all, port_line_apart, same_or_not}
-use Rattle.ccan_run.proofs.Rows.{LinesMean-push}
+use Rattle.ccan_line.proofs.Apart.{both_empty, no_others, none_of_all, port_line_apart, same_or_not}
+use Rattle.ccan_line.proofs.Rows.{LinesMean-push}
 
 -- a history has just the events that its ports know to be theirs
 abbrev pub IsTheirs : (PortName → List Event) → List Event → Type 0

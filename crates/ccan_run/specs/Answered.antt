@@ -31,15 +31,15 @@ use Rattle.ccan_ram.specs.Ending.{final_records}
 use Rattle.ccan_bus.specs.declared.answer.LoadAnswer.TheVariants as load
 use Rattle.ccan_bus.specs.declared.answer.RoundAnswer.{RoundAnswer}
 use Rattle.ccan_bus.specs.declared.answer.RoundAnswer.TheVariants as round
-use Rattle.ccan_script.specs.declared.bus_line.BusLine.{BusLine}
-use Rattle.ccan_script.specs.declared.bus_line.BusLine.TheVariants as bus
-use Rattle.ccan_script.specs.declared.host_line.HostLine.{HostLine}
-use Rattle.ccan_script.specs.declared.host_line.HostLine.TheVariants as host
-use Rattle.ccan_script.specs.declared.line_answer.LineAnswer.{LineAnswer}
-use Rattle.ccan_script.specs.declared.line_answer.LineAnswer.TheVariants as answer
-use Rattle.ccan_script.specs.Script.{ScriptFields}
+use Rattle.ccan_line.specs.declared.bus_line.BusLine.{BusLine}
+use Rattle.ccan_line.specs.declared.bus_line.BusLine.TheVariants as bus
+use Rattle.ccan_line.specs.declared.host_line.HostLine.{HostLine}
+use Rattle.ccan_line.specs.declared.host_line.HostLine.TheVariants as host
+use Rattle.ccan_line.specs.declared.line_answer.LineAnswer.{LineAnswer}
+use Rattle.ccan_line.specs.declared.line_answer.LineAnswer.TheVariants as answer
+use Rattle.ccan_line.specs.Script.{ScriptFields}
 use Rattle.ccan_run.specs.declared.outcome.Outcome.{Outcome}
-use Rattle.ccan_run.specs.Transfer.{with_settings}
+use Rattle.ccan_line.specs.Transfer.{with_settings}
 
 -- a step of the port at the object is among these, which did this, found the one record and left the other
 abbrev pub HasStep : PortName → ℕ → Operation → Record → Record → List Event → Type 0

@@ -4,7 +4,7 @@ use Rattle.std.specs.Io.KnownBytes.{Consumes, IsAtEnd}
 use Rattle.ccan_run.specs.declared.run_error.RunError.{RunError}
 use Rattle.ccan_run.specs.declared.run_error.RunError.TheVariants.{Read, TooLong, Script, Memory}
 use Rattle.ccan_script.specs.declared.script_error.ScriptError.{ScriptError}
-use Rattle.ccan_script.specs.Script.{ScriptFields}
+use Rattle.ccan_line.specs.Script.{ScriptFields}
 use Rattle.ccan_script.specs.Reader.{Shows, RefusesText}
 
 -- bytes of the input

@@ -7,9 +7,9 @@ use Rattle.ccan_ram.specs.declared.event.Event.{Event}
 use Rattle.ccan_ram.specs.Ending.{final_records}
 use Rattle.ccan_bus.specs.declared.answer.LoadAnswer.TheVariants as load
 use Rattle.ccan_bus.specs.declared.answer.RoundAnswer.TheVariants as round
-use Rattle.ccan_script.specs.declared.line_answer.LineAnswer.{LineAnswer}
-use Rattle.ccan_script.specs.declared.line_answer.LineAnswer.TheVariants.{Busy, Load, Round}
-use Rattle.ccan_script.specs.Script.{ScriptFields}
+use Rattle.ccan_line.specs.declared.line_answer.LineAnswer.{LineAnswer}
+use Rattle.ccan_line.specs.declared.line_answer.LineAnswer.TheVariants.{Busy, Load, Round}
+use Rattle.ccan_line.specs.Script.{ScriptFields}
 use Rattle.ccan_run.specs.declared.outcome.Outcome.{Outcome}
 use Rattle.ccan_run.specs.Ordered.{LinesRun, HasText, Prints, finals_text}
 use Rattle.ccan_run.specs.Threads.{RunsAtOnce}

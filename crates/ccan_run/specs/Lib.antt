@@ -4,13 +4,6 @@ pub mod RunMode
 pub mod CommandLine
 pub mod Input
 pub mod Output
-pub mod Side
-pub mod Lines
-pub mod Transfer
-pub mod Host
-pub mod BusPort
-pub mod Gate
-pub mod Port
 pub mod Threads
 pub mod Answered
 pub mod Ordered

@@ -5,7 +5,6 @@ use Rattle.std.specs.List.{concat, flat_map, range_with_len}
 use Rattle.std.specs.Io.KnownBytes.{Appends, Keeps}
 use Rattle.ccan_object.specs.declared.record.Record.{Record}
 use Rattle.ccan_object.specs.declared.profile.Profile.{Profile}
-use Rattle.ccan_object.specs.Interface.{Registers, zero_registers}
 use Rattle.ccan_object.specs.Profile.{objects_in}
 use Rattle.ccan_ram.specs.declared.port.PortName.{PortName}
 use Rattle.ccan_ram.specs.declared.port.PortName.TheVariants.{If1, If2, Bus}
@@ -13,27 +12,18 @@ use Rattle.ccan_ram.specs.declared.event.Event.{Event}
 use Rattle.ccan_ram.specs.declared.ending.Final.{Final}
 use Rattle.ccan_ram.specs.Ending.{final_records}
 use Rattle.ccan_ram.specs.History.{IsLegal, record_at}
-use Rattle.ccan_ram.specs.Terms.{Terms, one_thread_terms}
-use Rattle.ccan_bus.specs.Past.{BusPast, opened}
-use Rattle.ccan_script.specs.declared.host_line.HostLine.{HostLine}
-use Rattle.ccan_script.specs.declared.bus_line.BusLine.{BusLine}
-use Rattle.ccan_script.specs.declared.line_answer.LineAnswer.{LineAnswer}
-use Rattle.ccan_script.specs.Script.{ScriptFields}
+use Rattle.ccan_line.specs.declared.host_line.HostLine.{HostLine}
+use Rattle.ccan_line.specs.declared.bus_line.BusLine.{BusLine}
+use Rattle.ccan_line.specs.declared.line_answer.LineAnswer.{LineAnswer}
+use Rattle.ccan_line.specs.Script.{ScriptFields}
 use Rattle.ccan_script.specs.Print.{line_text, final_line}
 use Rattle.ccan_run.specs.declared.run_error.RunError.{RunError}
 use Rattle.ccan_run.specs.declared.run_error.RunError.TheVariants.{Memory, Write}
-use Rattle.ccan_run.specs.Lines.{Run}
-use Rattle.ccan_run.specs.Host.{HostLineMeans}
-use Rattle.ccan_run.specs.BusPort.{BusLineMeans}
+use Rattle.ccan_line.specs.Lines.{Run}
+use Rattle.ccan_line.specs.Turn.{PortLine, of_if1, of_if2, of_bus, PortLineMeans, opening, terms_of}
 use Rattle.ccan_run.specs.Output.{WritesPart}
 
 -- ---- the lines in their order
-
--- a line of some port
-pub data PortLine : Type 0 where
-  of_if1 : HostLine → PortLine
-  of_if2 : HostLine → PortLine
-  of_bus : BusLine → PortLine
 
 -- the lines of the three ports in an order: each name takes that port's next line
 abbrev pub joined : List PortName → List HostLine → List HostLine → List BusLine → List PortLine
@@ -47,33 +37,6 @@ joined (Bus ∷ order) if1 if2 (line ∷ bus) = of_bus line ∷ joined order if1
 
 abbrev pub lines_of : ScriptFields → List PortLine
 lines_of script = joined script.order script.if1 script.if2 script.bus
-
--- what the lines of the three ports work on
-pub record Three : Type 0 where
-  pub first : Registers
-  pub second : Registers
-  pub bus : BusPast
-
--- as a run begins: registers that read 0, and a bus to which nothing happened
-abbrev pub opening : ℕ → Three
-opening nodes = record { first = zero_registers; second = zero_registers; bus = opened nodes }
-
--- a line of some port works on what is that port's, under its terms, and the rest stays; its answer is told with the port
-abbrev pub PortLineMeans : (PortName → Terms) → ℕ → PortLine → Three → List Event → List Event → PortName × LineAnswer
-    → Three → Type 0
-PortLineMeans terms tries (of_if1 line) three seen added reply left =
-    (after : Registers) × (reply.0 ≡ If1) × HostLineMeans (terms If1) tries line three.first seen added reply.1 after
-    × (left ≡ record three { first = after })
-PortLineMeans terms tries (of_if2 line) three seen added reply left =
-    (after : Registers) × (reply.0 ≡ If2) × HostLineMeans (terms If2) tries line three.second seen added reply.1 after
-    × (left ≡ record three { second = after })
-PortLineMeans terms tries (of_bus line) three seen added reply left =
-    (after : BusPast) × (reply.0 ≡ Bus) × BusLineMeans (terms Bus) tries line three.bus seen added reply.1 after
-    × (left ≡ record three { bus = after })
-
--- the terms of a script's ports over a plain memory, where nothing contends and nobody else acts
-abbrev pub terms_of : ScriptFields → PortName → Terms
-terms_of script port = one_thread_terms script.profile port script.quota
 
 -- the lines of a script in its order stand for this history, with these answers
 abbrev pub LinesRun : ScriptFields → List Event → List (PortName × LineAnswer) → Type 0

@@ -6,7 +6,7 @@ use Rattle.ccan_object.specs.Profile.{objects_in}
 use Rattle.ccan_ram.specs.declared.ending.Final.{Final}
 use Rattle.ccan_ram.specs.declared.port.PortName.{PortName}
 use Rattle.ccan_ram.specs.declared.port.PortName.TheVariants.{If1, If2, Bus}
-use Rattle.ccan_script.specs.declared.line_answer.LineAnswer.{LineAnswer}
+use Rattle.ccan_line.specs.declared.line_answer.LineAnswer.{LineAnswer}
 use Rattle.ccan_run.specs.declared.outcome.Outcome.{Outcome}
 use Rattle.ccan_run.specs.Ordered.{answers_text, final_part}
 

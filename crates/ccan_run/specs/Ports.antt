@@ -1,17 +1,17 @@
 -- What the lines of all three ports work on in one thread, and what a turn of one of them makes of it, over a shared
 -- memory. Source: this project's own.
-use Rattle.std.specs.Prelude.{ℕ, ◌≡◌, ◌≢◌, Bool, List, ◌∷◌, ◌++◌, All, drop}
+use Rattle.std.specs.Prelude.{ℕ, ◌≡◌, Bool, List, ◌∷◌, ◌++◌, All, drop}
 use Rattle.ccan_ram.specs.declared.port.PortName.{PortName}
 use Rattle.ccan_ram.specs.declared.port.PortName.TheVariants.{If1, If2, Bus}
 use Rattle.ccan_ram.specs.declared.event.Event.{Event}
-use Rattle.ccan_ram.specs.History.{BeginsWith, events_of}
 use Rattle.ccan_ram.specs.SharedRam.{Memory, terms_of}
 use Rattle.ccan_bus.specs.Bus.{LedTo}
-use Rattle.ccan_script.specs.declared.line_answer.LineAnswer.{LineAnswer}
-use Rattle.ccan_script.specs.Script.{ScriptFields}
+use Rattle.ccan_line.specs.declared.line_answer.LineAnswer.{LineAnswer}
+use Rattle.ccan_line.specs.Script.{ScriptFields}
 use Rattle.ccan_run.specs.declared.ports.Ports.{Ports}
-use Rattle.ccan_run.specs.BusPort.{TakesLine}
-use Rattle.ccan_run.specs.Ordered.{PortLine, joined, Three, PortLineMeans}
+use Rattle.ccan_line.specs.BusPort.{TakesLine}
+use Rattle.ccan_line.specs.Turn.{PortLine, Three, PortLineMeans, StartsFrom}
+use Rattle.ccan_run.specs.Ordered.{joined}
 
 -- how many lines of a port have run
 abbrev pub next_of : Ports → PortName → ℕ
@@ -33,13 +33,6 @@ pub record HaveLedTo (three : Three) (ports : Ports) : Type 0 where
 -- the bus can run each line that the script has for it
 abbrev pub CanRun : ScriptFields → Ports → Type 0
 CanRun script ports = All (TakesLine script.profile ports.bus.side) script.bus
-
--- the line of a turn of a port starts from this history: it has all that any port had seen, and of the port itself no
--- other events. The others make none in the turn
-pub record StartsFrom (port : PortName) (before after : PortName → List Event) (start : List Event) : Type 0 where
-  pub begins : (name : PortName) → BeginsWith start (before name)
-  pub own : events_of port start ≡ events_of port (before port)
-  pub others : (name : PortName) → name ≢ port → events_of name (after name) ≡ events_of name (before name)
 
 -- one line of a port has run over a shared memory, with this answer: it was the next one, and what its port has seen
 -- and what the ports work on go on by it

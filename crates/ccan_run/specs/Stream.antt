@@ -3,7 +3,7 @@ use Rattle.std.specs.Prelude.{ℕ, List, Option}
 use Rattle.std.specs.Io.KnownBytes.{Keeps}
 use Rattle.ccan_run.specs.declared.run_error.RunError.{RunError}
 use Rattle.ccan_run.specs.declared.run_error.RunError.TheVariants.{Write}
-use Rattle.ccan_script.specs.Script.{ScriptFields}
+use Rattle.ccan_line.specs.Script.{ScriptFields}
 use Rattle.ccan_run.specs.Input.{InputShows, StopsInput}
 use Rattle.ccan_run.specs.Ordered.{Prints, PrintsPart}
 

@@ -1,9 +1,10 @@
 ghost use Rattle.std.specs.Prelude.{IfOk, IfErr};
-ghost use Rattle.ccan_script.specs.Reader.{fields_of};
+ghost use Rattle.ccan_line.specs.Script.{fields_of};
 ghost use Rattle.ccan_run.specs.Input.{InputShows, ReadsWhole, RefusesInput, StopsInput};
 
 use crate::run_error::RunError;
-use ccan_script::{Script, read_script};
+use ccan_line::Script;
+use ccan_script::read_script;
 use std::alloc::Global;
 use std::io::Read;
 

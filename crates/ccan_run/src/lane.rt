@@ -2,11 +2,10 @@ ghost use Rattle.std.specs.Prelude.{◌≡◌, ◌+◌, ◌<◌, ◌∷◌, All,
 ghost use Rattle.ccan_object.specs.declared.profile.Profile.{Profile};
 ghost use Rattle.ccan_ram.specs.Access.{Goes};
 ghost use Rattle.ccan_ram.specs.SharedRam.{IsSamePort, passes_of};
-ghost use Rattle.ccan_run.specs.Side.{GoesOn};
+ghost use Rattle.ccan_line.specs.Side.{GoesOn};
 
-use crate::side::Side;
+use ccan_line::{LineAnswer, Side};
 use ccan_ram::{Access, On, SharedRam, Tries};
-use ccan_script::LineAnswer;
 
 /// What the lines of one port work on, and how many of them have run.
 #[derive(Drop)]

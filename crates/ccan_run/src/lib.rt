@@ -27,10 +27,7 @@
 //! is the answers of each port and the objects at the end, and [`print_outcome`] writes it.
 #![tactic(auto)]
 
-pub mod bus_port;
 pub mod cli_error;
-pub mod gate;
-pub mod host;
 mod input;
 mod lane;
 pub mod laws;
@@ -39,28 +36,23 @@ pub mod outcome;
 mod outcome_text;
 mod output;
 mod per_port;
-pub mod port;
 mod port_run;
 mod ports;
 pub mod run_error;
 pub mod run_mode;
-pub mod side;
 pub mod stream;
 mod text;
 pub mod threads;
-mod transfer;
 mod trio;
 mod waiting;
 
+pub use ccan_line::{FreeGate, Gate, Side, run_lines, run_port};
 pub use cli_error::CliError;
-pub use gate::{FreeGate, Gate};
 pub use input::{MAX_INPUT, read_all, read_input};
 pub use ordered::run_ordered;
 pub use outcome::Outcome;
 pub use outcome_text::print_outcome;
-pub use port::run_port;
 pub use run_error::RunError;
 pub use run_mode::{RunMode, mode};
-pub use side::{Side, run_lines};
 pub use stream::run_stream;
 pub use threads::run_threads;

@@ -1,21 +1,21 @@
 ghost use Rattle.std.specs.Prelude.{◌≡◌, ◌≤◌, [], OnOk, IfErr, length, vec_capacity};
 ghost use Rattle.ccan_ram.specs.declared.port.PortName.{PortName};
 ghost use Rattle.ccan_ram.specs.SharedRam.{IsMemoryOf};
-ghost use Rattle.ccan_script.specs.Limits.{most_names};
-ghost use Rattle.ccan_script.specs.Reader.{fields_of};
+ghost use Rattle.ccan_line.specs.Limits.{most_names};
+ghost use Rattle.ccan_line.specs.Script.{fields_of};
 ghost use Rattle.ccan_run.specs.Ordered.{Prints, RunsTo, StopsRun};
 ghost use Rattle.ccan_run.specs.Trio.{seen_by};
 
 use crate::ports::Ports;
 use crate::run_error::RunError;
-use crate::side::log_answer;
 use crate::text::print_run;
 use crate::trio::Trio;
 use ccan_bus::{LoadAnswer, RoundAnswer};
 use ccan_confine::NodeState;
+use ccan_line::side::log_answer;
+use ccan_line::{LineAnswer, Script};
 use ccan_object::{ObjectNo, Profile, Record};
 use ccan_ram::{Final, Flag, PortName, SharedRam};
-use ccan_script::{LineAnswer, Script};
 use ccan_words::WordRam;
 use std::alloc::Global;
 use std::io::Write;

@@ -1,5 +1,5 @@
+use ccan_line::LineAnswer;
 use ccan_ram::Final;
-use ccan_script::LineAnswer;
 
 /// What a run without an order came to: the answers of each port, in that port's order, and the objects at the end.
 #[derive(Drop)]

@@ -9,9 +9,10 @@ use crate::outcome::Outcome;
 use crate::output::write_text;
 use crate::run_error::RunError;
 use crate::waiting::{Waiting, add_line};
+use ccan_line::LineAnswer;
 use ccan_object::{ObjectNo, Record};
 use ccan_ram::{Final, PortName};
-use ccan_script::{LineAnswer, print_final, print_line};
+use ccan_script::{print_final, print_line};
 use std::io::Write;
 
 /// Lets a line wait for each answer of a port.

@@ -1,14 +1,12 @@
 //! A port that runs its lines in a thread of its own.
 ghost use Rattle.std.specs.Prelude.{◌≡◌, vec_capacity};
 ghost use Rattle.ccan_ram.specs.SharedRam.{opened};
-ghost use Rattle.ccan_script.specs.Reader.{fields_of};
-ghost use Rattle.ccan_run.specs.Gate.{WasAsked};
+ghost use Rattle.ccan_line.specs.Script.{fields_of};
+ghost use Rattle.ccan_line.specs.Gate.{WasAsked};
 ghost use Rattle.ccan_run.specs.Threads.{HasRoom, HasRun};
 
-use crate::gate::Gate;
-use crate::port::run_port;
+use ccan_line::{Gate, LineAnswer, Script, run_port};
 use ccan_ram::{On, PortName, SharedRam};
-use ccan_script::{LineAnswer, Script};
 use std::snapshot::Snapshot;
 use std::thread::Promise;
 

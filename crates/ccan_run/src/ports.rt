@@ -1,18 +1,18 @@
 ghost use Rattle.std.specs.Prelude.{◌≡◌, ◌+◌, ◌<◌, if◌then◌else◌};
 ghost use Rattle.ccan_ram.specs.Port.{same_port};
 ghost use Rattle.ccan_ram.specs.SharedRam.{IsMemoryOf};
-ghost use Rattle.ccan_script.specs.Reader.{fields_of};
-ghost use Rattle.ccan_run.specs.Ordered.{opening};
-ghost use Rattle.ccan_run.specs.Port.{count_of};
+ghost use Rattle.ccan_line.specs.Script.{fields_of};
+ghost use Rattle.ccan_line.specs.Turn.{opening};
+ghost use Rattle.ccan_line.specs.Port.{count_of};
 ghost use Rattle.ccan_run.specs.Ports.{CanRun, HaveLedTo, TakesTurn, next_of};
 ghost use Rattle.ccan_run.specs.Trio.{seen_by};
 
 use crate::lane::Lane;
 use crate::trio::{Trio, catch_up};
 use ccan_bus::Bus;
+use ccan_line::{LineAnswer, Script};
 use ccan_object::Iface;
 use ccan_ram::{PortName, SharedRam};
-use ccan_script::{LineAnswer, Script};
 
 /// What the lines of all three ports work on in one thread, and how many lines of each have run.
 #[derive(Drop)]

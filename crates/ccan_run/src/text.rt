@@ -8,8 +8,9 @@ ghost use Rattle.ccan_run.specs.Waiting.{AddsText};
 use crate::outcome_text::print_finals;
 use crate::run_error::RunError;
 use crate::waiting::{Waiting, add_line};
+use ccan_line::LineAnswer;
 use ccan_ram::{Final, PortName};
-use ccan_script::{LineAnswer, print_line};
+use ccan_script::print_line;
 use std::io::Write;
 
 /// Lets a line wait for each answer.

@@ -1,17 +1,16 @@
 ghost use Rattle.std.specs.Prelude.{◌≡◌, ◌<◌, ◌↔◌, Err, IfOk, IfErr, vec_capacity};
 ghost use Rattle.ccan_ram.specs.SharedRam.{opened};
-ghost use Rattle.ccan_script.specs.Reader.{fields_of};
-ghost use Rattle.ccan_run.specs.Gate.{WasAsked};
+ghost use Rattle.ccan_line.specs.Script.{fields_of};
+ghost use Rattle.ccan_line.specs.Gate.{WasAsked};
 ghost use Rattle.ccan_run.specs.Threads.{AllRan, AreOpened, HasRoom, HasRun, HaveRun, IsFirstHeld};
 ghost use Rattle.ccan_run.specs.Threads.{HaveAsked, RunsAtOnce, StopsThreads, WereLet};
 
-use crate::gate::Gate;
 use crate::outcome::Outcome;
 use crate::per_port::PerPort;
 use crate::port_run::{PortRun, run_opened};
 use crate::run_error::RunError;
+use ccan_line::{Gate, LineAnswer, Script};
 use ccan_ram::{PortName, SharedRam};
-use ccan_script::{LineAnswer, Script};
 use std::alloc::{AllocError, Global};
 use std::sync::Wait;
 use std::thread;

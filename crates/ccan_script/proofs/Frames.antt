@@ -6,7 +6,7 @@ use Rattle.serde_json.specs.Data.{Data}
 use Rattle.serde_json.specs.Find.{as_array, get}
 use Rattle.serde_json.specs.View.{items_view, view}
 use Rattle.serde_json.specs.declared.value.Value.{Value}
-use Rattle.ccan_script.specs.Limits.{most_frames}
+use Rattle.ccan_line.specs.Limits.{most_frames}
 use Rattle.ccan_script.specs.Json.{can_be_list, lines_in}
 use Rattle.ccan_script.specs.Round.{can_send, frames_in}
 use Rattle.ccan_script.proofs.ListFaults.{lines_are, length-map_view}

@@ -7,10 +7,11 @@ use Rattle.ccan_bus.specs.declared.round_line.RoundLine.{RoundLine}
 use Rattle.ccan_bus.specs.RoundLine.{AreSenders}
 use Rattle.ccan_script.specs.declared.bus_op.BusOp.{BusOp}
 use Rattle.ccan_script.specs.declared.bus_op.BusOp.TheVariants as op
-use Rattle.ccan_script.specs.declared.bus_line.BusLine.{BusLine}
-use Rattle.ccan_script.specs.declared.bus_line.BusLine.TheVariants.{Round}
+use Rattle.ccan_line.specs.declared.bus_line.BusLine.{BusLine}
+use Rattle.ccan_line.specs.declared.bus_line.BusLine.TheVariants.{Round}
 use Rattle.ccan_script.specs.BusOp.{bus_op}
-use Rattle.ccan_script.specs.BusLine.{AreSenders-prop, BusSays, BusSaysBy}
+use Rattle.ccan_line.specs.BusLine.{AreSenders-prop}
+use Rattle.ccan_script.specs.BusLine.{BusSays, BusSaysBy}
 
 same_round : (a b : RoundLine) → a.send.items ≡ b.send.items → a.fault ≡ b.fault → a ≡ b
 same_round a b sends fault = λ i. record {

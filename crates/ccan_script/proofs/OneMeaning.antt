@@ -13,13 +13,14 @@ use Rattle.ccan_ram.specs.declared.port.PortName.{PortName}
 use Rattle.ccan_ram.specs.declared.port.PortName.TheVariants as port
 use Rattle.ccan_ram.specs.Port.{port_index}
 use Rattle.ccan_script.specs.declared.script_error.ScriptError.{ScriptError}
-use Rattle.ccan_script.specs.declared.host_line.HostLine.{HostLine}
+use Rattle.ccan_line.specs.declared.host_line.HostLine.{HostLine}
 use Rattle.ccan_script.specs.HostLine.{HostSays}
 use Rattle.ccan_script.specs.BusLine.{BusSays}
 use Rattle.ccan_script.specs.Order.{OrderPlace, names, number_in_order, order_by, share}
 use Rattle.ccan_script.specs.Places.{IsFirst}
 use Rattle.ccan_script.specs.ListPlace.{ListPlace, count, line, list, number_in_list}
-use Rattle.ccan_script.specs.Script.{Place, Says, ScriptFields, fault_at, lines_of, number_of}
+use Rattle.ccan_line.specs.Script.{ScriptFields}
+use Rattle.ccan_script.specs.Script.{Place, Says, fault_at, lines_of, number_of}
 use Rattle.ccan_script.specs.Script.{bus, if1, if2, members, nodes, order, profile, quota, tries}
 use Rattle.ccan_script.specs.Laws.{HasOneMeaning}
 use Rattle.ccan_script.proofs.Lines.{lines_once}

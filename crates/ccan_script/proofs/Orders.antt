@@ -15,14 +15,15 @@ use Rattle.ccan_ram.specs.Port.{port_index, same_port}
 use Rattle.ccan_script.specs.declared.list_name.ListName.TheVariants as list_name
 use Rattle.ccan_script.specs.declared.script_error.ScriptError.{ScriptError}
 use Rattle.ccan_script.specs.declared.script_error.ScriptError.TheVariants as error
-use Rattle.ccan_script.specs.Limits.{most_names}
+use Rattle.ccan_line.specs.Limits.{most_names}
 use Rattle.ccan_script.specs.Json.{lines_in}
 use Rattle.ccan_script.specs.Lines.{AreLines}
 use Rattle.ccan_script.specs.PortLine.{PortSays, port_fault, port_of}
 use Rattle.ccan_script.specs.Places.{IsFaultless, IsFirst, Precedes}
 use Rattle.ccan_script.specs.ListPlace.{list_fault, number_in_list}
 use Rattle.ccan_script.specs.Order.{ChecksTimes, OrderPlace, default_order, named_ports, names, number_in_order}
-use Rattle.ccan_script.specs.Order.{order_by, order_fault, share, times, times_fault}
+use Rattle.ccan_line.specs.Order.{times}
+use Rattle.ccan_script.specs.Order.{order_by, order_fault, share, times_fault}
 use Rattle.ccan_script.specs.Reader.{ReadsOrder, UnlessMemory}
 use Rattle.ccan_script.proofs.ListFaults.{no_list}
 

@@ -10,7 +10,7 @@ use Rattle.ccan_ram.specs.Tries.{most_tries}
 use Rattle.ccan_script.specs.declared.list_name.ListName.TheVariants.{Top, If1, If2, Bus}
 use Rattle.ccan_script.specs.declared.script_error.ScriptError.{ScriptError}
 use Rattle.ccan_script.specs.declared.script_error.ScriptError.TheVariants.{Shape}
-use Rattle.ccan_script.specs.Limits.{most_lines, most_nodes, most_profile}
+use Rattle.ccan_line.specs.Limits.{most_lines, most_nodes, most_profile}
 use Rattle.ccan_script.specs.Json.{has_only}
 use Rattle.ccan_script.specs.HostLine.{host_fault}
 use Rattle.ccan_script.specs.BusLine.{bus_fault}

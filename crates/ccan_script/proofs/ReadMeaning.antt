@@ -2,8 +2,9 @@
 use Rattle.std.proofs.Common.{◌≡◌, ℕ, List, refl, subst, Result, Ok, Err}
 use Rattle.ccan_script.specs.declared.script_error.ScriptError.{ScriptError}
 use Rattle.ccan_script.specs.declared.script_error.ScriptError.TheVariants.{NotJson, Shape, Range, TooMany, Order, Memory}
-use Rattle.ccan_script.specs.Reader.{Shows, fields_of}
-use Rattle.ccan_script.specs.Script.{ScriptFields, Means}
+use Rattle.ccan_line.specs.Script.{fields_of, ScriptFields}
+use Rattle.ccan_script.specs.Reader.{Shows}
+use Rattle.ccan_script.specs.Script.{Means}
 use Rattle.ccan_script.specs.Laws.{WhatWasReadHasAMeaning}
 use Rattle.ccan_script.proofs.OneMeaning.{one_meaning}
 

@@ -8,17 +8,17 @@ use Rattle.ccan_ram.specs.declared.port.PortName.{PortName}
 use Rattle.ccan_ram.specs.declared.port.PortName.TheVariants as port
 use Rattle.ccan_ram.specs.Port.{most_quota, port_index}
 use Rattle.ccan_ram.specs.Tries.{most_tries}
-use Rattle.ccan_script.specs.declared.script.Script.{Script}
+use Rattle.ccan_line.specs.declared.script.Script.{Script}
 use Rattle.ccan_script.specs.declared.script_error.ScriptError.{ScriptError}
 use Rattle.ccan_script.specs.declared.line_counts.LineCounts.{LineCounts}
-use Rattle.ccan_script.specs.declared.host_line.HostLine.{HostLine}
-use Rattle.ccan_script.specs.declared.bus_line.BusLine.{BusLine}
+use Rattle.ccan_line.specs.declared.host_line.HostLine.{HostLine}
+use Rattle.ccan_line.specs.declared.bus_line.BusLine.{BusLine}
 use Rattle.ccan_script.specs.Json.{lines_in}
 use Rattle.ccan_script.specs.Lines.{AreLines}
 use Rattle.ccan_script.specs.HostLine.{HostSays}
 use Rattle.ccan_script.specs.BusLine.{BusSays}
 use Rattle.ccan_script.specs.LineCounts.{count_of}
-use Rattle.ccan_script.specs.Limits.{default_nodes, default_profile, default_quota, default_tries, most_nodes, most_profile}
+use Rattle.ccan_line.specs.Limits.{default_nodes, default_profile, default_quota, default_tries, most_nodes, most_profile}
 use Rattle.ccan_script.specs.Order.{number_in_order, order_by, order_fault}
 use Rattle.ccan_script.specs.Places.{IsFaultless, IsFirst}
 use Rattle.ccan_script.specs.ListPlace.{number_in_list}

@@ -14,12 +14,13 @@ use Rattle.ccan_script.specs.declared.line_fault.LineFault.{LineFault}
 use Rattle.ccan_script.specs.declared.line_fault.LineFault.TheVariants as fault
 use Rattle.ccan_script.specs.declared.script_error.ScriptError.{ScriptError}
 use Rattle.ccan_script.specs.declared.script_error.ScriptError.TheVariants.{NotJson, Shape, Range, TooMany, Order, Memory}
-use Rattle.ccan_script.specs.declared.script.Script.{Script}
+use Rattle.ccan_line.specs.declared.script.Script.{Script}
 use Rattle.ccan_ram.specs.declared.port.PortName.{PortName}
 use Rattle.ccan_script.specs.Json.{can_be_list, has_only, lines_in, whole}
 use Rattle.ccan_script.specs.LineFault.{refusal_at}
 use Rattle.ccan_script.specs.ListPlace.{ListPlace, count, line, list, list_fault}
-use Rattle.ccan_script.specs.Order.{OrderPlace, names, named_ports, order_fault, share, times, times_fault}
+use Rattle.ccan_line.specs.Order.{times}
+use Rattle.ccan_script.specs.Order.{OrderPlace, names, named_ports, order_fault, share, times_fault}
 use Rattle.ccan_script.specs.Reader.{ReadsScript, ReadsValue, RefusesText}
 use Rattle.ccan_script.specs.Script.{Place, bus, fault_at, if1, if2, members, nodes, number_fault, order, profile, quota, tries}
 use Rattle.ccan_script.specs.ScriptError.{IsRefusalOf}

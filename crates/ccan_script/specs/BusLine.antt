@@ -1,25 +1,21 @@
 -- The lines of the bus in a script: what is wrong with the JSON value of a line, and what the line of a value without fault
 -- says. Source: this project's own.
-use Rattle.std.specs.Prelude.{ℕ, ◌≡◌, ◌≤◌, ◌==◌, ◌&&◌, Bool, codes, List, [], ◌∷◌, Option, Some, None, is_some}
-use Rattle.std.specs.Coded.{le_prop, ×_prop, Unit-prop}
+use Rattle.std.specs.Prelude.{ℕ, ◌≡◌, ◌==◌, ◌&&◌, Bool, codes, List, [], ◌∷◌, Option, Some, None, is_some}
 use Rattle.serde_json.specs.Data.{Data}
-use Rattle.ccan_accept.specs.declared.frame.Frame.{Frame}
 use Rattle.ccan_bus.specs.declared.round_line.RoundLine.{RoundLine}
-use Rattle.ccan_bus.specs.RoundLine.{AreSenders}
 use Rattle.ccan_script.specs.declared.line_fault.LineFault.{LineFault}
 use Rattle.ccan_script.specs.declared.line_fault.LineFault.TheVariants.{Shape}
 use Rattle.ccan_script.specs.declared.bus_op.BusOp.{BusOp}
 use Rattle.ccan_script.specs.declared.bus_op.BusOp.TheVariants as op
-use Rattle.ccan_script.specs.declared.bus_line.BusLine.{BusLine}
-use Rattle.ccan_script.specs.declared.bus_line.BusLine.TheVariants.{Load, Round, Status, Control, Interrupt, Flags}
-use Rattle.ccan_script.specs.declared.bus_line.BusLine.TheVariants.{Counters, Init, Recessive, LoopBack}
-use Rattle.ccan_script.specs.Limits.{most_groups}
+use Rattle.ccan_line.specs.declared.bus_line.BusLine.{BusLine}
+use Rattle.ccan_line.specs.declared.bus_line.BusLine.TheVariants.{Load, Round, Status, Control, Interrupt, Flags}
+use Rattle.ccan_line.specs.declared.bus_line.BusLine.TheVariants.{Counters, Init, Recessive, LoopBack}
+use Rattle.ccan_line.specs.Limits.{most_groups}
 use Rattle.ccan_script.specs.LineFault.{shape_check, shape_then_range}
 use Rattle.ccan_script.specs.BusOp.{bus_op}
 use Rattle.ccan_script.specs.Json.{has_only, has_number, is_bare, is_within, number_in, whole_in}
 use Rattle.ccan_script.specs.FlagLine.{asks_flag, flag_of_line}
 use Rattle.ccan_script.specs.Round.{round_fault, SaysRound}
-use Rattle.ccan_script.specs.Lines.{All-prop}
 
 -- ---- the two interrupt enables
 
@@ -73,39 +69,3 @@ BusSaysBy (Some op.LoopBack) d line = line ≡ LoopBack (number_in (codes "on") 
 -- the line says what the value says
 abbrev pub BusSays : Data → BusLine → Type 0
 BusSays d line = BusSaysBy (bus_op d) d line
-
--- ---- ranges
-
--- the recessive bits of a line
-pub record AreGroups (groups : ℕ) : Type 0 where
-  pub least : 1 ≤ groups
-  pub greatest : groups ≤ most_groups
-
--- the nodes that a line names are among so many others and the controller, and its numbers are in their ranges
-abbrev pub BusFits : ℕ → BusLine → Type 0
-BusFits nodes (Round round) = AreSenders nodes round.send.items
-BusFits nodes (Counters node) = node ≤ nodes
-BusFits nodes (Recessive groups) = AreGroups groups
-BusFits nodes line = Unit {0}
-
-pub AreSenders-prop : (nodes : ℕ) (sends : List (ℕ × Frame)) → IsProp (AreSenders nodes sends)
-AreSenders-prop nodes sends a b = λ i. record {
-  others = All-prop (λ s. (1 ≤ s.0) × (s.0 ≤ nodes)) (λ s. ×_prop le_prop le_prop) sends a.others b.others i;
-  once = λ node. le_prop (a.once node) (b.once node) i;
-}
-
-AreGroups-prop : (groups : ℕ) → IsProp (AreGroups groups)
-AreGroups-prop groups a b = λ i. record { least = le_prop a.least b.least i; greatest = le_prop a.greatest b.greatest i }
-
--- there is one proof of it
-pub BusFits-prop : (nodes : ℕ) (line : BusLine) → IsProp (BusFits nodes line)
-BusFits-prop nodes Load = Unit-prop
-BusFits-prop nodes (Round round) = AreSenders-prop nodes round.send.items
-BusFits-prop nodes Status = Unit-prop
-BusFits-prop nodes (Control sie eie) = Unit-prop
-BusFits-prop nodes Interrupt = Unit-prop
-BusFits-prop nodes (Flags flag) = Unit-prop
-BusFits-prop nodes (Counters node) = le_prop
-BusFits-prop nodes Init = Unit-prop
-BusFits-prop nodes (Recessive groups) = AreGroups-prop groups
-BusFits-prop nodes (LoopBack on) = Unit-prop

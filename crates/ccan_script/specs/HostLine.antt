@@ -1,21 +1,20 @@
 -- The lines of a host port in a script: what is wrong with the JSON value of a line, and the line that a value without
 -- fault stands for. Source: this project's own.
-use Rattle.std.specs.Prelude.{ℕ, ◌≡◌, ◌≤◌, ◌&&◌, Bool, codes, List, [], ◌∷◌, Option}
+use Rattle.std.specs.Prelude.{ℕ, ◌≡◌, ◌&&◌, Bool, codes, List, [], ◌∷◌, Option}
 use Rattle.std.specs.Prelude.{Some, None, is_some, unwrap_or, option_and_then}
 use Rattle.std.specs.Option.{option_map_or}
-use Rattle.std.specs.Coded.{le_prop, ×_prop, Unit-prop}
 use Rattle.serde_json.specs.Data.{Data}
 use Rattle.serde_json.specs.Find.{get}
 use Rattle.ccan_object.specs.declared.profile.Profile.{Profile}
-use Rattle.ccan_object.specs.Profile.{Holds, objects_in}
+use Rattle.ccan_object.specs.Profile.{objects_in}
 use Rattle.ccan_object.specs.declared.register.Reg.{Reg}
 use Rattle.ccan_script.specs.declared.line_fault.LineFault.{LineFault}
 use Rattle.ccan_script.specs.declared.line_fault.LineFault.TheVariants.{Shape}
 use Rattle.ccan_script.specs.declared.host_op.HostOp.{HostOp}
 use Rattle.ccan_script.specs.declared.host_op.HostOp.TheVariants as op
-use Rattle.ccan_script.specs.declared.host_line.HostLine.{HostLine}
-use Rattle.ccan_script.specs.declared.host_line.HostLine.TheVariants.{Transfer, Until, Interrupt, Flags}
-use Rattle.ccan_script.specs.Limits.{most_turns}
+use Rattle.ccan_line.specs.declared.host_line.HostLine.{HostLine}
+use Rattle.ccan_line.specs.declared.host_line.HostLine.TheVariants.{Transfer, Until, Interrupt, Flags}
+use Rattle.ccan_line.specs.Limits.{most_turns}
 use Rattle.ccan_script.specs.LineFault.{shape_check, shape_then_range}
 use Rattle.ccan_script.specs.HostOp.{host_op}
 use Rattle.ccan_script.specs.Json.{has_only, is_bare, is_within, number_in, whole_in, word_in}
@@ -80,28 +79,3 @@ host_line_by (Some op.Flags) d = Flags (flag_of_line d)
 -- the line says what the value says
 abbrev pub HostSays : Data → HostLine → Type 0
 HostSays d line = line ≡ host_line_by (host_op d) d
-
--- ---- ranges
-
--- the turns of a wait
-pub record AreTurns (turns : ℕ) : Type 0 where
-  pub least : 1 ≤ turns
-  pub greatest : turns ≤ most_turns
-
--- the object that a line names is one of the profile, and its numbers are in their ranges
-abbrev pub HostFits : Profile → HostLine → Type 0
-HostFits profile (Until object flag turns) = Holds profile object × AreTurns turns
-HostFits profile line = Unit {0}
-
-Holds-prop : (profile : Profile) (object : ℕ) → IsProp (Holds profile object)
-Holds-prop profile object a b = λ i. record { least = le_prop a.least b.least i; greatest = le_prop a.greatest b.greatest i }
-
-AreTurns-prop : (turns : ℕ) → IsProp (AreTurns turns)
-AreTurns-prop turns a b = λ i. record { least = le_prop a.least b.least i; greatest = le_prop a.greatest b.greatest i }
-
--- there is one proof of it
-pub HostFits-prop : (profile : Profile) (line : HostLine) → IsProp (HostFits profile line)
-HostFits-prop profile (Transfer request set) = Unit-prop
-HostFits-prop profile (Until object flag turns) = ×_prop (Holds-prop profile object) (AreTurns-prop turns)
-HostFits-prop profile Interrupt = Unit-prop
-HostFits-prop profile (Flags flag) = Unit-prop

@@ -1,11 +1,12 @@
 -- Laws of what scripts mean. Source: this project's own.
 use Rattle.std.specs.Prelude.{◌≡◌, ◌≢◌, ℕ, List, Result, Err}
 use Rattle.serde_json.specs.Data.{Data}
-use Rattle.ccan_script.specs.declared.script.Script.{Script}
+use Rattle.ccan_line.specs.declared.script.Script.{Script}
 use Rattle.ccan_script.specs.declared.script_error.ScriptError.{ScriptError}
 use Rattle.ccan_script.specs.declared.script_error.ScriptError.TheVariants.{NotJson, Memory}
 use Rattle.ccan_script.specs.Reader.{Shows, ReadsScript}
-use Rattle.ccan_script.specs.Script.{ScriptFields, Means}
+use Rattle.ccan_line.specs.Script.{ScriptFields}
+use Rattle.ccan_script.specs.Script.{Means}
 
 -- a value means at most one thing: no value has two first faults, and none with a fault is a script
 abbrev pub HasOneMeaning : Type 0

@@ -1,4 +1,3 @@
-pub mod Limits
 pub mod ListName
 pub mod LineFault
 pub mod ScriptError

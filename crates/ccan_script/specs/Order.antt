@@ -1,22 +1,19 @@
 -- In which order the ports of a script run: what its member `order` names, what stands where there is none, and what is wrong
 -- with it. Source: this project's own.
 use Rattle.std.specs.Prelude.{ℕ, ◌≡◌, ◌≢◌, ◌<◌, ◌==◌, ◌++◌, List, [], ◌∷◌, Option, Some, None}
-use Rattle.std.specs.Prelude.{Result, Ok, Err, count_by, map, replicate, if◌then◌else◌}
+use Rattle.std.specs.Prelude.{Result, Ok, Err, map, replicate, if◌then◌else◌}
 use Rattle.serde_json.specs.Data.{Data}
 use Rattle.ccan_ram.specs.declared.port.PortName.{PortName}
 use Rattle.ccan_ram.specs.declared.port.PortName.TheVariants as port
-use Rattle.ccan_ram.specs.Port.{port_index, same_port}
+use Rattle.ccan_ram.specs.Port.{port_index}
 use Rattle.ccan_script.specs.declared.list_name.ListName.TheVariants.{Order}
 use Rattle.ccan_script.specs.declared.script_error.ScriptError.{ScriptError}
 use Rattle.ccan_script.specs.declared.script_error.ScriptError.TheVariants as error
-use Rattle.ccan_script.specs.Limits.{most_names}
+use Rattle.ccan_line.specs.Limits.{most_names}
+use Rattle.ccan_line.specs.Order.{times}
 use Rattle.ccan_script.specs.Json.{lines_in}
 use Rattle.ccan_script.specs.PortLine.{port_fault, port_of}
 use Rattle.ccan_script.specs.ListPlace.{ListPlace, list_fault, number_in_list}
-
--- how often an order names a port
-abbrev pub times : PortName → List PortName → ℕ
-times name order = count_by (same_port name) order
 
 -- the ports that the member `order` names
 abbrev pub named_ports : Option Data → List PortName

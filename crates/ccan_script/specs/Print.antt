@@ -14,10 +14,10 @@ use Rattle.ccan_bus.specs.declared.answer.LoadAnswer.{LoadAnswer}
 use Rattle.ccan_bus.specs.declared.answer.LoadAnswer.TheVariants as load
 use Rattle.ccan_bus.specs.declared.answer.RoundAnswer.{RoundAnswer}
 use Rattle.ccan_bus.specs.declared.answer.RoundAnswer.TheVariants as round
-use Rattle.ccan_script.specs.declared.line_answer.LineAnswer.{LineAnswer}
-use Rattle.ccan_script.specs.declared.line_answer.LineAnswer.TheVariants.{Write, Read, Busy, Spent, Until, Interrupt}
-use Rattle.ccan_script.specs.declared.line_answer.LineAnswer.TheVariants.{Flags, Load, Round, Status, Control, Counters}
-use Rattle.ccan_script.specs.declared.line_answer.LineAnswer.TheVariants.{Init, Recessive, LoopBack}
+use Rattle.ccan_line.specs.declared.line_answer.LineAnswer.{LineAnswer}
+use Rattle.ccan_line.specs.declared.line_answer.LineAnswer.TheVariants.{Write, Read, Busy, Spent, Until, Interrupt}
+use Rattle.ccan_line.specs.declared.line_answer.LineAnswer.TheVariants.{Flags, Load, Round, Status, Control, Counters}
+use Rattle.ccan_line.specs.declared.line_answer.LineAnswer.TheVariants.{Init, Recessive, LoopBack}
 use Rattle.ccan_script.specs.PrintedLine.{hex, two_digits, bit_text, field, record_text, verb_text, shown_text}
 use Rattle.ccan_script.specs.FlagName.{flag_name}
 

@@ -8,13 +8,14 @@ use Rattle.ccan_script.specs.declared.list_name.ListName.{ListName}
 use Rattle.ccan_script.specs.declared.line_fault.LineFault.{LineFault}
 use Rattle.ccan_script.specs.declared.script_error.ScriptError.{ScriptError}
 use Rattle.ccan_script.specs.declared.script_error.ScriptError.TheVariants.{NotJson, Memory}
-use Rattle.ccan_script.specs.declared.script.Script.{Script}
+use Rattle.ccan_line.specs.declared.script.Script.{Script}
 use Rattle.ccan_script.specs.Json.{lines_in}
 use Rattle.ccan_script.specs.Lines.{AreLines}
 use Rattle.ccan_script.specs.Order.{number_in_order, order_by, order_fault}
 use Rattle.ccan_script.specs.Places.{IsFaultless, IsFirst}
 use Rattle.ccan_script.specs.ListPlace.{list_fault, number_in_list}
-use Rattle.ccan_script.specs.Script.{ScriptFields, Means, number_fault, number_or}
+use Rattle.ccan_line.specs.Script.{ScriptFields, fields_of}
+use Rattle.ccan_script.specs.Script.{Means, number_fault, number_or}
 
 -- it holds of each refusal but want of memory
 abbrev pub UnlessMemory : ScriptError → Type 0 → Type 0
@@ -40,20 +41,6 @@ ReadsOrder lines o (Ok order) = IsFaultless number_in_order (order_fault lines o
 ReadsOrder lines o (Err e) = UnlessMemory e (IsFirst number_in_order (order_fault lines o) e)
 
 -- ---- a value
-
--- what a script says, without where it lies in memory
-abbrev pub fields_of : Script → ScriptFields
-fields_of s =
-    record {
-      profile = s.profile;
-      quota = s.quota;
-      tries = s.tries;
-      nodes = s.nodes;
-      if1 = s.if1.items;
-      if2 = s.if2.items;
-      bus = s.bus.items;
-      order = s.order.items;
-    }
 
 abbrev pub ReadsValue : Data → Result Script ScriptError → Type 0
 ReadsValue d (Ok script) = Means d (Ok (fields_of script))

@@ -8,7 +8,7 @@ use Rattle.serde_json.specs.Find.{get}
 use Rattle.ccan_bus.specs.declared.round_line.RoundLine.{RoundLine}
 use Rattle.ccan_bus.specs.declared.round_line.Fault.TheVariants.{Quiet}
 use Rattle.ccan_script.specs.declared.line_fault.LineFault.{LineFault}
-use Rattle.ccan_script.specs.Limits.{most_frames}
+use Rattle.ccan_line.specs.Limits.{most_frames}
 use Rattle.ccan_script.specs.LineFault.{first_fault, shape_check}
 use Rattle.ccan_script.specs.Json.{can_be_list, has_only, lines_in}
 use Rattle.ccan_script.specs.FaultName.{fault_in}

@@ -15,10 +15,9 @@ use Rattle.ccan_ram.specs.Tries.{most_tries}
 use Rattle.ccan_script.specs.declared.list_name.ListName.TheVariants.{Top, If1, If2, Bus}
 use Rattle.ccan_script.specs.declared.script_error.ScriptError.{ScriptError}
 use Rattle.ccan_script.specs.declared.script_error.ScriptError.TheVariants.{Shape, Range}
-use Rattle.ccan_script.specs.declared.host_line.HostLine.{HostLine}
-use Rattle.ccan_script.specs.declared.bus_line.BusLine.{BusLine}
-use Rattle.ccan_script.specs.Limits.{most_lines, most_profile, default_profile, default_quota}
-use Rattle.ccan_script.specs.Limits.{default_tries, most_nodes, default_nodes}
+use Rattle.ccan_line.specs.Script.{ScriptFields}
+use Rattle.ccan_line.specs.Limits.{most_lines, most_profile, default_profile, default_quota}
+use Rattle.ccan_line.specs.Limits.{default_tries, most_nodes, default_nodes}
 use Rattle.ccan_script.specs.Json.{has_only, lines_in, whole}
 use Rattle.ccan_script.specs.Lines.{AreLines}
 use Rattle.ccan_script.specs.HostLine.{host_fault, HostSays}
@@ -94,17 +93,6 @@ fault_at d (bus place) = list_fault Bus most_lines (bus_fault (nodes_of d)) (get
 fault_at d (order place) = order_fault (lines_of_port d) (get (codes "order") d) place
 
 -- ---- the meaning
-
--- what a script says, wherever it lies in memory
-pub record ScriptFields : Type 0 where
-  pub profile : Profile
-  pub quota : ℕ
-  pub tries : ℕ
-  pub nodes : ℕ
-  pub if1 : List HostLine
-  pub if2 : List HostLine
-  pub bus : List BusLine
-  pub order : List PortName
 
 -- how many lines a port has in a script
 abbrev pub lines_of : ScriptFields → PortName → ℕ

@@ -1,47 +1,23 @@
 ghost use Rattle.std.specs.Prelude.{◌≡◌, ◌==◌, IfOk, codes};
 ghost use Rattle.serde_json.specs.View.{view};
-ghost use Rattle.ccan_script.specs.Limits.{most_groups};
+ghost use Rattle.ccan_line.specs.Limits.{most_groups};
 ghost use Rattle.ccan_script.specs.Json.{is_bare, number_in};
 ghost use Rattle.ccan_script.specs.LineFault.{ReadsLine, shape_check, shape_then_range};
 ghost use Rattle.ccan_script.specs.BusLine.{is_control, control_in_range, control_of, number_fault_of};
-ghost use Rattle.ccan_script.specs.BusLine.{bus_fault, BusSays, BusFits};
+ghost use Rattle.ccan_line.specs.BusLine.{BusFits};
+ghost use Rattle.ccan_script.specs.BusLine.{bus_fault, BusSays};
 
 use crate::bus_op::{BusOp, bus_op};
 use crate::flag_line::sole_flag;
 use crate::json::{check_bare, has_only, sole_number, whole_in};
-use crate::limits::MAX_GROUPS;
 use crate::line_context::LineContext;
 use crate::line_fault::LineFault;
 use crate::round::read_round;
 use crate::script_line::ScriptLine;
 use ccan_bus::RoundLine;
+use ccan_line::{BusLine, MAX_GROUPS};
 use ccan_ram::Flag;
 use serde_json::Value;
-
-/// A line of the bus.
-#[derive(Drop)]
-pub enum BusLine {
-    /// The controller chooses an object to send.
-    Load,
-    /// The nodes contend for the bus.
-    Round(RoundLine),
-    /// Reads the Status register.
-    Status,
-    /// Sets the enables of the status interrupt.
-    Control { sie: bool, eie: bool },
-    /// Asks for the interrupt value.
-    Interrupt,
-    /// Asks for a flag of all objects.
-    Flags(Flag),
-    /// Asks for the error counters of a node, node 0 being the controller.
-    Counters(u8),
-    /// Clears Init.
-    Init,
-    /// Lets groups of eleven recessive bits pass.
-    Recessive(u16),
-    /// Sets loop back mode.
-    LoopBack(bool),
-}
 
 /// The enables of the status interrupt: their shape first, then their ranges.
 #[tactic(auto, unfolding(crate::specs::BusLine::is_control))]

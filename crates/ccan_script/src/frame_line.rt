@@ -1,7 +1,7 @@
 ghost use Rattle.std.specs.Prelude.{◌≡◌, ◌≤◌, ◌==◌, true, false, length, IfOk, IfSome, IfNone};
 ghost use Rattle.serde_json.specs.View.{view};
 ghost use Rattle.ccan_accept.specs.Frame.{data_count};
-ghost use Rattle.ccan_script.specs.Limits.{most_nodes};
+ghost use Rattle.ccan_line.specs.Limits.{most_nodes};
 ghost use Rattle.ccan_script.specs.LineFault.{ReadsLine};
 ghost use Rattle.ccan_script.specs.FrameLine.{is_data_text, is_frame, is_in_range, has_its_length};
 ghost use Rattle.ccan_script.specs.FrameLine.{frame_fault, frame_of, words_of, sending_of};

@@ -2,7 +2,8 @@ ghost use Rattle.std.specs.Prelude.{◌≡◌, true, false, option_map, IfOk, If
 ghost use Rattle.serde_json.specs.View.{view};
 ghost use Rattle.ccan_object.specs.Profile.{Holds};
 ghost use Rattle.ccan_script.specs.LineFault.{ReadsLine, shape_then_range};
-ghost use Rattle.ccan_script.specs.HostLine.{host_fault, HostSays, HostFits};
+ghost use Rattle.ccan_line.specs.HostLine.{HostFits};
+ghost use Rattle.ccan_script.specs.HostLine.{host_fault, HostSays};
 ghost use Rattle.ccan_script.specs.HostLine.{request_in, settings_of, is_transfer, transfer_of};
 ghost use Rattle.ccan_script.specs.HostLine.{is_until, until_in_range, until_of};
 
@@ -10,34 +11,14 @@ use crate::flag_line::sole_flag;
 use crate::flag_name::flag_in;
 use crate::host_op::{HostOp, host_op};
 use crate::json::{check_bare, has_only, whole_in, word_in};
-use crate::limits::MAX_TURNS;
 use crate::line_context::LineContext;
 use crate::line_fault::LineFault;
-use crate::register_set::{RegisterSet, settings_in};
+use crate::register_set::settings_in;
 use crate::script_line::ScriptLine;
+use ccan_line::{HostLine, MAX_TURNS, RegisterSet};
 use ccan_object::{ObjectNo, Profile};
 use ccan_ram::Flag;
 use serde_json::Value;
-
-/// A line of a host port.
-#[derive(Drop)]
-pub enum HostLine {
-    /// Sets registers, then makes the transfer that the Command Mask register says, with the object of the request.
-    Transfer {
-        request: u16,
-        set: RegisterSet,
-    },
-    /// Looks at an object until it shows the flag, at most so many times.
-    Until {
-        object: ObjectNo,
-        flag: Flag,
-        turns: u32,
-    },
-    /// Asks for the interrupt value.
-    Interrupt,
-    /// Asks for a flag of all objects.
-    Flags(Flag),
-}
 
 #[tactic(auto, unfolding(crate::specs::HostLine::request_in))]
 fn request_in(line: &Value) -> Option<u16>

@@ -26,8 +26,6 @@ pub mod host_line;
 pub mod host_op;
 pub mod json;
 pub mod laws;
-pub mod limits;
-pub mod line_answer;
 pub mod line_context;
 mod line_counts;
 pub mod line_fault;
@@ -43,24 +41,19 @@ pub mod printed_line;
 pub mod reader;
 pub mod register_set;
 mod round;
-pub mod script;
 pub mod script_error;
 pub mod script_line;
 
-pub use bus_line::BusLine;
-pub use host_line::HostLine;
-pub use limits::{
-    DEFAULT_NODES, DEFAULT_PROFILE, DEFAULT_QUOTA, DEFAULT_TRIES, MAX_FRAMES, MAX_GROUPS,
-    MAX_LINES, MAX_NAMES, MAX_NODES, MAX_PROFILE, MAX_QUOTA, MAX_TRIES, MAX_TURNS,
+pub use ccan_line::{
+    BusLine, DEFAULT_NODES, DEFAULT_PROFILE, DEFAULT_QUOTA, DEFAULT_TRIES, HostLine, LineAnswer,
+    MAX_FRAMES, MAX_GROUPS, MAX_LINES, MAX_NAMES, MAX_NODES, MAX_PROFILE, MAX_QUOTA, MAX_TRIES,
+    MAX_TURNS, RegisterSet, Script,
 };
-pub use line_answer::LineAnswer;
 pub use line_context::LineContext;
 pub use line_fault::LineFault;
 pub use list_name::ListName;
 pub use print::{print_final, print_line};
 pub use printed_line::PrintedLine;
 pub use reader::read_script;
-pub use register_set::RegisterSet;
-pub use script::Script;
 pub use script_error::ScriptError;
 pub use script_line::ScriptLine;

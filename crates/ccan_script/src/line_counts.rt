@@ -1,7 +1,6 @@
 ghost use Rattle.std.specs.Prelude.{◌≡◌, length};
 
-use crate::bus_line::BusLine;
-use crate::host_line::HostLine;
+use ccan_line::{BusLine, HostLine};
 
 /// How many lines the ports of a script have.
 #[derive(Clone, Copy, PartialEq, Eq, PartialOrd, Ord, Hash, Debug)]

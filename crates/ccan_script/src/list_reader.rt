@@ -1,14 +1,14 @@
 ghost use Rattle.std.specs.Prelude.{◌≤◌, option_map, All, IfOk, length};
 ghost use Rattle.serde_json.specs.Find.{get};
 ghost use Rattle.serde_json.specs.View.{view};
-ghost use Rattle.ccan_script.specs.Limits.{most_lines, most_nodes};
+ghost use Rattle.ccan_line.specs.Limits.{most_lines, most_nodes};
 ghost use Rattle.ccan_script.specs.Reader.{ReadsList};
 
-use crate::limits::MAX_LINES;
 use crate::line_context::LineContext;
 use crate::list_name::ListName;
 use crate::script_error::ScriptError;
 use crate::script_line::ScriptLine;
+use ccan_line::MAX_LINES;
 use serde_json::Value;
 use std::alloc::Global;
 

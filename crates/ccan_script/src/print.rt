@@ -3,9 +3,9 @@ ghost use Rattle.std.specs.List.{list_all};
 ghost use Rattle.ccan_ram.specs.Port.{port_text};
 ghost use Rattle.ccan_script.specs.Print.{line_text, final_line, is_all_zero};
 
-use crate::line_answer::LineAnswer;
 use crate::print_answer::push_answer;
 use crate::printed_line::{PrintedLine, push_shown};
+use ccan_line::LineAnswer;
 use ccan_object::{ObjectNo, Record};
 use ccan_ram::PortName;
 

@@ -4,9 +4,9 @@ ghost use Rattle.ccan_script.specs.PrintedLine.{hex, field, bit_text};
 ghost use Rattle.ccan_script.specs.Print.{answer_text, until_text, flags_text, control_text};
 
 use crate::flag_name::flag_name;
-use crate::line_answer::LineAnswer;
 use crate::print_bus::{push_counters, push_load, push_round, push_state};
 use crate::printed_line::{PrintedLine, push_bit, push_hex, push_shown, push_verb};
+use ccan_line::LineAnswer;
 use ccan_object::{ObjectNo, Profile};
 use ccan_ram::Flag;
 

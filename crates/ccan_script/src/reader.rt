@@ -2,18 +2,17 @@ ghost use Rattle.serde_json.specs.View.{view};
 ghost use Rattle.ccan_script.specs.Reader.{ReadsValue, ReadsScript};
 
 use crate::json::has_only;
-use crate::limits::{
-    DEFAULT_NODES, DEFAULT_PROFILE, DEFAULT_QUOTA, DEFAULT_TRIES, MAX_NODES, MAX_PROFILE,
-    MAX_QUOTA, MAX_TRIES,
-};
 use crate::line_context::LineContext;
 use crate::line_counts::LineCounts;
 use crate::list_name::ListName;
 use crate::list_reader::port_lines;
 use crate::number::{TOP_SHAPE, number_member, profile_numbered, tries_of};
 use crate::order::read_order;
-use crate::script::Script;
 use crate::script_error::ScriptError;
+use ccan_line::{
+    DEFAULT_NODES, DEFAULT_PROFILE, DEFAULT_QUOTA, DEFAULT_TRIES, MAX_NODES, MAX_PROFILE,
+    MAX_QUOTA, MAX_TRIES, Script,
+};
 use serde_json::Value;
 use std::alloc::Global;
 

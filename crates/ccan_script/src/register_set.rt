@@ -3,13 +3,9 @@ ghost use Rattle.serde_json.specs.View.{view, members_view};
 ghost use Rattle.ccan_script.specs.RegisterSet.{register_named, setting, settings, settings_in};
 
 use crate::json::word_in;
-use arrayvec::ArrayVec;
+use ccan_line::RegisterSet;
 use ccan_object::Reg;
 use serde_json::{Map, Value};
-
-/// Registers with the numbers that they are set to: one for each member of the JSON object that names them, in the order of
-/// the members.
-pub type RegisterSet = ArrayVec<(Reg, u16), 10>;
 
 /// The register of a name in a script.
 #[tactic(auto, unfolding(crate::specs::RegisterSet::register_named))]

@@ -1,7 +1,7 @@
 ghost use Rattle.std.specs.Prelude.{◌≡◌, ◌≤◌, true, false, map, length, All, IfOk, IfSome, IfNone, Some};
 ghost use Rattle.serde_json.specs.View.{view};
 ghost use Rattle.ccan_bus.specs.RoundLine.{AreSenders};
-ghost use Rattle.ccan_script.specs.Limits.{most_nodes, most_frames};
+ghost use Rattle.ccan_line.specs.Limits.{most_nodes, most_frames};
 ghost use Rattle.ccan_script.specs.LineFault.{ReadsLine};
 ghost use Rattle.ccan_script.specs.FrameLine.{sending_of};
 ghost use Rattle.ccan_script.specs.Round.{can_send, frames_in, frames_fault, round_fault, SaysRound};
@@ -9,11 +9,11 @@ ghost use Rattle.ccan_script.specs.Round.{can_send, frames_in, frames_fault, rou
 use crate::fault_name::fault_in;
 use crate::frame_line::read_frame;
 use crate::json::has_only;
-use crate::limits::MAX_FRAMES;
 use crate::line_fault::LineFault;
 use arrayvec::ArrayVec;
 use ccan_accept::Frame;
 use ccan_bus::RoundLine;
+use ccan_line::MAX_FRAMES;
 use serde_json::Value;
 
 /// The frames of a round, each with the node that sends it.

@@ -1,7 +1,7 @@
 ghost use Rattle.std.specs.Prelude.{Option, ◌≤◌, IfOk};
 ghost use Rattle.serde_json.specs.View.{view};
 ghost use Rattle.serde_json.specs.Data.{Data};
-ghost use Rattle.ccan_script.specs.Limits.{most_nodes};
+ghost use Rattle.ccan_line.specs.Limits.{most_nodes};
 ghost use Rattle.ccan_script.specs.LineFault.{ReadsLine};
 ghost use Rattle.ccan_script.specs.declared.line_fault.LineFault.{LineFault};
 ghost use Rattle.ccan_script.specs.declared.line_context.LineContext.{LineContext};

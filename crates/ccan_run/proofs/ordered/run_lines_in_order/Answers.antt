@@ -4,7 +4,7 @@ use Rattle.std.proofs.Common.{◌≤◌, drop, get_or, refl, arith, ◌∙◌, s
 use Rattle.std.proofs.lemmas.List.{drop_all}
 use Rattle.ccan_ram.specs.declared.port.PortName.TheVariants.{If1, If2, Bus}
 use Rattle.ccan_ram.specs.SharedRam.{Memory}
-use Rattle.ccan_script.specs.Reader.{fields_of}
+use Rattle.ccan_line.specs.Script.{fields_of}
 use Rattle.ccan_run.proofs.Turns.{all_left, has_left, left_after, names_left}
 use Rattle.ccan_run.proofs.TurnsSoFar.{all_ran, so_far_more, so_far_none}
 use Rattle.ccan_run.proofs.ordered.run_lines_in_order.Goals as goal

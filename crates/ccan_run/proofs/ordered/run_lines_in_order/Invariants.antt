@@ -1,9 +1,9 @@
 use Rattle.std.proofs.Common.{◌≡◌, ◌≤◌, ◌+◌, drop, length, vec_len, vec_capacity}
 use Rattle.ccan_ram.specs.declared.port.PortName.{PortName}
 use Rattle.ccan_ram.specs.SharedRam.{IsMemoryOf}
-use Rattle.ccan_script.specs.Reader.{fields_of}
-use Rattle.ccan_script.specs.Order.{times}
-use Rattle.ccan_run.specs.Port.{count_of}
+use Rattle.ccan_line.specs.Script.{fields_of}
+use Rattle.ccan_line.specs.Order.{times}
+use Rattle.ccan_line.specs.Port.{count_of}
 use Rattle.ccan_run.specs.Ports.{CanRun, next_of}
 use Rattle.ccan_run.specs.Trio.{seen_by}
 use Rattle.ccan_run.proofs.TurnsSoFar.{SoFar}

@@ -1,8 +1,8 @@
 use Rattle.std.proofs.Common.{List, sym, subst}
 use Rattle.std.proofs.lemmas.Result.{on_ok_weaker}
 use Rattle.ccan_ram.specs.declared.port.PortName.{PortName}
-use Rattle.ccan_script.specs.declared.line_answer.LineAnswer.{LineAnswer}
-use Rattle.ccan_script.specs.Reader.{fields_of}
+use Rattle.ccan_line.specs.declared.line_answer.LineAnswer.{LineAnswer}
+use Rattle.ccan_line.specs.Script.{fields_of}
 use Rattle.ccan_run.specs.Ordered.{RunsTo}
 use Rattle.ccan_run.proofs.Printed.{prints_part, prints_text, whole_text}
 use Rattle.ccan_run.proofs.ordered.run_ordered.Goals as goal

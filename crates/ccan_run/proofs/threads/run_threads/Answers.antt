@@ -1,5 +1,5 @@
 use Rattle.std.proofs.Common.{refl}
-use Rattle.ccan_script.specs.Reader.{fields_of}
+use Rattle.ccan_line.specs.Script.{fields_of}
 use Rattle.ccan_run.specs.Threads.{HaveRun, StopsThreads}
 use Rattle.ccan_run.proofs.AtOnce.{at_once, held_first, passed_on}
 use Rattle.ccan_run.proofs.threads.run_threads.Goals as goal

@@ -1,4 +1,4 @@
-use Rattle.ccan_script.specs.Reader.{fields_of}
+use Rattle.ccan_line.specs.Script.{fields_of}
 use Rattle.ccan_run.proofs.Turns.{by_if1, by_if2, by_bus}
 use Rattle.ccan_run.proofs.ports.Ports.turn.Goals as goal
 

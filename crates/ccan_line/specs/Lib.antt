@@ -1,0 +1,13 @@
+pub mod Limits
+pub mod HostLine
+pub mod BusLine
+pub mod Order
+pub mod Script
+pub mod Side
+pub mod Lines
+pub mod Transfer
+pub mod Host
+pub mod BusPort
+pub mod Gate
+pub mod Port
+pub mod Turn

@@ -1,0 +1,42 @@
+//! The lines of a CAN controller's two hosts and of its bus: what they are, what they stand for, and how a port runs them.
+//!
+//! ```text
+//!   Script { if1, if2, bus, .. }        HostLine, BusLine
+//!        |                                   |
+//!     run_port: line after line, as its Gate lets it
+//!        |                                   |
+//!   IF1, IF2: registers                 Side::run_line --> Access --> events in the history of the message RAM
+//!   bus: ccan_bus::Bus                       |
+//!                                       LineAnswer
+//! ```
+//!
+//! What a line stands for is said once, for hosts and for the bus, over any access: which events it adds, what it answers,
+//! and how it leaves what the next line of its port finds ([`Side`], [`run_lines`]). Neither text nor threads stand here:
+//! `ccan_script` reads lines from JSON and prints answers, `ccan_run` runs the lines of three ports in an order or at once.
+#![tactic(auto)]
+
+pub mod bus_line;
+pub mod bus_port;
+pub mod gate;
+pub mod host;
+pub mod host_line;
+pub mod limits;
+pub mod line_answer;
+pub mod port;
+pub mod register_set;
+pub mod script;
+pub mod side;
+mod transfer;
+
+pub use bus_line::BusLine;
+pub use gate::{FreeGate, Gate};
+pub use host_line::HostLine;
+pub use limits::{
+    DEFAULT_NODES, DEFAULT_PROFILE, DEFAULT_QUOTA, DEFAULT_TRIES, MAX_FRAMES, MAX_GROUPS,
+    MAX_LINES, MAX_NAMES, MAX_NODES, MAX_PROFILE, MAX_QUOTA, MAX_TRIES, MAX_TURNS,
+};
+pub use line_answer::LineAnswer;
+pub use port::run_port;
+pub use register_set::RegisterSet;
+pub use script::Script;
+pub use side::{Side, run_lines};
