@@ -7,10 +7,10 @@ use Rattle.ccan_bus.specs.declared.bus.Bus.{Bus}
 use Rattle.ccan_bus.specs.declared.round_line.Fault.{Fault}
 use Rattle.ccan_bus.specs.Bus.{LedTo}
 use Rattle.ccan_bus.specs.Past.{BusPast}
-use Rattle.ccan_script.specs.declared.bus_line.BusLine.{BusLine}
-use Rattle.ccan_script.specs.declared.bus_line.BusLine.TheVariants as line
-use Rattle.ccan_script.specs.declared.line_answer.LineAnswer.{LineAnswer}
-use Rattle.ccan_script.specs.Limits.{most_frames, most_groups}
+use Rattle.ccan_line.specs.declared.bus_line.BusLine.{BusLine}
+use Rattle.ccan_line.specs.declared.bus_line.BusLine.TheVariants as line
+use Rattle.ccan_line.specs.declared.line_answer.LineAnswer.{LineAnswer}
+use Rattle.ccan_line.specs.Limits.{most_frames, most_groups}
 use Rattle.ccan_c.specs.declared.held.Held.{Held}
 use Rattle.ccan_c.specs.declared.offer.Offer.{Offer}
 use Rattle.ccan_c.specs.declared.shown_outcome.ShownOutcome.{ShownOutcome}

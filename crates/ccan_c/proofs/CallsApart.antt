@@ -31,15 +31,15 @@ use Rattle.ccan_bus.specs.Complete.{Finishes, TakesBack, Stops, Scanned, Complet
 use Rattle.ccan_bus.specs.Past.{BusPast}
 use Rattle.ccan_bus.specs.Round.{refusal_of_round}
 use Rattle.ccan_bus.specs.RoundReport.{RunsOn, RunsSteps}
-use Rattle.ccan_script.specs.declared.bus_line.BusLine.{BusLine}
-use Rattle.ccan_script.specs.declared.bus_line.BusLine.TheVariants as line
-use Rattle.ccan_script.specs.declared.host_line.HostLine.TheVariants as host_line
-use Rattle.ccan_script.specs.declared.line_answer.LineAnswer.{LineAnswer}
-use Rattle.ccan_script.specs.declared.line_answer.LineAnswer.TheVariants as answer
-use Rattle.ccan_script.specs.Limits.{most_frames, most_groups, most_turns}
-use Rattle.ccan_run.proofs.LinesApart.{host_apart, bus_apart}
-use Rattle.ccan_run.proofs.RoundsApart.{loads_apart}
-use Rattle.ccan_run.proofs.ScansApart.{apart, scans_apart}
+use Rattle.ccan_line.specs.declared.bus_line.BusLine.{BusLine}
+use Rattle.ccan_line.specs.declared.bus_line.BusLine.TheVariants as line
+use Rattle.ccan_line.specs.declared.host_line.HostLine.TheVariants as host_line
+use Rattle.ccan_line.specs.declared.line_answer.LineAnswer.{LineAnswer}
+use Rattle.ccan_line.specs.declared.line_answer.LineAnswer.TheVariants as answer
+use Rattle.ccan_line.specs.Limits.{most_frames, most_groups, most_turns}
+use Rattle.ccan_line.proofs.LinesApart.{host_apart, bus_apart}
+use Rattle.ccan_line.proofs.RoundsApart.{loads_apart}
+use Rattle.ccan_line.proofs.ScansApart.{apart, scans_apart}
 use Rattle.ccan_c.specs.declared.offer.Offer.{Offer}
 use Rattle.ccan_c.specs.declared.shown_outcome.ShownOutcome.{ShownOutcome}
 use Rattle.ccan_c.specs.Answer.{counters_shown, load_shown, state_shown, word_shown}

@@ -4,7 +4,7 @@ use Rattle.std.specs.declared.option.Option.{Option}
 use Rattle.ccan_object.specs.declared.register.Reg.{Reg}
 use Rattle.ccan_object.specs.Interface.{Registers, set_register}
 use Rattle.ccan_ram.specs.SharedRam.{Pass, CanSee}
-use Rattle.ccan_script.specs.Limits.{most_turns}
+use Rattle.ccan_line.specs.Limits.{most_turns}
 use Rattle.ccan_c.specs.declared.held.Held.{Held}
 use Rattle.ccan_c.specs.declared.shared_port.SharedPort.{SharedPort}
 use Rattle.ccan_c.specs.Codes.{done, flag_range, object_range, register_range, turns_range}

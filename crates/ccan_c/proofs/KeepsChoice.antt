@@ -16,7 +16,7 @@ use Rattle.ccan_bus.specs.Decide.{Decides}
 use Rattle.ccan_bus.specs.Round.{Round, refusal_of_round}
 use Rattle.ccan_bus.specs.RoundReport.{RunsOn}
 use Rattle.ccan_bus.proofs.Steps.{rounds_are_steps}
-use Rattle.ccan_script.specs.declared.bus_line.BusLine.TheVariants as line
+use Rattle.ccan_line.specs.declared.bus_line.BusLine.TheVariants as line
 use Rattle.ccan_c.specs.Bus.{LinesKeepTheChoice}
 
 same_choice : (p q : BusPast) → p ≡ q → p.choice ≡ q.choice

@@ -4,7 +4,7 @@ use Rattle.ccan_ram.specs.declared.event.Event.{Event}
 use Rattle.ccan_ram.specs.Access.{Passes, Goes}
 use Rattle.ccan_ram.specs.Terms.{Terms}
 use Rattle.ccan_ram.proofs.Calls.{Goes-weaker}
-use Rattle.ccan_run.specs.Side.{GoesOn}
+use Rattle.ccan_line.specs.Side.{GoesOn}
 
 -- the value before stands for the state before, and the value after for the state after
 pub as_values : {Value : Type 0} {x y : Passes} (old new : Value)

@@ -13,9 +13,8 @@ use Rattle.ccan_ram.specs.Terms.{Terms, one_thread_terms}
 use Rattle.ccan_ram.proofs.Histories.{events_of-append, undisturbed_parts}
 use Rattle.ccan_endless.specs.Layout.{most, same_object}
 use Rattle.ccan_bus.specs.Past.{BusPast}
-use Rattle.ccan_run.specs.Ordered.{Three}
-use Rattle.ccan_run.specs.Ports.{StartsFrom}
-use Rattle.ccan_run.proofs.Apart.{both_empty, no_others, none_of_all, same_or_not}
+use Rattle.ccan_line.specs.Turn.{Three, StartsFrom}
+use Rattle.ccan_line.proofs.Apart.{both_empty, no_others, none_of_all, same_or_not}
 use Rattle.ccan_c.specs.declared.shown_final.ShownFinal.{ShownFinal}
 use Rattle.ccan_c.specs.BusCall.{BusCall, BusCallMeans}
 use Rattle.ccan_c.specs.HostCall.{HostCall, HostCallMeans}

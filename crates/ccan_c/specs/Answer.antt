@@ -7,8 +7,8 @@ use Rattle.ccan_bus.specs.declared.answer.LoadAnswer.TheVariants as load
 use Rattle.ccan_bus.specs.declared.answer.RoundAnswer.TheVariants as round
 use Rattle.ccan_confine.specs.declared.node_state.NodeState.{NodeState}
 use Rattle.ccan_confine.specs.declared.node_state.NodeState.TheVariants.{Active, Passive, Off}
-use Rattle.ccan_script.specs.declared.line_answer.LineAnswer.{LineAnswer}
-use Rattle.ccan_script.specs.declared.line_answer.LineAnswer.TheVariants as answer
+use Rattle.ccan_line.specs.declared.line_answer.LineAnswer.{LineAnswer}
+use Rattle.ccan_line.specs.declared.line_answer.LineAnswer.TheVariants as answer
 use Rattle.ccan_c.specs.declared.shown_load.ShownLoad.{ShownLoad}
 use Rattle.ccan_c.specs.declared.shown_counters.ShownCounters.{ShownCounters}
 use Rattle.ccan_c.specs.Codes.{done, busy, spent}

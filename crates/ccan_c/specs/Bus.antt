@@ -8,12 +8,12 @@ use Rattle.ccan_bus.specs.declared.bus.Bus.{Bus}
 use Rattle.ccan_bus.specs.Bus.{LedTo}
 use Rattle.ccan_bus.specs.Past.{BusPast}
 use Rattle.ccan_confine.specs.Status.{IsPending}
-use Rattle.ccan_script.specs.declared.bus_line.BusLine.{BusLine}
-use Rattle.ccan_script.specs.declared.bus_line.BusLine.TheVariants as line
-use Rattle.ccan_script.specs.declared.line_answer.LineAnswer.{LineAnswer}
-use Rattle.ccan_script.specs.Limits.{most_groups}
-use Rattle.ccan_run.specs.BusPort.{BusLineMeans}
-use Rattle.ccan_run.specs.Side.{GoesOn}
+use Rattle.ccan_line.specs.declared.bus_line.BusLine.{BusLine}
+use Rattle.ccan_line.specs.declared.bus_line.BusLine.TheVariants as line
+use Rattle.ccan_line.specs.declared.line_answer.LineAnswer.{LineAnswer}
+use Rattle.ccan_line.specs.Limits.{most_groups}
+use Rattle.ccan_line.specs.BusPort.{BusLineMeans}
+use Rattle.ccan_line.specs.Side.{GoesOn}
 use Rattle.ccan_c.specs.declared.held.Held.{Held}
 use Rattle.ccan_c.specs.declared.bus_handle.BusHandle.{BusHandle}
 use Rattle.ccan_c.specs.Answer.{code_of}

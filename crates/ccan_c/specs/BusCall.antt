@@ -12,11 +12,11 @@ use Rattle.ccan_bus.specs.declared.round_report.RoundReport.{RoundReport}
 use Rattle.ccan_bus.specs.Past.{BusPast}
 use Rattle.ccan_bus.specs.RoundLine.{AreSenders}
 use Rattle.ccan_bus.specs.RoundReport.{RunsSteps}
-use Rattle.ccan_script.specs.declared.bus_line.BusLine.{BusLine}
-use Rattle.ccan_script.specs.declared.bus_line.BusLine.TheVariants as line
-use Rattle.ccan_script.specs.declared.line_answer.LineAnswer.{LineAnswer}
-use Rattle.ccan_script.specs.Limits.{most_frames, most_groups}
-use Rattle.ccan_run.specs.BusPort.{BusLineMeans}
+use Rattle.ccan_line.specs.declared.bus_line.BusLine.{BusLine}
+use Rattle.ccan_line.specs.declared.bus_line.BusLine.TheVariants as line
+use Rattle.ccan_line.specs.declared.line_answer.LineAnswer.{LineAnswer}
+use Rattle.ccan_line.specs.Limits.{most_frames, most_groups}
+use Rattle.ccan_line.specs.BusPort.{BusLineMeans}
 use Rattle.ccan_c.specs.declared.held.Held.{Held}
 use Rattle.ccan_c.specs.declared.offer.Offer.{Offer}
 use Rattle.ccan_c.specs.declared.shown_counters.ShownCounters.{ShownCounters}

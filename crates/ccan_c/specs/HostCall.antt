@@ -8,11 +8,11 @@ use Rattle.ccan_ram.specs.declared.flag.Flag.{Flag}
 use Rattle.ccan_ram.specs.Attempt.{IsLook}
 use Rattle.ccan_ram.specs.Terms.{Terms}
 use Rattle.ccan_handler.specs.Moment.{FlagsAtOnce, InterruptAtOnce}
-use Rattle.ccan_script.specs.declared.host_line.HostLine.TheVariants as line
-use Rattle.ccan_script.specs.declared.line_answer.LineAnswer.{LineAnswer}
-use Rattle.ccan_script.specs.declared.line_answer.LineAnswer.TheVariants as answer
-use Rattle.ccan_script.specs.Limits.{most_turns}
-use Rattle.ccan_run.specs.Host.{HostLineMeans}
+use Rattle.ccan_line.specs.declared.host_line.HostLine.TheVariants as line
+use Rattle.ccan_line.specs.declared.line_answer.LineAnswer.{LineAnswer}
+use Rattle.ccan_line.specs.declared.line_answer.LineAnswer.TheVariants as answer
+use Rattle.ccan_line.specs.Limits.{most_turns}
+use Rattle.ccan_line.specs.Host.{HostLineMeans}
 use Rattle.ccan_c.specs.declared.held.Held.{Held}
 use Rattle.ccan_c.specs.declared.shown_record.ShownRecord.{ShownRecord}
 use Rattle.ccan_c.specs.Answer.{code_of}

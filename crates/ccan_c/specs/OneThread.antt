@@ -10,7 +10,7 @@ use Rattle.ccan_ram.specs.History.{IsLegal}
 use Rattle.ccan_ram.specs.Terms.{Terms, one_thread_terms}
 use Rattle.ccan_endless.specs.Layout.{most}
 use Rattle.ccan_bus.specs.Past.{BusPast, opened_at_once}
-use Rattle.ccan_run.specs.Ordered.{Three}
+use Rattle.ccan_line.specs.Turn.{Three}
 use Rattle.ccan_c.specs.declared.chip.Chip.{Chip}
 use Rattle.ccan_c.specs.declared.shown_final.ShownFinal.{ShownFinal}
 use Rattle.ccan_c.specs.BusCall.{BusCall, BusCallMeans}

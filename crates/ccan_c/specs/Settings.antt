@@ -4,7 +4,7 @@ use Rattle.std.specs.Option.{option_map_or}
 use Rattle.ccan_object.specs.declared.profile.Profile.{Profile}
 use Rattle.ccan_object.specs.declared.profile.Profile.TheVariants.{One, Two}
 use Rattle.ccan_ram.specs.Tries.{most_tries}
-use Rattle.ccan_script.specs.Limits.{most_nodes}
+use Rattle.ccan_line.specs.Limits.{most_nodes}
 use Rattle.ccan_c.specs.Codes.{profile_range, nodes_range, tries_range}
 
 -- the profile of this number

@@ -16,7 +16,7 @@ use crate::shown_counters::ShownCounters;
 use crate::shown_load::ShownLoad;
 use crate::shown_outcome::ShownOutcome;
 use crate::shown_words::{state_shown, word_shown};
-use ccan_script::{BusLine, LineAnswer, MAX_FRAMES};
+use ccan_line::{BusLine, LineAnswer, MAX_FRAMES};
 
 /// The controller chooses an object to send, and starts it.
 #[unsafe(no_mangle)]

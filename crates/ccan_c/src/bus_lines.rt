@@ -3,15 +3,14 @@ use crate::bus_handle::BusHandle;
 use crate::held::Held;
 use crate::offer::Sends;
 use ccan_bus::{Fault, RoundLine, RoundReport};
-use ccan_run::Side;
-use ccan_script::{BusLine, LineAnswer};
+use ccan_line::{BusLine, LineAnswer, Side};
 
 impl Held {
     ghost use Rattle.std.specs.Prelude.{◌≡◌, IfNone, IfSome, false, nat_le, true};
-    ghost use Rattle.ccan_script.specs.declared.bus_line.BusLine.{BusLine};
+    ghost use Rattle.ccan_line.specs.declared.bus_line.BusLine.{BusLine};
     ghost use Rattle.ccan_bus.specs.declared.round_line.RoundLine.{RoundLine};
     ghost use Rattle.ccan_bus.specs.RoundLine.{AreSenders};
-    ghost use Rattle.ccan_script.specs.BusLine.{BusFits};
+    ghost use Rattle.ccan_line.specs.BusLine.{BusFits};
     ghost use Rattle.ccan_c.specs.Bus.{RunsBus};
     ghost use Rattle.ccan_c.specs.Round.{RunsRound};
 
@@ -58,7 +57,7 @@ impl Held {
 
 impl BusHandle {
     ghost use Rattle.std.specs.Prelude.{ℕ, IsSome};
-    ghost use Rattle.ccan_script.specs.BusLine.{BusFits};
+    ghost use Rattle.ccan_line.specs.BusLine.{BusFits};
     ghost use Rattle.ccan_c.specs.Bus.{RunsOn, held_on};
 
     /// Runs a line that fits however many nodes there are.

@@ -3,7 +3,7 @@ ghost use Rattle.std.specs.Prelude.{◌≡◌};
 ghost use Rattle.ccan_c.specs.Answer.{code_of};
 
 use ccan_bus::{LoadAnswer, RoundAnswer};
-use ccan_script::LineAnswer;
+use ccan_line::LineAnswer;
 
 /// Done.
 pub(crate) const DONE: u32 = 0;

@@ -3,16 +3,15 @@ use crate::code::{FLAG_RANGE, OBJECT_RANGE, TURNS_RANGE};
 use crate::held::Held;
 use crate::numbers::flag_numbered;
 use ccan_handler::until;
+use ccan_line::{HostLine, LineAnswer, RegisterSet, Side};
 use ccan_object::ObjectNo;
 use ccan_ram::{Access, Flag};
-use ccan_run::Side;
-use ccan_script::{HostLine, LineAnswer, RegisterSet};
 
 impl Held {
     ghost use Rattle.std.specs.Prelude.{ℕ, ◌≡◌, ◌≢◌, ◌↔◌, Some, IfSome, IsSome, IsTrue, MatchResult};
     ghost use Rattle.ccan_object.specs.Profile.{Holds};
-    ghost use Rattle.ccan_script.specs.declared.host_line.HostLine.{HostLine};
-    ghost use Rattle.ccan_script.specs.declared.line_answer.LineAnswer.{LineAnswer};
+    ghost use Rattle.ccan_line.specs.declared.host_line.HostLine.{HostLine};
+    ghost use Rattle.ccan_line.specs.declared.line_answer.LineAnswer.{LineAnswer};
     ghost use Rattle.ccan_c.specs.Codes.{done};
     ghost use Rattle.ccan_c.specs.Held.{pass_of};
     ghost use Rattle.ccan_c.specs.Host.{RunsHost, WaitsFor, is_object, number_of, transfer};

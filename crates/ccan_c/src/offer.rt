@@ -1,7 +1,7 @@
 //! Frames that other nodes offer in a round.
 ghost use Rattle.std.specs.Prelude.{◌≡◌, ◌≤◌, IfSome, MatchOption, false, length, map, true};
 ghost use Rattle.std.specs.List.{list_all};
-ghost use Rattle.ccan_script.specs.Limits.{most_frames};
+ghost use Rattle.ccan_line.specs.Limits.{most_frames};
 ghost use Rattle.ccan_c.specs.Round.{fault_numbered, is_frame, sending_of};
 
 use arrayvec::ArrayVec;

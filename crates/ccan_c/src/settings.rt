@@ -1,5 +1,5 @@
 ghost use Rattle.std.specs.Prelude.{◌≡◌, ◌≤◌, Some, None, IfOk, IfErr};
-ghost use Rattle.ccan_script.specs.Limits.{most_nodes};
+ghost use Rattle.ccan_line.specs.Limits.{most_nodes};
 ghost use Rattle.ccan_c.specs.Settings.{profile_numbered, settings_fault};
 
 use crate::code::{NODES_RANGE, PROFILE_RANGE, TRIES_RANGE};

@@ -2,7 +2,7 @@ ghost use Rattle.std.specs.Prelude.{◌≡◌};
 ghost use Rattle.ccan_c.specs.Answer.{counters_shown, state_number};
 
 use ccan_confine::NodeState;
-use ccan_script::LineAnswer;
+use ccan_line::LineAnswer;
 
 /// The error counters of a node.
 #[repr(C)]

@@ -3,8 +3,8 @@ ghost use Rattle.ccan_c.specs.Answer.{c_load, c_load_with, load_shown};
 
 use crate::shown_record::ShownRecord;
 use ccan_bus::LoadAnswer;
+use ccan_line::LineAnswer;
 use ccan_object::Record;
-use ccan_script::LineAnswer;
 
 /// What came of a load.
 #[repr(C)]

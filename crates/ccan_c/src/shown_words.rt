@@ -3,7 +3,7 @@ ghost use Rattle.std.specs.Prelude.{◌≡◌};
 ghost use Rattle.ccan_c.specs.Answer.{state_shown, word_shown};
 
 use crate::shown_counters::state_number;
-use ccan_script::LineAnswer;
+use ccan_line::LineAnswer;
 
 /// The Status register.
 pub(crate) fn word_shown(answer: &LineAnswer) -> u16

@@ -16,9 +16,9 @@ use crate::shown_record::ShownRecord;
 use crate::version::ccan_version;
 use ccan_bus::{Fault, LoadAnswer, MemoryStep, RoundAnswer, RoundEnd, RoundReport};
 use ccan_confine::NodeState;
+use ccan_line::LineAnswer;
 use ccan_object::{Profile, Record, Reg};
 use ccan_ram::Flag;
-use ccan_script::LineAnswer;
 use std::mem::size_of;
 
 #[test]

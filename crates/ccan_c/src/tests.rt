@@ -17,8 +17,8 @@ use crate::shown_load::ShownLoad;
 use crate::shown_outcome::ShownOutcome;
 use crate::shown_record::ShownRecord;
 use crate::version::ccan_version;
+use ccan_line::LineAnswer;
 use ccan_object::Record;
-use ccan_script::LineAnswer;
 use std::process::Abort;
 
 /// A record of which no bit is set.

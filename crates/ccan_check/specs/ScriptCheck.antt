@@ -2,7 +2,7 @@
 use Rattle.std.specs.Prelude.{ℕ, ◌≢◌, List, [], ◌∷◌, Option, Some, None, Ok}
 use Rattle.ccan_script.specs.declared.script_error.ScriptError.{ScriptError}
 use Rattle.ccan_script.specs.declared.script_error.ScriptError.TheVariants.{Memory}
-use Rattle.ccan_script.specs.Script.{ScriptFields}
+use Rattle.ccan_line.specs.Script.{ScriptFields}
 use Rattle.ccan_script.specs.Reader.{RefusesText, Shows}
 use Rattle.ccan_check.specs.declared.report.Fault.{Fault}
 

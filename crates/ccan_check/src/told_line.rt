@@ -1,5 +1,5 @@
 ghost use Rattle.std.specs.Prelude.{◌≤◌};
-ghost use Rattle.ccan_script.specs.Limits.{most_nodes};
+ghost use Rattle.ccan_line.specs.Limits.{most_nodes};
 
 use crate::line_remark::{line_remark, operation_remark};
 use crate::member::{bus_members, host_members};

@@ -1,5 +1,5 @@
 ghost use Rattle.std.specs.Prelude.{◌≤◌, IfOk, true};
-ghost use Rattle.ccan_script.specs.Limits.{most_nodes};
+ghost use Rattle.ccan_line.specs.Limits.{most_nodes};
 
 use crate::json_text::child_after;
 use crate::member_remark::{remark_on, remark_on_name};

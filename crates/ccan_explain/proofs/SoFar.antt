@@ -6,13 +6,14 @@ use Rattle.ccan_ram.specs.declared.port.PortName.TheVariants.{If1, If2, Bus}
 use Rattle.ccan_ram.specs.declared.event.Event.{Event}
 use Rattle.ccan_ram.specs.Access.{Passes}
 use Rattle.ccan_ram.specs.History.{IsLegal}
-use Rattle.ccan_script.specs.declared.line_answer.LineAnswer.{LineAnswer}
-use Rattle.ccan_script.specs.Script.{ScriptFields}
-use Rattle.ccan_script.specs.Order.{times}
-use Rattle.ccan_run.specs.Port.{count_of}
-use Rattle.ccan_run.specs.Lines.{LinesMean}
-use Rattle.ccan_run.specs.Ordered.{PortLine, lines_of, Three, opening, PortLineMeans, terms_of, RunsInOrder}
-use Rattle.ccan_run.proofs.Rows.{LinesMean-push}
+use Rattle.ccan_line.specs.declared.line_answer.LineAnswer.{LineAnswer}
+use Rattle.ccan_line.specs.Script.{ScriptFields}
+use Rattle.ccan_line.specs.Order.{times}
+use Rattle.ccan_line.specs.Port.{count_of}
+use Rattle.ccan_line.specs.Lines.{LinesMean}
+use Rattle.ccan_line.specs.Turn.{PortLine, Three, opening, PortLineMeans, terms_of}
+use Rattle.ccan_run.specs.Ordered.{lines_of, RunsInOrder}
+use Rattle.ccan_line.proofs.Rows.{LinesMean-push}
 use Rattle.ccan_explain.specs.declared.bench.Bench.{Bench}
 use Rattle.ccan_explain.specs.Bench.{next_of, rest, HaveLedTo, TakesTurn}
 use Rattle.ccan_explain.specs.declared.step.Step.{Step}

@@ -10,14 +10,15 @@ use Rattle.ccan_ram.specs.Array.{SameSeen}
 use Rattle.ccan_ram.specs.Terms.{Terms, one_thread_terms}
 use Rattle.ccan_bus.specs.declared.bus.Bus as a_bus
 use Rattle.ccan_bus.specs.Bus.{LedTo}
-use Rattle.ccan_script.specs.declared.bus_line.BusLine.{BusLine}
-use Rattle.ccan_script.specs.declared.host_line.HostLine.{HostLine}
-use Rattle.ccan_script.specs.declared.line_answer.LineAnswer.{LineAnswer}
-use Rattle.ccan_script.specs.Script.{ScriptFields}
-use Rattle.ccan_run.specs.BusPort.{BusLineMeans}
-use Rattle.ccan_run.specs.Host.{HostLineMeans}
-use Rattle.ccan_run.specs.Ordered.{of_if1, of_if2, of_bus, joined, terms_of}
-use Rattle.ccan_run.specs.Side.{GoesOn}
+use Rattle.ccan_line.specs.declared.bus_line.BusLine.{BusLine}
+use Rattle.ccan_line.specs.declared.host_line.HostLine.{HostLine}
+use Rattle.ccan_line.specs.declared.line_answer.LineAnswer.{LineAnswer}
+use Rattle.ccan_line.specs.Script.{ScriptFields}
+use Rattle.ccan_line.specs.BusPort.{BusLineMeans}
+use Rattle.ccan_line.specs.Host.{HostLineMeans}
+use Rattle.ccan_line.specs.Turn.{of_if1, of_if2, of_bus, terms_of}
+use Rattle.ccan_run.specs.Ordered.{joined}
+use Rattle.ccan_line.specs.Side.{GoesOn}
 use Rattle.ccan_explain.specs.declared.bench.Bench.{Bench}
 use Rattle.ccan_explain.specs.Bench.{TakesTurn}
 

@@ -7,10 +7,11 @@ use Rattle.ccan_ram.specs.declared.event.Event.{Event}
 use Rattle.ccan_ram.specs.Access.{Passes}
 use Rattle.ccan_ram.specs.Terms.{Terms}
 use Rattle.ccan_bus.specs.Bus.{LedTo}
-use Rattle.ccan_script.specs.declared.line_answer.LineAnswer.{LineAnswer}
-use Rattle.ccan_script.specs.Script.{ScriptFields}
-use Rattle.ccan_run.specs.BusPort.{TakesLine}
-use Rattle.ccan_run.specs.Ordered.{PortLine, joined, Three, PortLineMeans, terms_of}
+use Rattle.ccan_line.specs.declared.line_answer.LineAnswer.{LineAnswer}
+use Rattle.ccan_line.specs.Script.{ScriptFields}
+use Rattle.ccan_line.specs.BusPort.{TakesLine}
+use Rattle.ccan_line.specs.Turn.{PortLine, Three, PortLineMeans, terms_of}
+use Rattle.ccan_run.specs.Ordered.{joined}
 use Rattle.ccan_explain.specs.declared.bench.Bench.{Bench}
 
 -- how many lines of a port have run

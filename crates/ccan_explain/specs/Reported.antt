@@ -6,10 +6,10 @@ use Rattle.ccan_bus.specs.declared.round_line.RoundLine.{RoundLine}
 use Rattle.ccan_bus.specs.declared.round_report.RoundReport.{RoundReport}
 use Rattle.ccan_bus.specs.Bus.{GoesOnWith}
 use Rattle.ccan_bus.specs.RoundReport.{RunsSteps}
-use Rattle.ccan_script.specs.declared.bus_line.BusLine.{BusLine}
-use Rattle.ccan_script.specs.declared.bus_line.BusLine.TheVariants as bus
-use Rattle.ccan_script.specs.declared.line_answer.LineAnswer.{LineAnswer}
-use Rattle.ccan_script.specs.declared.line_answer.LineAnswer.TheVariants as answer
+use Rattle.ccan_line.specs.declared.bus_line.BusLine.{BusLine}
+use Rattle.ccan_line.specs.declared.bus_line.BusLine.TheVariants as bus
+use Rattle.ccan_line.specs.declared.line_answer.LineAnswer.{LineAnswer}
+use Rattle.ccan_line.specs.declared.line_answer.LineAnswer.TheVariants as answer
 
 -- the line is a round, this came of its steps, and the answer is how they ended
 pub record IsReportOf (before after : Passes) (old new : Bus) (line : BusLine) (tries : ℕ) (reply : LineAnswer)

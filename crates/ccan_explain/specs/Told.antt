@@ -4,8 +4,8 @@ use Rattle.std.specs.Prelude.{List, map}
 use Rattle.ccan_ram.specs.declared.port.PortName.{PortName}
 use Rattle.ccan_ram.specs.declared.event.Event.{Event}
 use Rattle.ccan_ram.specs.Access.{Passes}
-use Rattle.ccan_script.specs.declared.line_answer.LineAnswer.{LineAnswer}
-use Rattle.ccan_script.specs.Script.{ScriptFields}
+use Rattle.ccan_line.specs.declared.line_answer.LineAnswer.{LineAnswer}
+use Rattle.ccan_line.specs.Script.{ScriptFields}
 use Rattle.ccan_run.specs.Ordered.{RunsInOrder}
 use Rattle.ccan_explain.specs.declared.step.Step.{Step}
 

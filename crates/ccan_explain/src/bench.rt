@@ -1,8 +1,8 @@
 ghost use Rattle.std.specs.Prelude.{◌≡◌, ◌+◌, ◌<◌, [], ◌∷◌, length, drop, slice_index_or, if◌then◌else◌};
 ghost use Rattle.ccan_ram.specs.Port.{same_port};
-ghost use Rattle.ccan_script.specs.Reader.{fields_of};
-ghost use Rattle.ccan_run.specs.Ordered.{opening};
-ghost use Rattle.ccan_run.specs.Port.{count_of};
+ghost use Rattle.ccan_line.specs.Script.{fields_of};
+ghost use Rattle.ccan_line.specs.Turn.{opening};
+ghost use Rattle.ccan_line.specs.Port.{count_of};
 ghost use Rattle.ccan_explain.specs.Bench.{HaveLedTo, Serves, TakesTurn, next_of};
 
 use crate::reported::{Reported, run_reported};

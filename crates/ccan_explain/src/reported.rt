@@ -2,8 +2,8 @@ ghost use Rattle.std.specs.Prelude.{◌≡◌, IfSome};
 ghost use Rattle.ccan_object.specs.declared.profile.Profile.{Profile};
 ghost use Rattle.ccan_ram.specs.Access.{Goes};
 ghost use Rattle.ccan_bus.specs.Bus.{LedTo};
-ghost use Rattle.ccan_run.specs.BusPort.{BusLineMeans, TakesLine};
-ghost use Rattle.ccan_run.specs.Side.{GoesOn};
+ghost use Rattle.ccan_line.specs.BusPort.{BusLineMeans, TakesLine};
+ghost use Rattle.ccan_line.specs.Side.{GoesOn};
 ghost use Rattle.ccan_explain.specs.Reported.{IsReportOf};
 
 use ccan_bus::{Bus, RoundReport};

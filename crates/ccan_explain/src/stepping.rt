@@ -1,8 +1,8 @@
 //! One line after another, and what is kept of each.
 ghost use Rattle.std.specs.Prelude.{◌≡◌, ◌+◌, ◌<◌, if◌then◌else◌};
 ghost use Rattle.ccan_ram.specs.Port.{same_port};
-ghost use Rattle.ccan_script.specs.Reader.{fields_of};
-ghost use Rattle.ccan_run.specs.Port.{count_of};
+ghost use Rattle.ccan_line.specs.Script.{fields_of};
+ghost use Rattle.ccan_line.specs.Port.{count_of};
 ghost use Rattle.ccan_explain.specs.Bench.{Serves, TakesTurn, next_of};
 
 use crate::bench::Bench;

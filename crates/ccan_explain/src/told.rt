@@ -1,6 +1,6 @@
 ghost use Rattle.std.specs.Prelude.{◌≡◌, [], IfOk, OnOk};
-ghost use Rattle.ccan_script.specs.Reader.{fields_of};
-ghost use Rattle.ccan_run.specs.Ordered.{opening};
+ghost use Rattle.ccan_line.specs.Script.{fields_of};
+ghost use Rattle.ccan_line.specs.Turn.{opening};
 ghost use Rattle.ccan_explain.specs.Bench.{HaveLedTo, Serves, next_of};
 ghost use Rattle.ccan_explain.specs.Told.{AreStepsOf};
 

@@ -1,5 +1,5 @@
 ghost use Rattle.std.specs.Prelude.{◌≡◌, ◌++◌, IfOk, OnOk, length, map, position, string_bytes};
-ghost use Rattle.ccan_script.specs.Reader.{fields_of};
+ghost use Rattle.ccan_line.specs.Script.{fields_of};
 ghost use Rattle.ccan_outcomes.specs.Outcomes.{AreFound};
 ghost use Rattle.ccan_lab.specs.Answer.{Answers, IsSearchText, first_with, holds_of, none_text};
 ghost use Rattle.ccan_lab.specs.Rows.{has_line, rows_of};

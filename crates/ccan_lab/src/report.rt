@@ -1,5 +1,5 @@
 ghost use Rattle.std.specs.Prelude.{◌≡◌, ◌+◌, ◌^◌, ◌<◌, ◌++◌, List, ℕ, IfOk, OnOk, length, map, string_bytes};
-ghost use Rattle.ccan_script.specs.Reader.{fields_of};
+ghost use Rattle.ccan_line.specs.Script.{fields_of};
 ghost use Rattle.ccan_outcomes.specs.Outcomes.{AreFound};
 ghost use Rattle.ccan_lab.specs.Report.{IsListing, IsOutcomeText, AreOutcomeTexts, each, different_line, heading_text, outcome_text};
 ghost use Rattle.ccan_lab.specs.Report.{same_line, same_text};

@@ -7,11 +7,11 @@ use Rattle.ccan_ram.specs.declared.port.PortName.TheVariants.{If1, If2, Bus}
 use Rattle.ccan_ram.specs.History.{IsLegal, events_of}
 use Rattle.ccan_ram.specs.Ending.{Ends, final_records}
 use Rattle.ccan_ram.specs.SharedRam.{Memory, Pass, IsMemoryOf}
-use Rattle.ccan_script.specs.declared.line_answer.LineAnswer.{LineAnswer}
-use Rattle.ccan_script.specs.Script.{ScriptFields}
-use Rattle.ccan_run.specs.declared.gate.FreeGate.{FreeGate}
+use Rattle.ccan_line.specs.declared.line_answer.LineAnswer.{LineAnswer}
+use Rattle.ccan_line.specs.Script.{ScriptFields}
+use Rattle.ccan_line.specs.declared.gate.FreeGate.{FreeGate}
 use Rattle.ccan_run.specs.declared.outcome.Outcome.{Outcome}
-use Rattle.ccan_run.specs.Gate.{Asks}
+use Rattle.ccan_line.specs.Gate.{Asks}
 use Rattle.ccan_run.specs.Threads.{HasRun, RunsAtOnce, RunsUpTo}
 
 -- three ports that ran so many lines, and the end of their memory. The lines that a port ran are all those of the script

@@ -1,7 +1,7 @@
 -- Gates that the tests run ports with. Source: this project's own.
 use Rattle.std.specs.Prelude.{ℕ, ◌≡◌, ◌≤◌, ◌<◌, Bool, true, false, List, length, Option, None}
 use Rattle.ccan_ram.specs.declared.port.PortName.{PortName}
-use Rattle.ccan_script.specs.declared.line_answer.LineAnswer.{LineAnswer}
+use Rattle.ccan_line.specs.declared.line_answer.LineAnswer.{LineAnswer}
 
 -- a gate that holds this port from a line on, or every port where none is named
 pub record HoldsFrom (named : Option PortName) (line : ℕ) (answers : List LineAnswer) (answer : Bool) : Type 0 where

@@ -2,8 +2,8 @@
 //! come to is what a run in threads of the lines that ran comes to.
 ghost use Rattle.std.specs.Prelude.{◌≡◌, None, vec_capacity};
 ghost use Rattle.ccan_ram.specs.SharedRam.{opened, IsMemoryOf};
-ghost use Rattle.ccan_script.specs.Reader.{fields_of};
-ghost use Rattle.ccan_run.specs.Gate.{Asks};
+ghost use Rattle.ccan_line.specs.Script.{fields_of};
+ghost use Rattle.ccan_line.specs.Gate.{Asks};
 ghost use Rattle.ccan_run.specs.Threads.{HasRoom, HasRun, RunsAtOnce, RunsUpTo};
 
 use ccan_ram::{On, PortName, SharedRam};

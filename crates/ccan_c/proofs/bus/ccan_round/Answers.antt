@@ -2,7 +2,7 @@ use Rattle.std.proofs.Common.{◌≡◌, ◌≤◌, ℕ, List, Some, true, nat_l
 use Rattle.std.proofs.lemmas.Bool.Decides.{nat_tests}
 use Rattle.ccan_accept.specs.declared.frame.Frame.{Frame}
 use Rattle.ccan_bus.specs.RoundLine.{AreSenders}
-use Rattle.ccan_script.specs.Limits.{most_frames}
+use Rattle.ccan_line.specs.Limits.{most_frames}
 use Rattle.ccan_c.specs.Round.{PlaysWith}
 use Rattle.ccan_c.proofs.Calls.{on_known, on_open, on_true}
 use Rattle.ccan_c.proofs.bus.ccan_round.Goals as goal

@@ -1,7 +1,7 @@
 use Rattle.std.proofs.Common.{refl, sym, subst, ◌∙◌}
 use Rattle.ccan_ram.proofs.Calls.{Goes-weaker}
 use Rattle.ccan_bus.proofs.Steps.{rounds_run}
-use Rattle.ccan_script.specs.BusLine.{BusFits}
+use Rattle.ccan_line.specs.BusLine.{BusFits}
 use Rattle.ccan_explain.proofs.reported.run_reported.Goals as goal
 
 pub returns-in-Round-clause-runs : goal.returns-in-Round-clause-runs

@@ -1,7 +1,7 @@
 -- The loop has run the lines that the order names so far.
 use Rattle.std.proofs.Common.{get_or, refl, ap}
 use Rattle.ccan_ram.specs.declared.port.PortName.TheVariants.{If1, If2, Bus}
-use Rattle.ccan_script.specs.Reader.{fields_of}
+use Rattle.ccan_line.specs.Script.{fields_of}
 use Rattle.ccan_run.proofs.Turns.{left_after, names_left}
 use Rattle.ccan_explain.specs.Told.{answers_of}
 use Rattle.ccan_explain.proofs.SoFar.{all_left, answers_more, so_far_more, so_far_none}

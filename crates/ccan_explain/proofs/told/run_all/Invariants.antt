@@ -1,9 +1,9 @@
 use Rattle.std.proofs.Common.{◌≡◌, ◌+◌, drop}
 use Rattle.ccan_ram.specs.declared.port.PortName.{PortName}
 use Rattle.ccan_ram.specs.Array.{passes_of}
-use Rattle.ccan_script.specs.Reader.{fields_of}
-use Rattle.ccan_script.specs.Order.{times}
-use Rattle.ccan_run.specs.Port.{count_of}
+use Rattle.ccan_line.specs.Script.{fields_of}
+use Rattle.ccan_line.specs.Order.{times}
+use Rattle.ccan_line.specs.Port.{count_of}
 use Rattle.ccan_explain.specs.Bench.{Serves, next_of}
 use Rattle.ccan_explain.specs.Told.{answers_of}
 use Rattle.ccan_explain.proofs.SoFar.{SoFar}

@@ -1,5 +1,5 @@
 use Rattle.std.proofs.Common.{◌++◌, ℕ, [], string_bytes, sym, refl, append-nil, add-one, subst}
-use Rattle.ccan_script.specs.Reader.{fields_of}
+use Rattle.ccan_line.specs.Script.{fields_of}
 use Rattle.ccan_lab.specs.Report.{AreOutcomeTexts}
 use Rattle.ccan_lab.proofs.Texts.{part_more}
 use Rattle.ccan_lab.proofs.report.add_outcomes.Goals as goal

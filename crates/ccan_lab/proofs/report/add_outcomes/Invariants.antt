@@ -1,5 +1,5 @@
 use Rattle.std.proofs.Common.{◌≡◌, ◌++◌, ℕ, List, string_bytes}
-use Rattle.ccan_script.specs.Reader.{fields_of}
+use Rattle.ccan_line.specs.Script.{fields_of}
 use Rattle.ccan_lab.specs.Report.{AreOutcomeTexts}
 use Rattle.ccan_lab.proofs.report.add_outcomes.Given as goal
 

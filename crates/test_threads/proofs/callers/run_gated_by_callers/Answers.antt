@@ -1,4 +1,4 @@
-use Rattle.ccan_script.specs.Reader.{fields_of}
+use Rattle.ccan_line.specs.Script.{fields_of}
 use Rattle.test_threads.proofs.Ended.{up_to}
 use Rattle.test_threads.proofs.callers.run_gated_by_callers.Goals as goal
 

@@ -3,8 +3,8 @@ use Rattle.ccan_object.specs.declared.register.Reg.{Reg}
 use Rattle.ccan_ram.specs.Access.{Goes}
 use Rattle.ccan_ram.specs.SharedRam.{passes_of}
 use Rattle.ccan_endless.specs.Layout.{same_object}
-use Rattle.ccan_run.specs.Host.{HostLineMeans}
-use Rattle.ccan_script.specs.declared.host_line.HostLine.TheVariants.{Transfer}
+use Rattle.ccan_line.specs.Host.{HostLineMeans}
+use Rattle.ccan_line.specs.declared.host_line.HostLine.TheVariants.{Transfer}
 use Rattle.ccan_c.specs.Held.{passes}
 use Rattle.ccan_c.proofs.Lines.{as_values}
 use Rattle.ccan_c.proofs.held.Held.request.Goals as goal

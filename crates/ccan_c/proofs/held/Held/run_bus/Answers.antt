@@ -1,6 +1,6 @@
 use Rattle.std.proofs.Common.{sym, ap, ◌∙◌}
 use Rattle.ccan_ram.specs.Terms.{Terms}
-use Rattle.ccan_script.specs.declared.bus_line.BusLine.TheVariants.{Load, Counters}
+use Rattle.ccan_line.specs.declared.bus_line.BusLine.TheVariants.{Load, Counters}
 use Rattle.ccan_c.proofs.held.Held.run_bus.Goals as goal
 
 pub invariant_of-self : goal.invariant_of-self

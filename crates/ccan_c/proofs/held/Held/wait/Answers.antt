@@ -1,6 +1,6 @@
 use Rattle.std.proofs.Common.{◌≡◌, ◌≤◌, ℕ, true, Some, refl, sym, subst, ◌∙◌, arith}
 use Rattle.std.proofs.lemmas.Bool.Decides.{nat_tests}
-use Rattle.ccan_script.specs.Limits.{most_turns}
+use Rattle.ccan_line.specs.Limits.{most_turns}
 use Rattle.ccan_c.specs.Codes.{done}
 use Rattle.ccan_c.specs.Host.{Waits, number_of}
 use Rattle.ccan_c.specs.Settings.{is_from_one_to}

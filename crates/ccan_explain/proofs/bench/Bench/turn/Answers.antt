@@ -1,8 +1,8 @@
 use Rattle.std.proofs.Common.{◌∙◌, ap}
 use Rattle.ccan_ram.specs.Terms.{Terms}
-use Rattle.ccan_script.specs.HostLine.{HostFits}
-use Rattle.ccan_script.specs.Reader.{fields_of}
-use Rattle.ccan_run.specs.BusPort.{TakesLine}
+use Rattle.ccan_line.specs.HostLine.{HostFits}
+use Rattle.ccan_line.specs.Script.{fields_of}
+use Rattle.ccan_line.specs.BusPort.{TakesLine}
 use Rattle.ccan_explain.proofs.Turns.{by_bus, by_if1, by_if2, fits_at}
 use Rattle.ccan_explain.proofs.bench.Bench.turn.Goals as goal
 
