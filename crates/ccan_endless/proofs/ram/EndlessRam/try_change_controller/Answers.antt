@@ -1,5 +1,5 @@
 use Rattle.std.proofs.Common.{ap, ◌∷◌, sym, refl, ◌∙◌, subst}
-use Rattle.ccan_confine.specs.Controller.{IsController}
+use Rattle.ccan_confine.specs.Controller.{IsController, packed}
 use Rattle.ccan_endless.specs.Chip.{controller_at, step_at}
 use Rattle.ccan_endless.specs.declared.chip.ChipEvent.TheVariants.{OfController}
 use Rattle.ccan_endless.specs.declared.chip.ControllerStep.TheVariants.{Make}
@@ -57,3 +57,9 @@ invariant_of-port-2 c =
     stepped_after c.port.inside c.port.invariant c.port.view_is c.requires.memory c.set_aside-found.new.seat
     c.set_aside-found.ensures.same h.0 h.1 t.log t.log refl t.finds.ram (t.finds.goes_on c.port.inside.name h.0 h.1)
     (t.lost (λ e. c.if-found-pack.false (e ∙ sym c.pack.ensures.word)))
+
+pub returns-clause-differ : goal.returns-clause-differ
+returns-clause-differ c same =
+    let t = c.set_aside-found.ensures.told in
+    let now = c.unpack.ensures (controller_at t.log) t.finds.is (sym t.finds.found_is) in
+    c.if-found-pack.false (t.finds.found_is ∙ (ap packed (sym now ∙ same) ∙ sym c.pack.ensures.word))
