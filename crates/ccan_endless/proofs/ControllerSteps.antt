@@ -35,7 +35,7 @@ use Rattle.ccan_endless.specs.Plays.{GoesOn}
 use Rattle.ccan_endless.specs.Chip.{ChipHistory, ram_of, controller_at, steps_of, IsControllerLegal, GoesFrom}
 use Rattle.ccan_endless.specs.Chip.{step_at}
 use Rattle.ccan_endless.specs.ChipRule.{ChipKnows, ram_view, ram_state, chip_see, Agree, ChipKeeps}
-use Rattle.ccan_endless.specs.ChipRule.{FindsController, LooksController, IsSetting, SetsController}
+use Rattle.ccan_endless.specs.ChipRule.{FindsController, LooksController, SeesController, IsSetting, SetsController}
 use Rattle.ccan_endless.proofs.Layouts.{cell_inside, spot_inside, place_inside, side_for-small}
 use Rattle.ccan_endless.proofs.SeatMoves.{TableState, with_view, KeepsAt, Still, moved, within-see_all, sees, goes_by, still, on_for}
 use Rattle.ccan_endless.proofs.Moves.{saw_all}
@@ -148,6 +148,17 @@ module _ (profile : Profile) where
         stepped s c id v at (get_or s.words controller_cell 0) log refl (OfController e ∷ [], refl) legal c.word
             (λ q none. steps_other p q e c.log refl (not_held p q v.chip h held none)),
         record { log = c.log; finds = finds s c id v at (get_or s.words controller_cell 0) me refl refl; view = refl; legal = legal },
+      )
+
+  pub sees_controller : (slots id : ℕ) (me : ChipKnows)
+      → Allows (ChipKeeps profile) slots id me controller_cell (λ n. n) (SeesController profile me)
+  sees_controller slots id me s c _ at _ =
+      let v : ChipView = me.0 in (
+        seen s c id v at c.log,
+        keeps,
+        tt,
+        stepped s c id v at (get_or s.words controller_cell 0) c.log refl (goes_again c.log) c.legal c.word (λ q none. refl),
+        record { log = c.log; finds = finds s c id v at (get_or s.words controller_cell 0) me refl refl; view = refl },
       )
 
   pub sets_controller : (slots id : ℕ) (me : ChipKnows) (p : PortName) (change : ControllerChange) (before : Controller)

@@ -20,8 +20,7 @@ use Rattle.ccan_endless.specs.Layout.{controller_cell}
 use Rattle.ccan_endless.specs.Plays.{Knows}
 use Rattle.ccan_endless.specs.Chip.{ChipHistory, ram_of, controller_at, steps_of, IsControllerLegal, GoesFrom}
 use Rattle.ccan_endless.specs.ChipRule.{ChipKnows, ram_knows, ram_view, ram_state, chip_see, Agree, IsBeginning, ChipKeeps}
-use Rattle.ccan_endless.specs.ChipRule.{Onward, GoOn}
-use Rattle.ccan_endless.specs.Seat.{IsSeated}
+use Rattle.ccan_endless.specs.Seat.{EachGoesOn, IsSeated}
 use Rattle.ccan_endless.proofs.SeatMoves.{with_view, KeepsAt}
 use Rattle.ccan_endless.proofs.Moves.{Both, AllSaw, AllKept, Moves}
 
@@ -81,7 +80,7 @@ legal_before log h g l = legal_part g.0 h (subst IsControllerLegal g.1 l)
 pub goes_again : (h : ChipHistory) → GoesFrom h h
 goes_again h = ([], refl)
 
-append_assoc : (a b c : ChipHistory) → a ++ (b ++ c) ≡ (a ++ b) ++ c
+pub append_assoc : (a b c : ChipHistory) → a ++ (b ++ c) ≡ (a ++ b) ++ c
 append_assoc [] b c = refl
 append_assoc (x ∷ a) b c = ap (λ (l : ChipHistory). x ∷ l) (append_assoc a b c)
 
@@ -175,7 +174,7 @@ module _ (profile : Profile) where
   -- and goes on
   pub goes_on : (s : ChipState) (c : ChipKeeps profile s) (id : ℕ) (v : ChipView) (at : get_elem? s.views id ≡ some v)
       (added : History) (p : PortName) (h : ChipHistory) → holding p v.chip ≡ Some h
-      → (g : ChipHistory) × (holding p (chip_see (of_ram added ++ c.log) v.chip) ≡ Some g) × Onward p h g
+      → (g : ChipHistory) × (holding p (chip_see (of_ram added ++ c.log) v.chip) ≡ Some g) × IsBeginning g p h
   goes_on s c id v at added p h e =
       let b = c.seats id p v h at e in
       let log : ChipHistory = of_ram added ++ c.log in (
@@ -184,14 +183,13 @@ module _ (profile : Profile) where
         record {
           part = goes_more (of_ram added) c.log h b.part;
           own = steps_of-more p added c.log ∙ b.own;
-          legal = legal_more added c.log c.legal;
         },
       )
 
   -- a step on an object's word or a place
   pub lifted : (slots id : ℕ) (me : ChipKnows) (word : ℕ) (f : ℕ → ℕ) (told : ℕ → Knows → Type 0) → word ≢ controller_cell
       → Moves profile id (ram_knows me) word f told
-      → Allows (ChipKeeps profile) slots id me word f (λ found n. told found (ram_knows n) × GoOn me n)
+      → Allows (ChipKeeps profile) slots id me word f (λ found n. told found (ram_knows n) × EachGoesOn me n)
   lifted slots id me word f told apart moves s c _ at _ =
       let v : ChipView = me.0 in
       let ws : List ℕ = set s.words word (f (get_or s.words word 0)) in
@@ -231,9 +229,7 @@ module _ (profile : Profile) where
             (λ p g none b. b),
         (
           m.told,
-          λ p h e.
-              let b = c.seats id p v h at e in
-              (h, e, record { part = goes_again h; own = refl; legal = legal_before c.log h b.part c.legal }),
+          λ p h e. (h, e, record { part = goes_again h; own = refl }),
         ),
       ))
       m.seen

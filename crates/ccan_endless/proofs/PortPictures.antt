@@ -10,6 +10,7 @@ use Rattle.ccan_ram.specs.History.{History}
 use Rattle.ccan_endless.specs.View.{see}
 use Rattle.ccan_endless.specs.Layout.{same_object}
 use Rattle.ccan_ram.specs.Sound.{IsSound}
+use Rattle.ccan_endless.specs.Seat.{IsSeated, chip_me}
 use Rattle.ccan_endless.specs.Version.{IsSeatOf}
 use Rattle.ccan_endless.specs.Picture.{Added, PicturesIn}
 use Rattle.ccan_endless.proofs.Seats.{only_seen}
@@ -45,9 +46,9 @@ module _ (s : Inside) (i : IsPortOf s) {was : Pass} (is_was : pass s ≡ was) {m
     abbrev new : Pass
     new = pass (with_seat s to)
 
-    pub picture_after : IsPortOf (with_seat s to)
-    picture_after =
-        let t = at_port in kept s i to (see (t.0 ++ i.held.seen) i.held) t.1.view refl t.1.sound t.1.own
+    pub picture_after : IsSeated (chip_me to).0 → IsPortOf (with_seat s to)
+    picture_after seated =
+        let t = at_port in kept s i to (see (t.0 ++ i.held.seen) i.held) seated t.1.view refl t.1.sound t.1.own
 
     pictures : AddsPicture (passes_of same_object (pass s)) (passes_of same_object new) shown
     pictures =

@@ -66,18 +66,6 @@ module _ (profile : Profile) where
     pub seats : (i : ℕ) (p : PortName) (v : ChipView) (h : ChipHistory) → get_elem? s.views i ≡ some v
         → holding p v.chip ≡ Some h → IsBeginning log p h
 
--- the port goes on: it has seen what it had seen, and more of the chip, without a step of its own at the controller
-pub record Onward (p : PortName) (old new : ChipHistory) : Type 0 where
-  pub part : GoesFrom new old
-  pub own : steps_of p new ≡ steps_of p old
-  pub legal : IsControllerLegal new
-
--- and so does each port of a seat
-abbrev pub GoOn : ChipKnows → ChipKnows → Type 0
-GoOn m n =
-    (p : PortName) (h : ChipHistory) → holding p m.0.chip ≡ Some h
-    → (g : ChipHistory) × (holding p n.0.chip ≡ Some g) × Onward p h g
-
 -- what each port of a seat has seen is all of this history
 abbrev pub SawAll : ChipHistory → ChipKnows → ChipKnows → Type 0
 SawAll log m n = n ≡ (record { ram = see_all (ram_of log) m.0.ram; chip = chip_see log m.0.chip }, m.1)
@@ -101,6 +89,12 @@ pub record LooksController (profile : Profile) (p : PortName) (m : ChipKnows) (f
   pub finds : FindsController profile log m found
   pub view : SawAll (OfController (step_at p Look (controller_at log)) ∷ log) m n
   pub legal : IsControllerLegal (OfController (step_at p Look (controller_at log)) ∷ log)
+
+-- such a history was seen, without an event
+pub record SeesController (profile : Profile) (m : ChipKnows) (found : ℕ) (n : ChipKnows) : Type 0 where
+  pub log : ChipHistory
+  pub finds : FindsController profile log m found
+  pub view : SawAll log m n
 
 -- what a change of the controller asks: it was computed of this controller, and the port may make it
 pub record IsSetting (p : PortName) (change : ControllerChange) (before : Controller) : Type 0 where
@@ -133,7 +127,10 @@ chip_together v w = record { ram = together v.ram w.ram; chip = together v.chip 
 abbrev pub chip_nothing : ChipView
 chip_nothing = record { ram = nothing; chip = nothing }
 
+-- each port has seen this of the chip
+abbrev pub all_seen : ChipHistory → ByPort ChipHistory
+all_seen h = record { if1 = Some h; if2 = Some h; bus = Some h }
+
 -- the view of the first seat
 abbrev pub chip_all_ports : ℕ → ChipView
-chip_all_ports quota =
-    record { ram = all_ports quota; chip = record { if1 = Some []; if2 = Some []; bus = Some [] } }
+chip_all_ports quota = record { ram = all_ports quota; chip = all_seen [] }

@@ -7,7 +7,7 @@ use Rattle.ccan_ram.specs.ByPort.{holding}
 use Rattle.ccan_endless.specs.declared.view.ChipView.{ChipView}
 use Rattle.ccan_endless.specs.Plays.{Knows}
 use Rattle.ccan_endless.specs.Chip.{ChipHistory, IsControllerLegal}
-use Rattle.ccan_endless.specs.ChipRule.{ChipKnows, Agree, ram_knows}
+use Rattle.ccan_endless.specs.ChipRule.{ChipKnows, Agree, IsBeginning, ram_knows}
 
 pub record SeatKnows : Type 0 where
   pub table_id : TableId
@@ -29,3 +29,14 @@ abbrev pub IsSeated : ChipView → Type 0
 IsSeated v =
     (p : PortName) → Agree (holding p v.ram) (holding p v.chip)
     × ((h : ChipHistory) → holding p v.chip ≡ Some h → IsControllerLegal h)
+
+-- each port of a seat has seen what it had seen, and more of the chip, without a step of its own at the controller
+abbrev pub EachGoesOn : ChipKnows → ChipKnows → Type 0
+EachGoesOn m n =
+    (p : PortName) (h : ChipHistory) → holding p m.0.chip ≡ Some h
+    → (g : ChipHistory) × (holding p n.0.chip ≡ Some g) × IsBeginning g p h
+
+-- so a seat goes on in the chip's history
+pub record GoOn (m n : ChipKnows) : Type 0 where
+  pub each : EachGoesOn m n
+  pub seated : IsSeated m.0 → IsSeated n.0

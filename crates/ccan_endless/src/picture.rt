@@ -16,6 +16,7 @@ ghost use Rattle.ccan_endless.specs.Parts.{marks_limit};
 ghost use Rattle.ccan_endless.specs.Picture.{AddsMarks, CollectedIn, MovedIn, PicturesIn, ShowsAll};
 ghost use Rattle.ccan_endless.specs.Picture.{StayedIn, TurnsIn};
 ghost use Rattle.ccan_endless.specs.Port.{numbers_of};
+ghost use Rattle.ccan_endless.specs.Seat.{GoOn, chip_me};
 ghost use Rattle.ccan_ram.specs.Sound.{IsSound};
 ghost use Rattle.ccan_endless.specs.Version.{IsSeatOf};
 
@@ -34,6 +35,7 @@ pub fn picture(words: &Words, seat: &mut Seat, port: PortName) -> HandlerRegiste
         × IsSound words.now.profile x.quota x.seen × (x.quota ≡ words.now.quota) }
     ensures same { seat.new.table_id ≡ seat.old.table_id }
     ensures told { PicturesIn words.now port result seat.old.me seat.new.me }
+    ensures onward { GoOn (chip_me seat.old) (chip_me seat.new) }
     ensures within { AreBelow (objects_in words.now.profile) result }
 {
     let key = words.key();
@@ -62,6 +64,7 @@ fn pose_once(
         × IsSound words.now.profile x.quota x.seen }
     ensures same { seat.new.table_id ≡ seat.old.table_id }
     ensures told { TurnsIn words.now.profile port values.new result seat.old.me seat.new.me }
+    ensures onward { GoOn (chip_me seat.old) (chip_me seat.new) }
 {
     collect(words, seat, values);
     pose(words, seat, port);
@@ -75,6 +78,7 @@ fn collect(words: &Words, seat: &mut Seat, values: &mut [u64; MOST_OBJECTS])
     ensures same { seat.new.table_id ≡ seat.old.table_id }
     ensures told { CollectedIn words.now.profile (objects_in words.now.profile) values.new
         seat.old.me seat.new.me }
+    ensures onward { GoOn (chip_me seat.old) (chip_me seat.new) }
 {
     for i in 0..usize::from(words.key().profile.objects()) {
         values[i] = watch(words, seat, i + 1);
@@ -88,6 +92,7 @@ fn still(words: &Words, seat: &mut Seat, values: &[u64; MOST_OBJECTS]) -> bool
     ensures same { seat.new.table_id ≡ seat.old.table_id }
     ensures yes { result ≡ true → StayedIn words.now.profile (objects_in words.now.profile)
         values.now seat.old.me seat.new.me }
+    ensures onward { GoOn (chip_me seat.old) (chip_me seat.new) }
     ensures no { result ≡ false → MovedIn words.now.profile values.now seat.old.me seat.new.me }
 {
     for i in 0..usize::from(words.key().profile.objects()) {

@@ -5,11 +5,13 @@ use Rattle.ccan_object.specs.declared.profile.Profile.{Profile}
 use Rattle.ccan_endless.specs.Picture.{ShowsAll}
 use Rattle.ccan_endless.specs.View.{see}
 use Rattle.ccan_endless.proofs.Turns.{added_none, added_more, lost_more, pictured_by, few_turns}
+use Rattle.ccan_endless.proofs.Onward.{on_again, on_through}
 use Rattle.ccan_endless.proofs.picture.picture.Goals as goal
 
 pub loop-turn-init : goal.loop-turn-init
 loop-turn-init c = record {
   table = refl;
+  onward = on_again _;
   told = λ x view sound quota. added_none c.args.words.now c.args.port x _ view sound;
 }
 
@@ -19,6 +21,7 @@ loop-turn-preserved c =
     let p = c.args.port in
     record {
       table = c.pose_once.ensures.same ∙ c.loop-turn.invariant.table;
+      onward = on_through c.loop-turn.invariant.onward c.pose_once.ensures.onward;
       told = λ x view sound quota.
           let i = c.loop-turn.invariant.told x view sound quota in
           let t = (rw c.if-pose_once.false at c.pose_once.ensures.told) (see _ x) i.1.view i.1.sound in (
@@ -50,3 +53,6 @@ returns-clause-told c x view sound quota =
     let same = c.key-key.ensures.quota in
     let more = c.loop-turn-test.false in
     absurd (omega arith)
+
+pub returns-then-pose_once-clause-onward : goal.returns-then-pose_once-clause-onward
+returns-then-pose_once-clause-onward c = on_through c.loop-turn.invariant.onward c.pose_once.ensures.onward

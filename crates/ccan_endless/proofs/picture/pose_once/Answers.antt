@@ -1,6 +1,7 @@
 use Rattle.ccan_endless.specs.View.{see}
 use Rattle.ccan_endless.proofs.Seats.{only_holds}
 use Rattle.ccan_endless.proofs.Picturing.{posed_view, posed_sound, turn_posed, turn_missed, turned_as}
+use Rattle.ccan_endless.proofs.Onward.{on_through}
 use Rattle.ccan_endless.proofs.picture.pose_once.Goals as goal
 
 pub pose-requires-clause-held : goal.pose-requires-clause-held
@@ -20,3 +21,6 @@ returns-clause-told c =
     (λ moved x view sound.
     let k = c.collect.ensures.told p x view sound in
     turn_missed k t (c.still.ensures.no moved p _ (posed_view k t) (posed_sound k t)))
+
+pub returns-clause-onward : goal.returns-clause-onward
+returns-clause-onward c = on_through c.collect.ensures.onward (on_through c.pose.ensures.onward c.still.ensures.onward)

@@ -7,7 +7,7 @@ use Rattle.ccan_endless.specs.declared.chip.ChipEvent.TheVariants.{OfController}
 use Rattle.ccan_endless.specs.declared.chip.ControllerStep.TheVariants.{Look}
 use Rattle.ccan_endless.proofs.Ports.{chip_pass, with_seat}
 use Rattle.ccan_endless.proofs.Seats.{only_holds}
-use Rattle.ccan_endless.proofs.ControllerCalls.{stepped_after, adds_step}
+use Rattle.ccan_endless.proofs.ControllerCalls.{stepped_after, adds_no_event, adds_step}
 use Rattle.ccan_endless.proofs.ram.EndlessRam.look_controller.Goals as goal
 
 pub look_aside-requires-clause-held : goal.look_aside-requires-clause-held
@@ -18,7 +18,7 @@ pub invariant_of-port : goal.invariant_of-port
 invariant_of-port c =
     let t = c.look_aside.ensures.told in
     let h = c.look_aside.ensures.had in
-    stepped_after c.port.inside c.port.invariant c.port.view_is c.requires.memory c.look_aside.new.seat c.look_aside.ensures.same
+    stepped_after c.port.inside c.port.invariant c.port.view_is c.requires.memory c.look_aside.new.seat c.look_aside.ensures.same c.look_aside.ensures.seated
     h.0 h.1 t.log (OfController (step_at c.port.inside.name Look (controller_at t.log)) ∷ t.log) refl t.finds.ram
     (t.finds.goes_on c.port.inside.name h.0 h.1) t.view
 
@@ -30,7 +30,7 @@ returns-clause-looks c =
     c.unpack.ensures (controller_at t.log) t.finds.is (sym t.finds.found_is) in
     subst (λ (k : Controller). AddsController c.args.port.now (chip_pass (with_seat c.port.inside c.look_aside.new.seat)) Look k)
     (sym shown)
-    (adds_step c.port.inside c.port.invariant c.port.view_is c.requires.memory c.look_aside.new.seat c.look_aside.ensures.same
+    (adds_step c.port.inside c.port.invariant c.port.view_is c.requires.memory c.look_aside.new.seat c.look_aside.ensures.same c.look_aside.ensures.seated
     h.0 h.1 t.log (OfController (step_at c.port.inside.name Look (controller_at t.log)) ∷ t.log) refl t.finds.ram
     (t.finds.goes_on c.port.inside.name h.0 h.1) t.view Look (controller_at t.log) refl t.legal.0)
 
@@ -38,3 +38,12 @@ pub returns-clause-is : goal.returns-clause-is
 returns-clause-is c =
     let t = c.look_aside.ensures.told in
     subst IsController (sym (c.unpack.ensures (controller_at t.log) t.finds.is (sym t.finds.found_is))) t.finds.is
+
+pub returns-clause-objects : goal.returns-clause-objects
+returns-clause-objects c =
+    let t = c.look_aside.ensures.told in
+    let h = c.look_aside.ensures.had in
+    adds_no_event c.port.inside c.port.invariant c.port.view_is c.requires.memory c.look_aside.new.seat
+    c.look_aside.ensures.same c.look_aside.ensures.seated h.0 h.1 t.log
+    (OfController (step_at c.port.inside.name Look (controller_at t.log)) ∷ t.log) refl t.finds.ram
+    (t.finds.goes_on c.port.inside.name h.0 h.1) t.view

@@ -1,10 +1,10 @@
 use Rattle.std.proofs.Common.{ap, ◌∷◌, sym, refl, ◌∙◌, subst}
-use Rattle.ccan_confine.specs.Controller.{IsController}
+use Rattle.ccan_confine.specs.Controller.{IsController, packed}
 use Rattle.ccan_endless.specs.Chip.{controller_at, step_at}
 use Rattle.ccan_endless.specs.declared.chip.ChipEvent.TheVariants.{OfController}
 use Rattle.ccan_endless.specs.declared.chip.ControllerStep.TheVariants.{Make}
 use Rattle.ccan_endless.proofs.Seats.{only_holds}
-use Rattle.ccan_endless.proofs.ControllerCalls.{stepped_after, adds_step, adds_none, new_whole}
+use Rattle.ccan_endless.proofs.ControllerCalls.{stepped_after, adds_no_event, adds_step, adds_none, new_whole}
 use Rattle.ccan_endless.proofs.ram.EndlessRam.try_change_controller.Goals as goal
 
 pub set_aside-found-requires-clause-held : goal.set_aside-found-requires-clause-held
@@ -17,7 +17,7 @@ invariant_of-port c =
     let h = c.set_aside-found.ensures.had in
     let log = OfController (step_at c.port.inside.name (Make c.args.change.now) c.args.before.now) ∷ t.log in
     stepped_after c.port.inside c.port.invariant c.port.view_is c.requires.memory c.set_aside-found.new.seat
-    c.set_aside-found.ensures.same h.0 h.1 t.log log refl t.finds.ram
+    c.set_aside-found.ensures.same c.set_aside-found.ensures.seated h.0 h.1 t.log log refl t.finds.ram
     (t.finds.goes_on c.port.inside.name h.0 h.1) (t.done (c.if-found-pack.true ∙ c.pack.ensures.word)).1
 
 pub returns-then-found-pack-clause-made : goal.returns-then-found-pack-clause-made
@@ -29,7 +29,7 @@ returns-then-found-pack-clause-made c =
       c.after-after.ensures.changed,
       c.after-after.ensures.is c.requires.is,
       adds_step c.port.inside c.port.invariant c.port.view_is c.requires.memory c.set_aside-found.new.seat
-          c.set_aside-found.ensures.same h.0 h.1 t.log log refl t.finds.ram
+          c.set_aside-found.ensures.same c.set_aside-found.ensures.seated h.0 h.1 t.log log refl t.finds.ram
           (t.finds.goes_on c.port.inside.name h.0 h.1) d.1 (Make c.args.change.now) c.args.before.now refl d.2.0,
     )
 
@@ -40,12 +40,12 @@ returns-clause-lost c =
     let now = c.unpack.ensures (controller_at t.log) t.finds.is (sym t.finds.found_is) in (
       now
           ∙ ap controller_at (sym (new_whole c.port.inside c.port.invariant c.port.view_is c.requires.memory
-          c.set_aside-found.new.seat c.set_aside-found.ensures.same h.0 h.1 t.log t.log refl t.finds.ram
+          c.set_aside-found.new.seat c.set_aside-found.ensures.same c.set_aside-found.ensures.seated h.0 h.1 t.log t.log refl t.finds.ram
           (t.finds.goes_on c.port.inside.name h.0 h.1)
           (t.lost (λ e. c.if-found-pack.false (e ∙ sym c.pack.ensures.word))))),
       subst IsController (sym now) t.finds.is,
       adds_none c.port.inside c.port.invariant c.port.view_is c.requires.memory c.set_aside-found.new.seat
-          c.set_aside-found.ensures.same h.0 h.1 t.log t.log refl t.finds.ram
+          c.set_aside-found.ensures.same c.set_aside-found.ensures.seated h.0 h.1 t.log t.log refl t.finds.ram
           (t.finds.goes_on c.port.inside.name h.0 h.1)
           (t.lost (λ e. c.if-found-pack.false (e ∙ sym c.pack.ensures.word))) refl,
     )
@@ -55,5 +55,29 @@ invariant_of-port-2 c =
     let t = c.set_aside-found.ensures.told in
     let h = c.set_aside-found.ensures.had in
     stepped_after c.port.inside c.port.invariant c.port.view_is c.requires.memory c.set_aside-found.new.seat
-    c.set_aside-found.ensures.same h.0 h.1 t.log t.log refl t.finds.ram (t.finds.goes_on c.port.inside.name h.0 h.1)
+    c.set_aside-found.ensures.same c.set_aside-found.ensures.seated h.0 h.1 t.log t.log refl t.finds.ram (t.finds.goes_on c.port.inside.name h.0 h.1)
+    (t.lost (λ e. c.if-found-pack.false (e ∙ sym c.pack.ensures.word)))
+
+pub returns-clause-differ : goal.returns-clause-differ
+returns-clause-differ c same =
+    let t = c.set_aside-found.ensures.told in
+    let now = c.unpack.ensures (controller_at t.log) t.finds.is (sym t.finds.found_is) in
+    c.if-found-pack.false (t.finds.found_is ∙ (ap packed (sym now ∙ same) ∙ sym c.pack.ensures.word))
+
+pub returns-then-found-pack-clause-objects : goal.returns-then-found-pack-clause-objects
+returns-then-found-pack-clause-objects c =
+    let t = c.set_aside-found.ensures.told in
+    let h = c.set_aside-found.ensures.had in
+    let log = OfController (step_at c.port.inside.name (Make c.args.change.now) c.args.before.now) ∷ t.log in
+    adds_no_event c.port.inside c.port.invariant c.port.view_is c.requires.memory c.set_aside-found.new.seat
+    c.set_aside-found.ensures.same c.set_aside-found.ensures.seated h.0 h.1 t.log log refl t.finds.ram
+    (t.finds.goes_on c.port.inside.name h.0 h.1) (t.done (c.if-found-pack.true ∙ c.pack.ensures.word)).1
+
+pub returns-clause-objects : goal.returns-clause-objects
+returns-clause-objects c =
+    let t = c.set_aside-found.ensures.told in
+    let h = c.set_aside-found.ensures.had in
+    adds_no_event c.port.inside c.port.invariant c.port.view_is c.requires.memory c.set_aside-found.new.seat
+    c.set_aside-found.ensures.same c.set_aside-found.ensures.seated h.0 h.1 t.log t.log refl t.finds.ram
+    (t.finds.goes_on c.port.inside.name h.0 h.1)
     (t.lost (λ e. c.if-found-pack.false (e ∙ sym c.pack.ensures.word)))
