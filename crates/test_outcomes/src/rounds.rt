@@ -54,10 +54,10 @@ fn answers(alloc: Global, outcomes: &Outcomes) -> Result<String, Fail> {
 
 #[test]
 fn lists_a_load_beside_a_write(rt: HostRuntime) -> Result<(), Fail> {
-    // Before the write, with its look made or not, the bus has made 0 to 32 of its looks: 66 states. It makes those at objects 2
-    // to 32 at once, so where the look at object 1 came before the write that follows all of them: 1. Else the look at object 1,
-    // that of the try, and the start come behind the write: four more.
-    let outcomes = outcomes_in(rt.alloc(), LOAD_BESIDE_WRITE, 71)?;
+    // The bus's looks at objects 2 to 32 go alone, and so does the look of the write, as the bus changes no object that isn't valid.
+    // So it comes first: before it 1 state, behind it 1, with the bus's look at object 1 made 32 more. Where the write comes before
+    // that look, 4: behind it, behind the look, that of the try, and the start. Where it comes behind, all 32 looks are made: 1.
+    let outcomes = outcomes_in(rt.alloc(), LOAD_BESIDE_WRITE, 39)?;
     let want = "bus loaded 01 a48c0000 00000000 0188 0000000000000000\n\
         if1 write 01 a48c0000 00000000 0188 0000000000000000\n\
         bus loaded none\n\
@@ -69,7 +69,7 @@ fn lists_a_load_beside_a_write(rt: HostRuntime) -> Result<(), Fail> {
 #[test]
 fn lists_a_message_that_is_lost(rt: HostRuntime) -> Result<(), Fail> {
     // The frame comes before the write, which is no object's then, or before the read, between it and the clearing, or behind.
-    let outcomes = outcomes_in(rt.alloc(), LOST_MESSAGE, 292)?;
+    let outcomes = outcomes_in(rt.alloc(), LOST_MESSAGE, 227)?;
     let want = "bus received 01 848c0000 00000000 8082 2222000000000000\n\
         if1 write 01 848c0000 00000000 8088 1111000000000000\n\
         if1 read 01 848c0000 00000000 8088 1111000000000000\n\
