@@ -195,9 +195,9 @@ fn lists_no_word_of_flags_that_comes_too_late(rt: HostRuntime) -> Result<(), Fai
 
 #[test]
 fn lists_a_wait_that_succeeds_and_one_that_gives_up(rt: HostRuntime) -> Result<(), Fail> {
-    // IF1 looks at object 1 twice at most, and IF2 sets its NewDat. The look of IF2 comes first, as IF1 changes nothing: before it
-    // 1 state. Behind it IF1 has made no look, one, or both: 3. Behind the write IF1 has made no look, one, has given up, or has
-    // seen the flag: four more.
+    // IF1 looks at object 1 twice at most, and IF2 sets its NewDat. The look of IF2 comes first, as IF1 changes nothing: 1 state
+    // before it. Behind it IF1 has made no look, one, or both: 3. Behind the write IF1 has made no look, one, has given up, or
+    // has seen the flag: four more.
     let text =
         r#"{"if1":[{"op":"until","object":1,"flag":"newdat","turns":2}],"if2":[{"op":"transfer","request":"0001","set":{"cmask":"0090","ctrl":"8000"}}]}"#;
     let Some(outcomes) = outcomes_of(rt.alloc(), text, 8)? else {

@@ -54,9 +54,10 @@ fn answers(alloc: Global, outcomes: &Outcomes) -> Result<String, Fail> {
 
 #[test]
 fn lists_a_load_beside_a_write(rt: HostRuntime) -> Result<(), Fail> {
-    // The bus's looks at objects 2 to 32 go alone, and so does the look of the write, as the bus changes no object that isn't valid.
-    // So it comes first: before it 1 state, behind it 1, with the bus's look at object 1 made 32 more. Where the write comes before
-    // that look, 4: behind it, behind the look, that of the try, and the start. Where it comes behind, all 32 looks are made: 1.
+    // The bus's looks at objects 2 to 32 go alone, and so does the look of the write, as the bus changes no object that isn't
+    // valid. So it comes first: before it 1 state, behind it 1, with the bus's look at object 1 made 32 more. Where the write
+    // comes before that look, 4: behind it, behind the look, that of the try, and the start. Where it comes behind, all 32 looks
+    // are made: 1.
     let outcomes = outcomes_in(rt.alloc(), LOAD_BESIDE_WRITE, 39)?;
     let want = "bus loaded 01 a48c0000 00000000 0188 0000000000000000\n\
         if1 write 01 a48c0000 00000000 0188 0000000000000000\n\
