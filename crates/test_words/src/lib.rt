@@ -5,6 +5,8 @@
 #[cfg(test)]
 mod calls;
 #[cfg(test)]
+mod chips;
+#[cfg(test)]
 mod contended;
 #[cfg(test)]
 mod drafts;

@@ -5,6 +5,7 @@ use crate::calls;
 use crate::drafts::{commit_beside, prepare_beside};
 use crate::rivals::{Seen, Task, work};
 
+mod controller;
 mod orders;
 mod pictures;
 mod profiles;
