@@ -3,7 +3,7 @@ SCRIPT ?= examples/first_write.json
 PREFIX ?= /usr/local
 export SCRIPT PREFIX
 
-.PHONY: help run try prove test install bench sweep hostile soak c-test c-wrong schema clean
+.PHONY: help run try examples prove test install bench sweep hostile soak c-test c-wrong schema clean
 
 help:
 	@tools/targets
@@ -13,6 +13,9 @@ run:
 
 try:
 	@tools/run "$$SCRIPT" unproved
+
+examples:
+	tools/try_examples
 
 prove:
 	@tools/build

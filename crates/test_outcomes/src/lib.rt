@@ -6,8 +6,6 @@
 mod races;
 pub mod residues;
 #[cfg(test)]
-mod rounds;
-#[cfg(test)]
 mod searches;
 pub mod till;
 #[cfg(test)]

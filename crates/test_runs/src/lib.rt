@@ -11,8 +11,6 @@ mod faulty;
 #[cfg(test)]
 mod limits;
 #[cfg(test)]
-mod malformed;
-#[cfg(test)]
 mod outcomes;
 #[cfg(test)]
 mod quotas;

@@ -33,14 +33,6 @@ pub fn prints(rt: &impl Abort, alloc: Global, script: &str, text: &str, step: us
     holds(rt, script, got, &out, Ok(()), text.as_bytes());
 }
 
-/// Holds bytes to the fault that they are refused with. Nothing is written.
-pub fn is_refused(rt: &impl Abort, alloc: Global, bytes: &[u8], want: RunError) {
-    let mut out = new_sheet(512);
-    let got = run(alloc, &mut &bytes[..], &mut out);
-    assert_eq!(rt; got, Err(want), "at {} bytes", bytes.len());
-    assert!(rt; out.taken.as_slice().is_empty());
-}
-
 /// A reader of a script that gives so many bytes a call, and meets a fault after so many calls.
 pub fn pieces(script: &str, step: usize, calls: usize, fault: Option<Fault>) -> Pieces<'_> {
     Pieces {

@@ -1,5 +1,3 @@
-mod limits;
-mod refusals;
 mod scripts;
 mod texts;
 
