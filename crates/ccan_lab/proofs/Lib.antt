@@ -1,1 +1,2 @@
+pub mod Differ
 pub mod Texts

@@ -1,4 +1,5 @@
 pub mod CheckCommand
+pub mod Expect
 pub mod History
 pub mod LabError
 pub mod Report

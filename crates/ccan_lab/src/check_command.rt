@@ -4,10 +4,13 @@ ghost use Rattle.std.specs.Prelude.{◌≡◌, vec_len};
 ghost use Rattle.ccan_lab.specs.CheckCommand.{end_by_counts};
 
 use crate::check_end::CheckEnd;
+use crate::expect::compare_run;
 use crate::lab_error::LabError;
 use ccan_check::{Report, check, print_report};
-use ccan_run::read_all;
-use clap::{Arg, ArgAction, ArgMatches, Command};
+use ccan_run::{RunError, read_all};
+use ccan_script::read_script;
+use clap::error::ErrorKind;
+use clap::{Arg, ArgAction, ArgMatches, Command, Error};
 use std::alloc::{AllocError, Global};
 use std::fs::Files;
 use std::io::{Input, IsTerminal, Write};
@@ -18,6 +21,8 @@ use std::{fs, io};
 pub struct CheckQuestion<'a> {
     /// Whether warnings have an exit status of their own.
     pub is_strict: bool,
+    /// The file with what a run of the script must print, where that is asked for. There is one script then.
+    pub expected: Option<&'a str>,
     /// The files: `-` means standard input.
     pub files: Vec<&'a str>,
 }
@@ -28,6 +33,11 @@ pub fn check_command<'a>(alloc: Global) -> Result<Command<'a>, AllocError> {
         .long("strict")
         .action(ArgAction::SetTrue)
         .help("Exit status 7 where there are warnings and no faults");
+    let expected = Arg::new(alloc, "expect")
+        .long("expect")
+        .value_name("TEXT")
+        .action(ArgAction::Set)
+        .help("The file with what ccan must print of the one script; exit status 8 where it prints another text");
     let files = Arg::new(alloc, "file")
         .value_name("FILE")
         .action(ArgAction::Append)
@@ -36,26 +46,41 @@ pub fn check_command<'a>(alloc: Global) -> Result<Command<'a>, AllocError> {
     Command::new(alloc, "check")
         .about("Tells the faults of scripts, each with its file, line and column")
         .arg(strict)?
+        .arg(expected)?
         .arg(files)
 }
 
-/// The question that the words after `check` ask.
+/// The question that the words after `check` ask. A text is expected of one script only.
 pub fn check_question<'a>(
     alloc: Global,
     words: &ArgMatches<'a>,
-) -> Result<CheckQuestion<'a>, AllocError> {
+) -> Result<CheckQuestion<'a>, Error> {
     let mut files = Vec::new(alloc);
     match words.get_strs("file") {
         Some(named) => files.extend_from_slice(named)?,
         None => files.push("-")?,
     }
+    let expected = words.get_str("expect");
+    if expected.is_some() && 1 < files.len() {
+        let message = "with '--expect <TEXT>' there is one script";
+        return Err(check_command(alloc)?.error(ErrorKind::TooManyValues, message)?);
+    }
     Ok(CheckQuestion {
         is_strict: words.get_flag("strict"),
+        expected,
         files,
     })
 }
 
-/// All bytes of a file. Where they come from a terminal, a word on standard error says so.
+/// All bytes of the file of this name.
+fn bytes_in<T: AllocGlobal + Files>(rt: &T, file: &str) -> Result<Vec<u8>, LabError> {
+    match fs::open(rt, file) {
+        Ok(mut opened) => Ok(read_all(rt.alloc(), &mut opened)?),
+        Err(_) => Err(LabError::Open),
+    }
+}
+
+/// All bytes of a file, or for `-` of standard input. Where they come from a terminal, a word on standard error says so.
 fn bytes_of<T: AllocGlobal + Input + Files + Eprint>(
     rt: &T,
     file: &str,
@@ -70,10 +95,7 @@ where
         }
         return Ok(read_all(rt.alloc(), &mut reader)?);
     }
-    match fs::open(rt, file) {
-        Ok(mut opened) => Ok(read_all(rt.alloc(), &mut opened)?),
-        Err(_) => Err(LabError::Open),
-    }
+    bytes_in(rt, file)
 }
 
 /// What came of a check.
@@ -90,20 +112,64 @@ fn end_of(report: &Report) -> CheckEnd
     }
 }
 
-/// Prints what is said of a file.
+/// Writes a text to standard output.
+fn print_text(rt: &impl Print, text: &str) -> Result<(), LabError> {
+    match io::writer(rt).write_all(text.as_bytes()) {
+        Ok(()) => Ok(()),
+        Err(_) => Err(LabError::Write),
+    }
+}
+
+/// Prints what is said of a script in these bytes of a file.
+fn check_bytes<T: AllocGlobal + Print>(
+    rt: &T,
+    file: &str,
+    bytes: &[u8],
+) -> Result<CheckEnd, LabError> {
+    let report = check(rt.alloc(), bytes)?;
+    let text = print_report(rt.alloc(), file, bytes, &report)?;
+    print_text(rt, text.as_str())?;
+    Ok(end_of(&report))
+}
+
+/// Runs the script that these bytes are, and prints the first line that is not as in the file of what is expected. Says
+/// whether there is one.
+fn has_difference<T: AllocGlobal + Files + Print>(
+    rt: &T,
+    bytes: &[u8],
+    file: &str,
+) -> Result<bool, LabError> {
+    let script = match read_script(rt.alloc(), bytes) {
+        Ok(script) => script,
+        Err(refusal) => return Err(LabError::Input(RunError::Script(refusal))),
+    };
+    let expected = bytes_in(rt, file)?;
+    match compare_run(rt.alloc(), &script, file, expected.as_slice())? {
+        Some(told) => {
+            print_text(rt, told.as_str())?;
+            Ok(true)
+        }
+        None => Ok(false),
+    }
+}
+
+/// Prints what is said of a file, and of its run, where a text is expected of it.
 fn check_file<T: AllocGlobal + Input + Files + Print + Eprint>(
     rt: &T,
     file: &str,
+    expected: Option<&str>,
 ) -> Result<CheckEnd, LabError>
 where
     T::Reader: IsTerminal,
 {
     let bytes = bytes_of(rt, file)?;
-    let report = check(rt.alloc(), bytes.as_slice())?;
-    let text = print_report(rt.alloc(), file, bytes.as_slice(), &report)?;
-    match io::writer(rt).write_all(text.as_bytes()) {
-        Ok(()) => Ok(end_of(&report)),
-        Err(_) => Err(LabError::Write),
+    let end = check_bytes(rt, file, bytes.as_slice())?;
+    match expected {
+        Some(expected) if end != CheckEnd::Faulty => {
+            let differs = has_difference(rt, bytes.as_slice(), expected)?;
+            Ok(if differs { CheckEnd::Differs } else { end })
+        }
+        _ => Ok(end),
     }
 }
 
@@ -117,7 +183,7 @@ where
 {
     let mut worst = CheckEnd::Clean;
     for file in question.files.as_slice() {
-        let end = check_file(rt, file)?;
+        let end = check_file(rt, file, question.expected)?;
         worst = worst.max(end);
     }
     Ok(worst)

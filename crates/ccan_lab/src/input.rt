@@ -3,7 +3,17 @@ use ccan_run::read_input;
 use ccan_script::Script;
 use std::fs;
 use std::fs::Files;
-use std::io::Input;
+use std::io::{Input, IsTerminal};
+
+/// Says on standard error that this is awaited, where standard input is read and is a terminal.
+pub fn tell_terminal<T: Input + Eprint>(rt: &T, what: &str, file: Option<&str>)
+where
+    T::Reader: IsTerminal,
+{
+    if matches!(file, None | Some("-")) && rt.reader().is_terminal() {
+        let _told = eprintln!(rt; "ccan-lab: reads {what} from the terminal, up to Ctrl-D");
+    }
+}
 
 /// Reads the script that was asked about: of standard input, where no file is named.
 pub fn script_asked<T: AllocGlobal + Input + Files>(

@@ -3,12 +3,12 @@
 //! `ccan-lab outcomes` goes through every outcome that a script can have when its two hosts and its bus run at once. It
 //! shows what each line may be; with `--all` each outcome and a history that leads to it; with `--can LINE` and
 //! `--never LINE` whether an outcome has a line that begins so. `ccan-lab check` tells the faults of scripts, each with its
-//! file, line and column. `ccan-lab explain` runs a script in its order and tells each line decoded, and
+//! file, line and column, and with `--expect TEXT` the first line of a run that is not as expected. `ccan-lab explain` runs a script in its order and tells each line decoded, and
 //! `ccan-lab from-candump` makes a script of a log of a bus.
 //!
 //! The exit status is 0 where it is as asked, and 6 where no outcome has the line of `--can`, or one has that of
 //! `--never`. A check ends with 1 where a script has faults, and else with 7 where there are warnings and `--strict` asks
-//! for that. A fault is told on standard error, and the exit status: 1 where the script or the log is refused, 2 where the
+//! for that, and with 8 where a run is not as expected. A fault is told on standard error, and the exit status: 1 where the script or the log is refused, 2 where the
 //! words of the command line ask no question, 3 where memory ran out, 4 where a stream or a file failed, 5 where the ports
 //! can come to more states than were allowed.
 #![tactic(auto)]
@@ -17,6 +17,7 @@ pub mod answer;
 pub mod asked;
 pub mod check_command;
 pub mod check_end;
+pub mod expect;
 pub mod explaining;
 pub mod history;
 pub mod input;
@@ -30,6 +31,7 @@ pub mod wording;
 
 use crate::check_command::answer_check;
 use crate::explaining::{answer_explain, answer_log};
+use crate::input::tell_terminal;
 use crate::lab_error::LabError;
 use crate::outcomes::answer_outcomes;
 use crate::question::{Question, question_asked};
@@ -43,6 +45,19 @@ use std::{env, io};
 
 /// The exit status where it is not as asked.
 pub const NOT_SO: u8 = 6;
+
+/// Says on standard error what a question waits for, where that comes from a terminal. A check says so itself.
+fn tell_waiting<T: Input + Eprint>(rt: &T, question: &Question<'_>)
+where
+    T::Reader: IsTerminal,
+{
+    match question {
+        Question::Outcomes(question) => tell_terminal(rt, "a script", question.file),
+        Question::Explain(question) => tell_terminal(rt, "a script", question.file),
+        Question::FromCandump(file) => tell_terminal(rt, "a log", *file),
+        _ => {}
+    }
+}
 
 /// Answers a question, and gives the exit status.
 fn answer_question<T: AllocGlobal + Input + Files + Print + Eprint>(
@@ -113,6 +128,7 @@ fn main(rt: HostRuntime) -> ExitCode {
         Ok(question) => question,
         Err(error) => return tell_words(&rt, &error),
     };
+    tell_waiting(&rt, &question);
     match answer_question(&rt, &question) {
         Ok(status) => ExitCode::from(status),
         Err(fault) => refuse(&rt, &fault),
