@@ -1,15 +1,14 @@
 -- The bars of a flag, by whether it is set behind each row. Source: this project's own.
-use Rattle.std.specs.Prelude.{ℕ, zero, suc, ◌≡◌, ◌≤◌, ◌<◌, List, Bool, true, false, not, ◌&&◌, length, slice_index_or}
+use Rattle.std.specs.Prelude.{ℕ, ◌≡◌, ◌≤◌, ◌<◌, ◌-◌, ◌==◌, ◌||◌, List, Bool, true, false, not, ◌&&◌, length, slice_get, unwrap_or}
 use Rattle.ccan_draw.specs.declared.bar.Bar.{Bar}
 
 -- whether the flag is set behind a row; behind the last it is not
 abbrev pub is_set : List Bool → ℕ → Bool
-is_set shown row = slice_index_or shown row false
+is_set shown row = unwrap_or (slice_get shown row) false
 
 -- whether a row sets the flag, which is not set before the first
 abbrev pub begins : List Bool → ℕ → Bool
-begins shown zero = is_set shown zero
-begins shown (suc row) = is_set shown (suc row) && not (is_set shown row)
+begins shown row = is_set shown row && (row == 0 || not (is_set shown (row - 1)))
 
 -- the flag stays set from one row up to another, which clears it, or is behind the last
 pub record EndsAt (shown : List Bool) (from to : ℕ) : Type 0 where

@@ -1,3 +1,2 @@
 pub mod Bar
-pub mod Column
 pub mod Escape

@@ -14,10 +14,7 @@ pub struct Bar {
 fn is_set(shown: &[bool], row: usize) -> bool
     ensures { result ≡ is_set shown.now row }
 {
-    match shown.get(row) {
-        Some(is) => *is,
-        None => false,
-    }
+    shown.get(row).copied().unwrap_or(false)
 }
 
 /// Whether a row sets the flag.

@@ -26,13 +26,21 @@ fn push_glyph(text: &mut String, byte: u8) -> Result<(), AllocError>
     }
 }
 
+/// Appends the bytes of words, so that XML reads them as they are.
+fn push_glyphs(text: &mut String, bytes: &[u8]) -> Result<(), AllocError>
+    ensures { OnOk result
+        (string_bytes text.new ≡ string_bytes text.old ++ escaped bytes.now) }
+{
+    for byte in bytes {
+        push_glyph(text, *byte)?;
+    }
+    Ok(())
+}
+
 /// Appends words, so that XML reads them as they are.
 pub fn push_escaped(text: &mut String, words: &str) -> Result<(), AllocError>
     ensures { OnOk result
         (string_bytes text.new ≡ string_bytes text.old ++ escaped words.now) }
 {
-    for byte in words.as_bytes() {
-        push_glyph(text, *byte)?;
-    }
-    Ok(())
+    push_glyphs(text, words.as_bytes())
 }

@@ -90,9 +90,9 @@ pub fn push_legend(text: &mut String) -> Result<(), AllocError> {
             height: 12,
         };
         push_area(text, flag_word(flag), &swatch)?;
-        push_words(text, "legend", x + 12, 20, flag_letter(flag))?;
-        push_words(text, "legend", x + 26, 20, flag_word(flag))?;
-        x += 88;
+        push_words(text, "legend", x.saturating_add(12), 20, flag_letter(flag))?;
+        push_words(text, "legend", x.saturating_add(26), 20, flag_word(flag))?;
+        x = x.saturating_add(88);
     }
     Ok(())
 }

@@ -12,7 +12,7 @@ pub const HOST_GLYPHS: usize = 18;
 /// The most glyphs of a line in the lane of the bus.
 pub const BUS_GLYPHS: usize = 36;
 /// The most glyphs of a line of words.
-pub const WORDS_GLYPHS: usize = 64;
+pub const WORDS_GLYPHS: usize = 76;
 /// Where the numbers of the steps stand.
 pub const NUMBER_X: u64 = 8;
 /// Where the flags begin.

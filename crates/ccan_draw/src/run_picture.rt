@@ -14,8 +14,8 @@ use std::alloc::{AllocError, Global};
 
 /// The frame that was on the bus in a step.
 fn frame_of(step: &Step) -> Option<Frame> {
-    let report = step.report?;
-    let (_, frame) = report.decision?.winner()?;
+    let decision = step.report.as_ref()?.decision.as_ref()?;
+    let (_, frame) = decision.winner()?;
     Some(frame)
 }
 

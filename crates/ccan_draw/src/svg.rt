@@ -94,7 +94,7 @@ fn push_frame(alloc: Global, text: &mut String, frame: &Frame, y: u64) -> Result
     let mut id = String::new(alloc);
     push_id(&mut id, frame.id(), frame.xtd())?;
     let data = data_text(alloc, frame)?;
-    let x = lane_x(PortName::Bus) + 4;
+    let x = lane_x(PortName::Bus).saturating_add(4);
     let next = push_field(text, "id", x, y, id.as_str())?;
     push_field(text, "data", next, y, data.as_str().trim_end())?;
     Ok(())
@@ -115,7 +115,7 @@ fn push_lane(alloc: Global, text: &mut String, row: &Row, y: u64) -> Result<(), 
         push_frame(alloc, text, frame, y)?;
         line = line.saturating_add(LINE);
     }
-    push_lines(text, "label", x + 5, line, row.label.as_str())
+    push_lines(text, "label", x.saturating_add(5), line, row.label.as_str())
 }
 
 /// Appends a row: its number, what its port did, and the words.
@@ -167,7 +167,7 @@ fn push_ground(
     let Some(end) = reach_end(columns, object) else {
         return Ok(());
     };
-    let from = lane_x(row.port) + lane_width(row.port);
+    let from = lane_x(row.port).saturating_add(lane_width(row.port));
     let reach = Area {
         x: from,
         y: y.saturating_add(MARK),
