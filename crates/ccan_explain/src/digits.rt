@@ -22,7 +22,7 @@ fn digit(value: u64, is_upper: bool) -> char
 
 /// Appends a number in hexadecimal with so many digits, in capitals.
 #[tactic(auto, unfolding(crate::specs::FrameText::capital_hex))]
-pub(crate) fn push_hex(text: &mut String, digits: u32, value: u64) -> Result<(), AllocError>
+pub fn push_hex(text: &mut String, digits: u32, value: u64) -> Result<(), AllocError>
     requires { digits ≤ 16 }
     ensures { OnOk result
         (string_bytes text.new ≡ string_bytes text.old ++ capital_hex digits value) }
@@ -43,7 +43,7 @@ pub(crate) fn push_data(text: &mut String, bytes: &[u8]) -> Result<(), AllocErro
 }
 
 /// Appends a number in decimal, without leading zeros.
-pub(crate) fn push_decimal(text: &mut String, value: u64) -> Result<(), AllocError> {
+pub fn push_decimal(text: &mut String, value: u64) -> Result<(), AllocError> {
     if value >= 10 {
         push_decimal(text, value / 10)?;
     }

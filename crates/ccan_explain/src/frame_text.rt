@@ -7,7 +7,7 @@ use ccan_accept::Frame;
 use std::alloc::AllocError;
 
 /// Appends an identifier: three hexadecimal digits, or eight where it is extended.
-pub(crate) fn push_id(text: &mut String, id: u32, xtd: bool) -> Result<(), AllocError>
+pub fn push_id(text: &mut String, id: u32, xtd: bool) -> Result<(), AllocError>
     ensures { OnOk result (string_bytes text.new ≡ string_bytes text.old ++ id_text id xtd) }
 {
     push_hex(text, if xtd { 8 } else { 3 }, u64::from(id))

@@ -14,12 +14,12 @@
 pub mod bench;
 pub mod bus_log;
 mod contest;
-mod digits;
-mod frame_text;
+pub mod digits;
+pub mod frame_text;
 pub mod from_log;
 pub mod json_lines;
 mod json_members;
-mod line_words;
+pub mod line_words;
 pub mod log_line;
 pub mod people;
 mod record_words;
@@ -31,8 +31,11 @@ pub mod told;
 mod words;
 
 pub use bus_log::log_of;
+pub use digits::{push_decimal, push_hex};
+pub use frame_text::push_id;
 pub use from_log::{FromLog, LogError, script_of_log};
 pub use json_lines::json_of;
+pub use line_words::push_step;
 pub use log_line::LeftOut;
 pub use people::text_of;
 pub use step::{Step, Touched};

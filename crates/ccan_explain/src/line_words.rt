@@ -194,7 +194,7 @@ fn push_answer(text: &mut String, step: &Step) -> Result<(), AllocError> {
 }
 
 /// Appends the lines of a step: its port and its number, and what came of it.
-pub(crate) fn push_step(text: &mut String, script: &Script, step: &Step) -> Result<(), AllocError> {
+pub fn push_step(text: &mut String, script: &Script, step: &Step) -> Result<(), AllocError> {
     text.push_str(port_word(step.port))?;
     text.push_str("[")?;
     push_decimal(text, step.line as u64)?;

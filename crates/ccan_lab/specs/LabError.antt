@@ -2,9 +2,10 @@
 use Rattle.std.specs.Prelude.{ℕ}
 use Rattle.ccan_run.specs.RunError as run
 use Rattle.ccan_lab.specs.declared.lab_error.LabError.{LabError}
-use Rattle.ccan_lab.specs.declared.lab_error.LabError.TheVariants.{Words, Open, Input, More, Log, Frames, Memory, Write}
+use Rattle.ccan_lab.specs.declared.lab_error.LabError.TheVariants.{Words, Open, Input, More, Log, Frames, NoOutcome, Memory, Write}
 
--- 1 for a script or a log that is refused, 2 for the words, 3 where memory ran out, 4 for streams and files, 5 for too many states
+-- 1 for a script or a log that is refused, 2 for the words, 3 where memory ran out, 4 for streams and files, 5 for too many
+-- states, 9 for an outcome that is not in the list
 abbrev pub exit_status : LabError → ℕ
 exit_status (Input fault) = run.exit_status fault
 exit_status Log = 1
@@ -14,3 +15,4 @@ exit_status Memory = 3
 exit_status Open = 4
 exit_status Write = 4
 exit_status (More most) = 5
+exit_status (NoOutcome number listed) = 9

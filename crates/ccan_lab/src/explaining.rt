@@ -89,7 +89,7 @@ pub fn explain_question<'a>(words: &ArgMatches<'a>) -> ExplainQuestion<'a> {
 }
 
 /// Writes a text to standard output.
-fn print_text(rt: &impl Print, text: &str) -> Result<(), LabError> {
+pub fn print_text(rt: &impl Print, text: &str) -> Result<(), LabError> {
     match io::writer(rt).write_all(text.as_bytes()) {
         Ok(()) => Ok(()),
         Err(_) => Err(LabError::Write),

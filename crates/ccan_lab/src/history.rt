@@ -21,7 +21,7 @@ pub fn port_word(port: PortName) -> &'static str
 }
 
 /// The words for what a port did.
-fn kind_text(kind: HistoryKind) -> &'static str
+pub fn kind_text(kind: HistoryKind) -> &'static str
     ensures { result.now ≡ kind_text kind }
 {
     match kind {

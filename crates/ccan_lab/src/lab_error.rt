@@ -23,6 +23,9 @@ pub enum LabError {
     /// The log has more frames than a script may have lines.
     #[error("ccan-lab: log: more than 2000 frames")]
     Frames,
+    /// There is no outcome of this number; so many are listed.
+    #[error("ccan-lab: draw: no outcome {0}, the list has {1}")]
+    NoOutcome(usize, usize),
     /// Memory ran out.
     #[error("ccan-lab: out of memory")]
     Memory,
@@ -46,6 +49,7 @@ impl LabError {
             LabError::Memory => 3,
             LabError::Open | LabError::Write => 4,
             LabError::More(_) => 5,
+            LabError::NoOutcome(_, _) => 9,
         }
     }
 }

@@ -3,25 +3,29 @@
 //! `ccan-lab outcomes` goes through every outcome that a script can have when its two hosts and its bus run at once. It
 //! shows what each line may be; with `--all` each outcome and a history that leads to it; with `--can LINE` and
 //! `--never LINE` whether an outcome has a line that begins so. `ccan-lab check` tells the faults of scripts, each with its
-//! file, line and column, and with `--expect TEXT` the first line of a run that is not as expected. `ccan-lab explain` runs a script in its order and tells each line decoded, and
-//! `ccan-lab from-candump` makes a script of a log of a bus.
+//! file, line and column, and with `--expect TEXT` the first line of a run that is not as expected. `ccan-lab explain` runs
+//! a script in its order and tells each line decoded, and `ccan-lab from-candump` makes a script of a log of a bus.
+//! `ccan-lab draw` draws one picture of a run, or of a history of one of the outcomes.
 //!
 //! The exit status is 0 where it is as asked, and 6 where no outcome has the line of `--can`, or one has that of
 //! `--never`. A check ends with 1 where a script has faults, and else with 7 where there are warnings and `--strict` asks
-//! for that, and with 8 where a run is not as expected. A fault is told on standard error, and the exit status: 1 where the script or the log is refused, 2 where the
-//! words of the command line ask no question, 3 where memory ran out, 4 where a stream or a file failed, 5 where the ports
-//! can come to more states than were allowed.
+//! for that, and with 8 where a run is not as expected. A fault is told on standard error, and the exit status: 1 where the
+//! script or the log is refused, 2 where the words of the command line ask no question, 3 where memory ran out, 4 where a
+//! stream or a file failed, 5 where the ports can come to more states than were allowed, 9 where there is no outcome of the
+//! number that is to be drawn.
 #![tactic(auto)]
 
 pub mod answer;
 pub mod asked;
 pub mod check_command;
 pub mod check_end;
+pub mod drawing;
 pub mod expect;
 pub mod explaining;
 pub mod history;
 pub mod input;
 pub mod lab_error;
+pub mod outcome_rows;
 pub mod outcomes;
 pub mod question;
 pub mod report;
@@ -30,6 +34,7 @@ pub mod summary;
 pub mod wording;
 
 use crate::check_command::answer_check;
+use crate::drawing::answer_draw;
 use crate::explaining::{answer_explain, answer_log};
 use crate::input::tell_terminal;
 use crate::lab_error::LabError;
@@ -78,6 +83,10 @@ where
         }
         Question::Explain(question) => {
             answer_explain(rt, question)?;
+            Ok(0)
+        }
+        Question::Draw(question) => {
+            answer_draw(rt, question)?;
             Ok(0)
         }
         Question::FromCandump(file) => {

@@ -1,5 +1,6 @@
 use crate::asked::Asked;
 use crate::check_command::{CheckQuestion, check_command, check_question};
+use crate::drawing::{DrawQuestion, draw_command, draw_question};
 use crate::explaining::{ExplainQuestion, explain_command, explain_question, from_candump_command};
 use crate::outcomes::{DEFAULT_MOST, OutcomesQuestion, outcomes_command, outcomes_question};
 use clap::{Command, Error};
@@ -15,6 +16,8 @@ pub enum Question<'a> {
     Check(CheckQuestion<'a>),
     /// One run of a script in its order.
     Explain(ExplainQuestion<'a>),
+    /// A picture of a run.
+    Draw(DrawQuestion<'a>),
     /// A script of a log. The file: `None` or `-` means standard input.
     FromCandump(Option<&'a str>),
 }
@@ -29,6 +32,7 @@ fn command<'a>(alloc: Global) -> Result<Command<'a>, AllocError> {
         .subcommand(outcomes_command(alloc)?)?
         .subcommand(check_command(alloc)?)?
         .subcommand(explain_command(alloc)?)?
+        .subcommand(draw_command(alloc)?)?
         .subcommand(from_candump_command(alloc)?)
 }
 
@@ -40,6 +44,9 @@ pub fn question_asked<'a, S: AsStr>(alloc: Global, words: &'a [S]) -> Result<Que
     }
     if let Some(words) = matches.subcommand_matches("explain") {
         return Ok(Question::Explain(explain_question(words)));
+    }
+    if let Some(words) = matches.subcommand_matches("draw") {
+        return Ok(Question::Draw(draw_question(words)));
     }
     if let Some(words) = matches.subcommand_matches("from-candump") {
         return Ok(Question::FromCandump(words.get_str("file")));

@@ -1,0 +1,2 @@
+pub mod Bar
+pub mod Escape

@@ -1,0 +1,49 @@
+ghost use Rattle.std.specs.Prelude.{◌≡◌};
+
+use ccan_explain::{Step, Touched};
+use ccan_object::ObjectNo;
+use ccan_ram::Flag;
+use std::alloc::{AllocError, Global};
+
+/// The flags that are shown of an object.
+pub const FLAGS: [Flag; 4] = [Flag::NewDat, Flag::MsgLst, Flag::IntPnd, Flag::TxRqst];
+
+/// A flag of an object, row by row.
+#[derive(Drop)]
+pub struct Column {
+    /// The object.
+    pub object: ObjectNo,
+    /// The flag.
+    pub flag: Flag,
+    /// Whether it is set behind each row.
+    pub shown: Vec<bool>,
+}
+
+/// Whether the flag is set behind a step that touches these, where it was so before.
+fn shown_of(touched: &Option<Touched>, object: ObjectNo, flag: Flag, was: bool) -> bool {
+    match touched {
+        Some(touched) if touched.object == object => flag.of(&touched.after),
+        _ => was,
+    }
+}
+
+/// The flag of an object behind each step of a run, which begins with no flag set.
+pub fn column_of(
+    alloc: Global,
+    steps: &[Step],
+    object: ObjectNo,
+    flag: Flag,
+) -> Result<Column, AllocError> {
+    let mut shown = Vec::new(alloc);
+    let mut is = false;
+    for step in steps {
+        is = shown_of(&step.own, object, flag, is);
+        is = shown_of(&step.stored, object, flag, is);
+        shown.push(is)?;
+    }
+    Ok(Column {
+        object,
+        flag,
+        shown,
+    })
+}

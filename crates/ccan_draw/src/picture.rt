@@ -1,0 +1,29 @@
+use crate::column::Column;
+use ccan_accept::Frame;
+use ccan_object::ObjectNo;
+use ccan_ram::PortName;
+
+/// One row of a picture: what a port did in one step.
+#[derive(Drop)]
+pub struct Row {
+    /// The lane.
+    pub port: PortName,
+    /// The frame that was on the bus in this step.
+    pub frame: Option<Frame>,
+    /// What stands in the lane, below the frame: lines of at most [`crate::layout::HOST_GLYPHS`] characters, on the bus of
+    /// [`crate::layout::BUS_GLYPHS`].
+    pub label: String,
+    /// The object whose flags a line leads to.
+    pub object: Option<ObjectNo>,
+    /// The words beside the step, a line each.
+    pub words: String,
+}
+
+/// What a picture shows.
+#[derive(Drop)]
+pub struct Picture {
+    /// The steps, from the top down.
+    pub rows: Vec<Row>,
+    /// The flags, four for each object that is shown, in the order of [`crate::column::FLAGS`].
+    pub columns: Vec<Column>,
+}

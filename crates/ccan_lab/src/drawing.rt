@@ -1,0 +1,98 @@
+//! The question `ccan-lab draw`: its words, and the picture.
+ghost use Rattle.std.specs.Prelude.{◌<◌, length};
+
+use crate::explaining::print_text;
+use crate::input::script_asked;
+use crate::lab_error::LabError;
+use crate::outcome_rows::picture_of_outcome;
+use crate::outcomes::DEFAULT_MOST;
+use ccan_draw::{Picture, picture_of_run, svg_of};
+use ccan_explain::tell;
+use ccan_outcomes::all_outcomes;
+use ccan_script::Script;
+use clap::{Arg, ArgAction, ArgMatches, Command, value_parser};
+use std::alloc::{AllocError, Global};
+use std::fs::Files;
+use std::io::Input;
+
+/// Of what a picture is asked.
+#[derive(Clone, Copy, PartialEq, Eq, Debug)]
+pub struct DrawQuestion<'a> {
+    /// The number of the outcome, from 1. None: the run in the script's order.
+    pub outcome: Option<usize>,
+    /// The greatest number of states to list, where an outcome is asked.
+    pub most: usize,
+    /// The file of the script: `None` or `-` means standard input.
+    pub file: Option<&'a str>,
+}
+
+/// The command that draws a run.
+pub fn draw_command<'a>(alloc: Global) -> Result<Command<'a>, AllocError> {
+    let outcome = Arg::new(alloc, "outcome")
+        .long("outcome")
+        .value_name("N")
+        .action(ArgAction::Set)
+        .value_parser(value_parser!(usize))
+        .help("Draw a history of outcome N of outcomes --all; exit status 9 where there is none");
+    let most = Arg::new(alloc, "most")
+        .long("most")
+        .value_name("N")
+        .action(ArgAction::Set)
+        .value_parser(value_parser!(usize))
+        .help("The greatest number of states to go through [default: 1000000]");
+    let file = Arg::new(alloc, "file")
+        .value_name("FILE")
+        .action(ArgAction::Set)
+        .help("The script; left out or -: standard input");
+    Command::new(alloc, "draw")
+        .about("Draws one picture of a run of a script in its order, as SVG")
+        .arg(outcome)?
+        .arg(most.requires_arg("outcome")?)?
+        .arg(file)
+}
+
+/// The question that the words after `draw` ask.
+pub fn draw_question<'a>(words: &ArgMatches<'a>) -> DrawQuestion<'a> {
+    DrawQuestion {
+        outcome: words.get_one::<usize>("outcome"),
+        most: words.get_one::<usize>("most").unwrap_or(DEFAULT_MOST),
+        file: words.get_str("file"),
+    }
+}
+
+/// The picture of a history of the outcome of this number, from 1.
+fn outcome_drawn(
+    alloc: Global,
+    script: &Script,
+    number: usize,
+    most: usize,
+) -> Result<Picture, LabError> {
+    let Some(outcomes) = all_outcomes(alloc, script, most)? else {
+        return Err(LabError::More(most));
+    };
+    let listed = outcomes.listing.endings.len();
+    if number == 0 || number > listed {
+        return Err(LabError::NoOutcome(number, listed));
+    }
+    Ok(picture_of_outcome(alloc, script, &outcomes, number - 1)?)
+}
+
+/// The picture of the run in the script's order.
+fn run_drawn(alloc: Global, script: &Script) -> Result<Picture, AllocError> {
+    let told = tell(alloc, script)?;
+    picture_of_run(alloc, script, &told)
+}
+
+/// Draws what is asked, and prints it.
+pub fn answer_draw<T: AllocGlobal + Input + Files + Print>(
+    rt: &T,
+    question: &DrawQuestion<'_>,
+) -> Result<(), LabError> {
+    let script = script_asked(rt, question.file)?;
+    let picture = match question.outcome {
+        Some(number) => outcome_drawn(rt.alloc(), &script, number, question.most)?,
+        None => run_drawn(rt.alloc(), &script)?,
+    };
+    let text = svg_of(rt.alloc(), &picture)?;
+    print_text(rt, text.as_str())
+}
