@@ -109,7 +109,13 @@ fn push_objects(
 ) -> Result<(), AllocError> {
     for (place, column) in columns.iter().enumerate() {
         let x = column_x(place);
-        push_words(text, "heading", x, y.saturating_add(30), flag_letter(column.flag))?;
+        push_words(
+            text,
+            "heading",
+            x,
+            y.saturating_add(30),
+            flag_letter(column.flag),
+        )?;
         if place % 4 == 0 {
             let mut name = String::from_str(alloc, "obj. ")?;
             push_decimal(&mut name, u64::from(column.object.get()))?;

@@ -3,9 +3,11 @@ use ccan_accept::Frame;
 use ccan_object::ObjectNo;
 use ccan_ram::PortName;
 
-/// One row of a picture: what a port did in one step.
+/// One row of a picture: what a port did in one step, or in some of one kind without a break.
 #[derive(Drop)]
 pub struct Row {
+    /// The number of the step, from 1; of the first, where there are more.
+    pub number: usize,
     /// The lane.
     pub port: PortName,
     /// The frame that was on the bus in this step.

@@ -29,9 +29,7 @@ fn is_of(touched: &Option<Touched>, object: ObjectNo) -> bool {
 
 /// Whether a step of a run touches an object.
 fn is_touched(steps: &[Step], object: ObjectNo) -> bool {
-    steps
-        .iter()
-        .any(|step| is_of(&step.own, object) || is_of(&step.stored, object))
+    steps.iter().any(|step| is_of(&step.own, object) || is_of(&step.stored, object))
 }
 
 /// The object that a step leads to: that which stored a frame, or else its own.
@@ -43,13 +41,14 @@ fn object_of(step: &Step) -> Option<ObjectNo> {
     }
 }
 
-/// The row of a step.
-fn row_of(alloc: Global, script: &Script, step: &Step) -> Result<Row, AllocError>
+/// The row of a step of this number, from 1.
+fn row_of(alloc: Global, script: &Script, step: &Step, number: usize) -> Result<Row, AllocError>
     ensures { IfOk result (λ row. row.port ≡ step.now.port) }
 {
     let mut words = String::new(alloc);
     push_step(&mut words, script, step)?;
     Ok(Row {
+        number,
         port: step.port,
         frame: frame_of(step),
         label: label_of(alloc, step)?,
@@ -65,7 +64,8 @@ fn rows_of(alloc: Global, script: &Script, steps: &[Step]) -> Result<Vec<Row>, A
 {
     let mut rows = Vec::new(alloc);
     for step in steps {
-        rows.push(row_of(alloc, script, step)?)?;
+        let number = rows.len().saturating_add(1);
+        rows.push(row_of(alloc, script, step, number)?)?;
     }
     Ok(rows)
 }

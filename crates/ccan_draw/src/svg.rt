@@ -75,9 +75,7 @@ fn push_field(
     y: u64,
     words: &str,
 ) -> Result<u64, AllocError> {
-    let width = (words.len() as u64)
-        .saturating_mul(GLYPH)
-        .saturating_add(6);
+    let width = (words.len() as u64).saturating_mul(GLYPH).saturating_add(6);
     let field = Area {
         x,
         y: y.saturating_add(5),
@@ -85,7 +83,13 @@ fn push_field(
         height: 15,
     };
     push_area(text, class, &field)?;
-    push_words(text, "frame", x.saturating_add(3), y.saturating_add(16), words)?;
+    push_words(
+        text,
+        "frame",
+        x.saturating_add(3),
+        y.saturating_add(16),
+        words,
+    )?;
     Ok(x.saturating_add(width))
 }
 
@@ -123,13 +127,12 @@ fn push_row(
     alloc: Global,
     text: &mut String,
     row: &Row,
-    number: usize,
     words: u64,
     y: u64,
 ) -> Result<(), AllocError> {
     text.push_str("<g class=\"step\">\n")?;
     let mut name = String::new(alloc);
-    push_decimal(&mut name, (number as u64).saturating_add(1))?;
+    push_decimal(&mut name, row.number as u64)?;
     let line = y.saturating_add(16);
     push_words(text, "number", NUMBER_X, line, name.as_str())?;
     push_lane(alloc, text, row, y)?;
@@ -247,7 +250,7 @@ pub fn svg_of(alloc: Global, picture: &Picture) -> Result<String, AllocError> {
     push_below(alloc, &mut text, picture, tops)?;
     let words = words_x(objects);
     for (number, row) in picture.rows.iter().enumerate() {
-        push_row(alloc, &mut text, row, number, words, top_of(tops, number))?;
+        push_row(alloc, &mut text, row, words, top_of(tops, number))?;
     }
     text.push_str("</svg>\n")?;
     Ok(text)

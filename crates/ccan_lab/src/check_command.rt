@@ -37,7 +37,9 @@ pub fn check_command<'a>(alloc: Global) -> Result<Command<'a>, AllocError> {
         .long("expect")
         .value_name("TEXT")
         .action(ArgAction::Set)
-        .help("The file with what ccan must print of the one script; exit status 8 where it prints another text");
+        .help(
+            "The file with what ccan must print of the one script; exit status 8 where it prints another text",
+        );
     let files = Arg::new(alloc, "file")
         .value_name("FILE")
         .action(ArgAction::Append)

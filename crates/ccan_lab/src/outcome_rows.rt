@@ -8,9 +8,9 @@ use ccan_draw::column::FLAGS;
 use ccan_draw::layout::WORDS_GLYPHS;
 use ccan_draw::wrapping::wrapped;
 use ccan_draw::{Column, Picture, Row};
-use ccan_object::{MOST_OBJECTS, ObjectNo, Record};
+use ccan_object::{MOST_OBJECTS, ObjectNo};
 use ccan_outcomes::all_ports::AllPorts;
-use ccan_outcomes::{Ending, HistoryStep, Outcomes, history_of, way_to};
+use ccan_outcomes::{Ending, HistoryKind, HistoryStep, Outcomes, history_of, way_to};
 use ccan_ram::{Flag, PortName};
 use ccan_script::{LineAnswer, Script, print_line};
 use std::alloc::{AllocError, Global};
@@ -49,59 +49,126 @@ fn add_answers(
     Ok(())
 }
 
-/// The words beside a step: its port and its line, what it did, and behind the last step of a line its answer, and those of
+/// Whether a step is a look of a line that asks for flags, a look of a scan, or the first of a change.
+fn is_look(step: &HistoryStep) -> bool {
+    matches!(step.kind, HistoryKind::Looks | HistoryKind::LooksLast)
+}
+
+/// Whether the step of this place and the next one are looks of one line.
+fn goes_on(steps: &[HistoryStep], place: usize) -> bool {
+    match (steps.get(place), steps.get(place.saturating_add(1))) {
+        (Some(step), Some(next)) => {
+            is_look(step) && is_look(next) && step.port == next.port && step.line == next.line
+        }
+        _ => false,
+    }
+}
+
+/// Steps of a history that stand in one row: looks of one line without a break, or one step.
+#[derive(Clone, Copy, PartialEq, Eq, Debug)]
+struct Run {
+    /// The first of them.
+    first: HistoryStep,
+    /// The last of them.
+    last: HistoryStep,
+    /// The number of the first, from 1.
+    number: usize,
+    /// The number of the last, from 1.
+    end: usize,
+}
+
+/// The steps of a history, row by row.
+fn runs_of(alloc: Global, steps: &[HistoryStep]) -> Result<Vec<Run>, AllocError> {
+    let mut runs = Vec::new(alloc);
+    let mut begun = None;
+    for (place, step) in steps.iter().enumerate() {
+        let (first, number) = match begun {
+            Some(begun) => begun,
+            None => (*step, place + 1),
+        };
+        begun = Some((first, number));
+        if !goes_on(steps, place) {
+            runs.push(Run {
+                first,
+                last: *step,
+                number,
+                end: place + 1,
+            })?;
+            begun = None;
+        }
+    }
+    Ok(runs)
+}
+
+/// Adds what the steps of a row did, and at which object, or from which object to which.
+fn add_deed(text: &mut String, run: &Run) -> Result<(), AllocError> {
+    text.push_str(kind_text(run.first.kind))?;
+    add_object(text, run.first.object)?;
+    if run.number < run.end {
+        text.push_str(" to")?;
+        add_object(text, run.last.object)?;
+    }
+    Ok(())
+}
+
+/// The words beside a row: its port and its line, what it did, and behind the last step of a line its answer, and those of
 /// the lines behind it that make no step.
 fn words_of(
     alloc: Global,
-    step: &HistoryStep,
+    run: &Run,
     later: &[HistoryStep],
     ending: &Ending,
 ) -> Result<String, AllocError> {
+    let port = run.last.port;
     let mut text = String::new(alloc);
-    add_line_name(&mut text, step.port, step.line)?;
+    add_line_name(&mut text, port, run.last.line)?;
     text.push_str(" ")?;
-    text.push_str(kind_text(step.kind))?;
-    add_object(&mut text, step.object)?;
+    add_deed(&mut text, run)?;
     text.push_str("\n")?;
-    let answers = answers_of(ending, step.port);
-    let to = match next_line(later, step.port) {
+    let answers = answers_of(ending, port);
+    let to = match next_line(later, port) {
         Some(line) => line,
         None => answers.len().saturating_add(1),
     };
-    add_answers(&mut text, step.port, answers, step.line, to)?;
+    add_answers(&mut text, port, answers, run.last.line, to)?;
     Ok(text)
 }
 
-/// The row of a step, by the steps behind it.
+/// A row, by the steps behind it.
 fn row_of(
     alloc: Global,
-    step: &HistoryStep,
+    run: &Run,
     later: &[HistoryStep],
     ending: &Ending,
 ) -> Result<Row, AllocError> {
     let mut label = String::new(alloc);
-    label.push_str(kind_text(step.kind))?;
-    add_object(&mut label, step.object)?;
-    let words = words_of(alloc, step, later, ending)?;
+    add_deed(&mut label, run)?;
+    let words = words_of(alloc, run, later, ending)?;
     Ok(Row {
-        port: step.port,
+        number: run.number,
+        port: run.last.port,
         frame: None,
         label,
-        object: step.object,
+        object: run.last.object,
         words: wrapped(alloc, words.as_str(), WORDS_GLYPHS)?,
     })
 }
 
-/// The rows of a history, one for each step.
+/// The steps from this place on.
+fn behind(steps: &[HistoryStep], place: usize) -> &[HistoryStep] {
+    steps.get(place..).unwrap_or(&[])
+}
+
+/// The rows of a history.
 fn rows_of(
     alloc: Global,
+    runs: &[Run],
     steps: &[HistoryStep],
     ending: &Ending,
 ) -> Result<Vec<Row>, AllocError> {
     let mut rows = Vec::new(alloc);
-    for (number, step) in steps.iter().enumerate() {
-        let later = &steps[number + 1..];
-        rows.push(row_of(alloc, step, later, ending)?)?;
+    for run in runs {
+        rows.push(row_of(alloc, run, behind(steps, run.end), ending)?)?;
     }
     Ok(rows)
 }
@@ -115,17 +182,24 @@ fn flag_in(state: &AllPorts, object: ObjectNo, flag: Flag) -> bool {
     }
 }
 
-/// A flag of an object behind each step: in each state of a way but the first.
+/// The state behind so many steps of a way.
+fn state_at<'a>(states: &'a [AllPorts], way: &[usize], steps: usize) -> Option<&'a AllPorts> {
+    let index = way.get(steps)?;
+    states.get(*index)
+}
+
+/// A flag of an object behind each row. A way has one state more than there are steps, the first before any.
 fn column_of(
     alloc: Global,
     states: &[AllPorts],
     way: &[usize],
+    runs: &[Run],
     object: ObjectNo,
     flag: Flag,
 ) -> Result<Column, AllocError> {
     let mut shown = Vec::new(alloc);
-    for index in way.iter().skip(1) {
-        let is = match states.get(*index) {
+    for run in runs {
+        let is = match state_at(states, way, run.end) {
             Some(state) => flag_in(state, object, flag),
             None => false,
         };
@@ -144,31 +218,32 @@ fn add_flags(
     columns: &mut Vec<Column>,
     states: &[AllPorts],
     way: &[usize],
+    runs: &[Run],
     object: ObjectNo,
 ) -> Result<(), AllocError> {
     for flag in FLAGS {
-        columns.push(column_of(alloc, states, way, object, flag)?)?;
+        columns.push(column_of(alloc, states, way, runs, object, flag)?)?;
     }
     Ok(())
 }
 
-/// Whether a step is at an object.
-fn is_touched(steps: &[HistoryStep], object: ObjectNo) -> bool {
-    steps.iter().any(|step| step.object == Some(object))
+/// Whether a step other than a look is at an object.
+fn is_touched(runs: &[Run], object: ObjectNo) -> bool {
+    runs.iter().any(|run| run.last.object == Some(object) && !is_look(&run.last))
 }
 
-/// The flags of the objects that a history touches.
+/// The flags of the objects that a history does more with than look.
 fn columns_of(
     alloc: Global,
     states: &[AllPorts],
     way: &[usize],
-    steps: &[HistoryStep],
+    runs: &[Run],
 ) -> Result<Vec<Column>, AllocError> {
     let mut columns = Vec::new(alloc);
     for place in 0..MOST_OBJECTS {
         let object = ObjectNo::new(place as u8 + 1).unwrap();
-        if is_touched(steps, object) {
-            add_flags(alloc, &mut columns, states, way, object)?;
+        if is_touched(runs, object) {
+            add_flags(alloc, &mut columns, states, way, runs, object)?;
         }
     }
     Ok(columns)
@@ -189,8 +264,9 @@ pub fn picture_of_outcome(
     let way: Vec<usize> = way.iter().copied().collect(alloc)?;
     let ending = &outcomes.listing.endings.as_slice()[place];
     let states = outcomes.reached.states.as_slice();
+    let runs = runs_of(alloc, steps.as_slice())?;
     Ok(Picture {
-        rows: rows_of(alloc, steps.as_slice(), ending)?,
-        columns: columns_of(alloc, states, way.as_slice(), steps.as_slice())?,
+        rows: rows_of(alloc, runs.as_slice(), steps.as_slice(), ending)?,
+        columns: columns_of(alloc, states, way.as_slice(), runs.as_slice())?,
     })
 }
