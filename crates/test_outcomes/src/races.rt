@@ -57,4 +57,3 @@ fn answers_a_way_to_each_outcome(rt: HostRuntime) -> Result<(), Fail> {
     }
     Ok(())
 }
-
