@@ -1,5 +1,5 @@
--- The end of a chip. The rule still holds, so there is one history of the chip of which each port has seen a part, the words of the
--- objects are those of the records that it leaves (`LastWords`), and the controller's word is that of its controller.
+-- The end of a chip. The rule still holds, so there is one history of the chip of which each port has seen a part. The words of
+-- the objects are those of the records that it leaves (`LastWords`), and the controller's word is that of its controller.
 use Rattle.std.proofs.Common.{◌≡◌, ℕ, List, sym, refl, ap, ◌∙◌, subst, get_or, Some, None}
 use mathlib.Core.Option.{some}
 use lib.ListN.{get_elem?}
@@ -13,7 +13,7 @@ use Rattle.ccan_ram.specs.ByPort.{only, together}
 use Rattle.ccan_ram.specs.History.{History, IsLegal, BeginsWith, events_of}
 use Rattle.ccan_ram.specs.Ending.{Ends, final_records}
 use Rattle.ccan_endless.specs.declared.final_chip.FinalChip.{FinalChip}
-use Rattle.ccan_endless.specs.declared.view.Held.{Held}
+use Rattle.ccan_endless.specs.declared.view.PortView.{PortView}
 use Rattle.ccan_endless.specs.declared.view.ChipView.{ChipView}
 use Rattle.ccan_endless.specs.Layout.{controller_cell}
 use Rattle.ccan_endless.specs.Rule.{Settles}
@@ -36,7 +36,8 @@ three_chips ca cb cc c1 c2 a b c va vb vc e f =
     let first : c1 ≡ record { if1 = Some a; if2 = Some b; bus = None } = e ∙ (λ i. together (va i) (vb i)) in
     f ∙ (λ i. together (first i) (vc i))
 
-part_of : (p : PortName) (x : Held) (h : ChipHistory) (port : ChipPass) (log : ChipHistory) → HasSeen p x port.pass → h ≡ port.whole
+part_of : (p : PortName) (x : PortView) (h : ChipHistory) (port : ChipPass) (log : ChipHistory) → HasSeen p x port.pass
+    → h ≡ port.whole
     → IsBeginning log p h → BeginsWith (ram_of log) x.seen → events_of p (ram_of log) ≡ events_of p x.seen → IsChipPart port log
 part_of p x h port log seen is b begins own = record {
   begins = subst (GoesFrom log) is b.part;
@@ -46,12 +47,12 @@ part_of p x h port log seen is b begins own = record {
 }
 
 -- what is known of a port at the end
-pub record Closes (p : PortName) (x : Held) (h : ChipHistory) (port : ChipPass) : Type 0 where
+pub record Closes (p : PortName) (x : PortView) (h : ChipHistory) (port : ChipPass) : Type 0 where
   pub seen : HasSeen p x port.pass
   pub whole_is : h ≡ port.whole
 
 module _ (profile : Profile) (s : ChipState) (c : ChipKeeps profile s) (ws : List ℕ) (id : ℕ) (v : ChipView)
-    (at : get_elem? s.views id ≡ some v) (same : s.words ≡ ws) (xa xb xd : Held) (ha hb hd : ChipHistory)
+    (at : get_elem? s.views id ≡ some v) (same : s.words ≡ ws) (xa xb xd : PortView) (ha hb hd : ChipHistory)
     (ram_is : v.ram ≡ three_held xa xb xd) (chip_is : v.chip ≡ three_wholes ha hb hd) where
   abbrev w : ChipView
   w = record { ram = three_held xa xb xd; chip = three_wholes ha hb hd }
@@ -82,7 +83,8 @@ module _ (profile : Profile) (s : ChipState) (c : ChipKeeps profile s) (ws : Lis
       (subst (λ (h : History). events_of Bus h ≡ events_of Bus xd.seen) c.same f.own)
 
   pub chip_ended : (a b d : ChipPass) (final : FinalChip) → Closes If1 xa ha a → Closes If2 xb hb b → Closes Bus xd hd d
-      → final.memory.profile ≡ profile → final.memory.profile ≡ a.pass.memory.profile → LeaveRecords profile ws final.memory.records
+      → final.memory.profile ≡ profile → final.memory.profile ≡ a.pass.memory.profile
+      → LeaveRecords profile ws final.memory.records
       → ((k : Controller) → IsController k → packed k ≡ get_or ws controller_cell 0 → final.controller ≡ k)
       → ChipEnds a b d final
   chip_ended a b d final ka kb kd whole own value unpacks =

@@ -23,12 +23,14 @@ pub nobody : (log : ChipHistory) → ((p : PortName) → steps_of p log ≡ []) 
     → log ≡ []
 nobody [] steps events = refl
 nobody (OfRam e ∷ h) steps events =
-    let own : events_of e.port (e ∷ ram_of h) ≡ e ∷ events_of e.port (ram_of h) = chosen (same_port e.port e.port) _ _ (same_own e.port) in
+    let own : events_of e.port (e ∷ ram_of h) ≡ e ∷ events_of e.port (ram_of h) = chosen (same_port e.port e.port) _ _
+    (same_own e.port) in
     let none = events e.port in
     let wrong : e ∷ events_of e.port (ram_of h) ≡ [] = sym own ∙ none in
     cc wrong
 nobody (OfController e ∷ h) steps events =
-    let own : steps_of e.port (OfController e ∷ h) ≡ e ∷ steps_of e.port h = chosen (same_port e.port e.port) _ _ (same_own e.port) in
+    let own : steps_of e.port (OfController e ∷ h) ≡ e ∷ steps_of e.port h = chosen (same_port e.port e.port) _ _
+    (same_own e.port) in
     let none = steps e.port in
     let wrong : e ∷ steps_of e.port h ≡ [] = sym own ∙ none in
     cc wrong
@@ -55,8 +57,10 @@ reset_done profile quota seat to found a b told =
     let is : chip_me seat ≡ first = λ i. (record { ram = (a i).0; chip = b i }, (a i).1) in
     let t = subst (λ (m : ChipKnows). SetsController profile If1 reset new_controller m found (chip_me to)) is told in
     let none : t.log ≡ [] =
-    nobody t.log (λ p. (t.finds.goes_on p [] (seen_nothing p)).own) (λ p. (t.finds.ram p (start quota) (held_start quota p)).own) in
+    nobody t.log (λ p. (t.finds.goes_on p [] (seen_nothing p)).own)
+    (λ p. (t.finds.ram p (start quota) (held_start quota p)).own) in
     let hit = t.finds.found_is ∙ ap (λ (h : ChipHistory). packed (controller_at h)) none in
-    let view = subst (λ (h : ChipHistory). SawAll (OfController (step_at If1 (Make reset) new_controller) ∷ h) first (chip_me to)) none
+    let view = subst (λ (h : ChipHistory). SawAll (OfController (step_at If1 (Make reset) new_controller) ∷ h) first
+    (chip_me to)) none
     (t.done hit).1 in
     (ap ram_knows view, ap (λ (m : ChipKnows). m.0.chip) view)

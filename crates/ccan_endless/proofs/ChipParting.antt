@@ -12,7 +12,7 @@ use Rattle.ccan_ram.specs.declared.port.PortName.TheVariants.{If1, If2, Bus}
 use Rattle.ccan_ram.specs.declared.by_port.ByPort.{ByPort}
 use Rattle.ccan_ram.specs.ByPort.{holding, with_held, only, or_held, nothing}
 use Rattle.ccan_ram.proofs.Holding.{one_of, holding-together}
-use Rattle.ccan_endless.specs.declared.view.Held.{Held}
+use Rattle.ccan_endless.specs.declared.view.PortView.{PortView}
 use Rattle.ccan_endless.specs.declared.view.ChipView.{ChipView}
 use Rattle.ccan_endless.specs.View.{View}
 use Rattle.ccan_endless.specs.Layout.{most, words_in_all, controller_cell}
@@ -85,7 +85,7 @@ agree_only Bus If1 v a = tt
 agree_only Bus If2 v a = tt
 agree_only Bus Bus v a = a
 
-agree_or : (x y : Option Held) (h g : Option ChipHistory) → Agree x h → Agree y g → Agree (or_held x y) (or_held h g)
+agree_or : (x y : Option PortView) (h g : Option ChipHistory) → Agree x h → Agree y g → Agree (or_held x y) (or_held h g)
 agree_or None y None g a b = b
 agree_or None y (Some h) g a b = absurd a
 agree_or (Some x) y None g a b = absurd a
@@ -141,7 +141,8 @@ module _ (profile : Profile) where
   }
     where
       recast : KeepsAt profile (ram_state (with_chip_views s vs)) c.ram.log
-      recast = subst (λ (z : List View). KeepsAt profile (record { words = s.words; homes = s.homes; views = z }) c.ram.log) is ram
+      recast = subst (λ (z : List View). KeepsAt profile (record { words = s.words; homes = s.homes; views = z }) c.ram.log)
+          is ram
 
   pub chip_splits : (id : ℕ) (p : PortName) (v : ChipView)
       → Splits {S = Unit {0}} (ChipKeeps profile) id v (chip_without p v) (chip_only p v)
@@ -176,7 +177,8 @@ module _ (profile : Profile) where
       let wide : List ChipView = set s.views id both in
       let two : get_elem? s.views other ≡ some w = sym (set_else s.views id other both (λ e. ne e)) ∙ there in
       let here : get_elem? (set (map ram_view s.views) id both.ram) other ≡ some w.ram =
-      subst (λ (z : List View). get_elem? z other ≡ some w.ram) (map_set ram_view s.views id both) (map_at ram_view wide other w there) in
+      subst (λ (z : List View). get_elem? z other ≡ some w.ram) (map_set ram_view s.views id both)
+      (map_at ram_view wide other w there) in
       reseated s c (set wide other chip_nothing) (set (set (map ram_view s.views) id both.ram) other nothing)
       (ap (λ (z : List View). set z other nothing) (sym (map_set ram_view s.views id both))
       ∙ sym (map_set ram_view wide other chip_nothing))

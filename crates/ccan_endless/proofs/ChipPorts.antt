@@ -6,7 +6,7 @@ use Rattle.ccan_ram.specs.declared.port.PortName.{PortName}
 use Rattle.ccan_ram.specs.declared.port.PortName.TheVariants.{If1, If2, Bus}
 use Rattle.ccan_ram.specs.ByPort.{holding, only, nothing}
 use Rattle.ccan_ram.proofs.Holding.{holding-with_held_same}
-use Rattle.ccan_endless.specs.declared.view.Held.{Held}
+use Rattle.ccan_endless.specs.declared.view.PortView.{PortView}
 use Rattle.ccan_endless.specs.declared.port.Port.TheInside.{Inside}
 use Rattle.ccan_endless.specs.Chip.{ChipHistory, IsControllerLegal, ram_of, steps_of, GoesFrom}
 use Rattle.ccan_endless.specs.ChipRule.{Agree, IsBeginning}
@@ -18,17 +18,18 @@ use Rattle.ccan_endless.proofs.Onward.{goes_through}
 use Rattle.ccan_endless.proofs.Seats.{only_holds, only_seen}
 use Rattle.ccan_endless.proofs.Ports.{WordSeat, IsPortOf, chip_pass, with_seat, same_port_as}
 
-seen_same : (x : Option Held) (h : Option ChipHistory) (y : Held) (g : ChipHistory) → x ≡ Some y → h ≡ Some g → Agree x h
+seen_same : (x : Option PortView) (h : Option ChipHistory) (y : PortView) (g : ChipHistory) → x ≡ Some y → h ≡ Some g → Agree x h
     → y.seen ≡ ram_of g
 seen_same x h y g a b agree =
-    subst (λ (u : Option Held × Option ChipHistory). Agree u.0 u.1) (λ i. (a i, b i)) agree
+    subst (λ (u : Option PortView × Option ChipHistory). Agree u.0 u.1) (λ i. (a i, b i)) agree
 
 agree_none : (h : Option ChipHistory) → Agree None h → h ≡ None
 agree_none None a = refl
 agree_none (Some h) a = absurd a
 
 -- a seat that holds one port has seen something of the chip for that port alone
-only_chip : (p : PortName) (x : Held) (v : ByPort ChipHistory) → ((q : PortName) → Agree (holding q (only p (Some x))) (holding q v))
+only_chip : (p : PortName) (x : PortView) (v : ByPort ChipHistory)
+    → ((q : PortName) → Agree (holding q (only p (Some x))) (holding q v))
     → (h : ChipHistory) × (v ≡ only p (Some h))
 only_chip If1 x v a =
     let b = agree_back (Some x) v.if1 x (a If1) refl in
@@ -41,7 +42,7 @@ only_chip Bus x v a =
     (b.0, λ i. record { if1 = agree_none v.if1 (a If1) i; if2 = agree_none v.if2 (a If2) i; bus = b.1 i })
 
 -- what a port's seat knows of the chip
-pub record KnowsChip (s : Inside) (x : Held) : Type 0 where
+pub record KnowsChip (s : Inside) (x : PortView) : Type 0 where
   pub whole : ChipHistory
   pub all : s.seat.chip ≡ only s.name (Some whole)
   pub had : holding s.name s.seat.chip ≡ Some whole
@@ -64,7 +65,7 @@ knows_chip s i =
       legal = (i.seated s.name).1 h.0 had;
     }
 
-pub whole_is : (s : Inside) (x : Held) (k : KnowsChip s x) → (chip_pass s).whole ≡ k.whole
+pub whole_is : (s : Inside) (x : PortView) (k : KnowsChip s x) → (chip_pass s).whole ≡ k.whole
 whole_is s x k = ap whole_in k.had
 
 pub sees_one : (s : Inside) → IsPortOf s → SeesOne (chip_pass s)

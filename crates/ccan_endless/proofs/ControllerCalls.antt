@@ -11,7 +11,7 @@ use Rattle.ccan_ram.proofs.Counting.{changes_by_own}
 use Rattle.ccan_endless.specs.declared.chip.ChipEvent.TheVariants.{OfController}
 use Rattle.ccan_endless.specs.declared.chip.ControllerStep.{ControllerStep}
 use Rattle.ccan_endless.specs.declared.port.Port.TheInside.{Inside}
-use Rattle.ccan_endless.specs.declared.view.Held.{Held}
+use Rattle.ccan_endless.specs.declared.view.PortView.{PortView}
 use Rattle.ccan_endless.specs.View.{see}
 use Rattle.ccan_endless.specs.Plays.{GoesOn}
 use Rattle.ccan_endless.specs.Version.{IsSeatOf}
@@ -25,9 +25,10 @@ use Rattle.ccan_endless.proofs.Ports.{WordSeat, pass, chip_pass, pass_is, IsPort
 use Rattle.ccan_endless.proofs.ChipPorts.{sees_one}
 
 module _ (s : Inside) (i : IsPortOf s) {was : ChipPass} (is_was : chip_pass s ≡ was) {memory : Memory}
-    (of_memory : was.pass.memory ≡ memory) (to : WordSeat) (table : to.table_id ≡ s.seat.table_id) (seated : IsSeated (chip_me to).0) (h : ChipHistory)
+    (of_memory : was.pass.memory ≡ memory) (to : WordSeat) (table : to.table_id ≡ s.seat.table_id)
+    (seated : IsSeated (chip_me to).0) (h : ChipHistory)
     (had : holding s.name s.seat.chip ≡ Some h) (log log' : ChipHistory) (same : ram_of log' ≡ ram_of log)
-    (ram : (p : PortName) (x : Held) → holding p s.seat.me.0 ≡ Some x → GoesOn memory.profile p x (ram_of log))
+    (ram : (p : PortName) (x : PortView) → holding p s.seat.me.0 ≡ Some x → GoesOn memory.profile p x (ram_of log))
     (goes : ChipGoesOn s.name h log) (view : SawAll log' (chip_me s.seat) (chip_me to)) where
   on : GoesOn s.key.profile s.name i.held (ram_of log')
   on =

@@ -16,7 +16,8 @@ use Rattle.ccan_endless.proofs.Onward.{goes_through}
 
 -- ---- one call after another
 
-pub step_through : (a b c : ChipPass) (step : ControllerStep) (before : Controller) → AddsNone a b → AddsController b c step before
+pub step_through : (a b c : ChipPass) (step : ControllerStep) (before : Controller) → AddsNone a b
+    → AddsController b c step before
     → AddsController a c step before
 step_through a b c step before x y = record {
   same = record { memory = y.same.memory ∙ x.same.memory; port = y.same.port ∙ x.same.port };

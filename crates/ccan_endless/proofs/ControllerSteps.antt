@@ -90,7 +90,8 @@ module _ (profile : Profile) where
         (spots p u.0.at u.0.value h) f)
         (r.seats id p v u.0 at u.1))
         (λ p y none f. goes_by profile s.words ws r.log r.log p y (begins_again r.log) refl
-        (λ h short g. still profile s.words ws r.log r.log same p y.at y.value y.read y.note h short (spots p y.at y.value h) g) f)
+        (λ h short g. still profile s.words ws r.log r.log same p y.at y.value y.read y.note h short (spots p y.at y.value h)
+        g) f)
 
   module _ (s : ChipState) (c : ChipKeeps profile s) (id : ℕ) (v : ChipView) (at : get_elem? s.views id ≡ some v) where
     pub is_now : IsController (controller_at c.log)
@@ -147,7 +148,12 @@ module _ (profile : Profile) where
         tt,
         stepped s c id v at (get_or s.words controller_cell 0) log refl (OfController e ∷ [], refl) legal c.word
             (λ q none. steps_other p q e c.log refl (not_held p q v.chip h held none)),
-        record { log = c.log; finds = finds s c id v at (get_or s.words controller_cell 0) me refl refl; view = refl; legal = legal },
+        record {
+          log = c.log;
+          finds = finds s c id v at (get_or s.words controller_cell 0) me refl refl;
+          view = refl;
+          legal = legal;
+        },
       )
 
   pub sees_controller : (slots id : ℕ) (me : ChipKnows)
@@ -164,7 +170,8 @@ module _ (profile : Profile) where
   pub sets_controller : (slots id : ℕ) (me : ChipKnows) (p : PortName) (change : ControllerChange) (before : Controller)
       (h : ChipHistory) → holding p me.0.chip ≡ Some h → IsSetting p change before
       → Allows (ChipKeeps profile) slots id me controller_cell
-      (λ n. either (eqb n (packed before)) (packed (controller_after change before)) n) (SetsController profile p change before me)
+      (λ n. either (eqb n (packed before)) (packed (controller_after change before)) n)
+      (SetsController profile p change before me)
   sets_controller slots id me p change before h held setting s c _ at _ =
       let v : ChipView = me.0 in
       let n0 : ℕ = get_or s.words controller_cell 0 in

@@ -1,4 +1,5 @@
--- A step on the objects' words is one of the chip. The chip's history goes on by the same events, and the controller's word stays.
+-- A step on the objects' words is one of the chip. The chip's history goes on by the same events, and the controller's word
+-- stays.
 use Rattle.std.proofs.Common.{◌≡◌, ◌≢◌, ℕ, zero, suc, List, [], ◌∷◌, ◌++◌, map, set, get_or, sym, refl, ap, ◌∙◌, subst}
 use Rattle.std.proofs.Common.{⊎_elim, Option, Some, None, get_or-set_other}
 use mathlib.Core.Option.{some, some-injective, some-ne-none}
@@ -13,7 +14,7 @@ use Rattle.ccan_ram.specs.ByPort.{holding, held_as}
 use Rattle.ccan_ram.specs.History.{History}
 use Rattle.ccan_ram.proofs.Holding.{holding-each_as, held_before, held_or_not}
 use Rattle.ccan_endless.specs.declared.chip.ChipEvent.TheVariants.{OfRam, OfController}
-use Rattle.ccan_endless.specs.declared.view.Held.{Held}
+use Rattle.ccan_endless.specs.declared.view.PortView.{PortView}
 use Rattle.ccan_endless.specs.declared.view.ChipView.{ChipView}
 use Rattle.ccan_endless.specs.View.{View}
 use Rattle.ccan_endless.specs.Layout.{controller_cell}
@@ -90,7 +91,7 @@ goes_more more log h g =
 
 -- ---- views that agree
 
-pub agree_saw : (log : ChipHistory) (r : History) (x y : Option Held) (h : Option ChipHistory) → r ≡ ram_of log
+pub agree_saw : (log : ChipHistory) (r : History) (x y : Option PortView) (h : Option ChipHistory) → r ≡ ram_of log
     → Both (λ a b. b.seen ≡ r) x y → Agree x h → Agree y (held_as (λ old. log) h)
 agree_saw log r None None None is b a = tt
 agree_saw log r None None (Some h) is b a = absurd a
@@ -99,7 +100,7 @@ agree_saw log r (Some x) None h is b a = absurd b
 agree_saw log r (Some x) (Some y) None is b a = absurd a
 agree_saw log r (Some x) (Some y) (Some h) is b a = b ∙ is
 
-pub agree_kept : (x y : Option Held) (h : Option ChipHistory) → Both (λ a b. b.seen ≡ a.seen) x y → Agree x h → Agree y h
+pub agree_kept : (x y : Option PortView) (h : Option ChipHistory) → Both (λ a b. b.seen ≡ a.seen) x y → Agree x h → Agree y h
 agree_kept None None h b a = a
 agree_kept None (Some y) h b a = absurd b
 agree_kept (Some x) None h b a = absurd b
@@ -107,12 +108,14 @@ agree_kept (Some x) (Some y) None b a = absurd a
 agree_kept (Some x) (Some y) (Some h) b a = b ∙ a
 
 -- of two that agree, one has something where the other has
-pub agree_some : (x : Option Held) (h : Option ChipHistory) (g : ChipHistory) → Agree x h → h ≡ Some g → (y : Held) × (x ≡ Some y)
+pub agree_some : (x : Option PortView) (h : Option ChipHistory) (g : ChipHistory) → Agree x h → h ≡ Some g
+    → (y : PortView) × (x ≡ Some y)
 agree_some (Some x) h g a e = (x, refl)
 agree_some None None g a e = absurd (cc)
 agree_some None (Some h) g a e = absurd a
 
-pub agree_back : (x : Option Held) (h : Option ChipHistory) (y : Held) → Agree x h → x ≡ Some y → (g : ChipHistory) × (h ≡ Some g)
+pub agree_back : (x : Option PortView) (h : Option ChipHistory) (y : PortView) → Agree x h → x ≡ Some y
+    → (g : ChipHistory) × (h ≡ Some g)
 agree_back None h y a e = absurd (cc)
 agree_back (Some x) None y a e = absurd a
 agree_back (Some x) (Some h) y a e = (h, refl)
@@ -123,7 +126,8 @@ seen_before p log v g e = held_before (λ old. log) p v g e
 
 module _ (profile : Profile) where
   -- a step of the seat id of a chip, to the words ws, the history log and the view w
-  pub chip_moved : (s : ChipState) (c : ChipKeeps profile s) (id : ℕ) (v w : ChipView) (ws : List ℕ) (log : ChipHistory) (h : History)
+  pub chip_moved : (s : ChipState) (c : ChipKeeps profile s) (id : ℕ) (v w : ChipView) (ws : List ℕ) (log : ChipHistory)
+      (h : History)
       → get_elem? s.views id ≡ some v
       → KeepsAt profile (with_view (ram_state s) ws id w.ram) h → h ≡ ram_of log
       → IsControllerLegal log → get_or ws controller_cell 0 ≡ packed (controller_at log)
@@ -165,7 +169,8 @@ module _ (profile : Profile) where
           (held_or_not (holding p v.chip))
 
   -- a seat that has seen all
-  pub sees_all : (log : ChipHistory) (v : ByPort ChipHistory) (p : PortName) (g : ChipHistory) → holding p (chip_see log v) ≡ Some g
+  pub sees_all : (log : ChipHistory) (v : ByPort ChipHistory) (p : PortName) (g : ChipHistory)
+      → holding p (chip_see log v) ≡ Some g
       → IsBeginning log p g
   sees_all log v p g e =
       let t = seen_before p log v g e in
@@ -200,7 +205,8 @@ module _ (profile : Profile) where
       (λ (saw : AllSaw v.ram m.view (m.added ++ c.ram.log)).
       let log : ChipHistory = of_ram m.added ++ c.log in
       let w : ChipView = record { ram = m.view; chip = chip_see log v.chip } in
-      let hist : m.added ++ c.ram.log ≡ ram_of log = ap (λ (h : History). m.added ++ h) c.same ∙ sym (ram_of-more m.added c.log) in (
+      let hist : m.added ++ c.ram.log ≡ ram_of log = ap (λ (h : History). m.added ++ h) c.same
+      ∙ sym (ram_of-more m.added c.log) in (
         w,
         keeps,
         tt,

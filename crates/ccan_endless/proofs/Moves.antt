@@ -8,7 +8,7 @@ use Rattle.atomic_table.specs.Table.{keeps, Allows}
 use Rattle.ccan_object.specs.declared.profile.Profile.{Profile}
 use Rattle.ccan_ram.specs.declared.port.PortName.{PortName}
 use Rattle.ccan_ram.specs.History.{History}
-use Rattle.ccan_endless.specs.declared.view.Held.{Held}
+use Rattle.ccan_endless.specs.declared.view.PortView.{PortView}
 use Rattle.ccan_ram.specs.ByPort.{holding, with_held, held_as}
 use Rattle.ccan_endless.specs.View.{see, see_all, View}
 use Rattle.ccan_endless.specs.Rule.{Keeps}
@@ -18,7 +18,7 @@ use Rattle.ccan_ram.proofs.Holding.{holding-each_as, holding-with_held_same, hol
 use Rattle.ccan_endless.proofs.SeatMoves.{TableState, with_view, KeepsAt}
 
 -- there is something in both or in none, and this is true of what there is
-abbrev pub Both : (Held → Held → Type 0) → Option Held → Option Held → Type 0
+abbrev pub Both : (PortView → PortView → Type 0) → Option PortView → Option PortView → Type 0
 Both R None None = Unit {0}
 Both R None (Some y) = ⊥
 Both R (Some x) None = ⊥
@@ -32,41 +32,41 @@ AllSaw old new log = (q : PortName) → Both (λ x y. y.seen ≡ log) (holding q
 abbrev pub AllKept : View → View → Type 0
 AllKept old new = (q : PortName) → Both (λ x y. y.seen ≡ x.seen) (holding q old) (holding q new)
 
-both_saw : (log : History) (o : Option Held) → Both (λ x y. y.seen ≡ log) o (held_as (see log) o)
+both_saw : (log : History) (o : Option PortView) → Both (λ x y. y.seen ≡ log) o (held_as (see log) o)
 both_saw log None = tt
 both_saw log (Some x) = refl
 
-both_same : (o : Option Held) → Both (λ x y. y.seen ≡ x.seen) o o
+both_same : (o : Option PortView) → Both (λ x y. y.seen ≡ x.seen) o o
 both_same None = tt
 both_same (Some x) = refl
 
 pub saw_all : (v : View) (log : History) → AllSaw v (see_all log v) log
 saw_all v log q =
-    subst (λ (o : Option Held). Both (λ x y. y.seen ≡ log) (holding q v) o) (sym (holding-each_as (see log) q v))
+    subst (λ (o : Option PortView). Both (λ x y. y.seen ≡ log) (holding q v) o) (sym (holding-each_as (see log) q v))
     (both_saw log (holding q v))
 
 -- the same, where one port has another view
-pub saw_with : (p : PortName) (v : View) (x y : Held) (log : History) → holding p v ≡ Some x → y.seen ≡ log
+pub saw_with : (p : PortName) (v : View) (x y : PortView) (log : History) → holding p v ≡ Some x → y.seen ≡ log
     → AllSaw v (with_held p (Some y) (see_all log v)) log
 saw_with p v x y log held seen q = ⊎_elim
     (λ (e : q ≡ p).
     subst (λ (z : PortName). Both (λ a b. b.seen ≡ log) (holding z v) (holding z (with_held p (Some y) (see_all log v)))) (sym e)
-    (subst (λ (u : Option Held × Option Held). Both (λ a b. b.seen ≡ log) u.0 u.1)
+    (subst (λ (u : Option PortView × Option PortView). Both (λ a b. b.seen ≡ log) u.0 u.1)
     (λ i. (sym held i, sym (holding-with_held_same p (Some y) (see_all log v)) i)) seen))
     (λ (n : q ≢ p).
-    subst (λ (o : Option Held). Both (λ a b. b.seen ≡ log) (holding q v) o)
+    subst (λ (o : Option PortView). Both (λ a b. b.seen ≡ log) (holding q v) o)
     (sym (holding-with_held_other p q (Some y) (see_all log v) n)) (saw_all v log q))
     (port_discrete q p)
 
-pub kept_with : (p : PortName) (v : View) (x y : Held) → holding p v ≡ Some x → y.seen ≡ x.seen
+pub kept_with : (p : PortName) (v : View) (x y : PortView) → holding p v ≡ Some x → y.seen ≡ x.seen
     → AllKept v (with_held p (Some y) v)
 kept_with p v x y held seen q = ⊎_elim
     (λ (e : q ≡ p).
     subst (λ (z : PortName). Both (λ a b. b.seen ≡ a.seen) (holding z v) (holding z (with_held p (Some y) v))) (sym e)
-    (subst (λ (u : Option Held × Option Held). Both (λ a b. b.seen ≡ a.seen) u.0 u.1)
+    (subst (λ (u : Option PortView × Option PortView). Both (λ a b. b.seen ≡ a.seen) u.0 u.1)
     (λ i. (sym held i, sym (holding-with_held_same p (Some y) v) i)) seen))
     (λ (n : q ≢ p).
-    subst (λ (o : Option Held). Both (λ a b. b.seen ≡ a.seen) (holding q v) o)
+    subst (λ (o : Option PortView). Both (λ a b. b.seen ≡ a.seen) (holding q v) o)
     (sym (holding-with_held_other p q (Some y) v n)) (both_same (holding q v)))
     (port_discrete q p)
 

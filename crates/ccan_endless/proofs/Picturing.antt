@@ -9,7 +9,7 @@ use Rattle.ccan_ram.specs.declared.port.PortName.{PortName}
 use Rattle.ccan_ram.specs.History.{BeginsWith, History}
 use Rattle.ccan_ram.specs.Picture.{pictured}
 use Rattle.ccan_ram.proofs.Histories.{changes_later, begins_again, begins_through}
-use Rattle.ccan_endless.specs.declared.view.Held.{Held}
+use Rattle.ccan_endless.specs.declared.view.PortView.{PortView}
 use Rattle.ccan_endless.specs.View.{see}
 use Rattle.ccan_endless.specs.Layout.{same_object, number_in}
 use Rattle.ccan_ram.specs.Sound.{IsSound}
@@ -25,7 +25,7 @@ use Rattle.ccan_endless.proofs.SeatMoves.{head_stays}
 -- ---- many words
 
 module _ {profile : Profile} where
-  pub swept_none : (Tells : ℕ → ℕ → History → Type 0) (p : PortName) (x : Held) (values : List ℕ) (m : Knows) → IsSeatOf p x m
+  pub swept_none : (Tells : ℕ → ℕ → History → Type 0) (p : PortName) (x : PortView) (values : List ℕ) (m : Knows) → IsSeatOf p x m
       → IsSound profile x.quota x.seen → Swept profile Tells p x 0 values m
   swept_none Tells p x values m view sound = record {
     log = x.seen;
@@ -35,7 +35,7 @@ module _ {profile : Profile} where
   }
 
   -- one load more, after which the whole history was seen
-  module _ (Tells : ℕ → ℕ → History → Type 0) {p : PortName} {x : Held} {i : ℕ} {values : List ℕ} {m n : Knows} {found : ℕ}
+  module _ (Tells : ℕ → ℕ → History → Type 0) {p : PortName} {x : PortView} {i : ℕ} {values : List ℕ} {m n : Knows} {found : ℕ}
       (c : Swept profile Tells p x i values m) (t : Watches profile (i + 1) m found n) where
     on : GoesOn profile p (see c.log x) t.log
     on = t.goes_on p (see c.log x) (only_holds p (see c.log x) m c.view)
@@ -86,12 +86,12 @@ module _ {profile : Profile} where
 
   -- ---- one turn
 
-  module _ {p : PortName} {x : Held} {values : List ℕ} {m1 m2 : Knows}
+  module _ {p : PortName} {x : PortView} {values : List ℕ} {m1 m2 : Knows}
       (c : Swept profile IsHead p x (objects_in profile) values m1) (t : Poses profile p m1 m2) where
     posed_on : GoesOn profile p (see c.log x) t.log × IsSound profile x.quota (pictured p (objects_in profile) t.log ++ t.log)
     posed_on = t.goes_on (see c.log x) (only_holds p (see c.log x) m1 c.view)
 
-    abbrev y : Held
+    abbrev y : PortView
     y = see (pictured p (objects_in profile) t.log ++ t.log) x
 
     -- what the port knows once the looks stand

@@ -6,7 +6,7 @@ use Rattle.ccan_ram.specs.declared.port.PortName.{PortName}
 use Rattle.ccan_ram.specs.History.{History}
 use Rattle.ccan_ram.specs.Picture.{pictured}
 use Rattle.ccan_ram.proofs.Pictures.{pictured_last, pictured_record}
-use Rattle.ccan_endless.specs.declared.view.Held.{Held}
+use Rattle.ccan_endless.specs.declared.view.PortView.{PortView}
 use Rattle.ccan_ram.specs.ByPort.{holding}
 use Rattle.ccan_endless.specs.View.{see_all, View}
 use Rattle.ccan_endless.specs.Layout.{same_object}
@@ -32,7 +32,7 @@ pictured_still profile ws p h = record {
 -- ---- the step
 
 module _ (profile : Profile) where
-  pub poses : (id : ℕ) (me : Knows) (word : ℕ) (p : PortName) (x : Held) → holding p me.0 ≡ Some x
+  pub poses : (id : ℕ) (me : Knows) (word : ℕ) (p : PortName) (x : PortView) → holding p me.0 ≡ Some x
       → Moves profile id me word (λ n. n) (λ _ n. Poses profile p me n)
   poses id me word p x held s r at =
       let v : View = me.0 in

@@ -11,7 +11,7 @@ use Rattle.ccan_ram.specs.HandlerRegisters.{registers_at}
 use Rattle.ccan_ram.specs.SharedRam.{Memory, terms_of}
 use Rattle.ccan_ram.specs.Picture.{Turn, LostTurns, IsPicture}
 use Rattle.ccan_ram.proofs.LostTurns.{few_lost, added_by, added_is, turn_of, own_changes}
-use Rattle.ccan_endless.specs.declared.view.Held.{Held}
+use Rattle.ccan_endless.specs.declared.view.PortView.{PortView}
 use Rattle.ccan_endless.specs.View.{see}
 use Rattle.ccan_endless.specs.Layout.{same_object}
 use Rattle.ccan_ram.specs.Sound.{IsSound}
@@ -23,15 +23,15 @@ module _ (memory : Memory) (p : PortName) where
   abbrev terms : Terms
   terms = terms_of same_object memory p
 
-  pub few_turns : (x : Held) (i : ℕ) (added : List Event) (m : Knows) → Added memory.profile p x added m
+  pub few_turns : (x : PortView) (i : ℕ) (added : List Event) (m : Knows) → Added memory.profile p x added m
       → LostTurns terms i x.seen added → i ≤ 2 * x.quota
   few_turns x i added m a lost = few_lost terms p i x.quota x.seen added lost a.own a.sound.few
 
-  pub added_none : (x : Held) (m : Knows) → IsSeatOf p x m → IsSound memory.profile x.quota x.seen
+  pub added_none : (x : PortView) (m : Knows) → IsSeatOf p x m → IsSound memory.profile x.quota x.seen
       → (added : List Event) × Added memory.profile p x added m × LostTurns terms 0 x.seen added
   added_none x m view sound = ([], record { view = view; sound = sound; own = refl }, refl)
 
-  module _ (y : Held) (m : Knows) (t : Turned memory.profile p y m) where
+  module _ (y : PortView) (m : Knows) (t : Turned memory.profile p y m) where
     abbrev pub last : List Event
     last = added_by same_object memory p y.seen t.at t.end t.from t.own_from t.to t.own_to
 
@@ -45,8 +45,8 @@ module _ (memory : Memory) (p : PortName) where
     kept_changes = own_changes same_object memory p y.seen t.at t.end t.from t.own_from t.to t.own_to
 
   -- turns that were lost, and one more turn
-  module _ (x : Held) (earlier : List Event) (m n : Knows) (a : Added memory.profile p x earlier m) where
-    abbrev y : Held
+  module _ (x : PortView) (earlier : List Event) (m n : Knows) (a : Added memory.profile p x earlier m) where
+    abbrev y : PortView
     y = see (earlier ++ x.seen) x
 
     together : (t : Turned memory.profile p y n) → (last y n t ++ earlier) ++ x.seen ≡ t.end

@@ -7,8 +7,8 @@ use Rattle.ccan_endless.specs.declared.final_chip.FinalChip.{FinalChip}
 use Rattle.ccan_endless.specs.Chip.{ChipHistory, GoesFrom, IsControllerLegal, controller_at, ram_of, steps_of}
 use Rattle.ccan_endless.specs.ChipPort.{ChipPass}
 
--- what the port has seen is a part of the whole history of the chip, which has no other events of the port, neither at objects nor
--- at the controller
+-- what the port has seen is a part of the whole history of the chip, which has no other events of the port, neither at
+-- objects nor at the controller
 pub record IsChipPart (port : ChipPass) (history : ChipHistory) : Type 0 where
   pub begins : GoesFrom history port.whole
   pub steps : steps_of port.pass.port history ≡ steps_of port.pass.port port.whole

@@ -1,5 +1,5 @@
--- What follows of every history of a chip whose steps at the controller are legal. Source: this project's own; fault confinement is
--- that of CAN Specification 2.0.
+-- What follows of every history of a chip whose steps at the controller are legal. Source: this project's own; fault
+-- confinement is that of CAN Specification 2.0.
 use Rattle.std.specs.Prelude.{◌≡◌, true, List, [], ◌∷◌, ◌++◌}
 use Rattle.ccan_confine.specs.declared.controller_change.ControllerChange.{ControllerChange}
 use Rattle.ccan_confine.specs.Counters.{AreAfter}

@@ -1,5 +1,5 @@
--- The rule of a chip's words: there is one history of the whole chip, whose part of the message RAM keeps the rule of the objects'
--- words (`Rule`), and the controller's word holds the controller that the history leaves. Source: this project's own.
+-- The rule of a chip's words: there is one history of the whole chip, whose part of the message RAM keeps the rule of the
+-- objects' words (`Rule`), and the controller's word holds the controller that the history leaves. Source: this project's own.
 use Rattle.std.specs.Prelude.{◌≡◌, ◌≢◌, ℕ, [], ◌∷◌, map, slice_index, Option, Some, None}
 use mathlib.Core.Option.{some}
 use lib.ListN.{get_elem?}
@@ -11,7 +11,7 @@ use Rattle.ccan_confine.specs.Controller.{packed, IsController, controller_after
 use Rattle.ccan_ram.specs.declared.port.PortName.{PortName}
 use Rattle.ccan_ram.specs.declared.by_port.ByPort.{ByPort}
 use Rattle.ccan_ram.specs.ByPort.{holding, each_as, with_held, only, together, nothing}
-use Rattle.ccan_endless.specs.declared.view.Held.{Held}
+use Rattle.ccan_endless.specs.declared.view.PortView.{PortView}
 use Rattle.ccan_endless.specs.declared.view.ChipView.{ChipView}
 use Rattle.ccan_endless.specs.declared.chip.ChipEvent.TheVariants.{OfController}
 use Rattle.ccan_endless.specs.declared.chip.ControllerStep.TheVariants.{Look, Make}
@@ -41,7 +41,7 @@ abbrev pub chip_see : ChipHistory → ByPort ChipHistory → ByPort ChipHistory
 chip_see h v = each_as (λ old. h) v
 
 -- what has been seen of the message RAM for a port is the part of what has been seen of the chip
-abbrev pub Agree : Option Held → Option ChipHistory → Type 0
+abbrev pub Agree : Option PortView → Option ChipHistory → Type 0
 Agree None None = Unit {0}
 Agree None (Some h) = ⊥
 Agree (Some x) None = ⊥
@@ -80,7 +80,7 @@ pub record ChipGoesOn (p : PortName) (h log : ChipHistory) : Type 0 where
 pub record FindsController (profile : Profile) (log : ChipHistory) (m : ChipKnows) (found : ℕ) : Type 0 where
   pub found_is : found ≡ packed (controller_at log)
   pub is : IsController (controller_at log)
-  pub ram : (p : PortName) (x : Held) → holding p m.0.ram ≡ Some x → GoesOn profile p x (ram_of log)
+  pub ram : (p : PortName) (x : PortView) → holding p m.0.ram ≡ Some x → GoesOn profile p x (ram_of log)
   pub goes_on : (p : PortName) (h : ChipHistory) → holding p m.0.chip ≡ Some h → ChipGoesOn p h log
 
 -- a look at the controller: it is the last event of a history that was seen

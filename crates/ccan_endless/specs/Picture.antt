@@ -11,7 +11,7 @@ use Rattle.ccan_ram.specs.History.{events_of, changes_by, last_number, BeginsWit
 use Rattle.ccan_ram.specs.HandlerRegisters.{registers_at, with_flags}
 use Rattle.ccan_ram.specs.Picture.{pictured, LostTurns, IsPicture}
 use Rattle.ccan_ram.specs.SharedRam.{Memory, terms_of}
-use Rattle.ccan_endless.specs.declared.view.Held.{Held}
+use Rattle.ccan_endless.specs.declared.view.PortView.{PortView}
 use Rattle.ccan_ram.specs.ByPort.{holding}
 use Rattle.ccan_endless.specs.View.{see, see_all}
 use Rattle.ccan_endless.specs.Parts.{marks_of}
@@ -42,13 +42,13 @@ module _ (profile : Profile) where
   pub record Poses (p : PortName) (m : Knows) (n : Knows) : Type 0 where
     pub log : History
     pub view : n ≡ (see_all (pictured p (objects_in profile) log ++ log) m.0, m.1)
-    pub goes_on : (x : Held) → holding p m.0 ≡ Some x
+    pub goes_on : (x : PortView) → holding p m.0 ≡ Some x
         → GoesOn profile p x log × IsSound profile x.quota (pictured p (objects_in profile) log ++ log)
 
   -- ---- many words
 
   -- this was true of the values of the first n objects' words, of each at some place after what the port had seen
-  pub record Swept (Tells : ℕ → ℕ → History → Type 0) (p : PortName) (x : Held) (n : ℕ) (values : List ℕ) (m : Knows)
+  pub record Swept (Tells : ℕ → ℕ → History → Type 0) (p : PortName) (x : PortView) (n : ℕ) (values : List ℕ) (m : Knows)
       : Type 0 where
     pub log : History
     pub view : IsSeatOf p (see log x) m
@@ -56,7 +56,7 @@ module _ (profile : Profile) where
     pub each : (k : ℕ) → k < n → Stood x.seen log (Tells (k + 1) (slice_index values k))
 
   -- at some place after what the port had seen, an object's word had another number
-  pub record Moved (p : PortName) (x : Held) (values : List ℕ) (m : Knows) : Type 0 where
+  pub record Moved (p : PortName) (x : PortView) (values : List ℕ) (m : Knows) : Type 0 where
     pub log : History
     pub view : IsSeatOf p (see log x) m
     pub goes_on : GoesOn profile p x log
@@ -67,17 +67,17 @@ module _ (profile : Profile) where
   -- a sweep found these values, by the port of a seat that has seen a sound history
   abbrev pub CollectedIn : ℕ → List ℕ → Knows → Knows → Type 0
   CollectedIn n values old new =
-      (p : PortName) (x : Held) → IsSeatOf p x old → IsSound profile x.quota x.seen → Swept IsHead p x n values new
+      (p : PortName) (x : PortView) → IsSeatOf p x old → IsSound profile x.quota x.seen → Swept IsHead p x n values new
 
   -- a sweep found their numbers
   abbrev pub StayedIn : ℕ → List ℕ → Knows → Knows → Type 0
   StayedIn n values old new =
-      (p : PortName) (x : Held) → IsSeatOf p x old → IsSound profile x.quota x.seen → Swept HasNumber p x n values new
+      (p : PortName) (x : PortView) → IsSeatOf p x old → IsSound profile x.quota x.seen → Swept HasNumber p x n values new
 
   -- a sweep found another number
   abbrev pub MovedIn : List ℕ → Knows → Knows → Type 0
   MovedIn values old new =
-      (p : PortName) (x : Held) → IsSeatOf p x old → IsSound profile x.quota x.seen → Moved p x values new
+      (p : PortName) (x : PortView) → IsSeatOf p x old → IsSound profile x.quota x.seen → Moved p x values new
 
   -- wherever these are values of all objects' words, the registers are those of the memory that the history left
   abbrev pub ShowsAll : List ℕ → HandlerRegisters → Type 0
@@ -89,7 +89,7 @@ module _ (profile : Profile) where
   -- ---- turns
 
   -- a turn: the looks stand right behind one history, and another goes on from them, which the port then has seen
-  pub record Turned (p : PortName) (x : Held) (m : Knows) : Type 0 where
+  pub record Turned (p : PortName) (x : PortView) (m : Knows) : Type 0 where
     pub at : History
     pub end : History
     pub from : BeginsWith at x.seen
@@ -101,23 +101,23 @@ module _ (profile : Profile) where
     pub sound_at : IsSound profile x.quota at
 
   -- it succeeded: these are values of all objects' words where the looks stand
-  pub record Posed (p : PortName) (x : Held) (values : List ℕ) (m : Knows) : Type 0 where
+  pub record Posed (p : PortName) (x : PortView) (values : List ℕ) (m : Knows) : Type 0 where
     pub turn : Turned p x m
     pub each : (k : ℕ) → k < objects_in profile → IsHead (k + 1) (slice_index values k) turn.at
 
   -- it was lost
-  pub record Missed (p : PortName) (x : Held) (m : Knows) : Type 0 where
+  pub record Missed (p : PortName) (x : PortView) (m : Knows) : Type 0 where
     pub turn : Turned p x m
     pub other : PortName
     pub changed : changes_by other x.seen < changes_by other turn.end
 
   -- the same, of the port of a seat
   abbrev pub TurnsIn : PortName → List ℕ → Bool → Knows → Knows → Type 0
-  TurnsIn p values true old new = (x : Held) → IsSeatOf p x old → IsSound profile x.quota x.seen → Posed p x values new
-  TurnsIn p values false old new = (x : Held) → IsSeatOf p x old → IsSound profile x.quota x.seen → Missed p x new
+  TurnsIn p values true old new = (x : PortView) → IsSeatOf p x old → IsSound profile x.quota x.seen → Posed p x values new
+  TurnsIn p values false old new = (x : PortView) → IsSeatOf p x old → IsSound profile x.quota x.seen → Missed p x new
 
   -- the port added these events, which it then has seen
-  pub record Added (p : PortName) (x : Held) (added : List Event) (m : Knows) : Type 0 where
+  pub record Added (p : PortName) (x : PortView) (added : List Event) (m : Knows) : Type 0 where
     pub view : IsSeatOf p (see (added ++ x.seen) x) m
     pub sound : IsSound profile x.quota (added ++ x.seen)
     pub own : changes_by p (added ++ x.seen) ≡ changes_by p x.seen
@@ -127,12 +127,12 @@ module _ (profile : Profile) where
 -- the port of a seat tried in so many turns, which were lost
 abbrev pub TriedIn : Memory → PortName → ℕ → Knows → Knows → Type 0
 TriedIn memory p i old new =
-    (x : Held) → IsSeatOf p x old → IsSound memory.profile x.quota x.seen → x.quota ≡ memory.quota
+    (x : PortView) → IsSeatOf p x old → IsSound memory.profile x.quota x.seen → x.quota ≡ memory.quota
     → (added : List Event) × Added memory.profile p x added new × LostTurns (terms_of same_object memory p) i x.seen added
 
 -- the port of a seat made a picture
 abbrev pub PicturesIn : Memory → PortName → HandlerRegisters → Knows → Knows → Type 0
 PicturesIn memory p shown old new =
-    (x : Held) → IsSeatOf p x old → IsSound memory.profile x.quota x.seen → x.quota ≡ memory.quota
+    (x : PortView) → IsSeatOf p x old → IsSound memory.profile x.quota x.seen → x.quota ≡ memory.quota
     → (added : List Event) × Added memory.profile p x added new
     × IsPicture (terms_of same_object memory p) shown x.seen added

@@ -10,7 +10,7 @@
 ghost use Rattle.std.specs.Prelude.{◌≡◌, ◌+◌, ◌<◌, true, false};
 ghost use Rattle.ccan_object.specs.Profile.{objects_in};
 ghost use Rattle.ccan_ram.specs.HandlerRegisters.{AreBelow};
-ghost use Rattle.ccan_endless.specs.declared.view.Held.{Held};
+ghost use Rattle.ccan_endless.specs.declared.view.PortView.{PortView};
 ghost use Rattle.ccan_endless.specs.Layout.{same_object};
 ghost use Rattle.ccan_endless.specs.Parts.{marks_limit};
 ghost use Rattle.ccan_endless.specs.Picture.{AddsMarks, CollectedIn, MovedIn, PicturesIn, ShowsAll};
@@ -31,7 +31,7 @@ use ccan_ram::{HandlerRegisters, PortName};
 #[inline(always)]
 pub fn picture(words: &Words, seat: &mut Seat, port: PortName) -> HandlerRegisters
     requires table { numbers_of seat.old.table_id ≡ words.now.name }
-    requires held { (x : Held) × IsSeatOf port x seat.old.me
+    requires held { (x : PortView) × IsSeatOf port x seat.old.me
         × IsSound words.now.profile x.quota x.seen × (x.quota ≡ words.now.quota) }
     ensures same { seat.new.table_id ≡ seat.old.table_id }
     ensures told { PicturesIn words.now port result seat.old.me seat.new.me }
@@ -60,7 +60,7 @@ fn pose_once(
     values: &mut [u64; MOST_OBJECTS],
 ) -> bool
     requires table { numbers_of seat.old.table_id ≡ words.now.name }
-    requires held { (x : Held) × IsSeatOf port x seat.old.me
+    requires held { (x : PortView) × IsSeatOf port x seat.old.me
         × IsSound words.now.profile x.quota x.seen }
     ensures same { seat.new.table_id ≡ seat.old.table_id }
     ensures told { TurnsIn words.now.profile port values.new result seat.old.me seat.new.me }

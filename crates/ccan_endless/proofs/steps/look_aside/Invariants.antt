@@ -4,4 +4,12 @@ use Rattle.ccan_endless.specs.Plays.{no_version}
 use Rattle.ccan_endless.proofs.steps.look_aside.Given as goal
 
 abbrev pub ghosts-look_aside_as : goal.ghosts-look_aside_as
-ghosts-look_aside_as a = record { profile = a.words.now.profile; port = a._port; object = 0; word = 0; version = no_version; change = ReadStatus; before = new_controller }
+ghosts-look_aside_as a = record {
+  profile = a.words.now.profile;
+  port = a._port;
+  object = 0;
+  word = 0;
+  version = no_version;
+  change = ReadStatus;
+  before = new_controller;
+}

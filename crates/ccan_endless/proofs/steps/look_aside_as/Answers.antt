@@ -1,3 +1,5 @@
+-- The step's own rule is that of the chip, since it is at the controller's word: `looks_controller` says that the rule allows
+-- the load, and the rest carries that from the table's key to the memory's.
 use Rattle.std.proofs.Common.{◌≡◌, Some, sym, subst, arith, ◌∙◌}
 use Rattle.atomic_table.specs.Table.{Allows}
 use Rattle.ccan_object.specs.declared.profile.Profile.{Profile}
@@ -7,7 +9,7 @@ use Rattle.ccan_endless.specs.Layout.{controller_cell}
 use Rattle.ccan_endless.specs.Port.{numbers_of}
 use Rattle.ccan_endless.specs.Seat.{SeatKnows, IsSeated}
 use Rattle.ccan_endless.proofs.Lifting.{ChipState, seated, agree_back}
-use Rattle.ccan_endless.specs.declared.view.Held.{Held}
+use Rattle.ccan_endless.specs.declared.view.PortView.{PortView}
 use Rattle.ccan_endless.proofs.Stepping.{of_table, by_key, profile_is}
 use Rattle.ccan_endless.specs.ChipRule.{ChipKeeps, LooksController}
 use Rattle.ccan_endless.proofs.ControllerSteps.{looks_controller}
@@ -19,8 +21,10 @@ load-requires g c =
     let w = c.words.invariant in
     let d = g.D.Deed in
     let seat = c.seat.inside.inner in
-    let mine = subst (λ (u : SeatKnows). (x : Held) × (holding d.port u.me.0 ≡ Some x)) (sym c.seat.view_is) c.requires.held in
-    let held = agree_back (holding d.port seat.me.0.ram) (holding d.port seat.me.0.chip) mine.0 (c.seat.invariant d.port).0 mine.1 in (
+    let mine = subst (λ (u : SeatKnows). (x : PortView) × (holding d.port u.me.0 ≡ Some x)) (sym c.seat.view_is)
+    c.requires.held in
+    let held = agree_back (holding d.port seat.me.0.ram) (holding d.port seat.me.0.chip) mine.0 (c.seat.invariant d.port).0
+    mine.1 in (
       of_table w.0 w.1 c.words.view_is
           (subst (λ (u : SeatKnows). numbers_of u.table_id ≡ c.args.words.now.name) (sym c.seat.view_is) c.requires.table),
       (let wide = w.1.wide in omega arith),
@@ -40,6 +44,6 @@ pub returns-clause-had : goal.returns-clause-had
 returns-clause-had g c =
     let p = g.D.Deed.port in
     let seat = c.seat.inside.inner in
-    let mine = subst (λ (u : SeatKnows). (x : Held) × (holding p u.me.0 ≡ Some x)) (sym c.seat.view_is) c.requires.held in
+    let mine = subst (λ (u : SeatKnows). (x : PortView) × (holding p u.me.0 ≡ Some x)) (sym c.seat.view_is) c.requires.held in
     subst (λ (u : SeatKnows). (h : ChipHistory) × (holding p u.chip ≡ Some h)) c.seat.view_is
     (agree_back (holding p seat.me.0.ram) (holding p seat.me.0.chip) mine.0 (c.seat.invariant p).0 mine.1)

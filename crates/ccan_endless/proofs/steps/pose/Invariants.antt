@@ -4,4 +4,12 @@ use Rattle.ccan_endless.specs.Plays.{no_version}
 use Rattle.ccan_endless.proofs.steps.pose.Given as goal
 
 abbrev pub ghosts-pose_as : goal.ghosts-pose_as
-ghosts-pose_as a = record { profile = a.words.now.profile; port = a._port; object = 0; word = 0; version = no_version; change = ReadStatus; before = new_controller }
+ghosts-pose_as a = record {
+  profile = a.words.now.profile;
+  port = a._port;
+  object = 0;
+  word = 0;
+  version = no_version;
+  change = ReadStatus;
+  before = new_controller;
+}

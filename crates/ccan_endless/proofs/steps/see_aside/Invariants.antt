@@ -5,4 +5,12 @@ use Rattle.ccan_endless.specs.Plays.{no_version}
 use Rattle.ccan_endless.proofs.steps.see_aside.Given as goal
 
 abbrev pub ghosts-see_aside_as : goal.ghosts-see_aside_as
-ghosts-see_aside_as a = record { profile = a.words.now.profile; port = If1; object = 0; word = 0; version = no_version; change = ReadStatus; before = new_controller }
+ghosts-see_aside_as a = record {
+  profile = a.words.now.profile;
+  port = If1;
+  object = 0;
+  word = 0;
+  version = no_version;
+  change = ReadStatus;
+  before = new_controller;
+}

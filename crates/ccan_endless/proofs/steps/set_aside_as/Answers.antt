@@ -1,3 +1,5 @@
+-- The step's own rule is that of the chip, since it is at the controller's word: `sets_controller` says that the rule allows
+-- the exchange, and the rest carries that from the table's key and the packed words to the memory's and the controllers.
 use Rattle.std.proofs.Common.{◌≡◌, ℕ, Some, sym, subst, arith, ap, ◌∙◌, eqb}
 use Rattle.atomic_table.specs.Table.{Allows}
 use Rattle.ccan_object.specs.declared.profile.Profile.{Profile}
@@ -7,7 +9,7 @@ use Rattle.ccan_endless.specs.Layout.{controller_cell}
 use Rattle.ccan_endless.specs.Port.{numbers_of}
 use Rattle.ccan_endless.specs.Seat.{SeatKnows, IsSeated}
 use Rattle.ccan_endless.proofs.Lifting.{ChipState, seated, agree_back}
-use Rattle.ccan_endless.specs.declared.view.Held.{Held}
+use Rattle.ccan_endless.specs.declared.view.PortView.{PortView}
 use Rattle.ccan_endless.proofs.Stepping.{of_table, by_key, profile_is}
 use prog.Atomic.{either}
 use Rattle.ccan_confine.specs.declared.controller.Controller.{Controller}
@@ -24,8 +26,10 @@ compare_exchange-requires g c =
     let d = g.D.Deed in
     let seat = c.seat.inside.inner in
     let slots = s.table.shared.table_id.slots in
-    let mine = subst (λ (u : SeatKnows). (x : Held) × (holding d.port u.me.0 ≡ Some x)) (sym c.seat.view_is) c.requires.held in
-    let held = agree_back (holding d.port seat.me.0.ram) (holding d.port seat.me.0.chip) mine.0 (c.seat.invariant d.port).0 mine.1 in
+    let mine = subst (λ (u : SeatKnows). (x : PortView) × (holding d.port u.me.0 ≡ Some x)) (sym c.seat.view_is)
+    c.requires.held in
+    let held = agree_back (holding d.port seat.me.0.ram) (holding d.port seat.me.0.chip) mine.0 (c.seat.invariant d.port).0
+    mine.1 in
     let setting = subst (λ (u : ControllerChange × Controller). IsSetting d.port u.0 u.1)
     (λ i. (sym c.requires.change i, sym c.requires.before i)) c.requires.setting in
     let old : packed d.before ≡ c.pack-old.result = ap packed c.requires.before ∙ sym c.pack-old.ensures.word in
@@ -53,6 +57,6 @@ pub returns-clause-had : goal.returns-clause-had
 returns-clause-had g c =
     let p = g.D.Deed.port in
     let seat = c.seat.inside.inner in
-    let mine = subst (λ (u : SeatKnows). (x : Held) × (holding p u.me.0 ≡ Some x)) (sym c.seat.view_is) c.requires.held in
+    let mine = subst (λ (u : SeatKnows). (x : PortView) × (holding p u.me.0 ≡ Some x)) (sym c.seat.view_is) c.requires.held in
     subst (λ (u : SeatKnows). (h : ChipHistory) × (holding p u.chip ≡ Some h)) c.seat.view_is
     (agree_back (holding p seat.me.0.ram) (holding p seat.me.0.chip) mine.0 (c.seat.invariant p).0 mine.1)

@@ -1,3 +1,5 @@
+-- Between two turns each try so far was lost, so each has shown a controller that another port had made; a try that is made
+-- then adds its one step to what the tries before it left.
 use Rattle.std.proofs.Common.{sym, ◌∙◌, arith}
 use Rattle.ccan_endless.specs.declared.chip.ControllerStep.TheVariants.{Make}
 use Rattle.ccan_endless.proofs.ChipPorts.{none_through}

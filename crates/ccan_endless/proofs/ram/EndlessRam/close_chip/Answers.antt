@@ -1,3 +1,5 @@
+-- The three seats are one in the end, whose view is the three ports' views side by side; `ChipEndings` says what the words then
+-- leave, over what each port had seen.
 use Rattle.std.proofs.Common.{◌≡◌, sym, ap, ◌∙◌, subst, Some}
 use Rattle.std.specs.Slots.{slots_items}
 use Rattle.ccan_object.specs.declared.profile.Profile.{Profile}

@@ -1,3 +1,5 @@
+-- The look's step on the words tells which history of the chip the port has seen by now, and the lemmas on `ControllerCalls`
+-- say what that adds to the port: one look, and no event at the objects.
 use Rattle.std.proofs.Common.{◌≡◌, ◌∷◌, sym, refl, subst}
 use Rattle.ccan_confine.specs.declared.controller.Controller.{Controller}
 use Rattle.ccan_confine.specs.Controller.{IsController}
@@ -18,7 +20,8 @@ pub invariant_of-port : goal.invariant_of-port
 invariant_of-port c =
     let t = c.look_aside.ensures.told in
     let h = c.look_aside.ensures.had in
-    stepped_after c.port.inside c.port.invariant c.port.view_is c.requires.memory c.look_aside.new.seat c.look_aside.ensures.same c.look_aside.ensures.seated
+    stepped_after c.port.inside c.port.invariant c.port.view_is c.requires.memory c.look_aside.new.seat
+    c.look_aside.ensures.same c.look_aside.ensures.seated
     h.0 h.1 t.log (OfController (step_at c.port.inside.name Look (controller_at t.log)) ∷ t.log) refl t.finds.ram
     (t.finds.goes_on c.port.inside.name h.0 h.1) t.view
 
@@ -30,7 +33,8 @@ returns-clause-looks c =
     c.unpack.ensures (controller_at t.log) t.finds.is (sym t.finds.found_is) in
     subst (λ (k : Controller). AddsController c.args.port.now (chip_pass (with_seat c.port.inside c.look_aside.new.seat)) Look k)
     (sym shown)
-    (adds_step c.port.inside c.port.invariant c.port.view_is c.requires.memory c.look_aside.new.seat c.look_aside.ensures.same c.look_aside.ensures.seated
+    (adds_step c.port.inside c.port.invariant c.port.view_is c.requires.memory c.look_aside.new.seat
+    c.look_aside.ensures.same c.look_aside.ensures.seated
     h.0 h.1 t.log (OfController (step_at c.port.inside.name Look (controller_at t.log)) ∷ t.log) refl t.finds.ram
     (t.finds.goes_on c.port.inside.name h.0 h.1) t.view Look (controller_at t.log) refl t.legal.0)
 

@@ -1,3 +1,5 @@
+-- The exchange either finds the word of the controller that was expected, and the port's history goes on by its change; or it
+-- finds another, and the port has only seen more. Both are said by the lemmas of `ControllerCalls`.
 use Rattle.std.proofs.Common.{ap, ◌∷◌, sym, refl, ◌∙◌, subst}
 use Rattle.ccan_confine.specs.Controller.{IsController, packed}
 use Rattle.ccan_endless.specs.Chip.{controller_at, step_at}
@@ -40,7 +42,8 @@ returns-clause-lost c =
     let now = c.unpack.ensures (controller_at t.log) t.finds.is (sym t.finds.found_is) in (
       now
           ∙ ap controller_at (sym (new_whole c.port.inside c.port.invariant c.port.view_is c.requires.memory
-          c.set_aside-found.new.seat c.set_aside-found.ensures.same c.set_aside-found.ensures.seated h.0 h.1 t.log t.log refl t.finds.ram
+          c.set_aside-found.new.seat c.set_aside-found.ensures.same c.set_aside-found.ensures.seated h.0 h.1 t.log t.log refl
+          t.finds.ram
           (t.finds.goes_on c.port.inside.name h.0 h.1)
           (t.lost (λ e. c.if-found-pack.false (e ∙ sym c.pack.ensures.word))))),
       subst IsController (sym now) t.finds.is,
@@ -55,7 +58,8 @@ invariant_of-port-2 c =
     let t = c.set_aside-found.ensures.told in
     let h = c.set_aside-found.ensures.had in
     stepped_after c.port.inside c.port.invariant c.port.view_is c.requires.memory c.set_aside-found.new.seat
-    c.set_aside-found.ensures.same c.set_aside-found.ensures.seated h.0 h.1 t.log t.log refl t.finds.ram (t.finds.goes_on c.port.inside.name h.0 h.1)
+    c.set_aside-found.ensures.same c.set_aside-found.ensures.seated h.0 h.1 t.log t.log refl t.finds.ram
+    (t.finds.goes_on c.port.inside.name h.0 h.1)
     (t.lost (λ e. c.if-found-pack.false (e ∙ sym c.pack.ensures.word)))
 
 pub returns-clause-differ : goal.returns-clause-differ

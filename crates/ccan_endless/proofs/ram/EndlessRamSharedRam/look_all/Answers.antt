@@ -8,7 +8,8 @@ picture-requires-clause-held c = can_picture c.port.inside c.port.invariant (pas
 
 pub invariant_of-port : goal.invariant_of-port
 invariant_of-port c =
-    picture_after c.port.inside c.port.invariant (pass_is c.port.view_is) c.requires.memory c.picture.new.seat c.picture.ensures.same
+    picture_after c.port.inside c.port.invariant (pass_is c.port.view_is) c.requires.memory c.picture.new.seat
+    c.picture.ensures.same
     c.picture.result c.picture.ensures.told (c.picture.ensures.onward.seated c.port.invariant.seated)
 
 pub returns-clause-chip : goal.returns-clause-chip
@@ -20,5 +21,6 @@ returns-clause-chip c =
 
 pub returns-clause-pictures : goal.returns-clause-pictures
 returns-clause-pictures c =
-    picture_adds c.port.inside c.port.invariant (pass_is c.port.view_is) c.requires.memory c.picture.new.seat c.picture.ensures.same
+    picture_adds c.port.inside c.port.invariant (pass_is c.port.view_is) c.requires.memory c.picture.new.seat
+    c.picture.ensures.same
     c.picture.result c.picture.ensures.told
