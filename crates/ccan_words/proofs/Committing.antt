@@ -17,7 +17,7 @@ use Rattle.ccan_ram.specs.Draft.{AddsCommit, IsDrawn}
 use Rattle.ccan_ram.specs.Ending.{IsPart}
 use Rattle.ccan_ram.proofs.Histories.{IsLegal-older, changes_by-append}
 use Rattle.ccan_ram.proofs.Steps.{done_goes, lost_goes}
-use Rattle.ccan_words.specs.declared.view.Held.{Held}
+use Rattle.ccan_words.specs.declared.view.PortView.{PortView}
 use Rattle.ccan_words.specs.declared.version.Version.{Version}
 use Rattle.ccan_words.specs.declared.port.Port.TheInside.{Inside}
 use Rattle.ccan_ram.specs.ByPort.{holding}
@@ -100,7 +100,7 @@ module _ {most : ℕ} {contends : ℕ → ℕ → Bool} {s : Inside} {i : IsPort
   new = pass (with_seat s to)
 
   -- what the port held when the version was written
-  abbrev x : Held
+  abbrev x : PortView
   x = with_note t.told.note i.held
 
   held : holding s.name t.told.written.0 ≡ Some x
@@ -125,7 +125,7 @@ module _ {most : ℕ} {contends : ℕ → ℕ → Bool} {s : Inside} {i : IsPort
     abbrev log' : History
     log' = change_of version ∷ log
 
-    abbrev y : Held
+    abbrev y : PortView
     y = record { seen = log'; note = []; quota = i.held.quota }
 
     makes : Makes s.key.profile s.name log' t.told.written to.me x

@@ -13,7 +13,7 @@ use Rattle.ccan_object.specs.declared.profile.Profile.{Profile}
 use Rattle.ccan_ram.specs.declared.port.PortName.{PortName}
 use Rattle.ccan_ram.specs.Port.{change_number}
 use Rattle.ccan_ram.specs.History.{record_at, changes_by, next_number, last_number, BeginsWith, History}
-use Rattle.ccan_words.specs.declared.view.Held.{Held}
+use Rattle.ccan_words.specs.declared.view.PortView.{PortView}
 use Rattle.ccan_words.specs.declared.version.Version.{Version}
 use Rattle.ccan_ram.specs.ByPort.{holding, with_held}
 use Rattle.ccan_words.specs.View.{see, see_all, View}
@@ -42,11 +42,11 @@ other_last : (contends : ℕ → ℕ → Bool) (z : Version) (i : ℕ) (h : Hist
 other_last contends z i h e = passed (contends z.object i) _ _ e
 
 -- what the port holds after its change
-abbrev after : Version → History → Held → Held
+abbrev after : Version → History → PortView → PortView
 after z h x = record { seen = change_of z ∷ h; note = []; quota = x.quota }
 
 module _ {profile : Profile} {most : ℕ} {contends : ℕ → ℕ → Bool} (F : Form profile most contends) (lies : Lies F) where
-  module _ (s : TableState) (r : Keeps F s) (id : ℕ) (me : Knows) (word : ℕ) (z : Version) (x : Held)
+  module _ (s : TableState) (r : Keeps F s) (id : ℕ) (me : Knows) (word : ℕ) (z : Version) (x : PortView)
       (held : holding z.port me.0 ≡ Some x)
       (is : word ≡ F.cell z.object) (d : IsDrafted F z x) (at : get_elem? s.views id ≡ some me.0) where
     abbrev v : View
@@ -58,7 +58,7 @@ module _ {profile : Profile} {most : ℕ} {contends : ℕ → ℕ → Bool} (F :
     abbrev log' : History
     log' = change_of z ∷ r.log
 
-    abbrev y0 : Held
+    abbrev y0 : PortView
     y0 = after z r.log x
 
     abbrev w : View
@@ -99,23 +99,23 @@ module _ {profile : Profile} {most : ℕ} {contends : ℕ → ℕ → Bool} (F :
     next_kept q fq i l = place_apart (next_number q r.log) i (is_next r.log q fq) l
 
     -- the port's own holding, and another's
-    own_holding : (y : Held) → holding p w ≡ Some y → y0 ≡ y
+    own_holding : (y : PortView) → holding p w ≡ Some y → y0 ≡ y
     own_holding y h = let u = holding-with_held_same p (Some y0) (see_all log' v) in cc
 
-    other_holding : (q : PortName) (y : Held) → q ≢ p → holding q w ≡ Some y → holding q (see_all log' v) ≡ Some y
+    other_holding : (q : PortName) (y : PortView) → q ≢ p → holding q w ≡ Some y → holding q (see_all log' v) ≡ Some y
     other_holding q y n h = sym (holding-with_held_other p q (Some y0) (see_all log' v) n) ∙ h
 
-    as_own : (q : PortName) (y : Held) → q ≡ p → holding q w ≡ Some y → y0 ≡ y
+    as_own : (q : PortName) (y : PortView) → q ≡ p → holding q w ≡ Some y → y0 ≡ y
     as_own q y eq h = own_holding y (subst (λ (u : PortName). holding u w ≡ Some y) eq h)
 
     within : Within w v
     within q y h =
         ⊎_elim
         (λ (eq : q ≡ p).
-        (x, subst (λ (u : PortName). holding u v ≡ Some x) (sym eq) held, ap (λ (u : Held). u.quota) (as_own q y eq h)))
+        (x, subst (λ (u : PortName). holding u v ≡ Some x) (sym eq) held, ap (λ (u : PortView). u.quota) (as_own q y eq h)))
         (λ (n : q ≢ p).
         let t = held_before (see log') q v y (other_holding q y n h) in
-        (t.0, t.1, ap (λ (u : Held). u.quota) t.2))
+        (t.0, t.1, ap (λ (u : PortView). u.quota) t.2))
         (port_discrete q p)
 
     module _ (hit : get_or s.words word 0 ≡ z.old) where
@@ -165,7 +165,7 @@ module _ {profile : Profile} {most : ℕ} {contends : ℕ → ℕ → Bool} (F :
       own_fits : Fits F ws log' p y0
       own_fits = record { part = begins_again log'; own = refl; short = zero-le; note = λ _ j l. absurd (omega arith) }
 
-      fits : (q : PortName) (y : Held) → holding q w ≡ Some y → Fits F ws log' q y
+      fits : (q : PortName) (y : PortView) → holding q w ≡ Some y → Fits F ws log' q y
       fits q y h =
           ⊎_elim
           (λ (eq : q ≡ p).
@@ -183,13 +183,13 @@ module _ {profile : Profile} {most : ℕ} {contends : ℕ → ℕ → Bool} (F :
           goes_by F s.words ws r.log log' q y (begins_further (change_of z) _ _ (begins_again r.log))
           (of_other p q (change_of z) r.log refl (not_held p q v x held none)) (next_kept q) f)
 
-      makes : (y : Held) → holding p v ≡ Some y → Makes profile p log' me (w, me.1) y
+      makes : (y : PortView) → holding p v ≡ Some y → Makes profile p log' me (w, me.1) y
       makes y h =
           let same : x ≡ y = cc in
           subst (Makes profile p log' me (w, me.1)) same
           (record { view = refl; sound = sound_for r.quota x.quota log' (r.one_quota id p v x at held) sound })
 
-  pub exchanges : (slots id : ℕ) (me : Knows) (word : ℕ) (z : Version) (x : Held) → holding z.port me.0 ≡ Some x
+  pub exchanges : (slots id : ℕ) (me : Knows) (word : ℕ) (z : Version) (x : PortView) → holding z.port me.0 ≡ Some x
       → word ≡ F.cell z.object → IsDrafted F z x
       → Allows (Keeps F) slots id me word (λ n. either (eqb n z.old) z.number n) (Exchanges F z me)
   exchanges slots id me word z x held is d s r _ at _ =
@@ -197,7 +197,8 @@ module _ {profile : Profile} {most : ℕ} {contends : ℕ → ℕ → Bool} (F :
       let n0 : ℕ = get_or s.words word 0 in
       let found_last : n0 ≡ last_number contends z.object r.log =
       subst (λ (i : ℕ). get_or s.words i 0 ≡ last_number contends z.object r.log) (sym is) (r.heads z.object d.held) in
-      let on : (y : Held) → holding z.port v ≡ Some y → GoesOn profile z.port y r.log = λ y h. on_for F s r id z.port v y at h in
+      let on : (y : PortView) → holding z.port v ≡ Some y → GoesOn profile z.port y r.log =
+      λ y h. on_for F s r id z.port v y at h in
       let seen = saw F s r id v r.log at r.sound (begins_again r.log) (λ q. refl) (λ k. refl) (λ n h t. t) (λ q none. refl) in
       dite (ℕ_discrete n0 z.old)
       (λ hit. (

@@ -15,7 +15,7 @@ use Rattle.ccan_ram.specs.declared.ending.Final.{Final}
 use Rattle.ccan_ram.specs.History.{IsLegal, record_at, events_of, last_number, BeginsWith, History}
 use Rattle.ccan_ram.specs.SharedRam.{Pass}
 use Rattle.ccan_ram.specs.Ending.{IsPart, Ends, final_records}
-use Rattle.ccan_words.specs.declared.view.Held.{Held}
+use Rattle.ccan_words.specs.declared.view.PortView.{PortView}
 use Rattle.ccan_words.specs.View.{View}
 use Rattle.ccan_ram.specs.ByPort.{only, together}
 use Rattle.ccan_words.specs.Layout.{Form, Lies, Shows, IsNumber}
@@ -74,10 +74,10 @@ name_is : {profile : Profile} (p n : PortName) (used quota : ℕ) (m : Knows) (i
     → IsSeatOf n i.held m
 name_is p n used quota m i e = i.view ∙ (λ j. (only (e j) (Some i.held), []))
 
-abbrev three_held : Held → Held → Held → View
+abbrev three_held : PortView → PortView → PortView → View
 three_held a b c = record { if1 = Some a; if2 = Some b; bus = Some c }
 
-pub three : (ma mb mc m1 m2 : Knows) (a b c : Held) → IsSeatOf If1 a ma → IsSeatOf If2 b mb → IsSeatOf Bus c mc
+pub three : (ma mb mc m1 m2 : Knows) (a b c : PortView) → IsSeatOf If1 a ma → IsSeatOf If2 b mb → IsSeatOf Bus c mc
     → m1 ≡ (together ma.0 mb.0, ma.1) → m2 ≡ (together m1.0 mc.0, m1.1) → m2.0 ≡ three_held a b c
 three ma mb mc m1 m2 a b c va vb vc e f =
     let first : m1.0 ≡ record { if1 = Some a; if2 = Some b; bus = None } =
@@ -100,11 +100,11 @@ settled F s r = record {
 }
 
 -- the port of this name has seen this
-pub record HasSeen (p : PortName) (x : Held) (a : Pass) : Type 0 where
+pub record HasSeen (p : PortName) (x : PortView) (a : Pass) : Type 0 where
   pub port_is : a.port ≡ p
   pub seen_is : a.seen ≡ x.seen
 
-part_at : (p : PortName) (x : Held) (a : Pass) (log : History) → HasSeen p x a → BeginsWith log x.seen
+part_at : (p : PortName) (x : PortView) (a : Pass) (log : History) → HasSeen p x a → BeginsWith log x.seen
     → events_of p log ≡ events_of p x.seen
     → IsPart a log
 part_at p x a log is begins own = record {
@@ -114,7 +114,7 @@ part_at p x a log is begins own = record {
 
 pub ended : {profile : Profile} {most : ℕ} {contends : ℕ → ℕ → Bool} (F : Form profile most contends) (s : State (Unit {0}) View)
     (r : Keeps F s)
-    (ws : List ℕ) (id : ℕ) (v : View) (a b c : Pass) (xa xb xc : Held) (final : Final) → get_elem? s.views id ≡ some v
+    (ws : List ℕ) (id : ℕ) (v : View) (a b c : Pass) (xa xb xc : PortView) (final : Final) → get_elem? s.views id ≡ some v
     → s.words ≡ ws
     → v ≡ three_held xa xb xc → HasSeen If1 xa a → HasSeen If2 xb b → HasSeen Bus xc c → final.profile ≡ profile
     → final.profile ≡ a.memory.profile

@@ -15,7 +15,7 @@ use Rattle.ccan_ram.specs.declared.port.PortName.{PortName}
 use Rattle.ccan_ram.specs.Port.{port_index, change_number}
 use Rattle.ccan_ram.specs.History.{record_at, changes_by, next_number, last_number, History}
 use Rattle.ccan_ram.specs.Attempt.{look_at}
-use Rattle.ccan_words.specs.declared.view.Held.{Held}
+use Rattle.ccan_words.specs.declared.view.PortView.{PortView}
 use Rattle.ccan_ram.specs.ByPort.{holding, with_held}
 use Rattle.ccan_words.specs.View.{see_all, note_at, View}
 use Rattle.ccan_words.specs.Layout.{Form, Lies, IsNumber}
@@ -34,7 +34,8 @@ use Rattle.ccan_words.proofs.SeatMoves.{moved, goes_by, on_for, standing, saw}
 use Rattle.ccan_ram.proofs.Sounding.{sound_look}
 
 module _ {profile : Profile} {most : ℕ} {contends : ℕ → ℕ → Bool} (F : Form profile most contends) (lies : Lies F) where
-  pub looks : (slots id : ℕ) (me : Knows) (word : ℕ) (p : PortName) (k : ℕ) (x : Held) → holding p me.0 ≡ Some x → Holds profile k
+  pub looks : (slots id : ℕ) (me : Knows) (word : ℕ) (p : PortName) (k : ℕ) (x : PortView) → holding p me.0 ≡ Some x
+      → Holds profile k
       → word ≡ F.cell k
       → Allows (Keeps F) slots id me word (λ n. n) (Looks F p k me)
   looks slots id me word p k x held object is s r _ at _ =
@@ -96,10 +97,10 @@ module _ {profile : Profile} {most : ℕ} {contends : ℕ → ℕ → Bool} (F :
       n (port_at q p same)
 
   -- a port's store of the next word of its version
-  module _ (s : TableState) (r : Keeps F s) (id : ℕ) (v : View) (word : ℕ) (p : PortName) (j b : ℕ) (x : Held)
+  module _ (s : TableState) (r : Keeps F s) (id : ℕ) (v : View) (word : ℕ) (p : PortName) (j b : ℕ) (x : PortView)
       (held : holding p v ≡ Some x) (short : changes_by p x.seen < most) (inside : j < F.width) (up : j ≤ length x.note)
       (is : word ≡ F.place (next_number p x.seen) j) (at : get_elem? s.views id ≡ some v) where
-    abbrev y0 : Held
+    abbrev y0 : PortView
     y0 = note_at j b x
 
     abbrev w : View
@@ -153,15 +154,15 @@ module _ {profile : Profile} {most : ℕ} {contends : ℕ → ℕ → Bool} (F :
         ∙ r.versions n i h t l
 
     -- another port's holding, and this one's
-    others : (q : PortName) (y : Held) → q ≢ p → Fits F s.words r.log q y → Fits F ws r.log q y
+    others : (q : PortName) (y : PortView) → q ≢ p → Fits F s.words r.log q y → Fits F ws r.log q y
     others q y n f =
         goes_by F s.words ws r.log r.log q y (begins_again r.log) refl
         (λ fq i l. apart (F.place (next_number q r.log) i) (λ e. next_apart r.log p q i j few fq l inside n (e ∙ here))) f
 
-    other_holding : (q : PortName) (y : Held) → q ≢ p → holding q w ≡ Some y → holding q v ≡ Some y
+    other_holding : (q : PortName) (y : PortView) → q ≢ p → holding q w ≡ Some y → holding q v ≡ Some y
     other_holding q y n h = sym (holding-with_held_other p q (Some y0) v n) ∙ h
 
-    as_own : (q : PortName) (y : Held) → q ≡ p → holding q w ≡ Some y → y0 ≡ y
+    as_own : (q : PortName) (y : PortView) → q ≡ p → holding q w ≡ Some y → y0 ≡ y
     as_own q y e h =
         let own : holding p w ≡ Some y = subst (λ (z : PortName). holding z w ≡ Some y) e h in
         let u = holding-with_held_same p (Some y0) v in cc
@@ -170,7 +171,7 @@ module _ {profile : Profile} {most : ℕ} {contends : ℕ → ℕ → Bool} (F :
     within q y h =
         ⊎_elim
         (λ (e : q ≡ p).
-        (x, subst (λ (z : PortName). holding z v ≡ Some x) (sym e) held, ap (λ (z : Held). z.quota) (as_own q y e h)))
+        (x, subst (λ (z : PortName). holding z v ≡ Some x) (sym e) held, ap (λ (z : PortView). z.quota) (as_own q y e h)))
         (λ (n : q ≢ p). (y, other_holding q y n h, refl))
         (port_discrete q p)
 
@@ -193,10 +194,10 @@ module _ {profile : Profile} {most : ℕ} {contends : ℕ → ℕ → Bool} (F :
       note = λ _ i l. noted_word i l;
     }
 
-    fits : (q : PortName) (y : Held) → holding q w ≡ Some y → Fits F ws r.log q y
+    fits : (q : PortName) (y : PortView) → holding q w ≡ Some y → Fits F ws r.log q y
     fits q y h =
         ⊎_elim
-        (λ (e : q ≡ p). subst (λ (z : PortName × Held). Fits F ws r.log z.0 z.1) (λ i. (sym e i, as_own q y e h i)) own_fits)
+        (λ (e : q ≡ p). subst (λ (z : PortName × PortView). Fits F ws r.log z.0 z.1) (λ i. (sym e i, as_own q y e h i)) own_fits)
         (λ (n : q ≢ p). others q y n (r.seats id q v y at (other_holding q y n h)))
         (port_discrete q p)
 
@@ -205,7 +206,7 @@ module _ {profile : Profile} {most : ℕ} {contends : ℕ → ℕ → Bool} (F :
         moved F s r id v w ws r.log at within r.sound (length-set s.words word b ∙ r.wide) heads versions fits
         (λ q y none f. others q y (not_held p q v x held none) f)
 
-  pub notes : (slots id : ℕ) (me : Knows) (word : ℕ) (p : PortName) (j b : ℕ) (x : Held) → holding p me.0 ≡ Some x
+  pub notes : (slots id : ℕ) (me : Knows) (word : ℕ) (p : PortName) (j b : ℕ) (x : PortView) → holding p me.0 ≡ Some x
       → changes_by p x.seen < most → j < F.width → j ≤ length x.note
       → word ≡ F.place (next_number p x.seen) j → Allows (Keeps F) slots id me word (λ _. b) (λ _ n. Notes p j b me n)
   notes slots id me word p j b x held short inside up is s r _ at _ = (
@@ -213,5 +214,5 @@ module _ {profile : Profile} {most : ℕ} {contends : ℕ → ℕ → Bool} (F :
     keeps,
     tt,
     noted s r id me.0 word p j b x held short inside up is at,
-    λ y h. ap (λ (z : Held). (with_held p (Some (note_at j b z)) me.0, me.1)) (cc),
+    λ y h. ap (λ (z : PortView). (with_held p (Some (note_at j b z)) me.0, me.1)) (cc),
   )

@@ -6,7 +6,7 @@ use native.Mathlib.Decide.{ℕ_discrete}
 use Rattle.ccan_object.specs.declared.profile.Profile.{Profile}
 use Rattle.ccan_object.specs.Profile.{Holds}
 use Rattle.ccan_ram.specs.History.{last_number, BeginsWith, History}
-use Rattle.ccan_words.specs.declared.view.Held.{Held}
+use Rattle.ccan_words.specs.declared.view.PortView.{PortView}
 use Rattle.ccan_words.specs.declared.version.Version.{Version}
 use Rattle.ccan_ram.specs.ByPort.{holding}
 use Rattle.ccan_words.specs.Layout.{Form, IsBeside, Lies, Makes}
@@ -36,7 +36,7 @@ module _ {profile : Profile} {most : ℕ} {contends : ℕ → ℕ → Bool} (F :
       (λ i c. (latest contends z.object h).none (same ∙ none) i c))
 
   -- and where one was found
-  pub next_kept : (at : History) (word w : ℕ) (x : Held) → word < F.width → IsBeside F z.object word → z.old ≢ 0
+  pub next_kept : (at : History) (word w : ℕ) (x : PortView) → word < F.width → IsBeside F z.object word → z.old ≢ 0
       → BeginsWith x.seen at
       → last_number contends z.object at ≡ z.old → ((h : History) → Stands x.seen z.old h → w ≡ get_or (F.content h) word 0)
       → IsNextWord F z at word w
@@ -52,21 +52,21 @@ long_enough zero m f = zero-le
 long_enough (suc n) m f = let e = f (omega arith) in omega arith
 
 module _ {profile : Profile} {most : ℕ} {contends : ℕ → ℕ → Bool} (F : Form profile most contends) (z : Version) where
-  pub written_none : (x : Held) (me : Knows) → IsSeatOf z.port x me → IsWritten F z x 0 me
+  pub written_none : (x : PortView) (me : Knows) → IsSeatOf z.port x me → IsWritten F z x 0 me
   written_none x me e =
       record { note = x.note; view = e; full = λ l. absurd (omega arith); words = λ at b s j l. absurd (omega arith) }
 
   -- the seat as it was, after a step that tells nothing
-  pub written_still : (x : Held) (i : ℕ) (m m' : Knows) → m' ≡ m → IsWritten F z x i m → IsWritten F z x i m'
+  pub written_still : (x : PortView) (i : ℕ) (m m' : Knows) → m' ≡ m → IsWritten F z x i m → IsWritten F z x i m'
   written_still x i m m' e w = record { note = w.note; view = e ∙ w.view; full = w.full; words = w.words }
 
   pub next_still : (i b : ℕ) (m m' : Knows) → m' ≡ m → IsNextFor F z m i b → IsNextFor F z m' i b
   next_still i b m m' e next p y at held part is = next p y at (ap (λ (u : Knows). holding p u.0) (sym e) ∙ held) part is
 
-  pub written_more : (x : Held) (i b : ℕ) (m m' : Knows) → IsWritten F z x i m → IsNextFor F z m i b → Notes z.port i b m m'
+  pub written_more : (x : PortView) (i b : ℕ) (m m' : Knows) → IsWritten F z x i m → IsNextFor F z m i b → Notes z.port i b m m'
       → IsWritten F z x (i + 1) m'
   written_more x i b m m' w next t =
-      let y : Held = with_note w.note x in
+      let y : PortView = with_note w.note x in
       let up = long_enough i (length w.note) w.full in
       record {
         note = take i w.note ++ b ∷ [];

@@ -5,7 +5,7 @@ use Rattle.ccan_object.specs.declared.profile.Profile.{Profile}
 use Rattle.ccan_ram.specs.declared.port.PortName.{PortName}
 use Rattle.ccan_ram.specs.SharedRam.{Memory, Pass, Meets}
 use Rattle.ccan_ram.proofs.Steps.{meets}
-use Rattle.ccan_words.specs.declared.view.Held.{Held}
+use Rattle.ccan_words.specs.declared.view.PortView.{PortView}
 use Rattle.ccan_words.specs.declared.port.Port.TheInside.{Inside}
 use Rattle.ccan_ram.specs.History.{History}
 use Rattle.ccan_ram.specs.ByPort.{holding, with_held, only, together}
@@ -53,10 +53,10 @@ module _ {most : ℕ} {contends : ℕ → ℕ → Bool} {memory : Memory} {F : F
   apart : p ≢ q
   apart e = two (ap (λ (u : Pass). u.port) (sym is_a) ∙ (e ∙ ap (λ (u : Pass). u.port) is_b))
 
-  abbrev x : Held
+  abbrev x : PortView
   x = ia.held
 
-  abbrev y : Held
+  abbrev y : PortView
   y = ib.held
 
   abbrev log : History

@@ -10,7 +10,7 @@ use Rattle.atomic_table.proofs.Lists.{at_set, set_else}
 use Rattle.ccan_object.specs.declared.profile.Profile.{Profile}
 use Rattle.ccan_ram.specs.declared.port.PortName.{PortName}
 use Rattle.ccan_ram.specs.declared.port.PortName.TheVariants.{If1, If2, Bus}
-use Rattle.ccan_words.specs.declared.view.Held.{Held}
+use Rattle.ccan_words.specs.declared.view.PortView.{PortView}
 use Rattle.ccan_ram.specs.ByPort.{holding, with_held, nothing, only, together}
 use Rattle.ccan_words.specs.View.{start, all_ports, View}
 use Rattle.ccan_words.specs.Layout.{Form}
@@ -25,7 +25,7 @@ at_end [] a b (suc j) e = absurd (some-ne-none b (sym e))
 at_end (x ∷ xs) a b zero e = inl e
 at_end (x ∷ xs) a b (suc j) e = ⊎_elim (λ t. inl t) (λ t. inr (ap suc t.0, t.1)) (at_end xs a b j e)
 
-holding-all : (c : ℕ) (p : PortName) (y : Held) → holding p (all_ports c) ≡ Some y → start c ≡ y
+holding-all : (c : ℕ) (p : PortName) (y : PortView) → holding p (all_ports c) ≡ Some y → start c ≡ y
 holding-all c If1 y e = cc
 holding-all c If2 y e = cc
 holding-all c Bus y e = cc
@@ -92,7 +92,7 @@ module _ {profile : Profile} {most : ℕ} {contends : ℕ → ℕ → Bool} (F :
     quota = c;
     top = top;
     one_quota =
-        λ i p u y e h. let a = first_seat [] (all_ports c) u i refl e in ap (λ (z : Held). z.quota)
+        λ i p u y e h. let a = first_seat [] (all_ports c) u i refl e in ap (λ (z : PortView). z.quota)
         (sym (holding-all c p y (subst (λ (z : View). holding p z ≡ Some y) (sym a.1) h)));
     log = [];
     sound = record { legal = tt; records = tt; few = λ p. zero-le };

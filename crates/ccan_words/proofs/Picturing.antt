@@ -9,7 +9,7 @@ use Rattle.ccan_object.specs.Profile.{Holds, objects_in}
 use Rattle.ccan_object.specs.Record.{zero_record}
 use Rattle.ccan_ram.specs.declared.port.PortName.{PortName}
 use Rattle.ccan_ram.specs.History.{record_at, changes_by, last_number, BeginsWith, History}
-use Rattle.ccan_words.specs.declared.view.Held.{Held}
+use Rattle.ccan_words.specs.declared.view.PortView.{PortView}
 use Rattle.ccan_words.specs.View.{see}
 use Rattle.ccan_words.specs.Layout.{Form, Lies, Shows}
 use Rattle.ccan_ram.specs.Sound.{IsSound}
@@ -28,7 +28,8 @@ use Rattle.ccan_ram.proofs.Standing.{another, stood_between}
 -- ---- many words
 
 module _ {profile : Profile} {most : ℕ} {contends : ℕ → ℕ → Bool} (F : Form profile most contends) where
-  pub counted_none : (p : PortName) (x : Held) (numbers : List ℕ) (m : Knows) → IsSeatOf p x m → IsSound profile x.quota x.seen
+  pub counted_none : (p : PortName) (x : PortView) (numbers : List ℕ) (m : Knows) → IsSeatOf p x m
+      → IsSound profile x.quota x.seen
       → Counted F p x 0 numbers m
   counted_none p x numbers m view sound = record {
     log = x.seen;
@@ -38,7 +39,7 @@ module _ {profile : Profile} {most : ℕ} {contends : ℕ → ℕ → Bool} (F :
   }
 
   -- one load more, after which the whole history was seen
-  module _ {p : PortName} {x : Held} {i : ℕ} {numbers : List ℕ} {m n : Knows} {found : ℕ} (c : Counted F p x i numbers m)
+  module _ {p : PortName} {x : PortView} {i : ℕ} {numbers : List ℕ} {m n : Knows} {found : ℕ} (c : Counted F p x i numbers m)
       (t : CountsOn F (i + 1) m found n) where
     on : GoesOn profile p (see c.log x) t.log
     on = t.goes_on p (see c.log x) (only_holds p (see c.log x) m c.view)
@@ -91,12 +92,12 @@ module _ {profile : Profile} {most : ℕ} {contends : ℕ → ℕ → Bool} (F :
 
   -- ---- one turn
 
-  module _ (lies : Lies F) {p : PortName} {x : Held} {numbers : List ℕ} {m1 m2 : Knows}
+  module _ (lies : Lies F) {p : PortName} {x : PortView} {numbers : List ℕ} {m1 m2 : Knows}
       (c : Counted F p x (objects_in profile) numbers m1) (t : Poses F p m1 m2) where
     posed_on : GoesOn profile p (see c.log x) t.log × IsSound profile x.quota (pictured p (objects_in profile) t.log ++ t.log)
     posed_on = t.goes_on (see c.log x) (only_holds p (see c.log x) m1 c.view)
 
-    abbrev y : Held
+    abbrev y : PortView
     y = see (pictured p (objects_in profile) t.log ++ t.log) x
 
     -- what the port knows once the looks stand
@@ -160,7 +161,7 @@ module _ {profile : Profile} {most : ℕ} {contends : ℕ → ℕ → Bool} (F :
   -- ---- records
 
   -- the record in the version that had this number where a history ended
-  pub record_then : (lies : Lies F) (shows : Shows F) (p : PortName) (k found : ℕ) (r : Record) (y : Held) (me : Knows)
+  pub record_then : (lies : Lies F) (shows : Shows F) (p : PortName) (k found : ℕ) (r : Record) (y : PortView) (me : Knows)
       (log : History)
       → IsSeatOf p y me → Holds profile k → BeginsWith y.seen log → IsSound profile y.quota log
       → found ≡ last_number contends k log → (found ≡ 0 → r ≡ zero_record)

@@ -4,7 +4,7 @@ use Rattle.ccan_ram.specs.declared.handler_registers.HandlerRegisters.{HandlerRe
 use Rattle.ccan_ram.specs.declared.event.Event.{Event}
 use Rattle.ccan_ram.specs.SharedRam.{Memory, Pass, IsWithin, passes_of, terms_of}
 use Rattle.ccan_words.specs.declared.port.Port.TheInside.{Inside}
-use Rattle.ccan_words.specs.declared.view.Held.{Held}
+use Rattle.ccan_words.specs.declared.view.PortView.{PortView}
 use Rattle.ccan_ram.specs.History.{History}
 use Rattle.ccan_words.specs.View.{see}
 use Rattle.ccan_ram.specs.Sound.{IsSound}
@@ -29,7 +29,8 @@ module _ (s : Inside) (i : IsPortOf s) {was : Pass} (is_was : pass s ≡ was) {m
   quota_here = i.most ∙ ap (λ (m : Memory). m.quota) here
 
   -- what a picture asks of the port's seat
-  pub can_picture : (x : Held) × IsSeatOf s.name x s.seat.me × IsSound memory.profile x.quota x.seen × (x.quota ≡ memory.quota)
+  pub can_picture : (x : PortView) × IsSeatOf s.name x s.seat.me × IsSound memory.profile x.quota x.seen
+      × (x.quota ≡ memory.quota)
   can_picture = (i.held, i.view, sound_here, quota_here)
 
   module _ {contends : ℕ → ℕ → Bool} (to : WordSeat) (table : to.table_id ≡ s.seat.table_id) (shown : HandlerRegisters)

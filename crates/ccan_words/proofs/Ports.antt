@@ -7,7 +7,7 @@ use Rattle.ccan_ram.specs.declared.port.PortName.{PortName}
 use Rattle.ccan_ram.specs.History.{events_of, changes_by, last_number, BeginsWith, History}
 use Rattle.ccan_ram.specs.SharedRam.{Pass, IsWithin, CanSee, IsSamePort}
 use Rattle.ccan_ram.specs.Ending.{IsPart}
-use Rattle.ccan_words.specs.declared.view.Held.{Held}
+use Rattle.ccan_words.specs.declared.view.PortView.{PortView}
 use Rattle.ccan_words.specs.View.{View}
 use Rattle.ccan_words.specs.declared.port.Port.TheInside.{Inside}
 use Rattle.ccan_words.specs.Layout.{IsNumber}
@@ -46,7 +46,7 @@ abbrev pub with_seat : Inside → WordSeat → Inside
 with_seat s seat = record s { seat = seat }
 
 module _ (s : Inside) (i : IsPortOf s) where
-  abbrev pub x : Held
+  abbrev pub x : PortView
   x = i.held
 
   pub seen_is : (pass s).seen ≡ x.seen
@@ -71,7 +71,7 @@ module _ (s : Inside) (i : IsPortOf s) where
   count_is = ap (changes_by s.name) seen_is ∙ sym i.made
 
   -- the port after a step by which it made nothing
-  pub kept : (to : WordSeat) (y : Held) → IsSeatOf s.name y to.me → y.quota ≡ x.quota → IsSound s.key.profile x.quota y.seen
+  pub kept : (to : WordSeat) (y : PortView) → IsSeatOf s.name y to.me → y.quota ≡ x.quota → IsSound s.key.profile x.quota y.seen
       → changes_by s.name y.seen ≡ changes_by s.name x.seen → IsPortOf (with_seat s to)
   kept to y v m k e = record {
     held = y;

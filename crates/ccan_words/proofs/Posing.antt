@@ -7,7 +7,7 @@ use Rattle.ccan_object.specs.declared.profile.Profile.{Profile}
 use Rattle.ccan_object.specs.Profile.{Holds, objects_in}
 use Rattle.ccan_ram.specs.declared.port.PortName.{PortName}
 use Rattle.ccan_ram.specs.History.{last_number, History}
-use Rattle.ccan_words.specs.declared.view.Held.{Held}
+use Rattle.ccan_words.specs.declared.view.PortView.{PortView}
 use Rattle.ccan_ram.specs.ByPort.{holding}
 use Rattle.ccan_words.specs.View.{see_all, View}
 use Rattle.ccan_words.specs.Layout.{Form, Lies, IsNumber}
@@ -47,7 +47,7 @@ module _ {profile : Profile} {most : ℕ} {contends : ℕ → ℕ → Bool} (F :
         },
       )
 
-  pub poses : (slots id : ℕ) (me : Knows) (word : ℕ) (p : PortName) (x : Held) → holding p me.0 ≡ Some x
+  pub poses : (slots id : ℕ) (me : Knows) (word : ℕ) (p : PortName) (x : PortView) → holding p me.0 ≡ Some x
       → Allows (Keeps F) slots id me word (λ n. n) (λ _ n. Poses F p me n)
   poses slots id me word p x held s r _ at _ =
       let v : View = me.0 in

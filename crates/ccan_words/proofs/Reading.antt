@@ -11,7 +11,7 @@ use Rattle.ccan_object.specs.Packing.{packed}
 use Rattle.ccan_ram.specs.declared.port.PortName.{PortName}
 use Rattle.ccan_ram.specs.History.{record_at, History}
 use Rattle.ccan_ram.specs.Attempt.{look_at}
-use Rattle.ccan_words.specs.declared.view.Held.{Held}
+use Rattle.ccan_words.specs.declared.view.PortView.{PortView}
 use Rattle.ccan_ram.specs.ByPort.{holding}
 use Rattle.ccan_words.specs.View.{see}
 use Rattle.ccan_words.specs.Layout.{Form, Lies, Shows}
@@ -55,7 +55,7 @@ module _ {profile : Profile} {most : ℕ} {contends : ℕ → ℕ → Bool} (F :
       (from 2 (first + 2) (omega arith) (lit< tt) ∙ sym vc)))
 
   -- the record in the version that a look found is the object's
-  pub fetched : (lies : Lies F) (shows : Shows F) (p : PortName) (k found : ℕ) (r : Record) (x : Held) (me me' : Knows)
+  pub fetched : (lies : Lies F) (shows : Shows F) (p : PortName) (k found : ℕ) (r : Record) (x : PortView) (me me' : Knows)
       → IsSeatOf p x me
       → Holds profile k → (t : Looks F p k me found me') → (found ≡ 0 → r ≡ zero_record)
       → (found ≢ 0 → IsRecordOf F k found me' r)

@@ -10,7 +10,7 @@ use Rattle.ccan_object.specs.Profile.{Holds}
 use Rattle.ccan_ram.specs.declared.port.PortName.{PortName}
 use Rattle.ccan_ram.specs.Port.{change_number}
 use Rattle.ccan_ram.specs.History.{events_of, changes_by, next_number, last_number, BeginsWith, History}
-use Rattle.ccan_words.specs.declared.view.Held.{Held}
+use Rattle.ccan_words.specs.declared.view.PortView.{PortView}
 use Rattle.ccan_ram.specs.ByPort.{holding}
 use Rattle.ccan_words.specs.View.{see, see_all, View}
 use Rattle.ccan_words.specs.Layout.{Form, IsNumber}
@@ -31,10 +31,10 @@ with_view s ws id w = record { words = ws; homes = s.homes; views = set s.views 
 
 -- the ports that w holds are held by v
 abbrev pub Within : View → View → Type 0
-Within w v = (p : PortName) (y : Held) → holding p w ≡ Some y → (x : Held) × (holding p v ≡ Some x) × (x.quota ≡ y.quota)
+Within w v = (p : PortName) (y : PortView) → holding p w ≡ Some y → (x : PortView) × (holding p v ≡ Some x) × (x.quota ≡ y.quota)
 
 within-see_all : (h : History) (v : View) → Within (see_all h v) v
-within-see_all h v p y e = let t = held_before (see h) p v y e in (t.0, t.1, ap (λ (z : Held). z.quota) t.2)
+within-see_all h v p y e = let t = held_before (see h) p v y e in (t.0, t.1, ap (λ (z : PortView). z.quota) t.2)
 
 pub sound_for : {profile : Profile} (m n : ℕ) (h : History) → n ≡ m → IsSound profile m h → IsSound profile n h
 sound_for {profile} m n h e a = subst (λ (z : ℕ). IsSound profile z h) (sym e) a
@@ -49,8 +49,8 @@ module _ {profile : Profile} {most : ℕ} {contends : ℕ → ℕ → Bool} (F :
       → IsSound profile r.quota log
       → length ws ≡ F.size → ((k : ℕ) → Holds profile k → get_or ws (F.cell k) 0 ≡ last_number contends k log)
       → ((n j : ℕ) (at : History) → Stands log n at → j < F.width → get_or ws (F.place n j) 0 ≡ get_or (F.content at) j 0)
-      → ((p : PortName) (y : Held) → holding p w ≡ Some y → Fits F ws log p y)
-      → ((p : PortName) (y : Held) → holding p v ≡ None → Fits F s.words r.log p y → Fits F ws log p y)
+      → ((p : PortName) (y : PortView) → holding p w ≡ Some y → Fits F ws log p y)
+      → ((p : PortName) (y : PortView) → holding p v ≡ None → Fits F s.words r.log p y → Fits F ws log p y)
       → Keeps F (with_view s ws id w)
   moved s r id v w ws log at within sound wide heads versions own others = record {
     log = log;
@@ -73,14 +73,14 @@ module _ {profile : Profile} {most : ℕ} {contends : ℕ → ℕ → Bool} (F :
         let b = before j p t y f k in r.apart i j p a.0 b.0 a.1 b.1 a.2.0 b.2.0 a.2.1 b.2.1;
   }
     where
-      free : (i : ℕ) (p : PortName) (u : View) (y : Held) → i ≢ id → get_elem? s.views i ≡ some u → holding p u ≡ Some y
+      free : (i : ℕ) (p : PortName) (u : View) (y : PortView) → i ≢ id → get_elem? s.views i ≡ some u → holding p u ≡ Some y
           → holding p v ≡ None
       free i p u y n e h =
-          ⊎_elim (λ (t : (x : Held) × (holding p v ≡ Some x)). absurd (n (r.apart i id p u v y t.0 e at h t.1)))
+          ⊎_elim (λ (t : (x : PortView) × (holding p v ≡ Some x)). absurd (n (r.apart i id p u v y t.0 e at h t.1)))
           (λ (t : holding p v ≡ None). t) (held_or_not (holding p v))
 
-      before : (i : ℕ) (p : PortName) (u : View) (y : Held) → get_elem? (set s.views id w) i ≡ some u → holding p u ≡ Some y
-          → (u' : View) × (y' : Held) × ((get_elem? s.views i ≡ some u') × (holding p u' ≡ Some y'))
+      before : (i : ℕ) (p : PortName) (u : View) (y : PortView) → get_elem? (set s.views id w) i ≡ some u → holding p u ≡ Some y
+          → (u' : View) × (y' : PortView) × ((get_elem? s.views i ≡ some u') × (holding p u' ≡ Some y'))
       before i p u y e h = ⊎_elim
           (λ (t : (i ≡ id) × (w ≡ u)). let x = within p y (subst (λ (z : View). holding p z ≡ Some y) (sym t.1) h) in
           (v, x.0, (subst (λ (z : ℕ). get_elem? s.views z ≡ some v) (sym t.0) at, x.1)))
@@ -88,7 +88,7 @@ module _ {profile : Profile} {most : ℕ} {contends : ℕ → ℕ → Bool} (F :
           (at_set s.views id i w u e)
 
   -- a port that made nothing, whose next version has the words that it had
-  pub goes_by : (ws ws' : List ℕ) (log log' : History) (p : PortName) (y : Held) → BeginsWith log' log
+  pub goes_by : (ws ws' : List ℕ) (log log' : History) (p : PortName) (y : PortView) → BeginsWith log' log
       → events_of p log' ≡ events_of p log
       → (changes_by p log < most → (j : ℕ) → j < F.width
       → get_or ws' (F.place (next_number p log) j) 0 ≡ get_or ws (F.place (next_number p log) j) 0) → Fits F ws log p y
@@ -104,7 +104,7 @@ module _ {profile : Profile} {most : ℕ} {contends : ℕ → ℕ → Bool} (F :
       }
 
   -- a port of a seat that has seen all of the new history
-  pub sees : (ws ws' : List ℕ) (log log' : History) (p : PortName) (x y : Held) → changes_by p log' ≡ changes_by p log
+  pub sees : (ws ws' : List ℕ) (log log' : History) (p : PortName) (x y : PortView) → changes_by p log' ≡ changes_by p log
       → see log' x ≡ y
       → (changes_by p log < most → (j : ℕ) → j < F.width
       → get_or ws' (F.place (next_number p log) j) 0 ≡ get_or ws (F.place (next_number p log) j) 0) → Fits F ws log p x
@@ -121,7 +121,7 @@ module _ {profile : Profile} {most : ℕ} {contends : ℕ → ℕ → Bool} (F :
   pub below_top : (s : TableState) (r : Keeps F s) (q : PortName) → changes_by q r.log ≤ most
   below_top s r q = let a = r.sound.few q in let t = r.top in omega arith
 
-  pub on_for : (s : TableState) (r : Keeps F s) (id : ℕ) (p : PortName) (v : View) (x : Held) → get_elem? s.views id ≡ some v
+  pub on_for : (s : TableState) (r : Keeps F s) (id : ℕ) (p : PortName) (v : View) (x : PortView) → get_elem? s.views id ≡ some v
       → holding p v ≡ Some x → GoesOn profile p x r.log
   on_for s r id p v x at h =
       let f = r.seats id p v x at h in record

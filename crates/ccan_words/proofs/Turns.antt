@@ -10,7 +10,7 @@ use Rattle.ccan_ram.specs.History.{changes_by, History}
 use Rattle.ccan_ram.specs.Terms.{Terms}
 use Rattle.ccan_ram.specs.HandlerRegisters.{registers_at}
 use Rattle.ccan_ram.specs.SharedRam.{Memory, terms_of}
-use Rattle.ccan_words.specs.declared.view.Held.{Held}
+use Rattle.ccan_words.specs.declared.view.PortView.{PortView}
 use Rattle.ccan_words.specs.View.{see}
 use Rattle.ccan_words.specs.Layout.{Form}
 use Rattle.ccan_ram.specs.Sound.{IsSound}
@@ -25,11 +25,11 @@ module _ (contends : ℕ → ℕ → Bool) (memory : Memory) (p : PortName) wher
   abbrev terms : Terms
   terms = terms_of contends memory p
 
-  pub few_turns : (x : Held) (i : ℕ) (added : List Event) (m : Knows) → Added memory.profile p x added m
+  pub few_turns : (x : PortView) (i : ℕ) (added : List Event) (m : Knows) → Added memory.profile p x added m
       → LostTurns terms i x.seen added → i ≤ 2 * x.quota
   few_turns x i added m a lost = few_lost terms p i x.quota x.seen added lost a.own a.sound.few
 
-  module _ {most : ℕ} (F : Form memory.profile most contends) (y : Held) (m : Knows) (t : Turned F p y m) where
+  module _ {most : ℕ} (F : Form memory.profile most contends) (y : PortView) (m : Knows) (t : Turned F p y m) where
     abbrev pub last : List Event
     last = added_by contends memory p y.seen t.at t.end t.from t.own_from t.to t.own_to
 
@@ -43,9 +43,9 @@ module _ (contends : ℕ → ℕ → Bool) (memory : Memory) (p : PortName) wher
     kept_changes = own_changes contends memory p y.seen t.at t.end t.from t.own_from t.to t.own_to
 
   -- turns that were lost, and one more turn
-  module _ {most : ℕ} (F : Form memory.profile most contends) (x : Held) (earlier : List Event) (m n : Knows)
+  module _ {most : ℕ} (F : Form memory.profile most contends) (x : PortView) (earlier : List Event) (m n : Knows)
       (a : Added memory.profile p x earlier m) where
-    abbrev y : Held
+    abbrev y : PortView
     y = see (earlier ++ x.seen) x
 
     together : (t : Turned F p y n) → (last F y n t ++ earlier) ++ x.seen ≡ t.end
@@ -93,7 +93,7 @@ module _ (contends : ℕ → ℕ → Bool) (memory : Memory) (p : PortName) wher
           ∙ ap (registers_at memory.profile) u.from.1;
     }
 
-pub added_none : (contends : ℕ → ℕ → Bool) (memory : Memory) (p : PortName) (x : Held) (m : Knows) → IsSeatOf p x m
+pub added_none : (contends : ℕ → ℕ → Bool) (memory : Memory) (p : PortName) (x : PortView) (m : Knows) → IsSeatOf p x m
     → IsSound memory.profile x.quota x.seen
     → (added : List Event) × Added memory.profile p x added m × LostTurns (terms_of contends memory p) 0 x.seen added
 added_none contends memory p x m view sound = ([], record { view = view; sound = sound; own = refl }, refl)

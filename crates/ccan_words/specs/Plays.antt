@@ -11,7 +11,7 @@ use Rattle.ccan_ram.specs.declared.event.Event.{Event}
 use Rattle.ccan_ram.specs.Change.{fits, changed}
 use Rattle.ccan_ram.specs.History.{record_at, IsLegal, events_of, changes_by, next_number, last_number, BeginsWith, History}
 use Rattle.ccan_ram.specs.Attempt.{look_at, change_at}
-use Rattle.ccan_words.specs.declared.view.Held.{Held}
+use Rattle.ccan_words.specs.declared.view.PortView.{PortView}
 use Rattle.ccan_words.specs.declared.version.Version.{Version}
 use Rattle.ccan_ram.specs.ByPort.{holding, with_held}
 use Rattle.ccan_words.specs.View.{see_all, note_at, View}
@@ -24,7 +24,7 @@ abbrev pub Knows : Type 0
 Knows = Me (Unit {0}) View
 
 -- the history goes on from what was seen for the port, with no event of the port
-pub record GoesOn (profile : Profile) (p : PortName) (x : Held) (h : History) : Type 0 where
+pub record GoesOn (profile : Profile) (p : PortName) (x : PortView) (h : History) : Type 0 where
   pub sound : IsSound profile x.quota h
   pub part : BeginsWith h x.seen
   pub own : events_of p h ≡ events_of p x.seen
@@ -49,18 +49,18 @@ no_version =
 
 -- a word of the port's next version was written
 abbrev pub Notes : PortName → ℕ → ℕ → Knows → Knows → Type 0
-Notes p j word m n = (x : Held) → holding p m.0 ≡ Some x → n ≡ (with_held p (Some (note_at j word x)) m.0, m.1)
+Notes p j word m n = (x : PortView) → holding p m.0 ≡ Some x → n ≡ (with_held p (Some (note_at j word x)) m.0, m.1)
 
 -- what a store asks: the port's next version has this number, and its first words were written
 pub record IsNoting (most : ℕ) (p : PortName) (number j : ℕ) (m : Knows) : Type 0 where
-  pub x : Held
+  pub x : PortView
   pub held : holding p m.0 ≡ Some x
   pub next : number ≡ next_number p x.seen
   pub few : changes_by p x.seen < most
   pub up : j ≤ length x.note
 
 -- the port's change was made, after all of this history
-pub record Makes (profile : Profile) (p : PortName) (log : History) (m n : Knows) (x : Held) : Type 0 where
+pub record Makes (profile : Profile) (p : PortName) (log : History) (m n : Knows) (x : PortView) : Type 0 where
   pub view : n ≡ (with_held p (Some (record { seen = log; note = []; quota = x.quota })) (see_all log m.0), m.1)
   pub sound : IsSound profile x.quota log
 
@@ -72,7 +72,7 @@ module _ {profile : Profile} {most : ℕ} {contends : ℕ → ℕ → Bool} (F :
   pub record Looks (p : PortName) (k : ℕ) (m : Knows) (found : ℕ) (n : Knows) : Type 0 where
     pub log : History
     pub view : n ≡ (see_all (look_at p k (record_at k log) ∷ log) m.0, m.1)
-    pub goes_on : (x : Held) → holding p m.0 ≡ Some x
+    pub goes_on : (x : PortView) → holding p m.0 ≡ Some x
         → GoesOn profile p x log × IsSound profile x.quota (look_at p k (record_at k log) ∷ log)
     pub found_last : found ≡ last_number contends k log
     pub latest : Latest contends k found log
@@ -82,20 +82,20 @@ module _ {profile : Profile} {most : ℕ} {contends : ℕ → ℕ → Bool} (F :
   pub record Watches (m : Knows) (n : Knows) : Type 0 where
     pub log : History
     pub view : n ≡ (see_all log m.0, m.1)
-    pub goes_on : (p : PortName) (x : Held) → holding p m.0 ≡ Some x → GoesOn profile p x log
+    pub goes_on : (p : PortName) (x : PortView) → holding p m.0 ≡ Some x → GoesOn profile p x log
 
   -- a word of a version: where its change has been seen for some port, the word that the change made
   pub record Reads (word : ℕ) (m : Knows) (found : ℕ) (n : Knows) : Type 0 where
     pub view : n ≡ m
-    pub value : (p : PortName) (x : Held) (number j : ℕ) (at : History) → holding p m.0 ≡ Some x → Stands x.seen number at
+    pub value : (p : PortName) (x : PortView) (number j : ℕ) (at : History) → holding p m.0 ≡ Some x → Stands x.seen number at
         → j < F.width → word ≡ F.place number j → found ≡ slice_index (F.content at) j
 
   -- the word held the old number, and the change was made, as the last event after such a history; or such a history was seen
   pub record Exchanges (version : Version) (m : Knows) (found : ℕ) (n : Knows) : Type 0 where
     pub log : History
-    pub goes_on : (x : Held) → holding version.port m.0 ≡ Some x → GoesOn profile version.port x log
+    pub goes_on : (x : PortView) → holding version.port m.0 ≡ Some x → GoesOn profile version.port x log
     pub found_last : found ≡ last_number contends version.object log
-    pub done : found ≡ version.old → (x : Held) → holding version.port m.0 ≡ Some x
+    pub done : found ≡ version.old → (x : PortView) → holding version.port m.0 ≡ Some x
         → Makes profile version.port (change_of version ∷ log) m n x
     pub lost : found ≢ version.old → n ≡ (see_all log m.0, m.1)
 
@@ -107,7 +107,7 @@ module _ {profile : Profile} {most : ℕ} {contends : ℕ → ℕ → Bool} (F :
 
   -- what an exchange asks: the draft of the version was made at a history that the port has seen, its record fits, and the
   -- port's note is the whole version
-  pub record IsDrafted (version : Version) (x : Held) : Type 0 where
+  pub record IsDrafted (version : Version) (x : PortView) : Type 0 where
     pub held : Holds profile version.object
     pub room : changes_by version.port x.seen < x.quota
     pub numbered : version.number ≡ next_number version.port x.seen
@@ -122,4 +122,4 @@ module _ {profile : Profile} {most : ℕ} {contends : ℕ → ℕ → Bool} (F :
 
   -- the seat holds the port, which has such a draft
   abbrev pub IsDraftedIn : Version → Knows → Type 0
-  IsDraftedIn version m = (x : Held) × (holding version.port m.0 ≡ Some x) × IsDrafted version x
+  IsDraftedIn version m = (x : PortView) × (holding version.port m.0 ≡ Some x) × IsDrafted version x

@@ -5,7 +5,7 @@ use Rattle.ccan_object.specs.declared.profile.Profile.{Profile}
 use Rattle.ccan_ram.specs.declared.port.PortName.{PortName}
 use Rattle.ccan_ram.specs.History.{changes_by}
 use Rattle.ccan_ram.specs.SharedRam.{Memory, Pass}
-use Rattle.ccan_words.specs.declared.view.Held.{Held}
+use Rattle.ccan_words.specs.declared.view.PortView.{PortView}
 use Rattle.ccan_ram.specs.ByPort.{holding}
 use Rattle.ccan_words.specs.View.{seen_in, View}
 use Rattle.ccan_ram.specs.Sound.{IsSound}
@@ -27,7 +27,7 @@ pass_of table profile quota name v =
 
 -- the seat holds this port alone, which has made so many changes of its quota
 pub record IsPort (me : Knows) (profile : Profile) (name : PortName) (used quota : ℕ) : Type 0 where
-  pub held : Held
+  pub held : PortView
   pub view : IsSeatOf name held me
   pub made : used ≡ changes_by name held.seen
   pub most : held.quota ≡ quota

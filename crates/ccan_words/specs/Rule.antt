@@ -10,7 +10,7 @@ use Rattle.ccan_object.specs.declared.profile.Profile.{Profile}
 use Rattle.ccan_object.specs.Profile.{Holds}
 use Rattle.ccan_ram.specs.declared.port.PortName.{PortName}
 use Rattle.ccan_ram.specs.History.{events_of, changes_by, next_number, last_number, BeginsWith, History}
-use Rattle.ccan_words.specs.declared.view.Held.{Held}
+use Rattle.ccan_words.specs.declared.view.PortView.{PortView}
 use Rattle.ccan_words.specs.View.{View}
 use Rattle.ccan_ram.specs.ByPort.{holding}
 use Rattle.ccan_words.specs.Layout.{Form, IsChangeFor, IsBlankFor, AgreeFor}
@@ -27,7 +27,7 @@ module _ {profile : Profile} {most : ℕ} {contends : ℕ → ℕ → Bool} (F :
       (n j : ℕ) (at : History) → Stands log n at → j < F.width → slice_index words (F.place n j) ≡ slice_index (F.content at) j
 
   -- what is true of a port that a seat holds
-  pub record Fits (words : List ℕ) (log : History) (p : PortName) (x : Held) : Type 0 where
+  pub record Fits (words : List ℕ) (log : History) (p : PortName) (x : PortView) : Type 0 where
     -- what the port has seen is a beginning of the history
     pub part : BeginsWith log x.seen
     -- and has all of the port's events
@@ -47,12 +47,13 @@ module _ {profile : Profile} {most : ℕ} {contends : ℕ → ℕ → Bool} (F :
     pub wide : length s.words ≡ F.size
     pub heads : Heads s.words log
     pub versions : Versions s.words log
-    pub seats : (i : ℕ) (p : PortName) (v : View) (x : Held) → get_elem? s.views i ≡ some v → holding p v ≡ Some x
+    pub seats : (i : ℕ) (p : PortName) (v : View) (x : PortView) → get_elem? s.views i ≡ some v → holding p v ≡ Some x
         → Fits s.words log p x
-    pub one_quota : (i : ℕ) (p : PortName) (v : View) (x : Held) → get_elem? s.views i ≡ some v → holding p v ≡ Some x
+    pub one_quota : (i : ℕ) (p : PortName) (v : View) (x : PortView) → get_elem? s.views i ≡ some v → holding p v ≡ Some x
         → x.quota ≡ quota
     -- no two seats hold the same port
-    pub apart : (i j : ℕ) (p : PortName) (v w : View) (x y : Held) → get_elem? s.views i ≡ some v → get_elem? s.views j ≡ some w
+    pub apart : (i j : ℕ) (p : PortName) (v w : View) (x y : PortView) → get_elem? s.views i ≡ some v
+        → get_elem? s.views j ≡ some w
         → holding p v ≡ Some x → holding p w ≡ Some y → i ≡ j
 
   -- the words at the end are those that the history leaves

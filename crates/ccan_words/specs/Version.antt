@@ -11,7 +11,7 @@ use Rattle.ccan_ram.specs.declared.draft.Draft.{Draft}
 use Rattle.ccan_ram.specs.Port.{change_number}
 use Rattle.ccan_ram.specs.Change.{fits, changed}
 use Rattle.ccan_ram.specs.History.{record_at, changes_by, next_number, last_number, BeginsWith, History}
-use Rattle.ccan_words.specs.declared.view.Held.{Held}
+use Rattle.ccan_words.specs.declared.view.PortView.{PortView}
 use Rattle.ccan_words.specs.declared.version.Version.{Version}
 use Rattle.ccan_ram.specs.ByPort.{holding, only}
 use Rattle.ccan_words.specs.Layout.{Form, IsNumber}
@@ -19,11 +19,11 @@ use Rattle.ccan_ram.specs.Sound.{Stands}
 use Rattle.ccan_words.specs.Plays.{Knows, Looks, Exchanges, IsNextWord}
 
 -- the seat holds one port, for which it knows this
-abbrev pub IsSeatOf : PortName → Held → Knows → Type 0
+abbrev pub IsSeatOf : PortName → PortView → Knows → Type 0
 IsSeatOf p x m = m ≡ (only p (Some x), [])
 
 -- what a port knows, with another note
-abbrev pub with_note : List ℕ → Held → Held
+abbrev pub with_note : List ℕ → PortView → PortView
 with_note note x = record { seen = x.seen; note = note; quota = x.quota }
 
 -- the version of a port that has made so many changes, for a draft and a change
@@ -52,17 +52,17 @@ module _ {profile : Profile} {most : ℕ} {contends : ℕ → ℕ → Bool} (F :
   -- where a change that some port has seen has this number, and its version has a record of the object, it is this one
   abbrev pub IsRecordOf : ℕ → ℕ → Knows → Record → Type 0
   IsRecordOf k number m shown =
-      (p : PortName) (x : Held) (at : History) (r : Record) → holding p m.0 ≡ Some x → Stands x.seen number at → IsRecord r
+      (p : PortName) (x : PortView) (at : History) (r : Record) → holding p m.0 ≡ Some x → Stands x.seen number at → IsRecord r
       → ((j : ℕ) → j < 3 → slice_index (F.content at) (F.offset k + j) ≡ slice_index (packed r) j) → shown ≡ r
 
   -- the word is one of the version, if some port has seen its draft
   abbrev pub IsNextFor : Version → Knows → ℕ → ℕ → Type 0
   IsNextFor version m j word =
-      (p : PortName) (x : Held) (at : History) → holding p m.0 ≡ Some x → BeginsWith x.seen at
+      (p : PortName) (x : PortView) (at : History) → holding p m.0 ≡ Some x → BeginsWith x.seen at
       → last_number contends version.object at ≡ version.old → IsNextWord F version at j word
 
   -- the first words of the port's next version are those of this one
-  pub record IsWritten (version : Version) (x : Held) (n : ℕ) (m : Knows) : Type 0 where
+  pub record IsWritten (version : Version) (x : PortView) (n : ℕ) (m : Knows) : Type 0 where
     pub note : List ℕ
     pub view : IsSeatOf version.port (with_note note x) m
     pub full : 0 < n → length note ≡ n
@@ -71,7 +71,7 @@ module _ {profile : Profile} {most : ℕ} {contends : ℕ → ℕ → Bool} (F :
 
   -- the version may be published: its draft was made at a history that the port has seen, its record fits, and the port has
   -- a change left, which has this number
-  pub record IsReady (version : Version) (x : Held) : Type 0 where
+  pub record IsReady (version : Version) (x : PortView) : Type 0 where
     pub held : Holds profile version.object
     pub room : changes_by version.port x.seen < x.quota
     pub top : x.quota ≤ most
@@ -84,7 +84,7 @@ module _ {profile : Profile} {most : ℕ} {contends : ℕ → ℕ → Bool} (F :
     pub fit : fits version.change version.before ≡ true
 
   -- it was published, or a change that contends came first
-  pub record Publishes (version : Version) (x : Held) (found : ℕ) (n : Knows) : Type 0 where
+  pub record Publishes (version : Version) (x : PortView) (found : ℕ) (n : Knows) : Type 0 where
     pub note : List ℕ
     pub written : Knows
     pub view : IsSeatOf version.port (with_note note x) written
@@ -92,10 +92,10 @@ module _ {profile : Profile} {most : ℕ} {contends : ℕ → ℕ → Bool} (F :
 
   -- the same, of the port of a seat
   abbrev pub IsReadyIn : Version → Knows → Type 0
-  IsReadyIn version m = (x : Held) × IsSeatOf version.port x m × IsReady version x
+  IsReadyIn version m = (x : PortView) × IsSeatOf version.port x m × IsReady version x
 
   abbrev pub IsWrittenIn : Version → ℕ → Knows → Knows → Type 0
-  IsWrittenIn version n old new = (x : Held) → IsSeatOf version.port x old → IsWritten version x n new
+  IsWrittenIn version n old new = (x : PortView) → IsSeatOf version.port x old → IsWritten version x n new
 
   abbrev pub PublishesIn : Version → Knows → ℕ → Knows → Type 0
-  PublishesIn version old found new = (x : Held) → IsSeatOf version.port x old → Publishes version x found new
+  PublishesIn version old found new = (x : PortView) → IsSeatOf version.port x old → Publishes version x found new

@@ -51,7 +51,7 @@ pub use one_word::OneWord;
 pub use one_word_each::OneWordEach;
 pub use port::Port;
 pub use ram::Ram;
-pub use view::{Held, View};
+pub use view::{PortView, View};
 
 /// A word for each object: changes of other objects never cost a try. A port may be given up to 4,096 changes.
 pub type WordRam = Ram<OneWordEach>;

@@ -9,7 +9,7 @@
 ghost use Rattle.std.specs.Prelude.{◌≡◌, ◌≤◌, ◌<◌, true, false, length};
 ghost use Rattle.ccan_object.specs.Profile.{objects_in};
 ghost use Rattle.ccan_ram.specs.HandlerRegisters.{AreBelow};
-ghost use Rattle.ccan_words.specs.declared.view.Held.{Held};
+ghost use Rattle.ccan_words.specs.declared.view.PortView.{PortView};
 ghost use Rattle.ccan_words.specs.Picture.{AreNumbers, CountedIn, MovedIn, PicturesIn, ShowsAll, TurnsIn};
 ghost use Rattle.ccan_words.specs.Port.{numbers_of};
 ghost use Rattle.ccan_ram.specs.Sound.{IsSound};
@@ -26,7 +26,7 @@ use ccan_ram::{HandlerRegisters, PortName};
 #[inline(always)]
 pub fn picture<L: Layout>(words: &Words<L>, seat: &mut Seat, port: PortName) -> HandlerRegisters
     requires table { numbers_of seat.old.table_id ≡ words.now.name }
-    requires held { (x : Held) × IsSeatOf port x seat.old.me
+    requires held { (x : PortView) × IsSeatOf port x seat.old.me
         × IsSound words.now.profile x.quota x.seen × (x.quota ≡ words.now.quota) }
     ensures same { seat.new.table_id ≡ seat.old.table_id }
     ensures told { PicturesIn L.contends words.now port result seat.old.me seat.new.me }
@@ -52,7 +52,7 @@ fn pose_once<L: Layout>(
     numbers: &mut [u64; MOST_OBJECTS],
 ) -> bool
     requires table { numbers_of seat.old.table_id ≡ words.now.name }
-    requires held { (x : Held) × IsSeatOf port x seat.old.me
+    requires held { (x : PortView) × IsSeatOf port x seat.old.me
         × IsSound words.now.profile x.quota x.seen × (x.quota ≤ L.MOST) }
     ensures same { seat.new.table_id ≡ seat.old.table_id }
     ensures told { TurnsIn (L.form words.now.profile) port numbers.new result

@@ -29,7 +29,7 @@ impl Port {
     ghost use Rattle.std.specs.Prelude.{◌≡◌, ◌≤◌};
     ghost use Rattle.ccan_ram.specs.SharedRam.{opened};
     ghost use Rattle.ccan_words.specs.Port.{memory_in, numbers_of};
-    ghost use Rattle.ccan_words.specs.declared.view.Held.{Held};
+    ghost use Rattle.ccan_words.specs.declared.view.PortView.{PortView};
     ghost use Rattle.ccan_words.specs.Version.{IsSeatOf};
     ghost use Rattle.ccan_words.specs.View.{start};
 
@@ -51,7 +51,7 @@ impl Port {
     /// The seat, with all that the port has seen.
     pub(crate) fn into_seat(self) -> Seat
         ensures table { numbers_of result.table_id ≡ self.memory.name }
-        ensures held { (x : Held) × IsSeatOf self.port x result.me × (x.seen ≡ self.seen) }
+        ensures held { (x : PortView) × IsSeatOf self.port x result.me × (x.seen ≡ self.seen) }
     {
         self.seat
     }

@@ -6,7 +6,7 @@ ghost use Rattle.std.specs.Slots.{slots_items, slots_len, IsFull};
 ghost use Rattle.atomic_table.specs.Table.{Final, Seen};
 ghost use Rattle.ccan_object.specs.Profile.{Holds};
 ghost use Rattle.ccan_ram.specs.History.{changes_by, next_number};
-ghost use Rattle.ccan_words.specs.declared.view.Held.{Held};
+ghost use Rattle.ccan_words.specs.declared.view.PortView.{PortView};
 ghost use Rattle.ccan_ram.specs.ByPort.{holding, only, together, with_held};
 ghost use Rattle.ccan_words.specs.Layout.{IsNumber};
 ghost use Rattle.ccan_words.specs.Rule.{Keeps};
@@ -29,7 +29,7 @@ use std::marker::Brand;
 pub fn look<L: Layout>(words: &Words<L>, seat: &mut Seat, port: PortName, object: usize) -> u64
     requires table { numbers_of seat.old.table_id ≡ words.now.name }
     requires object { Holds words.now.profile object }
-    requires held { (x : Held) × (holding port seat.old.me.0 ≡ Some x) }
+    requires held { (x : PortView) × (holding port seat.old.me.0 ≡ Some x) }
     ensures same { seat.new.table_id ≡ seat.old.table_id }
     ensures told { Looks (L.form words.now.profile) port object seat.old.me result seat.new.me }
 {
@@ -46,7 +46,7 @@ fn look_as<L: Layout, D: Deed>(
     requires profile { D.profile ≡ words.now.profile }
     requires deed { D.object ≡ object }
     requires object { Holds words.now.profile object }
-    requires held { (x : Held) × (holding D.port seat.old.me.0 ≡ Some x) }
+    requires held { (x : PortView) × (holding D.port seat.old.me.0 ≡ Some x) }
     ensures same { seat.new.table_id ≡ seat.old.table_id }
     ensures told { Looks (L.form D.profile) D.port D.object seat.old.me result seat.new.me }
 {
@@ -98,7 +98,7 @@ fn head_as<L: Layout, D: Deed>(words: &Words<L>, seat: &mut Seat, object: usize)
 /// Looks of a port at all objects, in one step.
 pub fn pose<L: Layout>(words: &Words<L>, seat: &mut Seat, port: PortName)
     requires table { numbers_of seat.old.table_id ≡ words.now.name }
-    requires held { (x : Held) × (holding port seat.old.me.0 ≡ Some x) }
+    requires held { (x : PortView) × (holding port seat.old.me.0 ≡ Some x) }
     ensures same { seat.new.table_id ≡ seat.old.table_id }
     ensures told { Poses (L.form words.now.profile) port seat.old.me seat.new.me }
 {
@@ -108,7 +108,7 @@ pub fn pose<L: Layout>(words: &Words<L>, seat: &mut Seat, port: PortName)
 fn pose_as<L: Layout, D: Deed>(words: &Words<L>, seat: &mut Seat, _port: PortName)
     requires table { numbers_of seat.old.table_id ≡ words.now.name }
     requires profile { D.profile ≡ words.now.profile }
-    requires held { (x : Held) × (holding D.port seat.old.me.0 ≡ Some x) }
+    requires held { (x : PortView) × (holding D.port seat.old.me.0 ≡ Some x) }
     ensures same { seat.new.table_id ≡ seat.old.table_id }
     ensures told { Poses (L.form D.profile) D.port seat.old.me seat.new.me }
 {

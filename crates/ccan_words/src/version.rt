@@ -4,7 +4,7 @@ ghost use Rattle.ccan_object.specs.declared.record.Record.{Record};
 ghost use Rattle.ccan_object.specs.Profile.{Holds};
 ghost use Rattle.ccan_object.specs.Packing.{packed};
 ghost use Rattle.ccan_object.specs.Record.{IsRecord, zero_record};
-ghost use Rattle.ccan_words.specs.declared.view.Held.{Held};
+ghost use Rattle.ccan_words.specs.declared.view.PortView.{PortView};
 ghost use Rattle.ccan_words.specs.Layout.{IsNumber};
 ghost use Rattle.ccan_words.specs.Port.{numbers_of};
 ghost use Rattle.ccan_words.specs.Version.{Finds, IsContent, IsNextFor, IsReadyIn, IsRecordOf, IsSeatOf};
@@ -100,7 +100,7 @@ pub fn found<L: Layout>(
 ) -> (u64, Record)
     requires table { numbers_of seat.old.table_id ≡ words.now.name }
     requires object { Holds words.now.profile object }
-    requires held { (x : Held) × IsSeatOf port x seat.old.me }
+    requires held { (x : PortView) × IsSeatOf port x seat.old.me }
     ensures same { seat.new.table_id ≡ seat.old.table_id }
     ensures told { Finds (L.form words.now.profile) port object seat.old.me result.0
         result.1 seat.new.me }

@@ -3,7 +3,7 @@ use ccan_ram::{ByPort, Event};
 use std::collections::LinkedList;
 
 /// What a seat knows for a port that it holds.
-pub struct Held {
+pub struct PortView {
     /// All that the port has seen, the newest event first.
     pub seen: LinkedList<Event>,
     /// The first words of the port's next version, which is not published.
@@ -13,4 +13,4 @@ pub struct Held {
 }
 
 /// What a seat knows for each port that it holds.
-pub type View = ByPort<Held>;
+pub type View = ByPort<PortView>;

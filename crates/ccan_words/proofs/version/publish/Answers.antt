@@ -1,5 +1,5 @@
 use Rattle.std.proofs.Common.{arith}
-use Rattle.ccan_words.specs.declared.view.Held.{Held}
+use Rattle.ccan_words.specs.declared.view.PortView.{PortView}
 use Rattle.ccan_words.specs.Version.{with_note}
 use Rattle.ccan_words.proofs.Seats.{only_holds}
 use Rattle.ccan_words.proofs.version.publish.Goals as goal
@@ -11,7 +11,7 @@ exchange-requires-clause-drafted g c =
     let z = c.args.version.now in
     let w = c.write.ensures.written h.0 h.1 in
     let inside = (g.met.L.Layout.shows c.args.words.now.profile).inside z.object ready.held in
-    let y : Held = with_note w.note h.0 in (
+    let y : PortView = with_note w.note h.0 in (
       y,
       only_holds z.port y _ w.view,
       record {

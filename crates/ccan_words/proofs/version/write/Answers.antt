@@ -1,5 +1,5 @@
 use Rattle.std.proofs.Common.{refl, ◌∙◌, arith}
-use Rattle.ccan_words.specs.declared.view.Held.{Held}
+use Rattle.ccan_words.specs.declared.view.PortView.{PortView}
 use Rattle.ccan_words.specs.Version.{with_note}
 use Rattle.ccan_words.proofs.Seats.{only_holds}
 use Rattle.ccan_words.proofs.Making.{written_none, written_still, written_more, next_still, long_enough}
@@ -13,7 +13,7 @@ note-requires-clause-held g c =
     let h = c.requires.ready in
     let ready = h.2 in
     let w = c.loop-i.invariant.1 h.0 h.1 in
-    let y : Held = with_note w.note h.0 in
+    let y : PortView = with_note w.note h.0 in
     let room = ready.room in
     let top = ready.top in
     record {
