@@ -77,7 +77,8 @@ module _ (script : ScriptFields) where
         legal = legal;
         lines = (
           s.three,
-          subst (λ (ls : List PortLine). LinesMean means ls (opening script.nodes) [] s.history answers s.three) (sym lines) s.ran,
+          subst (λ (ls : List PortLine). LinesMean means ls (opening script.nodes) [] s.history answers s.three) (sym lines)
+          s.ran,
         );
       }
 
