@@ -78,7 +78,7 @@ module _ (script : ScriptFields) where
         lines = (
           s.three,
           subst (λ (ls : List PortLine). LinesMean means ls (opening script.nodes) [] s.history answers s.three) (sym lines)
-          s.ran,
+              s.ran,
         );
       }
 
