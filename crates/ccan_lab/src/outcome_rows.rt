@@ -77,24 +77,28 @@ struct Run {
     end: usize,
 }
 
+/// The steps from one place up to another, in one row. `None`: there are none.
+fn run_between(steps: &[HistoryStep], from: usize, end: usize) -> Option<Run> {
+    let first = *steps.get(from)?;
+    let last = *steps.get(end.checked_sub(1)?)?;
+    Some(Run {
+        first,
+        last,
+        number: from.saturating_add(1),
+        end,
+    })
+}
+
 /// The steps of a history, row by row.
 fn runs_of(alloc: Global, steps: &[HistoryStep]) -> Result<Vec<Run>, AllocError> {
     let mut runs = Vec::new(alloc);
-    let mut begun = None;
-    for (place, step) in steps.iter().enumerate() {
-        let (first, number) = match begun {
-            Some(begun) => begun,
-            None => (*step, place + 1),
-        };
-        begun = Some((first, number));
+    let mut from = 0;
+    for place in 0..steps.len() {
         if !goes_on(steps, place) {
-            runs.push(Run {
-                first,
-                last: *step,
-                number,
-                end: place + 1,
-            })?;
-            begun = None;
+            if let Some(run) = run_between(steps, from, place + 1) {
+                runs.push(run)?;
+            }
+            from = place + 1;
         }
     }
     Ok(runs)
