@@ -3,14 +3,15 @@ _ccan_lab() {
     local word=${COMP_WORDS[COMP_CWORD]} before=${COMP_WORDS[COMP_CWORD - 1]} words=
     COMPREPLY=()
     if [ "$COMP_CWORD" = 1 ]; then
-        words="outcomes check explain from-candump --help --version"
-    elif [[ "$before" == --can || "$before" == --never || "$before" == --most ]]; then
+        words="outcomes check explain draw from-candump --help --version"
+    elif [[ "$before" == --can || "$before" == --never || "$before" == --most || "$before" == --outcome ]]; then
         return
     elif [[ "$word" == -* ]]; then
         case ${COMP_WORDS[1]} in
             outcomes) words="--all --can --never --most --help" ;;
             check) words="--strict --expect --help" ;;
             explain) words="--json --candump --help" ;;
+            draw) words="--outcome --most --help" ;;
             from-candump) words="--help" ;;
         esac
     fi
