@@ -1,2 +1,3 @@
 pub mod Bar
+pub mod Column
 pub mod Escape

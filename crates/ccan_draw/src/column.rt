@@ -1,4 +1,5 @@
-ghost use Rattle.std.specs.Prelude.{◌≡◌};
+ghost use Rattle.std.specs.Prelude.{◌≡◌, false, IfOk};
+ghost use Rattle.ccan_draw.specs.Column.{flags_behind, left_by};
 
 use ccan_explain::{Step, Touched};
 use ccan_object::ObjectNo;
@@ -20,7 +21,10 @@ pub struct Column {
 }
 
 /// Whether the flag is set behind a step that touches these, where it was so before.
-fn shown_of(touched: &Option<Touched>, object: ObjectNo, flag: Flag, was: bool) -> bool {
+#[tactic(auto, unfolding(crate::specs::Column::left_by))]
+fn shown_of(touched: &Option<Touched>, object: ObjectNo, flag: Flag, was: bool) -> bool
+    ensures { result ≡ left_by object flag touched.now was }
+{
     match touched {
         Some(touched) if touched.object == object => flag.of(&touched.after),
         _ => was,
@@ -33,7 +37,12 @@ pub fn column_of(
     steps: &[Step],
     object: ObjectNo,
     flag: Flag,
-) -> Result<Column, AllocError> {
+) -> Result<Column, AllocError>
+    ensures object { IfOk result (λ column. column.object ≡ object) }
+    ensures flag { IfOk result (λ column. column.flag ≡ flag) }
+    ensures shown { IfOk result (λ column. column.shown.items
+        ≡ flags_behind object flag steps.now false) }
+{
     let mut shown = Vec::new(alloc);
     let mut is = false;
     for step in steps {

@@ -5,6 +5,7 @@ ghost use Rattle.ccan_lab.specs.CheckCommand.{end_by_counts};
 
 use crate::check_end::CheckEnd;
 use crate::expect::compare_run;
+use crate::explaining::print_text;
 use crate::lab_error::LabError;
 use ccan_check::{Report, check, print_report};
 use ccan_run::{RunError, read_all};
@@ -12,9 +13,9 @@ use ccan_script::read_script;
 use clap::error::ErrorKind;
 use clap::{Arg, ArgAction, ArgMatches, Command, Error};
 use std::alloc::{AllocError, Global};
+use std::fs;
 use std::fs::Files;
-use std::io::{Input, IsTerminal, Write};
-use std::{fs, io};
+use std::io::{Input, IsTerminal};
 
 /// What is asked about scripts: their faults.
 #[derive(Drop)]
@@ -111,14 +112,6 @@ fn end_of(report: &Report) -> CheckEnd
         CheckEnd::Warned
     } else {
         CheckEnd::Clean
-    }
-}
-
-/// Writes a text to standard output.
-fn print_text(rt: &impl Print, text: &str) -> Result<(), LabError> {
-    match io::writer(rt).write_all(text.as_bytes()) {
-        Ok(()) => Ok(()),
-        Err(_) => Err(LabError::Write),
     }
 }
 

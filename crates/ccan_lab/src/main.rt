@@ -59,8 +59,9 @@ where
     match question {
         Question::Outcomes(question) => tell_terminal(rt, "a script", question.file),
         Question::Explain(question) => tell_terminal(rt, "a script", question.file),
+        Question::Draw(question) => tell_terminal(rt, "a script", question.file),
         Question::FromCandump(file) => tell_terminal(rt, "a log", *file),
-        _ => {}
+        Question::Check(_) => {}
     }
 }
 
