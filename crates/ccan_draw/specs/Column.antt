@@ -1,7 +1,8 @@
 -- A flag of an object behind each step of a run. Source: this project's own.
-use Rattle.std.specs.Prelude.{ℕ, ◌==◌, Bool, List, [], ◌∷◌, Option, None, Some, if◌then◌else◌}
+use Rattle.std.specs.Prelude.{ℕ, ◌≡◌, ◌==◌, All, Bool, false, List, [], ◌∷◌, Option, None, Some, if◌then◌else◌}
 use Rattle.ccan_ram.specs.declared.flag.Flag.{Flag}
 use Rattle.ccan_ram.specs.Flags.{flag_of}
+use Rattle.ccan_draw.specs.declared.column.Column.{Column}
 use Rattle.ccan_explain.specs.declared.step.Step.{Step}
 use Rattle.ccan_explain.specs.declared.step.Touched.{Touched}
 
@@ -19,3 +20,8 @@ abbrev pub flags_behind : ℕ → Flag → List Step → Bool → List Bool
 flags_behind object flag [] was = []
 flags_behind object flag (step ∷ later) was =
     flag_behind object flag step was ∷ flags_behind object flag later (flag_behind object flag step was)
+
+-- each column shows its flag of its object behind each of these steps; no flag is set before the first
+abbrev pub AreColumns : List Step → List Column → Type 0
+AreColumns steps columns =
+    All (λ column. column.shown.items ≡ flags_behind column.object column.flag steps false) columns

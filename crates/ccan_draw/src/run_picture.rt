@@ -1,5 +1,6 @@
 //! The picture of a run.
 ghost use Rattle.std.specs.Prelude.{◌≡◌, ◌++◌, ◌∷◌, [], IfOk, OnOk, map};
+ghost use Rattle.ccan_draw.specs.Column.{AreColumns};
 
 use crate::column::{Column, FLAGS, column_of};
 use crate::label::label_of;
@@ -76,7 +77,10 @@ fn add_object(
     columns: &mut Vec<Column>,
     steps: &[Step],
     object: ObjectNo,
-) -> Result<(), AllocError> {
+) -> Result<(), AllocError>
+    ensures { OnOk result
+        (AreColumns steps.now columns.old.items → AreColumns steps.now columns.new.items) }
+{
     for flag in FLAGS {
         columns.push(column_of(alloc, steps, object, flag)?)?;
     }
@@ -84,7 +88,9 @@ fn add_object(
 }
 
 /// The flags of the objects that a run touches.
-fn columns_of(alloc: Global, steps: &[Step]) -> Result<Vec<Column>, AllocError> {
+fn columns_of(alloc: Global, steps: &[Step]) -> Result<Vec<Column>, AllocError>
+    ensures { IfOk result (λ columns. AreColumns steps.now columns.items) }
+{
     let mut columns = Vec::new(alloc);
     for place in 0..MOST_OBJECTS {
         let object = ObjectNo::new(place as u8 + 1).unwrap();
@@ -97,8 +103,10 @@ fn columns_of(alloc: Global, steps: &[Step]) -> Result<Vec<Column>, AllocError> 
 
 /// The picture of a run: a row for each step, and the flags of each object that a step touches.
 pub fn picture_of_run(alloc: Global, script: &Script, told: &Told) -> Result<Picture, AllocError>
-    ensures { IfOk result (λ picture. map (λ row. row.port) picture.rows.items
+    ensures rows { IfOk result (λ picture. map (λ row. row.port) picture.rows.items
         ≡ map (λ step. step.port) told.now.steps.items) }
+    ensures columns { IfOk result (λ picture.
+        AreColumns told.now.steps.items picture.columns.items) }
 {
     let steps = told.steps.as_slice();
     Ok(Picture {

@@ -7,7 +7,8 @@ use Rattle.ccan_ram.specs.declared.event.Event.{Event}
 use Rattle.ccan_ram.specs.Access.{Passes}
 use Rattle.ccan_ram.specs.History.{IsLegal}
 use Rattle.ccan_line.specs.declared.line_answer.LineAnswer.{LineAnswer}
-use Rattle.ccan_line.specs.Script.{ScriptFields}
+use Rattle.ccan_line.specs.declared.script.Script.{Script}
+use Rattle.ccan_line.specs.Script.{ScriptFields, fields_of}
 use Rattle.ccan_line.specs.Order.{times}
 use Rattle.ccan_line.specs.Port.{count_of}
 use Rattle.ccan_line.specs.Lines.{LinesMean}
@@ -17,7 +18,7 @@ use Rattle.ccan_line.proofs.Rows.{LinesMean-push}
 use Rattle.ccan_explain.specs.declared.bench.Bench.{Bench}
 use Rattle.ccan_explain.specs.Bench.{next_of, rest, HaveLedTo, TakesTurn}
 use Rattle.ccan_explain.specs.declared.step.Step.{Step}
-use Rattle.ccan_explain.specs.Told.{answers_of}
+use Rattle.ccan_explain.specs.Told.{IsOrderOf, answers_of, in_order}
 
 pub record SoFar (memory : Passes) (script : ScriptFields) (bench : Bench) (order : List PortName)
     (answers : List (PortName × LineAnswer)) : Type 0 where
@@ -98,3 +99,15 @@ answers_more steps more step port is named =
     let f : Step → PortName × LineAnswer = λ s. (s.port, s.answer) in
     ap answers_of is ∙ map-append f steps (step ∷ [])
     ∙ ap (λ (p : PortName). answers_of steps ++ (p, step.answer) ∷ []) named
+
+-- a turn doesn't ask for the script's order
+pub turn_in : (before after : Passes) (script : ScriptFields) (order : List PortName) (old new : Bench) (port : PortName)
+    (reply : LineAnswer) → TakesTurn before after script old new port reply
+    → TakesTurn before after (in_order script order) old new port reply
+turn_in before after script order old new port reply t = record { line = t.line; next = t.next; each = t.each }
+
+-- a script's own order names each port as often as it has lines
+pub own_order : (script : Script) → IsOrderOf (fields_of script) script.order.items
+own_order script If1 = script.if1_times
+own_order script If2 = script.if2_times
+own_order script Bus = script.bus_times

@@ -1,13 +1,33 @@
 -- What is told of a script: the lines in their order, over a plain memory. Source: this project's own, over the meaning of a
 -- script.
-use Rattle.std.specs.Prelude.{List, map}
+use Rattle.std.specs.Prelude.{◌≡◌, List, map}
 use Rattle.ccan_ram.specs.declared.port.PortName.{PortName}
 use Rattle.ccan_ram.specs.declared.event.Event.{Event}
 use Rattle.ccan_ram.specs.Access.{Passes}
 use Rattle.ccan_line.specs.declared.line_answer.LineAnswer.{LineAnswer}
+use Rattle.ccan_line.specs.Order.{times}
+use Rattle.ccan_line.specs.Port.{count_of}
 use Rattle.ccan_line.specs.Script.{ScriptFields}
 use Rattle.ccan_run.specs.Ordered.{RunsInOrder}
 use Rattle.ccan_explain.specs.declared.step.Step.{Step}
+
+-- the script with another order
+abbrev pub in_order : ScriptFields → List PortName → ScriptFields
+in_order script order =
+    record {
+      profile = script.profile;
+      quota = script.quota;
+      tries = script.tries;
+      nodes = script.nodes;
+      if1 = script.if1;
+      if2 = script.if2;
+      bus = script.bus;
+      order = order;
+    }
+
+-- the order names each port as often as the script has lines of it
+abbrev pub IsOrderOf : ScriptFields → List PortName → Type 0
+IsOrderOf script order = (port : PortName) → times port order ≡ count_of script port
 
 -- the answers of the steps, each with its port
 abbrev pub answers_of : List Step → List (PortName × LineAnswer)

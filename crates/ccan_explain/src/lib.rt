@@ -39,4 +39,4 @@ pub use line_words::push_step;
 pub use log_line::LeftOut;
 pub use people::text_of;
 pub use step::{Step, Touched};
-pub use told::{Told, tell};
+pub use told::{Told, tell, tell_in};

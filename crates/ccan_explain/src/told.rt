@@ -2,7 +2,7 @@ ghost use Rattle.std.specs.Prelude.{◌≡◌, [], IfOk, OnOk};
 ghost use Rattle.ccan_line.specs.Script.{fields_of};
 ghost use Rattle.ccan_line.specs.Turn.{opening};
 ghost use Rattle.ccan_explain.specs.Bench.{HaveLedTo, Serves, next_of};
-ghost use Rattle.ccan_explain.specs.Told.{AreStepsOf};
+ghost use Rattle.ccan_explain.specs.Told.{AreStepsOf, IsOrderOf, in_order};
 
 use crate::bench::Bench;
 use crate::step::{Step, Touched, push_one};
@@ -24,21 +24,48 @@ pub struct Told {
     pub ram: Array,
 }
 
-/// Runs the lines of a script that are left, in its order, and keeps what came of each.
-fn run_all(script: &Script, bench: &mut Bench, steps: &mut Vec<Step>) -> Result<(), AllocError>
+/// Runs the lines of a script in this order, and keeps what came of each.
+fn run_all(
+    script: &Script,
+    order: &[PortName],
+    bench: &mut Bench,
+    steps: &mut Vec<Step>,
+) -> Result<(), AllocError>
+    requires order { IsOrderOf (fields_of script.now) order.now }
     requires opened { HaveLedTo (opening script.now.nodes) bench.old }
     requires serves { Serves (⟦<Array as Access>⟧.passes bench.old.ram).terms
         (fields_of script.now) bench.old }
     requires seen { (⟦<Array as Access>⟧.passes bench.old.ram).has_seen [] }
     requires none { (port : PortName) → next_of bench.old port ≡ 0 }
     requires empty { steps.old.items ≡ [] }
-    ensures { OnOk result (AreStepsOf (fields_of script.now) steps.new.items
-        (⟦<Array as Access>⟧.passes bench.new.ram)) }
+    ensures ran { OnOk result (AreStepsOf (in_order (fields_of script.now) order.now)
+        steps.new.items (⟦<Array as Access>⟧.passes bench.new.ram)) }
+    ensures profile { OnOk result
+        ((⟦<Array as Access>⟧.passes bench.new.ram).terms.profile ≡ script.now.profile) }
 {
-    for port in &script.order {
+    for port in order {
         push_one(steps, step_on(bench, script, *port))?;
     }
     Ok(())
+}
+
+/// Runs the lines of a script in an order of the caller's, over a plain memory, and keeps what came of each line.
+///
+/// The order names each port as often as the script has lines of it; the script's own order is not asked.
+pub fn tell_in(alloc: Global, script: &Script, order: &[PortName]) -> Result<Told, AllocError>
+    requires order { IsOrderOf (fields_of script.now) order.now }
+    ensures ran { IfOk result (λ told. AreStepsOf (in_order (fields_of script.now) order.now)
+        told.steps.items (⟦<Array as Access>⟧.passes told.ram)) }
+    ensures profile { IfOk result (λ told.
+        (⟦<Array as Access>⟧.passes told.ram).terms.profile ≡ script.now.profile) }
+{
+    let mut steps = Vec::new(alloc);
+    let mut bench = Bench::new(script);
+    run_all(script, order, &mut bench, &mut steps)?;
+    Ok(Told {
+        steps,
+        ram: bench.into_ram(),
+    })
 }
 
 /// Runs a script in its order, over a plain memory, and keeps what came of each line.
@@ -48,11 +75,5 @@ pub fn tell(alloc: Global, script: &Script) -> Result<Told, AllocError>
     ensures { IfOk result (λ told. AreStepsOf (fields_of script.now) told.steps.items
         (⟦<Array as Access>⟧.passes told.ram)) }
 {
-    let mut steps = Vec::new(alloc);
-    let mut bench = Bench::new(script);
-    run_all(script, &mut bench, &mut steps)?;
-    Ok(Told {
-        steps,
-        ram: bench.into_ram(),
-    })
+    tell_in(alloc, script, script.order.as_slice())
 }

@@ -2,6 +2,7 @@ pub mod CheckCommand
 pub mod Expect
 pub mod History
 pub mod LabError
+pub mod Replay
 pub mod Report
 pub mod Rows
 pub mod Summary

@@ -1,11 +1,15 @@
 -- What is printed of the outcomes of a script. Source: this project's own.
-use Rattle.std.specs.Prelude.{ℕ, zero, suc, ◌≡◌, ◌+◌, ◌++◌, ◌==◌, ◌∷◌, List, [], Some, codes, decimal, length, map, slice_get, if◌then◌else◌}
+use Rattle.std.specs.Prelude.{ℕ, zero, suc, ◌≡◌, ◌+◌, ◌++◌, ◌==◌, ◌∷◌, List, [], Option, Some, None, IfSome}
+use Rattle.std.specs.Prelude.{codes, decimal, length, map, slice_get, if◌then◌else◌}
 use Rattle.std.specs.List.{enumerate_from, flat_map}
+use Rattle.ccan_ram.specs.declared.port.PortName.{PortName}
+use Rattle.ccan_ram.specs.Port.{port_text}
 use Rattle.ccan_line.specs.Script.{ScriptFields}
 use Rattle.ccan_outcomes.specs.declared.ending.Ending.{Ending}
 use Rattle.ccan_outcomes.specs.declared.history_step.HistoryStep.{HistoryStep}
 use Rattle.ccan_outcomes.specs.History.{IsHistoryOf}
 use Rattle.ccan_lab.specs.History.{step_text}
+use Rattle.ccan_lab.specs.Replay.{Replays}
 use Rattle.ccan_lab.specs.Rows.{is_in_all, line_at, place_count, rows_at, rows_of}
 
 -- ---- parts
@@ -52,18 +56,38 @@ different_line all number place =
 unfoldable pub history_text : List HistoryStep → List ℕ
 history_text steps = flat_map (λ step. step_text step.0 step.1) (enumerate_from 1 steps)
 
--- the outcome of a number from 0: its head, its lines that are not the same in all, and the history
-abbrev pub outcome_text : List (List (List ℕ)) → ℕ → List HistoryStep → List ℕ
-outcome_text all number steps =
-    codes "outcome " ++ (decimal (number + 1) ++ (codes "\n" ++ (each (place_count all) (different_line all number)
-    ++ history_text steps)))
+-- a port's name in quotation marks
+abbrev pub quoted : PortName → List ℕ
+quoted port = codes "\"" ++ (port_text port ++ codes "\"")
 
--- the text is that of the outcome of this number, with a history of it
+-- the names of an order, with a comma and a space before each
+unfoldable pub later_names : List PortName → List ℕ
+later_names [] = []
+later_names (port ∷ later) = codes ", " ++ (quoted port ++ later_names later)
+
+-- the names of an order, with a comma and a space between them
+abbrev pub names_text : List PortName → List ℕ
+names_text [] = []
+names_text (first ∷ later) = quoted first ++ later_names later
+
+-- the member of a script that says the order; nothing where there is none
+abbrev pub order_text : Option (List PortName) → List ℕ
+order_text None = []
+order_text (Some order) = codes "  \"order\": [" ++ (names_text order ++ codes "]\n")
+
+-- the outcome of a number from 0: its head, its lines that are not the same in all, the history, and an order, if there is one
+abbrev pub outcome_text : List (List (List ℕ)) → ℕ → List HistoryStep → Option (List PortName) → List ℕ
+outcome_text all number steps order =
+    codes "outcome " ++ (decimal (number + 1) ++ (codes "\n" ++ (each (place_count all) (different_line all number)
+    ++ (history_text steps ++ order_text order))))
+
+-- the text is that of the outcome of this number, with a history of it, and with no order, or one in which whole lines give it
 abbrev pub IsOutcomeText : ScriptFields → List Ending → ℕ → List ℕ → Type 0
 IsOutcomeText script endings number text =
-    (steps : List HistoryStep)
-    × ((ending : Ending) → slice_get endings number ≡ Some ending → IsHistoryOf script ending steps)
-    × (text ≡ outcome_text (map rows_of endings) number steps)
+    (steps : List HistoryStep) × (order : Option (List PortName))
+    × ((ending : Ending) → slice_get endings number ≡ Some ending
+        → IsHistoryOf script ending steps × IfSome order (Replays script ending))
+    × (text ≡ outcome_text (map rows_of endings) number steps order)
 
 -- the text is that of the outcomes before this number, in turn
 abbrev pub AreOutcomeTexts : ScriptFields → List Ending → ℕ → List ℕ → Type 0

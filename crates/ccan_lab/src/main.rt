@@ -28,6 +28,7 @@ pub mod lab_error;
 pub mod outcome_rows;
 pub mod outcomes;
 pub mod question;
+pub mod replay;
 pub mod report;
 pub mod rows;
 pub mod summary;

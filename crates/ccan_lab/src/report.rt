@@ -1,14 +1,18 @@
 ghost use Rattle.std.specs.Prelude.{◌≡◌, ◌+◌, ◌^◌, ◌<◌, ◌++◌, List, ℕ, IfOk, OnOk, length, map, string_bytes};
+ghost use Rattle.std.specs.Option.{option_map};
 ghost use Rattle.ccan_line.specs.Script.{fields_of};
 ghost use Rattle.ccan_outcomes.specs.Outcomes.{AreFound};
 ghost use Rattle.ccan_lab.specs.Report.{IsListing, IsOutcomeText, AreOutcomeTexts, each, different_line, heading_text, outcome_text};
+ghost use Rattle.ccan_lab.specs.Report.{later_names, names_text, order_text, quoted};
 ghost use Rattle.ccan_lab.specs.Report.{same_line, same_text};
 ghost use Rattle.ccan_lab.specs.Rows.{place_count, rows_of};
 
-use crate::history::add_steps;
+use crate::history::{add_steps, port_word};
+use crate::replay::order_to;
 use crate::rows::{Rows, is_in_all, line_in, place_count};
 use crate::wording::{add_counted, add_number};
 use ccan_outcomes::{HistoryStep, Outcomes, history_of};
+use ccan_ram::PortName;
 use ccan_script::Script;
 use std::alloc::{AllocError, Global};
 
@@ -80,26 +84,76 @@ fn add_different(text: &mut String, all: &[Rows], number: usize) -> Result<(), A
     Ok(())
 }
 
-/// Adds an outcome with this history: its head, its lines that are not the same in all, and the steps.
+/// Adds a port's name in quotation marks.
+fn add_quoted(text: &mut String, port: PortName) -> Result<(), AllocError>
+    ensures { OnOk result (string_bytes text.new ≡ string_bytes text.old ++ quoted port) }
+{
+    text.push_str("\"")?;
+    text.push_str(port_word(port))?;
+    text.push_str("\"")
+}
+
+/// Adds the names of an order, with a comma and a space before each.
+#[tactic(auto, unfolding(crate::specs::Report::later_names))]
+fn add_later_names(text: &mut String, order: &[PortName]) -> Result<(), AllocError>
+    ensures { OnOk result
+        (string_bytes text.new ≡ string_bytes text.old ++ later_names order.now) }
+{
+    for port in order {
+        text.push_str(", ")?;
+        add_quoted(text, *port)?;
+    }
+    Ok(())
+}
+
+/// Adds the names of an order, with a comma and a space between them.
+fn add_names(text: &mut String, order: &[PortName]) -> Result<(), AllocError>
+    ensures { OnOk result
+        (string_bytes text.new ≡ string_bytes text.old ++ names_text order.now) }
+{
+    if order.is_empty() {
+        return Ok(());
+    }
+    add_quoted(text, order[0])?;
+    add_later_names(text, &order[1..])
+}
+
+/// Adds an order as the member of a script that says it; nothing where there is none.
+fn add_order(text: &mut String, order: &Option<Vec<PortName>>) -> Result<(), AllocError>
+    ensures { OnOk result (string_bytes text.new
+        ≡ string_bytes text.old ++ order_text (option_map (λ order. order.items) order.now)) }
+{
+    if let Some(order) = order {
+        text.push_str("  \"order\": [")?;
+        add_names(text, order.as_slice())?;
+        text.push_str("]\n")?;
+    }
+    Ok(())
+}
+
+/// Adds an outcome with this history: its head, its lines that are not the same in all, the steps, and the order, if there is
+/// one.
 fn add_told_outcome(
     text: &mut String,
     all: &[Rows],
     number: usize,
     steps: &[HistoryStep],
+    order: &Option<Vec<PortName>>,
 ) -> Result<(), AllocError>
     requires { number + 1 < 2 ^ 64 }
-    ensures { OnOk result (string_bytes text.new
-        ≡ string_bytes text.old ++ outcome_text all.now number steps.now) }
+    ensures { OnOk result (string_bytes text.new ≡ string_bytes text.old
+        ++ outcome_text all.now number steps.now (option_map (λ order. order.items) order.now)) }
 {
     text.push_str("outcome ")?;
     add_number(text, number + 1)?;
     text.push_str("\n")?;
     add_different(text, all, number)?;
     add_steps(text, steps)?;
-    Ok(())
+    add_order(text, order)
 }
 
-/// Adds an outcome: its head, its lines that are not the same in all, and a history that leads to it.
+/// Adds an outcome: its head, its lines that are not the same in all, a history that leads to it, and an order of whole lines
+/// that does, where one was found.
 ///
 /// The number is from 0.
 pub fn add_outcome(
@@ -118,7 +172,9 @@ pub fn add_outcome(
         × IsOutcomeText (fields_of script.now) outcomes.now.listing.endings.keys number added) }
 {
     let history = history_of(alloc, script, outcomes, number)?;
-    add_told_outcome(text, all, number, history.as_slice())?;
+    let ending = &outcomes.listing.endings.as_slice()[number];
+    let order = order_to(alloc, script, ending, history.as_slice())?;
+    add_told_outcome(text, all, number, history.as_slice(), &order)?;
     Ok(())
 }
 

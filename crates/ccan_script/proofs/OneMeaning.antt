@@ -19,8 +19,9 @@ use Rattle.ccan_script.specs.BusLine.{BusSays}
 use Rattle.ccan_script.specs.Order.{OrderPlace, names, number_in_order, order_by, share}
 use Rattle.ccan_script.specs.Places.{IsFirst}
 use Rattle.ccan_script.specs.ListPlace.{ListPlace, count, line, list, number_in_list}
+use Rattle.ccan_line.specs.Port.{count_of}
 use Rattle.ccan_line.specs.Script.{ScriptFields}
-use Rattle.ccan_script.specs.Script.{Place, Says, fault_at, lines_of, number_of}
+use Rattle.ccan_script.specs.Script.{Place, Says, fault_at, number_of}
 use Rattle.ccan_script.specs.Script.{bus, if1, if2, members, nodes, order, profile, quota, tries}
 use Rattle.ccan_script.specs.Laws.{HasOneMeaning}
 use Rattle.ccan_script.proofs.Lines.{lines_once}
@@ -102,7 +103,7 @@ same_script a b profile_is quota_is tries_is nodes_are if1_are if2_are bus_are o
 }
 
 same_counts : (a b : ScriptFields) → a.if1 ≡ b.if1 → a.if2 ≡ b.if2 → a.bus ≡ b.bus → (name : PortName)
-    → lines_of a name ≡ lines_of b name
+    → count_of a name ≡ count_of b name
 same_counts a b if1_are if2_are bus_are port.If1 = ap length if1_are
 same_counts a b if1_are if2_are bus_are port.If2 = ap length if2_are
 same_counts a b if1_are if2_are bus_are port.Bus = ap length bus_are
@@ -112,7 +113,7 @@ one_script d a b h k =
     let if1_are = lines_once HostSays (host_once) _ a.if1 b.if1 h.if1_lines k.if1_lines in
     let if2_are = lines_once HostSays (host_once) _ a.if2 b.if2 h.if2_lines k.if2_lines in
     let bus_are = lines_once BusSays bus_once _ a.bus b.bus h.bus_lines k.bus_lines in
-    let counts : (name : PortName) → lines_of a name ≡ lines_of b name = same_counts a b if1_are if2_are bus_are in
+    let counts : (name : PortName) → count_of a name ≡ count_of b name = same_counts a b if1_are if2_are bus_are in
     same_script a b (h.profile_is ∙ sym k.profile_is) (h.quota_is ∙ sym k.quota_is) (h.tries_is ∙ sym k.tries_is)
     (h.nodes_are ∙ sym k.nodes_are)
     if1_are if2_are bus_are

@@ -18,7 +18,7 @@ use Rattle.ccan_script.specs.declared.script_error.ScriptError.TheVariants as er
 use Rattle.ccan_line.specs.Limits.{most_names}
 use Rattle.ccan_script.specs.Json.{lines_in}
 use Rattle.ccan_script.specs.Lines.{AreLines}
-use Rattle.ccan_script.specs.PortLine.{PortSays, port_fault, port_of}
+use Rattle.ccan_script.specs.OrderName.{NameSays, port_fault, port_of}
 use Rattle.ccan_script.specs.Places.{IsFaultless, IsFirst, Precedes}
 use Rattle.ccan_script.specs.ListPlace.{list_fault, number_in_list}
 use Rattle.ccan_script.specs.Order.{ChecksTimes, OrderPlace, default_order, named_ports, names, number_in_order}
@@ -28,13 +28,13 @@ use Rattle.ccan_script.specs.Reader.{ReadsOrder, UnlessMemory}
 use Rattle.ccan_script.proofs.ListFaults.{no_list}
 
 -- the ports that lines name are those of their values
-ports_are : (values : List Data) (ports : List PortName) → AreLines PortSays values ports → ports ≡ map port_of values
+ports_are : (values : List Data) (ports : List PortName) → AreLines NameSays values ports → ports ≡ map port_of values
 ports_are [] [] h = refl
 ports_are [] (p ∷ ps) h = absurd h
 ports_are (v ∷ vs) [] h = absurd h
 ports_are (v ∷ vs) (p ∷ ps) h = λ i. h.0 i ∷ ports_are vs ps h.1 i
 
-pub named_are : (o : Option Data) (ports : List PortName) → AreLines PortSays (lines_in o) ports → ports ≡ named_ports o
+pub named_are : (o : Option Data) (ports : List PortName) → AreLines NameSays (lines_in o) ports → ports ≡ named_ports o
 named_are o ports h = ports_are (lines_in o) ports h
 
 nat_less : (a b : ℕ) (o : Ordering) → nat_cmp a b ≡ o → ordering_then o Equal ≡ Less → a < b

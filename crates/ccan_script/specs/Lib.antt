@@ -13,7 +13,7 @@ pub mod FrameParts
 pub mod Round
 pub mod BusOp
 pub mod BusLine
-pub mod PortLine
+pub mod OrderName
 pub mod Lines
 pub mod Places
 pub mod ListPlace

@@ -12,7 +12,7 @@ use Rattle.ccan_script.specs.declared.script_error.ScriptError.TheVariants as er
 use Rattle.ccan_line.specs.Limits.{most_names}
 use Rattle.ccan_line.specs.Order.{times}
 use Rattle.ccan_script.specs.Json.{lines_in}
-use Rattle.ccan_script.specs.PortLine.{port_fault, port_of}
+use Rattle.ccan_script.specs.OrderName.{port_fault, port_of}
 use Rattle.ccan_script.specs.ListPlace.{ListPlace, list_fault, number_in_list}
 
 -- the ports that the member `order` names

@@ -8,7 +8,6 @@ use Rattle.serde_json.specs.Find.{get}
 use Rattle.ccan_object.specs.declared.profile.Profile.{Profile}
 use Rattle.ccan_object.specs.declared.profile.Profile.TheVariants.{One, Two}
 use Rattle.ccan_ram.specs.declared.port.PortName.{PortName}
-use Rattle.ccan_ram.specs.declared.port.PortName.TheVariants as port
 use Rattle.ccan_ram.specs.Port.{port_text}
 use Rattle.ccan_ram.specs.Port.{most_quota}
 use Rattle.ccan_ram.specs.Tries.{most_tries}
@@ -16,6 +15,7 @@ use Rattle.ccan_script.specs.declared.list_name.ListName.TheVariants.{Top, If1, 
 use Rattle.ccan_script.specs.declared.script_error.ScriptError.{ScriptError}
 use Rattle.ccan_script.specs.declared.script_error.ScriptError.TheVariants.{Shape, Range}
 use Rattle.ccan_line.specs.Script.{ScriptFields}
+use Rattle.ccan_line.specs.Port.{count_of}
 use Rattle.ccan_line.specs.Limits.{most_lines, most_profile, default_profile, default_quota}
 use Rattle.ccan_line.specs.Limits.{default_tries, most_nodes, default_nodes}
 use Rattle.ccan_script.specs.Json.{has_only, lines_in, whole}
@@ -94,12 +94,6 @@ fault_at d (order place) = order_fault (lines_of_port d) (get (codes "order") d)
 
 -- ---- the meaning
 
--- how many lines a port has in a script
-abbrev pub lines_of : ScriptFields → PortName → ℕ
-lines_of script port.If1 = length script.if1
-lines_of script port.If2 = length script.if2
-lines_of script port.Bus = length script.bus
-
 -- the script says what the value says
 pub record Says (d : Data) (script : ScriptFields) : Type 0 where
   pub profile_is : script.profile ≡ profile_of d
@@ -109,7 +103,7 @@ pub record Says (d : Data) (script : ScriptFields) : Type 0 where
   pub if1_lines : AreLines HostSays (lines_in (get (codes "if1") d)) script.if1
   pub if2_lines : AreLines HostSays (lines_in (get (codes "if2") d)) script.if2
   pub bus_lines : AreLines BusSays (lines_in (get (codes "bus") d)) script.bus
-  pub order_is : script.order ≡ order_by (lines_of script) (get (codes "order") d)
+  pub order_is : script.order ≡ order_by (count_of script) (get (codes "order") d)
 
 -- what a value means: its script where it has no fault, else its fault of least place
 abbrev pub Means : Data → Result ScriptFields ScriptError → Type 0

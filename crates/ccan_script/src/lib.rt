@@ -33,7 +33,7 @@ pub mod list_name;
 mod list_reader;
 pub mod number;
 mod order;
-mod port_line;
+mod order_name;
 pub mod print;
 mod print_answer;
 mod print_bus;

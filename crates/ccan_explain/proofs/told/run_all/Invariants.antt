@@ -5,7 +5,7 @@ use Rattle.ccan_line.specs.Script.{fields_of}
 use Rattle.ccan_line.specs.Order.{times}
 use Rattle.ccan_line.specs.Port.{count_of}
 use Rattle.ccan_explain.specs.Bench.{Serves, next_of}
-use Rattle.ccan_explain.specs.Told.{answers_of}
+use Rattle.ccan_explain.specs.Told.{answers_of, in_order}
 use Rattle.ccan_explain.proofs.SoFar.{SoFar}
 use Rattle.ccan_explain.proofs.told.run_all.Given as goal
 
@@ -15,9 +15,9 @@ invariant-loop-port l =
     let script = fields_of l.script in
     let ram = l.bench.ram in
     let memory = passes_of ram.profile ram.records ram.used ram.port ram.quota in
-    let order = drop l.port-index script.order in
+    let later = drop l.port-index l.order in
     record {
       serves : Serves memory.terms script l.bench;
-      left : (name : PortName) → next_of l.bench name + times name order ≡ count_of script name;
-      so_far : SoFar memory script l.bench order (answers_of l.steps.items);
+      left : (name : PortName) → next_of l.bench name + times name later ≡ count_of script name;
+      so_far : SoFar memory (in_order script l.order) l.bench later (answers_of l.steps.items);
     }

@@ -1,21 +1,45 @@
-use Rattle.std.proofs.Common.{◌≡◌, ◌++◌, List, ℕ, ap, ◌∙◌, string_bytes, rules}
+use Rattle.std.proofs.Common.{◌≡◌, ◌++◌, List, ℕ, Option, None, Some, Vec, Global, IfSome, get_or, slice_get, ap, subst, ◌∙◌, string_bytes}
+use Rattle.std.proofs.lemmas.Option.{get_or_from_slice_get}
+use Rattle.std.specs.Option.{option_map}
+use Rattle.ccan_ram.specs.declared.port.PortName.{PortName}
+use Rattle.ccan_line.specs.Script.{ScriptFields, fields_of}
+use Rattle.ccan_outcomes.specs.declared.ending.Ending.{Ending}
 use Rattle.ccan_outcomes.specs.declared.history_step.HistoryStep.{HistoryStep}
+use Rattle.ccan_lab.specs.Replay.{Replays}
 use Rattle.ccan_lab.specs.Report.{outcome_text}
 use Rattle.ccan_lab.proofs.report.add_outcome.Goals as goal
+
+-- the names in an order that was found
+abbrev names_in : Option (Vec PortName Global) → Option (List PortName)
+names_in found = option_map (λ order. order.items) found
+
+replays : (script : ScriptFields) (ending : Ending) (found : Option (Vec PortName Global))
+    → IfSome found (λ order. Replays script ending order.items) → IfSome (names_in found) (Replays script ending)
+replays script ending None h = h
+replays script ending (Some order) h = h
 
 pub returns : goal.returns
 returns c =
     let all = c.args.all.now in
+    let script = fields_of c.args.script.now in
     let number = c.args.number in
+    let keys = c.args.outcomes.now.listing.endings.keys in
     let steps = c.in_ok-history.history.items in
-    let same : c.as_slice.result.now ≡ steps = search rules in
+    let order = names_in c.in_ok-order.order in
+    let shown = c.index-as_slice-number.result in
+    let found : IfSome order (Replays script shown) = replays script shown c.in_ok-order.order c.in_ok-order.ensures in
+    let it_is : (ending : Ending) → slice_get keys number ≡ Some ending → shown ≡ ending =
+    λ ending is. c.index-as_slice-number.is ∙ ap (λ (es : List Ending). get_or es number shown) c.as_slice.ensures.keys
+    ∙ get_or_from_slice_get keys number ending shown is in
     let added = c.in_ok-add_told_outcome.ensures
-    ∙ ap (λ (told : List HistoryStep). string_bytes c.args.text.now ++ outcome_text all number told) same in (
-      outcome_text all number steps,
+    ∙ ap (λ (told : List HistoryStep). string_bytes c.args.text.now ++ outcome_text all number told order) c.as_slice-3.ensures.value in (
+      outcome_text all number steps order,
       added,
       (
         steps,
-        c.in_ok-history.ensures,
-        ap (λ (rows : List (List (List ℕ))). outcome_text rows number steps) c.requires.rows,
+        order,
+        (λ ending is.
+          (c.in_ok-history.ensures ending is, subst (λ (e : Ending). IfSome order (Replays script e)) (it_is ending is) found)),
+        ap (λ (rows : List (List (List ℕ))). outcome_text rows number steps order) c.requires.rows,
       ),
     )

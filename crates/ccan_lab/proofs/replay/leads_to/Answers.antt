@@ -1,0 +1,40 @@
+-- What the order leads to is what is shown of its run, and it is equal to the outcome where the program finds it so.
+use Rattle.std.proofs.Common.{◌≡◌, true, List, length, refl, sym, ◌∙◌}
+use Rattle.ccan_ram.specs.declared.port.PortName.{PortName}
+use Rattle.ccan_ram.specs.declared.port.PortName.TheVariants.{If1, If2, Bus}
+use Rattle.ccan_line.specs.declared.script.Script.{Script}
+use Rattle.ccan_line.specs.Order.{times}
+use Rattle.ccan_line.specs.Script.{fields_of}
+use Rattle.ccan_explain.specs.Told.{IsOrderOf, answers_of}
+use Rattle.ccan_outcomes.specs.Equal.{same_ending}
+use Rattle.ccan_lab.specs.Replay.{ending_after}
+use Rattle.ccan_lab.proofs.replay.leads_to.Goals as goal
+
+order_of : (script : Script) (order : List PortName) → times If1 order ≡ length script.if1.items
+    → times If2 order ≡ length script.if2.items → times Bus order ≡ length script.bus.items → IsOrderOf (fields_of script) order
+order_of script order if1 if2 bus If1 = if1
+order_of script order if1 if2 bus If2 = if2
+order_of script order if1 if2 bus Bus = bus
+
+pub tell_in-requires : goal.tell_in-requires
+tell_in-requires c =
+    let names = c.if-not-is_order.ensures in
+    record { order = order_of c.args.script.now c.args.order.now (names.if1 refl) (names.if2 refl) (names.bus refl) }
+
+pub returns : goal.returns
+returns c =
+    λ equal.
+      let names = c.if-not-is_order.ensures in
+        let script = fields_of c.args.script.now in
+      let ran = c.in_ok-told.ensures.ran in
+      let shown = c.in_ok-ending_of.ensures in
+      let answers = answers_of c.in_ok-told.told.steps.items in
+      let after : c.in_ok-ending_of.field-0 ≡ ending_after script ran.history answers =
+          λ i. record { if1 = shown.if1 i; if2 = shown.if2 i; bus = shown.bus i; records = shown.records ran.history ran.seen i } in
+      record {
+        is_order = order_of c.args.script.now c.args.order.now (names.if1 refl) (names.if2 refl) (names.bus refl);
+        history = ran.history;
+        answers = answers;
+        runs = ran.runs;
+        ends = same_ending _ _ (sym c.eq.ensures ∙ equal) ∙ after;
+      }

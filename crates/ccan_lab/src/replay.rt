@@ -1,0 +1,168 @@
+//! An order of whole lines that leads to an outcome.
+ghost use Rattle.std.specs.Prelude.{◌≡◌, IfOk, IfSome, List, length, true};
+ghost use Rattle.ccan_ram.specs.History.{leaves};
+ghost use Rattle.ccan_ram.specs.declared.event.Event.{Event};
+ghost use Rattle.ccan_line.specs.Order.{times};
+ghost use Rattle.ccan_line.specs.Script.{fields_of};
+ghost use Rattle.ccan_explain.specs.Told.{answers_of};
+ghost use Rattle.ccan_lab.specs.Replay.{Replays, answers_at};
+
+use ccan_explain::{Step, Told, tell_in};
+use ccan_object::{ObjectNo, Profile, Record};
+use ccan_outcomes::row::Row;
+use ccan_outcomes::{Ending, HistoryStep};
+use ccan_ram::{Access, Array, PortName};
+use ccan_script::{LineAnswer, Script};
+use std::alloc::{AllocError, Global};
+
+/// How often an order names a port.
+fn times(order: &[PortName], port: PortName) -> usize
+    ensures { result ≡ times port order.now }
+{
+    order
+        .iter()
+        .filter(|name| port.index() == name.index())
+        .count()
+}
+
+/// Names a port until it is named so often.
+fn name_up_to(order: &mut Vec<PortName>, port: PortName, lines: usize) -> Result<(), AllocError> {
+    let named = times(order.as_slice(), port);
+    for _line in named..lines {
+        order.push(port)?;
+    }
+    Ok(())
+}
+
+/// Whether none of these steps is of the same line.
+fn is_last(step: &HistoryStep, later: &[HistoryStep]) -> bool {
+    !later
+        .iter()
+        .any(|other| other.port == step.port && other.line == step.line)
+}
+
+/// The order in which the lines of a history take their last steps. A line without a step of its own, such as `status`, comes
+/// right before the next one of its port.
+fn order_of(
+    alloc: Global,
+    script: &Script,
+    steps: &[HistoryStep],
+) -> Result<Vec<PortName>, AllocError> {
+    let mut order = Vec::new(alloc);
+    for (place, step) in steps.iter().enumerate() {
+        if is_last(step, &steps[place + 1..]) {
+            name_up_to(&mut order, step.port, step.line)?;
+        }
+    }
+    name_up_to(&mut order, PortName::If1, script.if1.len())?;
+    name_up_to(&mut order, PortName::If2, script.if2.len())?;
+    name_up_to(&mut order, PortName::Bus, script.bus.len())?;
+    Ok(order)
+}
+
+/// Whether the order names each port as often as it has lines.
+fn is_order(script: &Script, order: &[PortName]) -> bool
+    ensures if1 { result ≡ true
+        → times PortName.If1 order.now ≡ length script.now.if1.items }
+    ensures if2 { result ≡ true
+        → times PortName.If2 order.now ≡ length script.now.if2.items }
+    ensures bus { result ≡ true
+        → times PortName.Bus order.now ≡ length script.now.bus.items }
+{
+    times(order, PortName::If1) == script.if1.len()
+        && times(order, PortName::If2) == script.if2.len()
+        && times(order, PortName::Bus) == script.bus.len()
+}
+
+/// The answers to the lines of one port.
+#[tactic(auto, unfolding(crate::specs::Replay::answers_at))]
+fn answers_at(
+    alloc: Global,
+    steps: &[Step],
+    port: PortName,
+) -> Result<Row<LineAnswer>, AllocError>
+    ensures { IfOk result (λ answers. answers ≡ answers_at port (answers_of steps.now)) }
+{
+    let mut answers = Vec::new(alloc);
+    for step in steps {
+        if port.index() == step.port.index() {
+            answers.push(step.answer)?;
+        }
+    }
+    Row::from_vec(alloc, answers)
+}
+
+/// The records in a memory of this profile, that of object 1 first.
+fn records_in(alloc: Global, ram: &Array, profile: Profile) -> Result<Row<Record>, AllocError>
+    requires { (⟦<Array as Access>⟧.passes ram.now).terms.profile ≡ profile }
+    ensures { IfOk result (λ records. (history : List Event)
+        → (⟦<Array as Access>⟧.passes ram.now).has_seen history
+        → records ≡ leaves profile history) }
+{
+    let mut records = Vec::new(alloc);
+    for place in 0..profile.objects() {
+        let object = ObjectNo::new(place + 1).unwrap();
+        records.push(ram.record_of(object))?;
+    }
+    // The proof reads the contract of the row where it is there.
+    let row = Row::from_vec(alloc, records)?;
+    Ok(row)
+}
+
+/// What is shown of a run over a memory of this profile.
+fn ending_of(alloc: Global, told: &Told, profile: Profile) -> Result<Ending, AllocError>
+    requires { (⟦<Array as Access>⟧.passes told.now.ram).terms.profile ≡ profile }
+    ensures if1 { IfOk result (λ ending.
+        ending.if1 ≡ answers_at PortName.If1 (answers_of told.now.steps.items)) }
+    ensures if2 { IfOk result (λ ending.
+        ending.if2 ≡ answers_at PortName.If2 (answers_of told.now.steps.items)) }
+    ensures bus { IfOk result (λ ending.
+        ending.bus ≡ answers_at PortName.Bus (answers_of told.now.steps.items)) }
+    ensures records { IfOk result (λ ending. (history : List Event)
+        → (⟦<Array as Access>⟧.passes told.now.ram).has_seen history
+        → ending.records ≡ leaves profile history) }
+{
+    let steps = told.steps.as_slice();
+    Ok(Ending {
+        if1: answers_at(alloc, steps, PortName::If1)?,
+        if2: answers_at(alloc, steps, PortName::If2)?,
+        bus: answers_at(alloc, steps, PortName::Bus)?,
+        records: records_in(alloc, &told.ram, profile)?,
+    })
+}
+
+/// Whether the lines, run whole one after another in this order, have the outcome.
+fn leads_to(
+    alloc: Global,
+    script: &Script,
+    order: &[PortName],
+    ending: &Ending,
+) -> Result<bool, AllocError>
+    ensures { IfOk result (λ leads. leads ≡ true
+        → Replays (fields_of script.now) ending.now order.now) }
+{
+    if !is_order(script, order) {
+        return Ok(false);
+    }
+    let told = tell_in(alloc, script, order)?;
+    Ok(*ending == ending_of(alloc, &told, script.profile)?)
+}
+
+/// An order of whole lines with which a run of the script has the outcome of this history, where the last steps of the
+/// history's lines are in such an order.
+pub fn order_to(
+    alloc: Global,
+    script: &Script,
+    ending: &Ending,
+    steps: &[HistoryStep],
+) -> Result<Option<Vec<PortName>>, AllocError>
+    ensures { IfOk result (λ found. IfSome found (λ order.
+        Replays (fields_of script.now) ending.now order.items)) }
+{
+    let order = order_of(alloc, script, steps)?;
+    if leads_to(alloc, script, order.as_slice(), ending)? {
+        Ok(Some(order))
+    } else {
+        Ok(None)
+    }
+}

@@ -1,0 +1,27 @@
+//! Tests of what lies below scripts, by worked examples whose expected values come from the rules and not from the program:
+//! objects, frames, fault confinement and the controller's registers; the message handler and the bus, over a plain memory
+//! and over one whose tries are lost on purpose; and the memories that threads share. There is nothing here but tests.
+#![tactic(auto)]
+
+#[cfg(test)]
+mod bus;
+#[cfg(test)]
+mod confinement;
+#[cfg(test)]
+mod contended;
+#[cfg(test)]
+mod controller;
+#[cfg(test)]
+mod expect;
+#[cfg(test)]
+mod found;
+#[cfg(test)]
+mod frames;
+#[cfg(test)]
+mod handler;
+#[cfg(test)]
+mod memory;
+#[cfg(test)]
+mod objects;
+#[cfg(test)]
+mod shared;

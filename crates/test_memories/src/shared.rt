@@ -1,0 +1,12 @@
+//! The memories that threads share, all three of them: worked examples with a forced order of the ports' steps, and ports in
+//! threads of their own. `Contended` is an access whose every try of a change is disturbed by another port.
+
+mod calls;
+mod chips;
+mod contended;
+mod drafts;
+mod pictures;
+mod rivals;
+mod tests;
+
+use contended::Contended;

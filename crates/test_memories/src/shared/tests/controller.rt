@@ -1,0 +1,52 @@
+//! The controller's word of a chip: what one port writes the others see, and nothing is lost where three threads change it at
+//! once.
+use super::*;
+use crate::shared::chips::{changed, looked, three_at_the_controller};
+use crate::expect::{holds, same};
+use ccan_confine::{BusEvent, ControllerChange, StatusEvent};
+
+#[test]
+fn reset_and_an_event_of_the_bus(rt: HostRuntime) {
+    let Ok((ram, mut if1, if2, mut bus)) = EndlessRam::open_reset(rt.alloc(), Profile::One, 64)
+    else {
+        panic!(&rt; "no memory")
+    };
+    same(&rt, looked(&ram, &mut if1).control.init, true);
+    let fault = ControllerChange::Frame(BusEvent::SendFault, StatusEvent::Fault(4));
+    holds(&rt, changed(&ram, &mut bus, &fault, tries(1)).is_some());
+    let last = ram.close_chip(if1, if2, bus).controller;
+    same(&rt, last.counters.tec(), 8);
+    same(&rt, last.status_word(), 0x0004);
+    same(&rt, last.control.init, true);
+}
+
+#[test]
+fn no_event_of_the_controller_is_lost(rt: HostRuntime) {
+    let Ok((ram, if1, if2, bus)) = EndlessRam::open_ram(rt.alloc(), Profile::One, 64) else {
+        panic!(&rt; "no memory")
+    };
+    let ([writer, reader, sender], last) = three_at_the_controller(
+        &rt,
+        ram,
+        if1,
+        if2,
+        bus,
+        100_000,
+        tries(1000),
+    );
+    for counted in [writer, reader, sender] {
+        assert!(&rt;
+            counted.made == 100_000 && counted.own_in_turn,
+            "{counted:?}"
+        );
+    }
+    // The last writes are those of the turn 99,999, and so many receive faults as good frames were received.
+    same(
+        &rt,
+        (last.controller.control.init, last.controller.control.sie),
+        (false, true),
+    );
+    same(&rt, last.controller.counters.rec(), 0);
+    let left = u32::from(last.controller.transfer_pending);
+    same(&rt, sender.pending, reader.pending.saturating_add(left));
+}

@@ -1,0 +1,115 @@
+//! Ports in threads of their own.
+use super::*;
+use crate::expect::same;
+use crate::shared::rivals::{Plan, three_at_work};
+use ccan_ram::Final;
+use std::thread::Threads;
+
+/// What three ports see who work on the objects of these requests, and what they leave.
+fn worked<R: SharedRam + Sync, T: Abort + Threads + Sync>(
+    rt: &T,
+    alloc: std::alloc::Global,
+    requests: [u16; 3],
+    quota: u64,
+    turns: u16,
+    most: Tries,
+) -> ([Seen; 3], Final) {
+    let Ok((ram, if1, if2, bus)) = R::open_ram(alloc, Profile::One, quota) else {
+        panic!(rt; "no memory")
+    };
+    let [a, b, c] = requests;
+    let plan = Plan {
+        objects: [
+            ObjectNo::from_request(ram.profile(), a),
+            ObjectNo::from_request(ram.profile(), b),
+            ObjectNo::from_request(ram.profile(), c),
+        ],
+        tasks: [Task::Masks, Task::Bytes, Task::Finishes],
+        turns,
+        tries: most,
+    };
+    three_at_work(rt, ram, if1, if2, bus, plan)
+}
+
+#[test]
+fn other_objects_never_cost_a_try(rt: HostRuntime) {
+    let (seen, last) = worked::<WordRam, HostRuntime>(
+        &rt,
+        rt.alloc(),
+        [1, 2, 3],
+        1000,
+        1000,
+        tries(1),
+    );
+    for port in seen {
+        let alone = Seen {
+            made: 1000,
+            own_in_turn: true,
+            others_rise: true,
+            busy: 0,
+        };
+        same(&rt, port, alone);
+    }
+    same(&rt, Task::Masks.count_in(&last.records[0]), 1000);
+    same(&rt, Task::Bytes.count_in(&last.records[1]), 1000);
+}
+
+#[test]
+fn three_threads_count_in_one_object(rt: HostRuntime) {
+    let (seen, last) = worked::<WordRam, HostRuntime>(
+        &rt,
+        rt.alloc(),
+        [1, 1, 1],
+        1000,
+        1000,
+        tries(1000),
+    );
+    for port in seen {
+        assert!(rt;
+            port.made == 1000 && port.own_in_turn && port.others_rise,
+            "{port:?}"
+        );
+    }
+    same(&rt, Task::Masks.count_in(&last.records[0]), 1000);
+    same(&rt, Task::Bytes.count_in(&last.records[0]), 1000);
+}
+
+#[test]
+fn three_threads_count_in_one_object_without_an_end(rt: HostRuntime) {
+    let (seen, last) = worked::<EndlessRam, HostRuntime>(
+        &rt,
+        rt.alloc(),
+        [1, 1, 1],
+        65_535,
+        65_535,
+        tries(1000),
+    );
+    for port in seen {
+        assert!(rt;
+            port.made == 65_535 && port.own_in_turn && port.others_rise,
+            "{port:?}"
+        );
+    }
+    same(&rt, Task::Masks.count_in(&last.records[0]), 65_535);
+    same(&rt, Task::Bytes.count_in(&last.records[0]), 65_535);
+}
+
+#[test]
+fn three_threads_count_behind_one_word(rt: HostRuntime) {
+    let (seen, last) = worked::<RootRam, HostRuntime>(
+        &rt,
+        rt.alloc(),
+        [1, 1, 2],
+        64,
+        64,
+        tries(200),
+    );
+    for port in seen {
+        assert!(rt;
+            port.made == 64 && port.own_in_turn && port.others_rise && port.busy == 0,
+            "{port:?}"
+        );
+    }
+    same(&rt, Task::Masks.count_in(&last.records[0]), 64);
+    same(&rt, Task::Bytes.count_in(&last.records[0]), 64);
+}

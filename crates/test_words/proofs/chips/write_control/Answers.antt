@@ -1,4 +1,0 @@
-use Rattle.test_words.proofs.chips.write_control.Goals as goal
-
-pub changed-requires-clause-may : goal.changed-requires-clause-may
-changed-requires-clause-may c = c.control-change.ensures c.loop-turn.port.pass.port

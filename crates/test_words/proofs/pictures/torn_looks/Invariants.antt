@@ -1,6 +1,0 @@
-use Rattle.std.proofs.Common.{◌≡◌}
-use Rattle.test_words.proofs.pictures.torn_looks.Given as goal
-
--- the port stays the memory's
-abbrev pub invariant-loop-turn : goal.invariant-loop-turn
-invariant-loop-turn g l = let ram = g.R.SharedRam in (ram.pass l.port).memory ≡ (ram.pass l.fn.port).memory
