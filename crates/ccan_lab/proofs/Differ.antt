@@ -1,5 +1,5 @@
 -- Two texts of one length that begin with the same bytes, all of them, are the same.
-use Rattle.std.proofs.Common.{◌≡◌, ◌≤◌, ℕ, List, length, take, sym, ◌∙◌, le_refl, subst, arith}
+use Rattle.std.proofs.Common.{◌≡◌, ◌≤◌, ℕ, List, length, take, sym, ◌∙◌}
 use Rattle.std.proofs.lemmas.List.{take_all}
 
 pub all_same : (xs ys : List ℕ) (n : ℕ) → length xs ≤ n → length ys ≤ n → take n xs ≡ take n ys → ys ≡ xs

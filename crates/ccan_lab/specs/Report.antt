@@ -86,7 +86,7 @@ abbrev pub IsOutcomeText : ScriptFields → List Ending → ℕ → List ℕ →
 IsOutcomeText script endings number text =
     (steps : List HistoryStep) × (order : Option (List PortName))
     × ((ending : Ending) → slice_get endings number ≡ Some ending
-        → IsHistoryOf script ending steps × IfSome order (Replays script ending))
+    → IsHistoryOf script ending steps × IfSome order (Replays script ending))
     × (text ≡ outcome_text (map rows_of endings) number steps order)
 
 -- the text is that of the outcomes before this number, in turn

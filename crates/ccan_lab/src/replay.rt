@@ -76,11 +76,7 @@ fn is_order(script: &Script, order: &[PortName]) -> bool
 
 /// The answers to the lines of one port.
 #[tactic(auto, unfolding(crate::specs::Replay::answers_at))]
-fn answers_at(
-    alloc: Global,
-    steps: &[Step],
-    port: PortName,
-) -> Result<Row<LineAnswer>, AllocError>
+fn answers_at(alloc: Global, steps: &[Step], port: PortName) -> Result<Row<LineAnswer>, AllocError>
     ensures { IfOk result (λ answers. answers ≡ answers_at port (answers_of steps.now)) }
 {
     let mut answers = Vec::new(alloc);

@@ -1,5 +1,5 @@
 -- What the order leads to is what is shown of its run, and it is equal to the outcome where the program finds it so.
-use Rattle.std.proofs.Common.{◌≡◌, true, List, length, refl, sym, ◌∙◌}
+use Rattle.std.proofs.Common.{◌≡◌, List, length, refl, sym, ◌∙◌}
 use Rattle.ccan_ram.specs.declared.port.PortName.{PortName}
 use Rattle.ccan_ram.specs.declared.port.PortName.TheVariants.{If1, If2, Bus}
 use Rattle.ccan_line.specs.declared.script.Script.{Script}
@@ -24,17 +24,17 @@ tell_in-requires c =
 pub returns : goal.returns
 returns c =
     λ equal.
-      let names = c.if-not-is_order.ensures in
-        let script = fields_of c.args.script.now in
-      let ran = c.in_ok-told.ensures.ran in
-      let shown = c.in_ok-ending_of.ensures in
-      let answers = answers_of c.in_ok-told.told.steps.items in
-      let after : c.in_ok-ending_of.field-0 ≡ ending_after script ran.history answers =
-          λ i. record { if1 = shown.if1 i; if2 = shown.if2 i; bus = shown.bus i; records = shown.records ran.history ran.seen i } in
-      record {
-        is_order = order_of c.args.script.now c.args.order.now (names.if1 refl) (names.if2 refl) (names.bus refl);
-        history = ran.history;
-        answers = answers;
-        runs = ran.runs;
-        ends = same_ending _ _ (sym c.eq.ensures ∙ equal) ∙ after;
-      }
+    let names = c.if-not-is_order.ensures in
+    let script = fields_of c.args.script.now in
+    let ran = c.in_ok-told.ensures.ran in
+    let shown = c.in_ok-ending_of.ensures in
+    let answers = answers_of c.in_ok-told.told.steps.items in
+    let after : c.in_ok-ending_of.field-0 ≡ ending_after script ran.history answers =
+    λ i. record { if1 = shown.if1 i; if2 = shown.if2 i; bus = shown.bus i; records = shown.records ran.history ran.seen i } in
+    record {
+      is_order = order_of c.args.script.now c.args.order.now (names.if1 refl) (names.if2 refl) (names.bus refl);
+      history = ran.history;
+      answers = answers;
+      runs = ran.runs;
+      ends = same_ending _ _ (sym c.eq.ensures ∙ equal) ∙ after;
+    }

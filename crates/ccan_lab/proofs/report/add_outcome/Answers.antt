@@ -39,7 +39,7 @@ returns c =
         steps,
         order,
         (λ ending is.
-          (c.in_ok-history.ensures ending is, subst (λ (e : Ending). IfSome order (Replays script e)) (it_is ending is) found)),
+            (c.in_ok-history.ensures ending is, subst (λ (e : Ending). IfSome order (Replays script e)) (it_is ending is) found)),
         ap (λ (rows : List (List (List ℕ))). outcome_text rows number steps order) c.requires.rows,
       ),
     )

@@ -1,8 +1,8 @@
 //! The controller's word of a chip: what one port writes the others see, and nothing is lost where three threads change it at
 //! once.
 use super::*;
-use crate::shared::chips::{changed, looked, three_at_the_controller};
 use crate::expect::{holds, same};
+use crate::shared::chips::{changed, looked, three_at_the_controller};
 use ccan_confine::{BusEvent, ControllerChange, StatusEvent};
 
 #[test]
