@@ -12,18 +12,8 @@ use ccan_object::{ObjectNo, Profile, Record};
 use ccan_outcomes::row::Row;
 use ccan_outcomes::{Ending, HistoryStep};
 use ccan_ram::{Access, Array, PortName};
-use ccan_script::{LineAnswer, Script};
+use ccan_script::{LineAnswer, Script, times};
 use std::alloc::{AllocError, Global};
-
-/// How often an order names a port.
-fn times(order: &[PortName], port: PortName) -> usize
-    ensures { result ≡ times port order.now }
-{
-    order
-        .iter()
-        .filter(|name| port.index() == name.index())
-        .count()
-}
 
 /// Names a port until it is named so often.
 fn name_up_to(order: &mut Vec<PortName>, port: PortName, lines: usize) -> Result<(), AllocError> {

@@ -32,7 +32,7 @@ pub mod line_fault;
 pub mod list_name;
 mod list_reader;
 pub mod number;
-mod order;
+pub mod order;
 mod order_name;
 pub mod print;
 mod print_answer;
@@ -52,6 +52,7 @@ pub use ccan_line::{
 pub use line_context::LineContext;
 pub use line_fault::LineFault;
 pub use list_name::ListName;
+pub use order::times;
 pub use print::{print_final, print_line};
 pub use printed_line::PrintedLine;
 pub use reader::read_script;

@@ -44,7 +44,7 @@ fn default_order(alloc: Global, counts: LineCounts) -> Result<Vec<PortName>, Scr
 }
 
 /// How often an order names a port.
-fn times(order: &[PortName], port: PortName) -> usize
+pub fn times(order: &[PortName], port: PortName) -> usize
     ensures { result ≡ times port order.now }
 {
     order
