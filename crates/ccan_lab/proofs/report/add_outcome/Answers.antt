@@ -32,7 +32,8 @@ returns c =
     λ ending is. c.index-as_slice-number.is ∙ ap (λ (es : List Ending). get_or es number shown) c.as_slice.ensures.keys
     ∙ get_or_from_slice_get keys number ending shown is in
     let added = c.in_ok-add_told_outcome.ensures
-    ∙ ap (λ (told : List HistoryStep). string_bytes c.args.text.now ++ outcome_text all number told order) c.as_slice-3.ensures.value in (
+    ∙ ap (λ (told : List HistoryStep). string_bytes c.args.text.now ++ outcome_text all number told order)
+        c.as_slice-3.ensures.value in (
       outcome_text all number steps order,
       added,
       (

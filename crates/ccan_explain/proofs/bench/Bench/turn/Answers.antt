@@ -1,3 +1,5 @@
+-- A turn runs the next line of its port over the one memory; one case for each port, which differ in the registers or the bus
+-- that the line works on.
 use Rattle.std.proofs.Common.{◌∙◌, ap}
 use Rattle.ccan_ram.specs.Terms.{Terms}
 use Rattle.ccan_line.specs.HostLine.{HostFits}
