@@ -26,7 +26,8 @@ grouped_adds n k = by (is_recovering k) refl where
   enough : Bool → Counts
   enough b = cond b (new_counts k.host) more
 
-  is_at : (b : Bool) (r : Counts) → is_recovering k ≡ b → cond b (enough (nat_le 128 (k.groups + n))) k ≡ r → counts_grouped n k ≡ r
+  is_at : (b : Bool) (r : Counts) → is_recovering k ≡ b → cond b (enough (nat_le 128 (k.groups + n))) k ≡ r
+      → counts_grouped n k ≡ r
   is_at b r e f = ap (λ (z : Bool). cond z (enough (nat_le 128 (k.groups + n))) k) e ∙ f
 
   by_groups : is_recovering k ≡ true → (b : Bool) → nat_le 128 (k.groups + n) ≡ b → AddsEvent (Groups n) k (counts_grouped n k)
@@ -51,7 +52,8 @@ cleared_adds false k events e = e
 
 change_adds : (z : ControllerChange) (c : Controller) (events : List NodeEvent) → AreAfter true events c.counters
     → AreAfter true (add_event z c events) (controller_after z c).counters
-change_adds (change.Frame event noted) c events e = listed_after event c.counters (counts_after event c.counters) refl true events e
+change_adds (change.Frame event noted) c events e =
+    listed_after event c.counters (counts_after event c.counters) refl true events e
 change_adds (change.Recessive n) c events e = grouped_adds n c.counters true events e
 change_adds change.ReadStatus c events e = e
 change_adds change.ReadAndClearStatus c events e = e

@@ -30,7 +30,7 @@ pub each_goes_on : (old new start : List ℕ) (text : ℕ → List ℕ) (count :
     → new ≡ old ++ text count → new ≡ start ++ each (count + 1) text
 each_goes_on old new start text count so_far more =
     part_more old new start (each count text) (text count) so_far more
-        ∙ ap (λ (t : List ℕ). start ++ t) (sym (each_more text count))
+    ∙ ap (λ (t : List ℕ). start ++ t) (sym (each_more text count))
 
 -- ---- a list in order
 

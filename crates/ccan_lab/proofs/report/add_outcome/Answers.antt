@@ -33,7 +33,7 @@ returns c =
     ∙ get_or_from_slice_get keys number ending shown is in
     let added = c.in_ok-add_told_outcome.ensures
     ∙ ap (λ (told : List HistoryStep). string_bytes c.args.text.now ++ outcome_text all number told order)
-        c.as_slice-3.ensures.value in (
+    c.as_slice-3.ensures.value in (
       outcome_text all number steps order,
       added,
       (
