@@ -32,7 +32,7 @@ fn is_last(step: &HistoryStep, later: &[HistoryStep]) -> bool {
 }
 
 /// The order in which the lines of a history take their last steps. A line without a step of its own, such as `status`, comes
-/// right before the next one of its port.
+/// right before the next one of its port, or behind all where none is left.
 fn order_of(
     alloc: Global,
     script: &Script,
