@@ -1,5 +1,5 @@
 use Rattle.std.proofs.Common.{[], refl}
-use Rattle.test_runs.proofs.tills.finds_a_digit_for_all_sums.Goals as goal
+use Rattle.test_outcomes.proofs.tills.finds_more_digits_than_that.Goals as goal
 
 -- from nothing it shows 0
 pub reachable-requires : goal.reachable-requires

@@ -2,7 +2,7 @@ use Rattle.std.proofs.Common.{ℕ, ◌≡◌, ◌%◌, ◌+◌, ◌⊎◌, inl, 
 use Rattle.std.proofs.lemmas.List.Elements.{Contains-push_cases, Contains-append_cases}
 use Rattle.std.proofs.lemmas.List.Sums.{sum_by-cons}
 use Rattle.std.proofs.Math.Nat.{mod-add-mod}
-use Rattle.test_runs.proofs.till.TillMachine.next.Goals as goal
+use Rattle.test_outcomes.proofs.till.TillMachine.next.Goals as goal
 
 -- what is shown after one coin more
 fed : (from to coin : ℕ) (coins : List ℕ) → from ≡ sum coins % 10 → (from % 10 + coin) % 10 ≡ to
