@@ -4,11 +4,11 @@ _ccan_lab() {
     COMPREPLY=()
     if [ "$COMP_CWORD" = 1 ]; then
         words="outcomes check explain draw from-candump --help --version"
-    elif [[ "$before" == --can || "$before" == --never || "$before" == --most || "$before" == --outcome ]]; then
+    elif [[ "$before" == --can || "$before" == --never || "$before" == --observe || "$before" == --most || "$before" == --outcome ]]; then
         return
     elif [[ "$word" == -* ]]; then
         case ${COMP_WORDS[1]} in
-            outcomes) words="--all --can --never --most --help" ;;
+            outcomes) words="--all --observe --can --never --most --help" ;;
             check) words="--strict --expect --help" ;;
             explain) words="--json --candump --help" ;;
             draw) words="--outcome --most --help" ;;

@@ -3,8 +3,9 @@ use Rattle.std.specs.Prelude.{ℕ, ◌≡◌, ◌++◌, List, Bool, true, false,
 use Rattle.ccan_line.specs.Script.{ScriptFields}
 use Rattle.ccan_outcomes.specs.declared.ending.Ending.{Ending}
 use Rattle.ccan_lab.specs.declared.asked.Asked.{Asked}
-use Rattle.ccan_lab.specs.declared.asked.Asked.TheVariants.{Summary, All, Can, Never}
-use Rattle.ccan_lab.specs.Report.{IsListing, IsOutcomeText, heading_text}
+use Rattle.ccan_lab.specs.declared.asked.Asked.TheVariants.{Summary, All, Can, Never, Observed}
+use Rattle.ccan_lab.specs.Observed.{IsObservedListing, names_in}
+use Rattle.ccan_lab.specs.Report.{IsListing, IsOutcomeText, different_lines, heading_text}
 use Rattle.ccan_lab.specs.Rows.{has_line, rows_of}
 use Rattle.ccan_lab.specs.Summary.{summary_text}
 
@@ -21,7 +22,7 @@ none_text outcomes begin =
 pub record IsFoundText (script : ScriptFields) (endings : List Ending) (states number : ℕ) (text : List ℕ)
     : Type 0 where
   pub outcome : List ℕ
-  pub is_one : IsOutcomeText script endings number outcome
+  pub is_one : IsOutcomeText script endings (different_lines (map rows_of endings) number) number outcome
   pub text_is : text ≡ heading_text (length endings) states ++ outcome
 
 -- the answer to a search that came to this outcome, or to none
@@ -37,6 +38,7 @@ Answers script endings states (Can begin) text =
     IsSearchText script endings states begin.now (first_with begin.now endings) text
 Answers script endings states (Never begin) text =
     IsSearchText script endings states begin.now (first_with begin.now endings) text
+Answers script endings states (Observed names) text = IsObservedListing (names_in names.now) script endings states text
 
 -- what is asked for holds: a list is complete, an outcome has the line, or none has it
 abbrev pub is_so : Option ℕ → Bool
@@ -52,3 +54,4 @@ holds_of endings Summary = true
 holds_of endings All = true
 holds_of endings (Can begin) = is_so (first_with begin.now endings)
 holds_of endings (Never begin) = is_none_so (first_with begin.now endings)
+holds_of endings (Observed names) = true

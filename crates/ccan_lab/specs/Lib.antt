@@ -2,6 +2,8 @@ pub mod CheckCommand
 pub mod Expect
 pub mod History
 pub mod LabError
+pub mod Observed
+pub mod Place
 pub mod Replay
 pub mod Report
 pub mod Rows

@@ -1,7 +1,7 @@
 -- What the words of the command line ask, by what `clap` found of them. Source: this project's own.
 use Rattle.std.specs.Prelude.{ℕ, ◌≡◌, List, Option, Some, None}
 use Rattle.ccan_lab.specs.declared.asked.Asked.{Asked}
-use Rattle.ccan_lab.specs.declared.asked.Asked.TheVariants.{Summary, All, Can, Never}
+use Rattle.ccan_lab.specs.declared.asked.Asked.TheVariants.{Summary, All, Can, Never, Observed}
 
 -- it is asked whether an outcome can have this line
 abbrev pub IsCan : List ℕ → Asked → Type 0
@@ -9,6 +9,7 @@ IsCan line (Can begin) = begin.now ≡ line
 IsCan line Summary = ⊥
 IsCan line All = ⊥
 IsCan line (Never begin) = ⊥
+IsCan line (Observed names) = ⊥
 
 -- it is asked whether no outcome has this line
 abbrev pub IsNever : List ℕ → Asked → Type 0
@@ -16,9 +17,19 @@ IsNever line (Never begin) = begin.now ≡ line
 IsNever line Summary = ⊥
 IsNever line All = ⊥
 IsNever line (Can begin) = ⊥
+IsNever line (Observed names) = ⊥
 
--- what is asked without --all, by the line of --can and that of --never
-abbrev pub AsksBy : Option (List ℕ) → Option (List ℕ) → Asked → Type 0
-AsksBy (Some line) never asked = IsCan line asked
-AsksBy None (Some line) asked = IsNever line asked
-AsksBy None None asked = asked ≡ Summary
+-- it is asked what outcomes show in these places
+abbrev pub IsObserving : List ℕ → Asked → Type 0
+IsObserving list (Observed names) = names.now ≡ list
+IsObserving list Summary = ⊥
+IsObserving list All = ⊥
+IsObserving list (Can begin) = ⊥
+IsObserving list (Never begin) = ⊥
+
+-- what is asked without --all, by the line of --can, that of --never, and the names of --observe
+abbrev pub AsksBy : Option (List ℕ) → Option (List ℕ) → Option (List ℕ) → Asked → Type 0
+AsksBy (Some line) never observe asked = IsCan line asked
+AsksBy None (Some line) observe asked = IsNever line asked
+AsksBy None None (Some names) asked = IsObserving names asked
+AsksBy None None None asked = asked ≡ Summary

@@ -52,6 +52,10 @@ unfoldable pub different_line : List (List (List ℕ)) → ℕ → ℕ → List 
 different_line all number place =
     if is_in_all all place (line_at (rows_at all number) place) then [] else line_at (rows_at all number) place
 
+-- its lines that are not the same in all
+abbrev pub different_lines : List (List (List ℕ)) → ℕ → List ℕ
+different_lines all number = each (place_count all) (different_line all number)
+
 -- a line for each step, counted from 1
 unfoldable pub history_text : List HistoryStep → List ℕ
 history_text steps = flat_map (λ step. step_text step.0 step.1) (enumerate_from 1 steps)
@@ -75,26 +79,28 @@ abbrev pub order_text : Option (List PortName) → List ℕ
 order_text None = []
 order_text (Some order) = codes "  \"order\": [" ++ (names_text order ++ codes "]\n")
 
--- the outcome of a number from 0: its head, its lines that are not the same in all, the history, and an order, if there is one
-abbrev pub outcome_text : List (List (List ℕ)) → ℕ → List HistoryStep → Option (List PortName) → List ℕ
-outcome_text all number steps order =
-    codes "outcome " ++ (decimal (number + 1) ++ (codes "\n" ++ (each (place_count all) (different_line all number)
-    ++ (history_text steps ++ order_text order))))
+-- the outcome of a number from 0, of which these lines are shown: its head, the lines, the history, and an order, if there is
+-- one
+abbrev pub outcome_text : List ℕ → ℕ → List HistoryStep → Option (List PortName) → List ℕ
+outcome_text lines number steps order =
+    codes "outcome " ++ (decimal (number + 1) ++ (codes "\n" ++ (lines ++ (history_text steps ++ order_text order))))
 
--- the text is that of the outcome of this number, with a history of it, and with no order, or one in which whole lines give it
-abbrev pub IsOutcomeText : ScriptFields → List Ending → ℕ → List ℕ → Type 0
-IsOutcomeText script endings number text =
+-- the text is that of the outcome of this number, with these lines, with a history of it, and with no order, or one in which
+-- whole lines give it
+abbrev pub IsOutcomeText : ScriptFields → List Ending → List ℕ → ℕ → List ℕ → Type 0
+IsOutcomeText script endings lines number text =
     (steps : List HistoryStep) × (order : Option (List PortName))
     × ((ending : Ending) → slice_get endings number ≡ Some ending
     → IsHistoryOf script ending steps × IfSome order (Replays script ending))
-    × (text ≡ outcome_text (map rows_of endings) number steps order)
+    × (text ≡ outcome_text lines number steps order)
 
 -- the text is that of the outcomes before this number, in turn
 abbrev pub AreOutcomeTexts : ScriptFields → List Ending → ℕ → List ℕ → Type 0
 AreOutcomeTexts script endings zero text = text ≡ []
 AreOutcomeTexts script endings (suc number) text =
     (before : List ℕ) × (last : List ℕ) × (text ≡ before ++ last)
-    × AreOutcomeTexts script endings number before × IsOutcomeText script endings number last
+    × AreOutcomeTexts script endings number before
+    × IsOutcomeText script endings (different_lines (map rows_of endings) number) number last
 
 -- ---- the whole list
 

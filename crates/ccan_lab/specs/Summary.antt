@@ -1,32 +1,9 @@
 -- The summary of all outcomes: what each line may be. Source: this project's own.
-use Rattle.std.specs.Prelude.{ℕ, ◌+◌, ◌-◌, ◌++◌, ◌∷◌, nat_lt, List, [], codes, length, map, slice_get, Option, Some, None, if◌then◌else◌}
-use Rattle.ccan_ram.specs.declared.port.PortName.{PortName}
-use Rattle.ccan_ram.specs.declared.port.PortName.TheVariants.{If1, If2, Bus}
+use Rattle.std.specs.Prelude.{ℕ, ◌++◌, ◌∷◌, nat_lt, List, [], codes, length, map, slice_get, Option, Some, None, if◌then◌else◌}
 use Rattle.ccan_outcomes.specs.declared.ending.Ending.{Ending}
-use Rattle.ccan_lab.specs.History.{line_name, object_text}
+use Rattle.ccan_lab.specs.Place.{place_name}
 use Rattle.ccan_lab.specs.Report.{each, heading_text, same_text}
 use Rattle.ccan_lab.specs.Rows.{is_before, is_in_all, line_at, place_count, rows_at, rows_of}
-
--- ---- the head of a place
-
--- a line of a port, as in a history
-abbrev pub line_head : PortName → ℕ → List ℕ
-line_head port line = line_name port line ++ codes "\n"
-
--- `final 01`: an object
-abbrev pub final_head : ℕ → List ℕ
-final_head object = codes "final" ++ (object_text (Some object) ++ codes "\n")
-
--- the head of a place behind the answers of the hosts
-abbrev pub late_head : ℕ → ℕ → List ℕ
-late_head bus place = if nat_lt place bus then line_head Bus (place + 1) else final_head (place - bus + 1)
-
--- the head of a place, where the ports have so many lines: those of IF1 come first, then those of IF2 and of the bus,
--- then the objects
-abbrev pub place_head : ℕ → ℕ → ℕ → ℕ → List ℕ
-place_head if1 if2 bus place =
-    if nat_lt place if1 then line_head If1 (place + 1)
-    else (if nat_lt (place - if1) if2 then line_head If2 (place - if1 + 1) else late_head bus (place - if1 - if2))
 
 -- ---- what may stand in a place
 
@@ -41,13 +18,14 @@ choice_line all place number =
     if is_before all number place (line_at (rows_at all number) place) then []
     else choice_text (line_at (rows_at all number) place)
 
--- each line that may stand in a place, once, below the place's head; nothing where the line is the same in all
+-- each line that may stand in a place, once, below the place's name; nothing where the line is the same in all
 unfoldable pub place_choices : List (List (List ℕ)) → List ℕ → ℕ → List ℕ
-place_choices all head place =
-    if is_in_all all place (line_at (rows_at all 0) place) then [] else head ++ each (length all) (choice_line all place)
+place_choices all name place =
+    if is_in_all all place (line_at (rows_at all 0) place) then []
+    else name ++ (codes "\n" ++ each (length all) (choice_line all place))
 
 abbrev pub choices_text : List (List (List ℕ)) → (ℕ → List ℕ) → List ℕ
-choices_text all head = each (place_count all) (λ place. place_choices all (head place) place)
+choices_text all name = each (place_count all) (λ place. place_choices all (name place) place)
 
 -- ---- the whole summary
 
@@ -55,13 +33,13 @@ choices_text all head = each (place_count all) (λ place. place_choices all (hea
 abbrev pub closing_text : ℕ → List ℕ
 closing_text outcomes = if nat_lt 1 outcomes then codes "each outcome, with a history: --all\n" else []
 
--- the heads of the places, by the first outcome
-abbrev pub heads_of : Option Ending → ℕ → List ℕ
-heads_of None = λ place. []
-heads_of (Some ending) = place_head (length ending.if1) (length ending.if2) (length ending.bus)
+-- the names of the places, by the first outcome
+abbrev pub names_of : Option Ending → ℕ → List ℕ
+names_of None = λ place. []
+names_of (Some ending) = place_name (length ending.if1) (length ending.if2) (length ending.bus)
 
 -- the first line, what is the same in all, what may stand in each other place, and the last line
 abbrev pub summary_text : List Ending → ℕ → List ℕ
 summary_text endings states =
     heading_text (length endings) states ++ (same_text (map rows_of endings)
-    ++ (choices_text (map rows_of endings) (heads_of (slice_get endings 0)) ++ closing_text (length endings)))
+    ++ (choices_text (map rows_of endings) (names_of (slice_get endings 0)) ++ closing_text (length endings)))

@@ -5,7 +5,8 @@ ghost use Rattle.ccan_lab.specs.Answer.{Answers, IsSearchText, first_with, holds
 ghost use Rattle.ccan_lab.specs.Rows.{has_line, rows_of};
 
 use crate::asked::Asked;
-use crate::report::{add_heading, add_outcome, listing};
+use crate::observed::observed_listing;
+use crate::report::{add_heading, add_outcome, different_lines, listing};
 use crate::rows::{Rows, all_rows};
 use crate::summary::summary;
 use crate::wording::add_number;
@@ -64,7 +65,8 @@ fn search_text(
     };
     let mut text = String::new(alloc);
     add_heading(&mut text, count, outcomes.reached.states.len())?;
-    add_outcome(alloc, &mut text, script, outcomes, all, number)?;
+    let lines = different_lines(alloc, all, number)?;
+    add_outcome(alloc, &mut text, script, outcomes, lines.as_str(), number)?;
     Ok(text)
 }
 
@@ -107,5 +109,9 @@ pub fn answer_of(
                 holds: found.is_none(),
             })
         }
+        Asked::Observed(names) => Ok(Answer {
+            text: observed_listing(alloc, script, outcomes, all, names)?,
+            holds: true,
+        }),
     }
 }

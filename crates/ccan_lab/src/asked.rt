@@ -9,4 +9,6 @@ pub enum Asked<'a> {
     Can(&'a str),
     /// Whether no outcome has a line that begins so.
     Never(&'a str),
+    /// The outcomes that can be told apart by the lines and objects of these names, which have commas between them.
+    Observed(&'a str),
 }

@@ -17,6 +17,9 @@ pub enum LabError {
     /// The ports can come to more states than this.
     #[error("ccan-lab: outcomes: more than {0} states")]
     More(usize),
+    /// The name of this number, from 1, of those that are to be observed is that of no line and no object.
+    #[error("ccan-lab: outcomes: --observe: name {0} is no line or object of the script")]
+    NoPlace(usize),
     /// The log is no text.
     #[error("ccan-lab: log: not UTF-8")]
     Log,
@@ -45,7 +48,7 @@ impl LabError {
         match self {
             LabError::Input(fault) => fault.status(),
             LabError::Log | LabError::Frames => 1,
-            LabError::Words => 2,
+            LabError::Words | LabError::NoPlace(_) => 2,
             LabError::Memory => 3,
             LabError::Open | LabError::Write => 4,
             LabError::More(_) => 5,

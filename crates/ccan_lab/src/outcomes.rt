@@ -8,7 +8,9 @@ use crate::answer::answer_of;
 use crate::asked::Asked;
 use crate::input::script_asked;
 use crate::lab_error::LabError;
+use crate::observed::first_unknown;
 use ccan_outcomes::all_outcomes;
+use ccan_script::Script;
 use clap::{Arg, ArgAction, ArgMatches, Command, value_parser};
 use std::alloc::{AllocError, Global};
 use std::fs::Files;
@@ -47,6 +49,20 @@ fn all_flag<'a>(alloc: Global) -> Result<Arg<'a>, AllocError> {
         .action(ArgAction::SetTrue)
         .help("Show each outcome, with a history that leads to it")
         .conflicts_with("can")?
+        .conflicts_with("never")?
+        .conflicts_with("observe")
+}
+
+/// The option that asks for the outcomes that can be told apart by some lines.
+fn observe_option<'a>(alloc: Global) -> Result<Arg<'a>, AllocError> {
+    Arg::new(alloc, "observe")
+        .long("observe")
+        .value_name("NAMES")
+        .action(ArgAction::Set)
+        .help(
+            "Show each outcome that differs in these, as if1[2],bus,final: lines, all of a port, objects at the end",
+        )
+        .conflicts_with("can")?
         .conflicts_with("never")
 }
 
@@ -78,6 +94,7 @@ pub fn outcomes_command<'a>(alloc: Global) -> Result<Command<'a>, AllocError> {
     Command::new(alloc, "outcomes")
         .about("Shows what can come of a script whose two hosts and bus run at once")
         .arg(all_flag(alloc)?)?
+        .arg(observe_option(alloc)?)?
         .arg(can_option(alloc)?)?
         .arg(never_option(alloc))?
         .arg(most_option(alloc))?
@@ -90,7 +107,8 @@ fn asked_of<'a>(words: &ArgMatches<'a>) -> Asked<'a>
         → result ≡ Asked.All }
     ensures line { one_text (found_of words.entry.now) (codes "all") ≡ Some (codes "false")
         → AsksBy (first_value (found_of words.entry.now) (codes "can"))
-        (first_value (found_of words.entry.now) (codes "never")) result }
+        (first_value (found_of words.entry.now) (codes "never"))
+        (first_value (found_of words.entry.now) (codes "observe")) result }
 {
     if words.get_flag("all") {
         return Asked::All;
@@ -98,8 +116,11 @@ fn asked_of<'a>(words: &ArgMatches<'a>) -> Asked<'a>
     if let Some(begin) = words.get_str("can") {
         return Asked::Can(begin);
     }
-    match words.get_str("never") {
-        Some(begin) => Asked::Never(begin),
+    if let Some(begin) = words.get_str("never") {
+        return Asked::Never(begin);
+    }
+    match words.get_str("observe") {
+        Some(names) => Asked::Observed(names),
         None => Asked::Summary,
     }
 }
@@ -112,12 +133,24 @@ pub fn outcomes_question<'a>(words: &ArgMatches<'a>) -> OutcomesQuestion<'a>
         → result.asked ≡ Asked.All }
     ensures line { one_text (found_of words.entry.now) (codes "all") ≡ Some (codes "false")
         → AsksBy (first_value (found_of words.entry.now) (codes "can"))
-        (first_value (found_of words.entry.now) (codes "never")) result.asked }
+        (first_value (found_of words.entry.now) (codes "never"))
+        (first_value (found_of words.entry.now) (codes "observe")) result.asked }
 {
     OutcomesQuestion {
         most: words.get_one::<usize>("most").unwrap_or(DEFAULT_MOST),
         file: words.get_str("file"),
         asked: asked_of(words),
+    }
+}
+
+/// Refuses names to be observed that are those of no line and no object of the script.
+fn refuse_unknown(alloc: Global, script: &Script, asked: Asked<'_>) -> Result<(), LabError> {
+    let Asked::Observed(names) = asked else {
+        return Ok(());
+    };
+    match first_unknown(alloc, script, names)? {
+        Some(number) => Err(LabError::NoPlace(number)),
+        None => Ok(()),
     }
 }
 
@@ -127,6 +160,7 @@ pub fn answer_outcomes<T: AllocGlobal + Input + Files + Print>(
     question: &OutcomesQuestion<'_>,
 ) -> Result<bool, LabError> {
     let script = script_asked(rt, question.file)?;
+    refuse_unknown(rt.alloc(), &script, question.asked)?;
     let Some(outcomes) = all_outcomes(rt.alloc(), &script, question.most)? else {
         return Err(LabError::More(question.most));
     };

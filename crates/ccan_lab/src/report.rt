@@ -2,7 +2,8 @@ ghost use Rattle.std.specs.Prelude.{◌≡◌, ◌+◌, ◌^◌, ◌<◌, ◌++�
 ghost use Rattle.std.specs.Option.{option_map};
 ghost use Rattle.ccan_line.specs.Script.{fields_of};
 ghost use Rattle.ccan_outcomes.specs.Outcomes.{AreFound};
-ghost use Rattle.ccan_lab.specs.Report.{IsListing, IsOutcomeText, AreOutcomeTexts, each, different_line, heading_text, outcome_text};
+ghost use Rattle.ccan_lab.specs.Report.{IsListing, IsOutcomeText, AreOutcomeTexts, each, different_line, different_lines};
+ghost use Rattle.ccan_lab.specs.Report.{heading_text, outcome_text};
 ghost use Rattle.ccan_lab.specs.Report.{later_names, names_text, order_text, quoted};
 ghost use Rattle.ccan_lab.specs.Report.{same_line, same_text};
 ghost use Rattle.ccan_lab.specs.Rows.{place_count, rows_of};
@@ -84,6 +85,15 @@ fn add_different(text: &mut String, all: &[Rows], number: usize) -> Result<(), A
     Ok(())
 }
 
+/// The lines of an outcome that are not the same in all.
+pub fn different_lines(alloc: Global, all: &[Rows], number: usize) -> Result<String, AllocError>
+    ensures { IfOk result (λ text. string_bytes text ≡ different_lines all.now number) }
+{
+    let mut text = String::new(alloc);
+    add_different(&mut text, all, number)?;
+    Ok(text)
+}
+
 /// Adds a port's name in quotation marks.
 fn add_quoted(text: &mut String, port: PortName) -> Result<(), AllocError>
     ensures { OnOk result (string_bytes text.new ≡ string_bytes text.old ++ quoted port) }
@@ -131,29 +141,28 @@ fn add_order(text: &mut String, order: &Option<Vec<PortName>>) -> Result<(), All
     Ok(())
 }
 
-/// Adds an outcome with this history: its head, its lines that are not the same in all, the steps, and the order, if there is
-/// one.
+/// Adds an outcome with this history: its head, these lines of it, the steps, and the order, if there is one.
 fn add_told_outcome(
     text: &mut String,
-    all: &[Rows],
+    lines: &str,
     number: usize,
     steps: &[HistoryStep],
     order: &Option<Vec<PortName>>,
 ) -> Result<(), AllocError>
     requires { number + 1 < 2 ^ 64 }
     ensures { OnOk result (string_bytes text.new ≡ string_bytes text.old
-        ++ outcome_text all.now number steps.now (option_map (λ order. order.items) order.now)) }
+        ++ outcome_text lines.now number steps.now (option_map (λ order. order.items) order.now)) }
 {
     text.push_str("outcome ")?;
     add_number(text, number + 1)?;
     text.push_str("\n")?;
-    add_different(text, all, number)?;
+    text.push_str(lines)?;
     add_steps(text, steps)?;
     add_order(text, order)
 }
 
-/// Adds an outcome: its head, its lines that are not the same in all, a history that leads to it, and an order of whole lines
-/// that does, where one was found.
+/// Adds an outcome: its head, these lines of it, a history that leads to it, and an order of whole lines that does, where one
+/// was found.
 ///
 /// The number is from 0.
 pub fn add_outcome(
@@ -161,20 +170,20 @@ pub fn add_outcome(
     text: &mut String,
     script: &Script,
     outcomes: &Outcomes,
-    all: &[Rows],
+    lines: &str,
     number: usize,
 ) -> Result<(), AllocError>
-    requires rows { all.now ≡ map rows_of outcomes.now.listing.endings.keys }
     requires within { number < length outcomes.now.listing.endings.keys }
     requires found { AreFound (fields_of script.now) outcomes.now }
     ensures { OnOk result ((added : List ℕ)
         × (string_bytes text.new ≡ string_bytes text.old ++ added)
-        × IsOutcomeText (fields_of script.now) outcomes.now.listing.endings.keys number added) }
+        × IsOutcomeText (fields_of script.now) outcomes.now.listing.endings.keys lines.now number
+        added) }
 {
     let history = history_of(alloc, script, outcomes, number)?;
     let ending = &outcomes.listing.endings.as_slice()[number];
     let order = order_to(alloc, script, ending, history.as_slice())?;
-    add_told_outcome(text, all, number, history.as_slice(), &order)?;
+    add_told_outcome(text, lines, number, history.as_slice(), &order)?;
     Ok(())
 }
 
@@ -194,7 +203,8 @@ fn add_outcomes(
         (length outcomes.now.listing.endings.keys) added) }
 {
     for number in 0..outcomes.listing.endings.len() {
-        add_outcome(alloc, text, script, outcomes, all, number)?;
+        let lines = different_lines(alloc, all, number)?;
+        add_outcome(alloc, text, script, outcomes, lines.as_str(), number)?;
     }
     Ok(())
 }

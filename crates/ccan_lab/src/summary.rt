@@ -1,67 +1,15 @@
 ghost use Rattle.std.specs.Prelude.{◌≡◌, ◌+◌, ◌^◌, ◌<◌, ◌≤◌, ◌++◌, Some, IfOk, OnOk, length, map, slice_get, string_bytes};
 ghost use Rattle.ccan_lab.specs.Report.{each};
 ghost use Rattle.ccan_lab.specs.Rows.{rows_of};
-ghost use Rattle.ccan_lab.specs.Summary.{choice_line, choice_text, choices_text, closing_text, final_head, heads_of};
-ghost use Rattle.ccan_lab.specs.Summary.{late_head, line_head, place_choices, place_head, summary_text};
+ghost use Rattle.ccan_lab.specs.Summary.{choice_line, choice_text, choices_text, closing_text};
+ghost use Rattle.ccan_lab.specs.Summary.{names_of, place_choices, summary_text};
+ghost use Rattle.ccan_lab.specs.Place.{place_name};
 
-use crate::history::add_line_name;
+use crate::place::{LineCounts, add_place_name};
 use crate::report::{add_heading, add_same};
 use crate::rows::{Rows, is_before, is_in_all, line_in, place_count};
-use crate::wording::add_number;
 use ccan_outcomes::{Ending, Outcomes};
-use ccan_ram::PortName;
 use std::alloc::{AllocError, Global};
-
-/// Adds the head of a line: its port and its number, from 1.
-fn add_line_head(text: &mut String, port: PortName, line: usize) -> Result<(), AllocError>
-    ensures { OnOk result
-        (string_bytes text.new ≡ string_bytes text.old ++ line_head port line) }
-{
-    add_line_name(text, port, line)?;
-    text.push_str("\n")?;
-    Ok(())
-}
-
-/// Adds the head of an object.
-fn add_final_head(text: &mut String, object: usize) -> Result<(), AllocError>
-    ensures { OnOk result (string_bytes text.new ≡ string_bytes text.old ++ final_head object) }
-{
-    text.push_str("final ")?;
-    add_number(text, object / 10)?;
-    add_number(text, object % 10)?;
-    text.push_str("\n")?;
-    Ok(())
-}
-
-/// Adds the head of a place behind the answers of the hosts.
-fn add_late_head(text: &mut String, bus: usize, place: usize) -> Result<(), AllocError>
-    requires { place + 1 < 2 ^ 64 }
-    ensures { OnOk result
-        (string_bytes text.new ≡ string_bytes text.old ++ late_head bus place) }
-{
-    if place < bus {
-        add_line_head(text, PortName::Bus, place + 1)
-    } else {
-        add_final_head(text, place - bus + 1)
-    }
-}
-
-/// Adds the head of a place, by the lines that the ports of an outcome have.
-fn add_head(text: &mut String, ending: &Ending, place: usize) -> Result<(), AllocError>
-    requires { place + 1 < 2 ^ 64 }
-    ensures { OnOk result (string_bytes text.new ≡ string_bytes text.old
-        ++ place_head (length ending.now.if1) (length ending.now.if2) (length ending.now.bus) place) }
-{
-    let if1 = ending.if1.len();
-    let if2 = ending.if2.len();
-    if place < if1 {
-        add_line_head(text, PortName::If1, place + 1)
-    } else if place - if1 < if2 {
-        add_line_head(text, PortName::If2, place - if1 + 1)
-    } else {
-        add_late_head(text, ending.bus.len(), place - if1 - if2)
-    }
-}
 
 /// Adds a line that may stand in a place.
 #[tactic(auto, unfolding(crate::specs::Summary::choice_text))]
@@ -108,47 +56,59 @@ fn add_choice_lines(text: &mut String, all: &[Rows], place: usize) -> Result<(),
     Ok(())
 }
 
-/// Adds what may stand in a place below its head, where it is not the same in all outcomes.
+/// Adds what may stand in a place below its name, where it is not the same in all outcomes.
 #[tactic(auto, unfolding(crate::specs::Summary::place_choices))]
 fn add_place(
     text: &mut String,
     all: &[Rows],
-    ending: &Ending,
+    counts: &LineCounts,
     place: usize,
 ) -> Result<(), AllocError>
     requires { place + 1 < 2 ^ 64 }
-    ensures { OnOk result (string_bytes text.new ≡ string_bytes text.old
-        ++ place_choices all.now (place_head (length ending.now.if1) (length ending.now.if2)
-        (length ending.now.bus) place) place) }
+    ensures { OnOk result (string_bytes text.new ≡ string_bytes text.old ++ place_choices all.now
+        (place_name counts.now.if1 counts.now.if2 counts.now.bus place) place) }
 {
     if !is_in_all(all, place, line_in(all, 0, place)) {
-        add_head(text, ending, place)?;
+        add_place_name(text, counts, place)?;
+        text.push_str("\n")?;
         add_choice_lines(text, all, place)?;
     }
     Ok(())
 }
 
-/// Adds what may stand in each place, by the lines that the ports of an outcome have.
+/// Adds what may stand in each place.
 #[tactic(auto, using(crate::proofs::Texts::each_begins, crate::proofs::Texts::each_goes_on))]
-fn add_places(text: &mut String, all: &[Rows], ending: &Ending) -> Result<(), AllocError>
-    ensures { OnOk result (string_bytes text.new ≡ string_bytes text.old
-        ++ choices_text all.now (place_head (length ending.now.if1) (length ending.now.if2)
-        (length ending.now.bus))) }
+fn add_places(text: &mut String, all: &[Rows], counts: &LineCounts) -> Result<(), AllocError>
+    ensures { OnOk result (string_bytes text.new ≡ string_bytes text.old ++ choices_text all.now
+        (place_name counts.now.if1 counts.now.if2 counts.now.bus)) }
 {
     for place in 0..place_count(all) {
-        add_place(text, all, ending, place)?;
+        add_place(text, all, counts, place)?;
     }
     Ok(())
+}
+
+/// How many lines the ports of an outcome have.
+fn counts_of(ending: &Ending) -> LineCounts
+    ensures if1 { result.if1 ≡ length ending.now.if1 }
+    ensures if2 { result.if2 ≡ length ending.now.if2 }
+    ensures bus { result.bus ≡ length ending.now.bus }
+{
+    LineCounts {
+        if1: ending.if1.len(),
+        if2: ending.if2.len(),
+        bus: ending.bus.len(),
+    }
 }
 
 /// Adds what may stand in each place.
 fn add_choices(text: &mut String, all: &[Rows], endings: &[Ending]) -> Result<(), AllocError>
     requires { all.now ≡ map rows_of endings.now }
     ensures { OnOk result (string_bytes text.new ≡ string_bytes text.old
-        ++ choices_text all.now (heads_of (slice_get endings.now 0))) }
+        ++ choices_text all.now (names_of (slice_get endings.now 0))) }
 {
     match endings.first() {
-        Some(first) => add_places(text, all, first),
+        Some(first) => add_places(text, all, &counts_of(first)),
         None => Ok(()),
     }
 }

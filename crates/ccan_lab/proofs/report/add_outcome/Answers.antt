@@ -1,4 +1,4 @@
-use Rattle.std.proofs.Common.{◌≡◌, ◌++◌, List, ℕ, Option, None, Some, Vec, Global, IfSome, get_or, slice_get, ap, subst, ◌∙◌, string_bytes}
+use Rattle.std.proofs.Common.{◌≡◌, ◌++◌, List, Option, None, Some, Vec, Global, IfSome, get_or, slice_get, ap, subst, refl, ◌∙◌, string_bytes}
 use Rattle.std.proofs.lemmas.Option.{get_or_from_slice_get}
 use Rattle.std.specs.Option.{option_map}
 use Rattle.ccan_ram.specs.declared.port.PortName.{PortName}
@@ -20,7 +20,7 @@ replays script ending (Some order) h = h
 
 pub returns : goal.returns
 returns c =
-    let all = c.args.all.now in
+    let lines = c.args.lines.now in
     let script = fields_of c.args.script.now in
     let number = c.args.number in
     let keys = c.args.outcomes.now.listing.endings.keys in
@@ -32,15 +32,15 @@ returns c =
     λ ending is. c.index-as_slice-number.is ∙ ap (λ (es : List Ending). get_or es number shown) c.as_slice.ensures.keys
     ∙ get_or_from_slice_get keys number ending shown is in
     let added = c.in_ok-add_told_outcome.ensures
-    ∙ ap (λ (told : List HistoryStep). string_bytes c.args.text.now ++ outcome_text all number told order)
+    ∙ ap (λ (told : List HistoryStep). string_bytes c.args.text.now ++ outcome_text lines number told order)
     c.as_slice-3.ensures.value in (
-      outcome_text all number steps order,
+      outcome_text lines number steps order,
       added,
       (
         steps,
         order,
         (λ ending is.
             (c.in_ok-history.ensures ending is, subst (λ (e : Ending). IfSome order (Replays script e)) (it_is ending is) found)),
-        ap (λ (rows : List (List (List ℕ))). outcome_text rows number steps order) c.requires.rows,
+        refl,
       ),
     )

@@ -1,0 +1,101 @@
+-- Lists and counts that grow place by place, and outcome by outcome.
+use Rattle.std.proofs.Common.{◌≡◌, ◌+◌, ◌++◌, ℕ, List, [], ◌∷◌, Bool, true, false, map, take, length, get_or, zero, suc, ◌<◌, refl, ap, sym, ◌∙◌, add-one, arith, ◌||◌, not, if◌then◌else◌, string_bytes, Global, String, Bor}
+use Rattle.ccan_line.specs.Script.{ScriptFields}
+use Rattle.ccan_outcomes.specs.declared.ending.Ending.{Ending}
+use Rattle.ccan_lab.specs.Observed.{IsFirstText, first_count, is_named, is_observed, is_place_up_to, is_repeat, marks_of, marks_up_to, observed_lines, observed_texts, text_at}
+use Rattle.ccan_lab.specs.Place.{place_name}
+use Rattle.ccan_lab.specs.Report.{IsOutcomeText}
+use Rattle.ccan_lab.specs.Rows.{rows_of}
+use Rattle.std.specs.List.{list_any}
+use Rattle.std.specs.Str.{bytes_eq}
+use Rattle.std.proofs.lemmas.Bool.{false≢true}
+use Rattle.std.proofs.lemmas.List.{take-map}
+use Rattle.clap.proofs.WalkLemmas.{list_any-map}
+
+-- the marks of the places so far, and that of one more
+pub marks_more : (list : List (List ℕ)) (if1 if2 bus place : ℕ) → marks_up_to list if1 if2 bus (place + 1)
+    ≡ marks_up_to list if1 if2 bus place ++ is_observed list if1 if2 bus place ∷ []
+unfolding marks_up_to
+marks_more list if1 if2 bus place = ap (λ n. marks_up_to list if1 if2 bus n) (add-one place)
+
+pub marks_none : (list : List (List ℕ)) (if1 if2 bus : ℕ) → marks_up_to list if1 if2 bus 0 ≡ []
+unfolding marks_up_to
+marks_none list if1 if2 bus = refl
+
+-- whether a word names one of the places so far, or one more
+pub place_more : (word : List ℕ) (if1 if2 bus place : ℕ) → is_place_up_to word if1 if2 bus (place + 1)
+    ≡ (is_place_up_to word if1 if2 bus place || bytes_eq word (place_name if1 if2 bus place))
+unfolding is_place_up_to
+place_more word if1 if2 bus place = ap (λ n. is_place_up_to word if1 if2 bus n) (add-one place)
+
+pub place_none : (word : List ℕ) (if1 if2 bus : ℕ) → is_place_up_to word if1 if2 bus 0 ≡ false
+unfolding is_place_up_to
+place_none word if1 if2 bus = refl
+
+-- how many of the outcomes so far are first to show what they do, and with one more
+pub count_more : (texts : List (List ℕ)) (number : ℕ) → first_count texts (number + 1)
+    ≡ (if is_repeat texts number then first_count texts number else first_count texts number + 1)
+unfolding first_count
+count_more texts number = ap (first_count texts) (add-one number)
+
+pub count_none : (texts : List (List ℕ)) → first_count texts 0 ≡ 0
+unfolding first_count
+count_none texts = refl
+
+pub map_map : {A B C : Type 0} (f : B → C) (g : A → B) (xs : List A) → map f (map g xs) ≡ map (λ x. f (g x)) xs
+map_map f g [] = refl
+map_map f g (x ∷ xs) = ap (λ ys. f (g x) ∷ ys) (map_map f g xs)
+
+-- what the outcomes show, by their lines
+pub texts_by_rows : (list : List (List ℕ)) (script : ScriptFields) (endings : List Ending)
+    → map (observed_lines (marks_of list script)) (map rows_of endings) ≡ observed_texts list script endings
+texts_by_rows list script endings = map_map (observed_lines (marks_of list script)) rows_of endings
+
+-- the text in a place of a list of them
+pub text_in : (texts : List (String Global)) (number : ℕ) (d : String Global) → number < length texts
+    → text_at (map string_bytes texts) number ≡ string_bytes (get_or texts number d)
+text_in [] number d within = absurd (omega arith)
+text_in (text ∷ later) zero d within = refl
+text_in (text ∷ later) (suc number) d within = text_in later number d (omega arith)
+
+-- whether a text before the place of a number is the one there
+pub repeat_by : (texts : List (String Global)) (number : ℕ) (d : String Global) → number < length texts
+    → list_any (λ text. bytes_eq (string_bytes text) (string_bytes (get_or texts number d))) (take number texts)
+    ≡ is_repeat (map string_bytes texts) number
+unfolding is_repeat
+repeat_by texts number d within =
+    let shown = string_bytes (get_or texts number d) in
+    list_any-map (λ text. bytes_eq text shown) string_bytes (take number texts)
+    ∙ ap (list_any (λ text. bytes_eq text shown)) (sym (take-map string_bytes number texts))
+    ∙ ap (λ (t : List ℕ). list_any (λ text. bytes_eq text t) (take number (map string_bytes texts)))
+    (sym (text_in texts number d within))
+
+-- a first outcome's text, and none for a repeat
+pub first_text : (repeat : Bool) (script : ScriptFields) (endings : List Ending) (lines : List ℕ) (number : ℕ) (added : List ℕ)
+    → repeat ≡ false → IsOutcomeText script endings lines number added → IsFirstText repeat script endings lines number added
+first_text true script endings lines number added is text = absurd (false≢true (sym is))
+first_text false script endings lines number added is text = text
+
+pub repeat_text : (repeat : Bool) (script : ScriptFields) (endings : List Ending) (lines : List ℕ) (number : ℕ)
+    → repeat ≡ true → IsFirstText repeat script endings lines number []
+repeat_text true script endings lines number is = refl
+repeat_text false script endings lines number is = absurd (false≢true is)
+
+turned : (b : Bool) (count : ℕ) → (if not b then count + 1 else count) ≡ (if b then count else count + 1)
+turned true count = refl
+turned false count = refl
+
+-- the count with one outcome more
+pub count_by : (texts : List (List ℕ)) (number count : ℕ) (first : Bool) → count ≡ first_count texts number
+    → first ≡ not (is_repeat texts number)
+    → (if first then count + 1 else count) ≡ first_count texts (number + 1)
+count_by texts number count first so_far is =
+    ap (λ (b : Bool). if b then count + 1 else count) is
+    ∙ turned (is_repeat texts number) count
+    ∙ ap (λ (n : ℕ). if is_repeat texts number then n else n + 1) so_far ∙ sym (count_more texts number)
+
+-- one of these names
+pub named_by : (names : List (Bor (List ℕ))) (name : List ℕ)
+    → list_any (λ word. bytes_eq word.now name) names ≡ is_named (map (λ word. word.now) names) name
+unfolding is_named
+named_by names name = list_any-map (λ word. bytes_eq word name) (λ (word : Bor (List ℕ)). word.now) names

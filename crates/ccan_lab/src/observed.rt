@@ -1,0 +1,344 @@
+//! A list of the outcomes that can be told apart by some of their lines.
+ghost use Rattle.std.specs.Prelude.{◌≡◌, ◌+◌, ◌^◌, ◌<◌, ◌++◌, List, ℕ, IfOk, OnOk, length, map, not, option_map, position};
+ghost use Rattle.std.specs.Prelude.{string_bytes};
+ghost use Rattle.std.specs.List.{list_any};
+ghost use Rattle.std.specs.Str.{bytes_eq};
+ghost use Rattle.ccan_line.specs.Script.{fields_of};
+ghost use Rattle.ccan_outcomes.specs.Outcomes.{AreFound};
+ghost use Rattle.ccan_lab.specs.Observed.{AreFirstTexts, IsFirstText, IsObservedListing, first_count, is_kind, is_known};
+ghost use Rattle.ccan_lab.specs.Observed.{is_observed, is_place_up_to, is_repeat, marks_up_to, names_in, text_at};
+ghost use Rattle.ccan_lab.specs.Observed.{observed_heading, observed_line, observed_lines, places_of};
+ghost use Rattle.ccan_lab.specs.Rows.{rows_of};
+
+use crate::place::{LineCounts, add_place_name, place_kind};
+use crate::report::add_outcome;
+use crate::rows::Rows;
+use crate::wording::{add_counted, add_number};
+use ccan_outcomes::Outcomes;
+use ccan_script::Script;
+use std::alloc::{AllocError, Global};
+
+/// The names in a list with commas between them.
+fn names_in(alloc: Global, list: &str) -> Result<Vec<&str>, AllocError>
+    ensures { IfOk result (λ names. map (λ name. name.now) names.items ≡ names_in list.now) }
+{
+    list.split(',').collect(alloc)
+}
+
+/// Whether this is one of these names.
+fn is_named(names: &[&str], name: &str) -> bool
+    ensures { result ≡ list_any (λ word. bytes_eq word.now name.now) names.now }
+{
+    names.iter().any(|word| *word == name)
+}
+
+/// How many lines the ports of a script have.
+fn counts_of(script: &Script) -> LineCounts
+    ensures if1 { result.if1 ≡ length (fields_of script.now).if1 }
+    ensures if2 { result.if2 ≡ length (fields_of script.now).if2 }
+    ensures bus { result.bus ≡ length (fields_of script.now).bus }
+{
+    LineCounts {
+        if1: script.if1.len(),
+        if2: script.if2.len(),
+        bus: script.bus.len(),
+    }
+}
+
+/// How many places the outcomes of a script have: one for each line, and one for each object.
+fn places_of(script: &Script) -> usize
+    ensures { result ≡ places_of (fields_of script.now) }
+{
+    script.if1.len() + script.if2.len() + script.bus.len() + usize::from(script.profile.objects())
+}
+
+/// Whether a place is looked at.
+#[tactic(auto, using(crate::proofs::Apart::named_by))]
+fn is_observed(
+    alloc: Global,
+    names: &[&str],
+    counts: &LineCounts,
+    place: usize,
+) -> Result<bool, AllocError>
+    requires { place + 1 < 2 ^ 64 }
+    ensures { IfOk result (λ is. is
+        ≡ is_observed (map (λ name. name.now) names.now)
+        counts.now.if1 counts.now.if2 counts.now.bus place) }
+{
+    let mut name = String::new(alloc);
+    add_place_name(&mut name, counts, place)?;
+    Ok(is_named(names, place_kind(counts, place)) || is_named(names, name.as_str()))
+}
+
+/// For each of so many places whether it is looked at.
+#[tactic(auto, using(crate::proofs::Apart::marks_none, crate::proofs::Apart::marks_more))]
+fn marks_up_to(
+    alloc: Global,
+    names: &[&str],
+    counts: &LineCounts,
+    places: usize,
+) -> Result<Vec<bool>, AllocError>
+    ensures { IfOk result (λ marks. marks.items
+        ≡ marks_up_to (map (λ name. name.now) names.now)
+        counts.now.if1 counts.now.if2 counts.now.bus places) }
+{
+    let mut marks = Vec::new(alloc);
+    for place in 0..places {
+        marks.push(is_observed(alloc, names, counts, place)?)?;
+    }
+    Ok(marks)
+}
+
+/// Adds the line in a place, where it is looked at.
+#[tactic(auto, unfolding(crate::specs::Observed::observed_line))]
+fn add_observed_line(
+    text: &mut String,
+    marks: &[bool],
+    rows: &Rows,
+    place: usize,
+) -> Result<(), AllocError>
+    ensures { OnOk result (string_bytes text.new
+        ≡ string_bytes text.old ++ observed_line marks.now rows.now place) }
+{
+    if marks.get(place).copied().unwrap_or(false) {
+        text.push_str(rows.line(place))?;
+    }
+    Ok(())
+}
+
+/// Adds the lines of an outcome that are looked at.
+#[tactic(auto, using(crate::proofs::Texts::each_begins, crate::proofs::Texts::each_goes_on))]
+fn add_observed(text: &mut String, marks: &[bool], rows: &Rows) -> Result<(), AllocError>
+    ensures { OnOk result (string_bytes text.new
+        ≡ string_bytes text.old ++ observed_lines marks.now rows.now) }
+{
+    for place in 0..rows.len() {
+        add_observed_line(text, marks, rows, place)?;
+    }
+    Ok(())
+}
+
+/// The lines of an outcome that are looked at.
+fn observed_lines(alloc: Global, marks: &[bool], rows: &Rows) -> Result<String, AllocError>
+    ensures { IfOk result (λ text. string_bytes text ≡ observed_lines marks.now rows.now) }
+{
+    let mut text = String::new(alloc);
+    add_observed(&mut text, marks, rows)?;
+    Ok(text)
+}
+
+/// The lines of each outcome that are looked at.
+fn observed_texts(alloc: Global, marks: &[bool], all: &[Rows]) -> Result<Vec<String>, AllocError>
+    ensures { IfOk result (λ texts. map string_bytes texts.items
+        ≡ map (observed_lines marks.now) all.now) }
+{
+    let mut texts = Vec::new(alloc);
+    for rows in all {
+        texts.push(observed_lines(alloc, marks, rows)?)?;
+    }
+    Ok(texts)
+}
+
+/// Whether one of these texts is this one.
+fn is_among(texts: &[String], shown: &str) -> bool
+    ensures { result ≡ list_any (λ text. bytes_eq (string_bytes text) shown.now) texts.now }
+{
+    texts.iter().any(|text| text.as_str() == shown)
+}
+
+/// Whether an outcome before that of this number shows the same.
+fn is_repeat(texts: &[String], number: usize) -> bool
+    requires { number < length texts.now }
+    ensures { result ≡ is_repeat (map string_bytes texts.now) number }
+{
+    is_among(&texts[..number], texts[number].as_str())
+}
+
+/// Adds an outcome, unless one before it shows the same, and says whether it did.
+fn add_if_first(
+    alloc: Global,
+    text: &mut String,
+    script: &Script,
+    outcomes: &Outcomes,
+    texts: &[String],
+    number: usize,
+) -> Result<bool, AllocError>
+    requires as_many { length texts.now ≡ length outcomes.now.listing.endings.keys }
+    requires within { number < length outcomes.now.listing.endings.keys }
+    requires found { AreFound (fields_of script.now) outcomes.now }
+    ensures first { IfOk result (λ added. added
+        ≡ not (is_repeat (map string_bytes texts.now) number)) }
+    ensures text { OnOk result ((added : List ℕ)
+        × (string_bytes text.new ≡ string_bytes text.old ++ added)
+        × IsFirstText (is_repeat (map string_bytes texts.now) number) (fields_of script.now)
+        outcomes.now.listing.endings.keys (text_at (map string_bytes texts.now) number) number
+        added) }
+{
+    if is_repeat(texts, number) {
+        return Ok(false);
+    }
+    add_outcome(
+        alloc,
+        text,
+        script,
+        outcomes,
+        texts[number].as_str(),
+        number,
+    )?;
+    Ok(true)
+}
+
+/// Adds each outcome that shows what none before it does, and says how many these are.
+fn add_firsts(
+    alloc: Global,
+    text: &mut String,
+    script: &Script,
+    outcomes: &Outcomes,
+    texts: &[String],
+) -> Result<usize, AllocError>
+    requires as_many { length texts.now ≡ length outcomes.now.listing.endings.keys }
+    requires found { AreFound (fields_of script.now) outcomes.now }
+    ensures count { IfOk result (λ count. count
+        ≡ first_count (map string_bytes texts.now) (length outcomes.now.listing.endings.keys)) }
+    ensures text { OnOk result ((added : List ℕ)
+        × (string_bytes text.new ≡ string_bytes text.old ++ added)
+        × AreFirstTexts (fields_of script.now) outcomes.now.listing.endings.keys
+        (map string_bytes texts.now) (length outcomes.now.listing.endings.keys) added) }
+{
+    let mut count = 0;
+    for number in 0..outcomes.listing.endings.len() {
+        if add_if_first(alloc, text, script, outcomes, texts, number)? {
+            count += 1;
+        }
+    }
+    Ok(count)
+}
+
+/// Adds the first line: how many outcomes there are, in how many states, and how many can be told apart by what they show.
+fn add_observed_heading(
+    text: &mut String,
+    outcomes: usize,
+    states: usize,
+    apart: usize,
+) -> Result<(), AllocError>
+    ensures { OnOk result (string_bytes text.new
+        ≡ string_bytes text.old ++ observed_heading outcomes states apart) }
+{
+    add_counted(text, outcomes, "outcome")?;
+    text.push_str(" in ")?;
+    add_counted(text, states, "state")?;
+    text.push_str(", ")?;
+    add_number(text, apart)?;
+    text.push_str(" as observed\n")
+}
+
+/// The list of the outcomes that can be told apart by the lines and objects of these names: of each kind the first, with these
+/// lines, and with a history that leads to it.
+///
+/// A name is that of a line, as `if1[2]`, of an object at the end, as `final 01`, or a port's or `final` for all of them; names
+/// have commas between them. An outcome has the number that it has in the list of all.
+pub fn observed_listing(
+    alloc: Global,
+    script: &Script,
+    outcomes: &Outcomes,
+    all: &[Rows],
+    list: &str,
+) -> Result<String, AllocError>
+    requires rows { all.now ≡ map rows_of outcomes.now.listing.endings.keys }
+    requires found { AreFound (fields_of script.now) outcomes.now }
+    ensures { IfOk result (λ text. IsObservedListing (names_in list.now) (fields_of script.now)
+        outcomes.now.listing.endings.keys (length outcomes.now.reached.states.keys)
+        (string_bytes text)) }
+{
+    let names = names_in(alloc, list)?;
+    let marks = marks_up_to(
+        alloc,
+        names.as_slice(),
+        &counts_of(script),
+        places_of(script),
+    )?;
+    let texts = observed_texts(alloc, marks.as_slice(), all)?;
+    let mut firsts = String::new(alloc);
+    let apart = add_firsts(alloc, &mut firsts, script, outcomes, texts.as_slice())?;
+    let mut text = String::new(alloc);
+    add_observed_heading(
+        &mut text,
+        outcomes.listing.endings.len(),
+        outcomes.reached.states.len(),
+        apart,
+    )?;
+    text.push_str(firsts.as_str())?;
+    Ok(text)
+}
+
+/// Whether a word stands for all lines of a port, or for all objects.
+fn is_kind(word: &str) -> bool
+    ensures { result ≡ is_kind word.now }
+{
+    word == "if1" || word == "if2" || word == "bus" || word == "final"
+}
+
+/// Whether a word is the name of one of so many places.
+#[tactic(auto, using(crate::proofs::Apart::place_none, crate::proofs::Apart::place_more))]
+fn is_place_up_to(
+    alloc: Global,
+    word: &str,
+    counts: &LineCounts,
+    places: usize,
+) -> Result<bool, AllocError>
+    ensures { IfOk result (λ is. is
+        ≡ is_place_up_to word.now counts.now.if1 counts.now.if2 counts.now.bus places) }
+{
+    let mut is_place = false;
+    for place in 0..places {
+        let mut name = String::new(alloc);
+        add_place_name(&mut name, counts, place)?;
+        is_place = is_place || word == name.as_str();
+    }
+    Ok(is_place)
+}
+
+/// Whether a word names lines or objects of the script.
+fn is_known(alloc: Global, script: &Script, word: &str) -> Result<bool, AllocError>
+    ensures { IfOk result (λ is. is ≡ is_known (fields_of script.now) word.now) }
+{
+    let is_place = is_place_up_to(alloc, word, &counts_of(script), places_of(script))?;
+    Ok(is_kind(word) || is_place)
+}
+
+/// For each of these names whether it is that of lines or objects of the script.
+fn are_known(alloc: Global, script: &Script, names: &[&str]) -> Result<Vec<bool>, AllocError>
+    ensures { IfOk result (λ known. known.items
+        ≡ map (λ name. is_known (fields_of script.now) name.now) names.now) }
+{
+    let mut known = Vec::new(alloc);
+    for name in names {
+        known.push(is_known(alloc, script, name)?)?;
+    }
+    Ok(known)
+}
+
+/// The index of the first of these that is false.
+fn first_false(marks: &[bool]) -> Option<usize>
+    ensures { result ≡ position not marks.now }
+{
+    marks.iter().position(|mark| !*mark)
+}
+
+/// The number, from 1, of the first name in a list with commas between them that is that of no line and no object of the
+/// script.
+pub fn first_unknown(
+    alloc: Global,
+    script: &Script,
+    list: &str,
+) -> Result<Option<usize>, AllocError>
+    ensures { IfOk result (λ unknown. unknown ≡ option_map (λ index. index + 1)
+        (position not (map (is_known (fields_of script.now)) (names_in list.now)))) }
+{
+    let names = names_in(alloc, list)?;
+    let known = are_known(alloc, script, names.as_slice())?;
+    match first_false(known.as_slice()) {
+        Some(index) => Ok(Some(index + 1)),
+        None => Ok(None),
+    }
+}
