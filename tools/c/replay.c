@@ -1,0 +1,219 @@
+/* Makes the calls that it reads, one a line, on a chip of the library, in one thread, and prints of each what `ccan` prints of
+ * the line of a script that it stands for. tools/second_model writes the calls. The first line has profile, nodes and tries. */
+#include "ccan.h"
+#include <stdio.h>
+#include <stdlib.h>
+#include <string.h>
+
+static const char *const registers[] = { "cmask", "mask1", "mask2", "arb1", "arb2", "ctrl", "dataa1", "dataa2", "datab1", "datab2" };
+static const char *const flags[] = { "newdat", "msglst", "intpnd", "txrqst", "msgval" };
+static const char *const faults[] = { "none", "stuff", "form", "bit1", "bit0", "crc" };
+static const char *const states[] = { "active", "passive", "off" };
+static ccan_chip chip = CCAN_CHIP_CLOSED;
+static unsigned objects;
+
+static void need(uint32_t code, const char *call)
+{
+    if (code != CCAN_DONE) {
+        fprintf(stderr, "replay: %s: %s\n", call, ccan_text(code));
+        exit(1);
+    }
+}
+
+/* The number of a word in a list of them. */
+static uint32_t number_in(const char *const *words, uint32_t count, const char *word)
+{
+    uint32_t number = 0;
+    while (number < count && strcmp(words[number], word))
+        number++;
+    return number;
+}
+
+static const char *next(void)
+{
+    const char *word = strtok(NULL, " \n");
+    return word ? word : "";
+}
+
+static uint32_t flag_next(void) { return number_in(flags, 5, next()); }
+static unsigned long next_number(int base) { return strtoul(next(), NULL, base); }
+
+static void show(uint32_t arbitration, uint32_t masks, uint16_t control, const uint8_t *bytes)
+{
+    printf(" %08x %08x %04x ", (unsigned)arbitration, (unsigned)masks, (unsigned)control);
+    for (int at = 0; at < 8; at++)
+        printf("%02x", bytes[at]);
+    printf("\n");
+}
+
+static void show_record(const char *begin, uint32_t object, const ccan_record *record)
+{
+    printf("%s %02u", begin, (unsigned)object);
+    show(record->arbitration, record->masks, record->control, record->bytes);
+}
+
+static uint16_t get(ccan_host *host, uint32_t reg)
+{
+    uint16_t value;
+    need(ccan_get(host, reg, &value), "ccan_get");
+    return value;
+}
+
+static void request(const char *name, ccan_host *host)
+{
+    uint16_t asked = (uint16_t)next_number(16);
+    unsigned object = (asked & 63) % objects ? (asked & 63) % objects : objects;
+    uint32_t code = ccan_request(host, asked);
+    if (code == CCAN_BUSY || code == CCAN_SPENT) {
+        printf("%s %s %02u\n", name, code == CCAN_BUSY ? "busy" : "spent", object);
+        return;
+    }
+    need(code, "ccan_request");
+    uint8_t bytes[8];
+    for (uint32_t pair = 0; pair < 4; pair++) {
+        uint16_t value = get(host, CCAN_DATAA1 + pair);
+        bytes[2 * pair] = (uint8_t)value;
+        bytes[2 * pair + 1] = (uint8_t)(value >> 8);
+    }
+    printf("%s %s %02u", name, get(host, CCAN_CMASK) & 0x80 ? "write" : "read", object);
+    show((uint32_t)get(host, CCAN_ARB2) << 16 | get(host, CCAN_ARB1), (uint32_t)get(host, CCAN_MASK2) << 16 | get(host, CCAN_MASK1),
+         get(host, CCAN_CTRL), bytes);
+}
+
+static void show_flags(const char *name, uint32_t flag, uint64_t word)
+{
+    printf("%s flags %s %0*llx\n", name, flags[flag], (int)objects / 4, (unsigned long long)word);
+}
+
+static void host_call(const char *name, ccan_host *host, const char *call)
+{
+    if (!strcmp(call, "set")) {
+        uint32_t reg = number_in(registers, 10, next());
+        need(ccan_set(host, reg, (uint16_t)next_number(16)), "ccan_set");
+    } else if (!strcmp(call, "request")) {
+        request(name, host);
+    } else if (!strcmp(call, "until")) {
+        uint32_t object = (uint32_t)next_number(10), flag = flag_next(), is_shown;
+        need(ccan_until(host, object, flag, (uint32_t)next_number(10), &is_shown), "ccan_until");
+        printf("%s until %02u %s %s\n", name, (unsigned)object, flags[flag], is_shown ? "yes" : "no");
+    } else if (!strcmp(call, "interrupt")) {
+        uint16_t value;
+        need(ccan_interrupt(host, &value), "ccan_interrupt");
+        printf("%s interrupt %04x\n", name, (unsigned)value);
+    } else {
+        uint32_t flag = flag_next();
+        uint64_t word;
+        need(ccan_flags(host, flag, &word), "ccan_flags");
+        show_flags(name, flag, word);
+    }
+}
+
+static void load(void)
+{
+    ccan_loaded loaded;
+    need(ccan_load(&chip.bus, &loaded), "ccan_load");
+    if (loaded.kind == CCAN_LOAD_LOADED)
+        show_record("bus loaded", loaded.object, &loaded.held);
+    else if (loaded.kind == CCAN_LOAD_HELD)
+        printf("bus held %02u\n", (unsigned)loaded.object);
+    else
+        printf("bus loaded none\n");
+}
+
+static void play(void)
+{
+    static const char *const kinds[] = { "idle", "sent", "received", "passed", "collision", "ack", "fault", "looped" };
+    uint32_t fault = number_in(faults, 6, next());
+    size_t count = next_number(10);
+    ccan_offer offers[8] = { { 0 } };
+    for (size_t at = 0; at < count; at++) {
+        offers[at].node = (uint8_t)next_number(10);
+        offers[at].id = (uint32_t)next_number(10);
+        offers[at].xtd = (uint8_t)next_number(10);
+        offers[at].rtr = (uint8_t)next_number(10);
+        offers[at].dlc = (uint8_t)next_number(10);
+        for (int byte = 0; byte < 8; byte++)
+            offers[at].bytes[byte] = (uint8_t)next_number(16);
+    }
+    ccan_outcome out;
+    need(ccan_round(&chip.bus, offers, count, fault, &out), "ccan_round");
+    if (out.kind == CCAN_SENT)
+        show_record("bus sent", out.object, &out.finished);
+    else if (out.kind == CCAN_RECEIVED && out.stored)
+        show_record("bus received", out.stored, &out.stored_record);
+    else if (out.kind == CCAN_RECEIVED)
+        printf("bus received none\n");
+    else if (out.kind == CCAN_LOOPED && out.stored) {
+        printf("bus looped %02u", (unsigned)out.object);
+        show_record("", out.stored, &out.stored_record);
+    } else if (out.kind == CCAN_LOOPED)
+        printf("bus looped %02u none\n", (unsigned)out.object);
+    else
+        printf("bus %s\n", kinds[out.kind]);
+}
+
+static void bus_call(const char *call)
+{
+    uint16_t word;
+    if (!strcmp(call, "load")) {
+        load();
+    } else if (!strcmp(call, "round")) {
+        play();
+    } else if (!strcmp(call, "status")) {
+        need(ccan_status(&chip.bus, &word), "ccan_status");
+        printf("bus status %04x\n", (unsigned)word);
+    } else if (!strcmp(call, "control")) {
+        uint32_t sie = (uint32_t)next_number(10), eie = (uint32_t)next_number(10);
+        need(ccan_control(&chip.bus, sie, eie), "ccan_control");
+        printf("bus control %u %u\n", (unsigned)sie, (unsigned)eie);
+    } else if (!strcmp(call, "interrupt")) {
+        need(ccan_bus_interrupt(&chip.bus, &word), "ccan_bus_interrupt");
+        printf("bus interrupt %04x\n", (unsigned)word);
+    } else if (!strcmp(call, "flags")) {
+        uint32_t flag = flag_next();
+        uint64_t shown;
+        need(ccan_bus_flags(&chip.bus, flag, &shown), "ccan_bus_flags");
+        show_flags("bus", flag, shown);
+    } else if (!strcmp(call, "counters")) {
+        uint32_t node = (uint32_t)next_number(10);
+        ccan_counts counts;
+        need(ccan_counters(&chip.bus, node, &counts), "ccan_counters");
+        printf("bus counters %u %u %u %s\n", (unsigned)node, (unsigned)counts.tec, (unsigned)counts.rec, states[counts.state]);
+    } else if (!strcmp(call, "init")) {
+        need(ccan_init(&chip.bus), "ccan_init");
+        printf("bus init\n");
+    } else if (!strcmp(call, "recessive")) {
+        uint32_t state;
+        need(ccan_recessive(&chip.bus, (uint32_t)next_number(10), &state), "ccan_recessive");
+        printf("bus recessive %s\n", states[state]);
+    } else {
+        uint32_t on = (uint32_t)next_number(10);
+        need(ccan_loop_back(&chip.bus, on), "ccan_loop_back");
+        printf("bus loopback %u\n", (unsigned)on);
+    }
+}
+
+int main(void)
+{
+    static char line[2048];
+    static ccan_final final;
+    unsigned profile, nodes, tries;
+    if (!fgets(line, sizeof line, stdin) || sscanf(line, "%u %u %u", &profile, &nodes, &tries) != 3)
+        return 2;
+    objects = profile == 2 ? 64 : 32;
+    need(ccan_open(&chip, profile, nodes, tries), "ccan_open");
+    while (fgets(line, sizeof line, stdin)) {
+        const char *port = strtok(line, " \n"), *call = next();
+        if (!strcmp(port, "bus"))
+            bus_call(call);
+        else
+            host_call(port, !strcmp(port, "if1") ? &chip.if1 : &chip.if2, call);
+    }
+    need(ccan_end(&chip, &final), "ccan_end");
+    for (uint32_t at = 0; at < final.objects; at++) {
+        static const ccan_record zero;
+        if (memcmp(&final.records[at], &zero, sizeof zero))
+            show_record("final", at + 1, &final.records[at]);
+    }
+    return 0;
+}
