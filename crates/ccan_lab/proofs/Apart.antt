@@ -1,55 +1,61 @@
 -- Lists and counts that grow place by place, and outcome by outcome.
-use Rattle.std.proofs.Common.{◌≡◌, ◌+◌, ◌++◌, ℕ, List, [], ◌∷◌, Bool, true, false, map, take, length, get_or, zero, suc, ◌<◌, refl, ap, sym, ◌∙◌, add-one, arith, ◌||◌, not, if◌then◌else◌, string_bytes, Global, String, Bor}
+use Rattle.std.proofs.Common.{◌≡◌, Option, Some, None, option_map, ◌+◌, ◌++◌, ℕ, List, [], ◌∷◌, Bool, true, false, map, filter, take, length, get_or, zero, suc, ◌<◌, refl, ap, sym, ◌∙◌, arith, ◌||◌, not, cond, append-nil, length-append, if◌then◌else◌, string_bytes, Global, String, Bor}
 use Rattle.ccan_line.specs.Script.{ScriptFields}
 use Rattle.ccan_outcomes.specs.declared.ending.Ending.{Ending}
-use Rattle.ccan_lab.specs.Observed.{IsFirstText, first_count, is_named, is_observed, is_place_up_to, is_repeat, marks_of, marks_up_to, observed_lines, observed_texts, text_at}
+use Rattle.ccan_lab.specs.Observed.{IsFirstText, first_count, is_named, is_observed, is_place, is_repeat, marks_of, observed_lines, observed_texts, text_at}
 use Rattle.ccan_lab.specs.Place.{place_name}
 use Rattle.ccan_lab.specs.Report.{IsOutcomeText}
 use Rattle.ccan_lab.specs.Rows.{rows_of}
-use Rattle.std.specs.List.{list_any}
+use Rattle.std.specs.List.{list_any, range_with_len}
+use Rattle.std.proofs.lemmas.List.Folds.{list_any-append}
+use Rattle.std.proofs.lemmas.List.FromFn.{filter_of_map_range_with_len_more, map-range_with_len_more}
+use Rattle.std.proofs.lemmas.Simd.{map-map}
 use Rattle.std.specs.Str.{bytes_eq}
 use Rattle.std.proofs.lemmas.Bool.{false≢true}
 use Rattle.std.proofs.lemmas.List.{take-map}
 use Rattle.clap.proofs.WalkLemmas.{list_any-map}
 
 -- the marks of the places so far, and that of one more
-pub marks_more : (list : List (List ℕ)) (if1 if2 bus place : ℕ) → marks_up_to list if1 if2 bus (place + 1)
-    ≡ marks_up_to list if1 if2 bus place ++ is_observed list if1 if2 bus place ∷ []
-unfolding marks_up_to
-marks_more list if1 if2 bus place = ap (λ n. marks_up_to list if1 if2 bus n) (add-one place)
+pub marks_more : (names : List (List ℕ)) (if1 if2 bus place : ℕ) → map (is_observed names if1 if2 bus) (range_with_len 0 (place + 1))
+    ≡ map (is_observed names if1 if2 bus) (range_with_len 0 place) ++ is_observed names if1 if2 bus place ∷ []
+marks_more names if1 if2 bus place = map-range_with_len_more (is_observed names if1 if2 bus) 0 place place (omega arith)
 
-pub marks_none : (list : List (List ℕ)) (if1 if2 bus : ℕ) → marks_up_to list if1 if2 bus 0 ≡ []
-unfolding marks_up_to
-marks_none list if1 if2 bus = refl
+any_one : (p : List ℕ → Bool) (name : List ℕ) → list_any p (name ∷ []) ≡ p name
+any_one p name = by (p name)
+  where
+    by : (b : Bool) → (b || false) ≡ b
+    by true = refl
+    by false = refl
 
 -- whether a word names one of the places so far, or one more
-pub place_more : (word : List ℕ) (if1 if2 bus place : ℕ) → is_place_up_to word if1 if2 bus (place + 1)
-    ≡ (is_place_up_to word if1 if2 bus place || bytes_eq word (place_name if1 if2 bus place))
-unfolding is_place_up_to
-place_more word if1 if2 bus place = ap (λ n. is_place_up_to word if1 if2 bus n) (add-one place)
-
-pub place_none : (word : List ℕ) (if1 if2 bus : ℕ) → is_place_up_to word if1 if2 bus 0 ≡ false
-unfolding is_place_up_to
-place_none word if1 if2 bus = refl
+pub place_more : (word : List ℕ) (if1 if2 bus place : ℕ) → is_place word if1 if2 bus (place + 1)
+    ≡ (is_place word if1 if2 bus place || bytes_eq word (place_name if1 if2 bus place))
+place_more word if1 if2 bus place =
+    let so_far = map (place_name if1 if2 bus) (range_with_len 0 place) in
+    ap (list_any (bytes_eq word)) (map-range_with_len_more (place_name if1 if2 bus) 0 place place (omega arith))
+    ∙ list_any-append (bytes_eq word) so_far (place_name if1 if2 bus place ∷ [])
+    ∙ ap (λ (b : Bool). list_any (bytes_eq word) so_far || b) (any_one (bytes_eq word) (place_name if1 if2 bus place))
 
 -- how many of the outcomes so far are first to show what they do, and with one more
 pub count_more : (texts : List (List ℕ)) (number : ℕ) → first_count texts (number + 1)
     ≡ (if is_repeat texts number then first_count texts number else first_count texts number + 1)
 unfolding first_count
-count_more texts number = ap (first_count texts) (add-one number)
+count_more texts number =
+    ap length (filter_of_map_range_with_len_more not (is_repeat texts) 0 number number (omega arith))
+    ∙ by (filter not (map (is_repeat texts) (range_with_len 0 number))) (is_repeat texts number)
+  where
+    by : (xs : List Bool) (b : Bool) → length (xs ++ cond (not b) (b ∷ []) []) ≡ (if b then length xs else length xs + 1)
+    by xs true = ap length (append-nil xs)
+    by xs false = length-append xs (false ∷ [])
 
 pub count_none : (texts : List (List ℕ)) → first_count texts 0 ≡ 0
 unfolding first_count
 count_none texts = refl
 
-pub map_map : {A B C : Type 0} (f : B → C) (g : A → B) (xs : List A) → map f (map g xs) ≡ map (λ x. f (g x)) xs
-map_map f g [] = refl
-map_map f g (x ∷ xs) = ap (λ ys. f (g x) ∷ ys) (map_map f g xs)
-
 -- what the outcomes show, by their lines
 pub texts_by_rows : (list : List (List ℕ)) (script : ScriptFields) (endings : List Ending)
     → map (observed_lines (marks_of list script)) (map rows_of endings) ≡ observed_texts list script endings
-texts_by_rows list script endings = map_map (observed_lines (marks_of list script)) rows_of endings
+texts_by_rows list script endings = map-map (observed_lines (marks_of list script)) rows_of endings
 
 -- the text in a place of a list of them
 pub text_in : (texts : List (String Global)) (number : ℕ) (d : String Global) → number < length texts
@@ -70,16 +76,11 @@ repeat_by texts number d within =
     ∙ ap (λ (t : List ℕ). list_any (λ text. bytes_eq text t) (take number (map string_bytes texts)))
     (sym (text_in texts number d within))
 
--- a first outcome's text, and none for a repeat
+-- a first outcome's text
 pub first_text : (repeat : Bool) (script : ScriptFields) (endings : List Ending) (lines : List ℕ) (number : ℕ) (added : List ℕ)
     → repeat ≡ false → IsOutcomeText script endings lines number added → IsFirstText repeat script endings lines number added
 first_text true script endings lines number added is text = absurd (false≢true (sym is))
 first_text false script endings lines number added is text = text
-
-pub repeat_text : (repeat : Bool) (script : ScriptFields) (endings : List Ending) (lines : List ℕ) (number : ℕ)
-    → repeat ≡ true → IsFirstText repeat script endings lines number []
-repeat_text true script endings lines number is = refl
-repeat_text false script endings lines number is = absurd (false≢true is)
 
 turned : (b : Bool) (count : ℕ) → (if not b then count + 1 else count) ≡ (if b then count else count + 1)
 turned true count = refl
@@ -93,6 +94,11 @@ count_by texts number count first so_far is =
     ap (λ (b : Bool). if b then count + 1 else count) is
     ∙ turned (is_repeat texts number) count
     ∙ ap (λ (n : ℕ). if is_repeat texts number then n else n + 1) so_far ∙ sym (count_more texts number)
+
+-- no name was found where none of its number was
+pub none_found : (found : Option ℕ) → None ≡ option_map (λ index. index + 1) found → found ≡ None
+none_found None is = refl
+none_found (Some index) is = absurd cc
 
 -- one of these names
 pub named_by : (names : List (Bor (List ℕ))) (name : List ℕ)

@@ -1,7 +1,7 @@
 -- A list of outcomes by the lines that are looked at. Source: this project's own.
-use Rattle.std.specs.Prelude.{ℕ, zero, suc, ◌≡◌, ◌+◌, ◌++◌, ◌∷◌, ◌==◌, ◌||◌, Bool, true, false, List, [], map, take, length}
+use Rattle.std.specs.Prelude.{ℕ, zero, suc, ◌≡◌, ◌+◌, ◌++◌, ◌==◌, ◌||◌, not, Bool, true, false, List, [], map, filter, take, length}
 use Rattle.std.specs.Prelude.{slice_get, unwrap_or, codes, decimal, if◌then◌else◌}
-use Rattle.std.specs.List.{list_any, slice_split}
+use Rattle.std.specs.List.{list_any, range_with_len, slice_split}
 use Rattle.std.specs.Str.{bytes_eq}
 use Rattle.ccan_object.specs.Profile.{objects_in}
 use Rattle.ccan_line.specs.Script.{ScriptFields}
@@ -25,19 +25,14 @@ abbrev pub is_observed : List (List ℕ) → ℕ → ℕ → ℕ → ℕ → Boo
 is_observed names if1 if2 bus place =
     is_named names (place_kind if1 if2 bus place) || is_named names (place_name if1 if2 bus place)
 
--- for each place, so many, whether it is looked at
-unfoldable pub marks_up_to : List (List ℕ) → ℕ → ℕ → ℕ → ℕ → List Bool
-marks_up_to names if1 if2 bus zero = []
-marks_up_to names if1 if2 bus (suc places) =
-    marks_up_to names if1 if2 bus places ++ is_observed names if1 if2 bus places ∷ []
-
 -- how many places the outcomes of a script have
 abbrev pub places_of : ScriptFields → ℕ
 places_of script = length script.if1 + length script.if2 + length script.bus + objects_in script.profile
 
+-- for each of them, whether it is looked at
 abbrev pub marks_of : List (List ℕ) → ScriptFields → List Bool
 marks_of names script =
-    marks_up_to names (length script.if1) (length script.if2) (length script.bus) (places_of script)
+    map (is_observed names (length script.if1) (length script.if2) (length script.bus)) (range_with_len 0 (places_of script))
 
 -- ---- what is shown of an outcome
 
@@ -64,9 +59,7 @@ is_repeat texts number = list_any (λ text. bytes_eq text (text_at texts number)
 
 -- how many of the outcomes before this number show what none before them does
 unfoldable pub first_count : List (List ℕ) → ℕ → ℕ
-first_count texts zero = 0
-first_count texts (suc number) =
-    if is_repeat texts number then first_count texts number else first_count texts number + 1
+first_count texts number = length (filter not (map (is_repeat texts) (range_with_len 0 number)))
 
 -- the first line: how many outcomes there are, in how many states, and how many can be told apart by what they show
 abbrev pub observed_heading : ℕ → ℕ → ℕ → List ℕ
@@ -103,13 +96,11 @@ is_kind word =
     bytes_eq word (codes "if1") || (bytes_eq word (codes "if2") || (bytes_eq word (codes "bus") || bytes_eq word (codes "final")))
 
 -- the name of one of so many places
-unfoldable pub is_place_up_to : List ℕ → ℕ → ℕ → ℕ → ℕ → Bool
-is_place_up_to word if1 if2 bus zero = false
-is_place_up_to word if1 if2 bus (suc places) =
-    is_place_up_to word if1 if2 bus places || bytes_eq word (place_name if1 if2 bus places)
+abbrev pub is_place : List ℕ → ℕ → ℕ → ℕ → ℕ → Bool
+is_place word if1 if2 bus places = list_any (bytes_eq word) (map (place_name if1 if2 bus) (range_with_len 0 places))
 
 -- the word names lines or objects of the script
 abbrev pub is_known : ScriptFields → List ℕ → Bool
 is_known script word =
     is_kind word
-    || is_place_up_to word (length script.if1) (length script.if2) (length script.bus) (places_of script)
+    || is_place word (length script.if1) (length script.if2) (length script.bus) (places_of script)

@@ -1,5 +1,7 @@
 -- What the words of the command line ask, by what `clap` found of them. Source: this project's own.
-use Rattle.std.specs.Prelude.{ℕ, ◌≡◌, List, Option, Some, None}
+use Rattle.std.specs.Prelude.{ℕ, ◌≡◌, List, Option, Some, None, map, not, position}
+use Rattle.ccan_line.specs.Script.{ScriptFields}
+use Rattle.ccan_lab.specs.Observed.{is_known, names_in}
 use Rattle.ccan_lab.specs.declared.asked.Asked.{Asked}
 use Rattle.ccan_lab.specs.declared.asked.Asked.TheVariants.{Summary, All, Can, Never, Observed}
 
@@ -26,6 +28,14 @@ IsObserving list Summary = ⊥
 IsObserving list All = ⊥
 IsObserving list (Can begin) = ⊥
 IsObserving list (Never begin) = ⊥
+
+-- each name of what is to be looked at is that of lines or objects of the script
+abbrev pub AreKnown : ScriptFields → Asked → Type 0
+AreKnown script (Observed names) = position not (map (is_known script) (names_in names.now)) ≡ None
+AreKnown script Summary = Unit {0}
+AreKnown script All = Unit {0}
+AreKnown script (Can begin) = Unit {0}
+AreKnown script (Never begin) = Unit {0}
 
 -- what is asked without --all, by the line of --can, that of --never, and the names of --observe
 abbrev pub AsksBy : Option (List ℕ) → Option (List ℕ) → Option (List ℕ) → Asked → Type 0

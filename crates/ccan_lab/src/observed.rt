@@ -1,12 +1,12 @@
 //! A list of the outcomes that can be told apart by some of their lines.
 ghost use Rattle.std.specs.Prelude.{◌≡◌, ◌+◌, ◌^◌, ◌<◌, ◌++◌, List, ℕ, IfOk, OnOk, length, map, not, option_map, position};
 ghost use Rattle.std.specs.Prelude.{string_bytes};
-ghost use Rattle.std.specs.List.{list_any};
+ghost use Rattle.std.specs.List.{list_any, range_with_len};
 ghost use Rattle.std.specs.Str.{bytes_eq};
 ghost use Rattle.ccan_line.specs.Script.{fields_of};
 ghost use Rattle.ccan_outcomes.specs.Outcomes.{AreFound};
 ghost use Rattle.ccan_lab.specs.Observed.{AreFirstTexts, IsFirstText, IsObservedListing, first_count, is_kind, is_known};
-ghost use Rattle.ccan_lab.specs.Observed.{is_observed, is_place_up_to, is_repeat, marks_up_to, names_in, text_at};
+ghost use Rattle.ccan_lab.specs.Observed.{is_observed, is_place, is_repeat, names_in, text_at};
 ghost use Rattle.ccan_lab.specs.Observed.{observed_heading, observed_line, observed_lines, places_of};
 ghost use Rattle.ccan_lab.specs.Rows.{rows_of};
 
@@ -71,7 +71,7 @@ fn is_observed(
 }
 
 /// For each of so many places whether it is looked at.
-#[tactic(auto, using(crate::proofs::Apart::marks_none, crate::proofs::Apart::marks_more))]
+#[tactic(auto, using(crate::proofs::Apart::marks_more))]
 fn marks_up_to(
     alloc: Global,
     names: &[&str],
@@ -79,8 +79,8 @@ fn marks_up_to(
     places: usize,
 ) -> Result<Vec<bool>, AllocError>
     ensures { IfOk result (λ marks. marks.items
-        ≡ marks_up_to (map (λ name. name.now) names.now)
-        counts.now.if1 counts.now.if2 counts.now.bus places) }
+        ≡ map (is_observed (map (λ name. name.now) names.now)
+        counts.now.if1 counts.now.if2 counts.now.bus) (range_with_len 0 places)) }
 {
     let mut marks = Vec::new(alloc);
     for place in 0..places {
@@ -279,30 +279,30 @@ fn is_kind(word: &str) -> bool
 }
 
 /// Whether a word is the name of one of so many places.
-#[tactic(auto, using(crate::proofs::Apart::place_none, crate::proofs::Apart::place_more))]
-fn is_place_up_to(
+#[tactic(auto, using(crate::proofs::Apart::place_more))]
+fn is_place(
     alloc: Global,
     word: &str,
     counts: &LineCounts,
     places: usize,
 ) -> Result<bool, AllocError>
     ensures { IfOk result (λ is. is
-        ≡ is_place_up_to word.now counts.now.if1 counts.now.if2 counts.now.bus places) }
+        ≡ is_place word.now counts.now.if1 counts.now.if2 counts.now.bus places) }
 {
-    let mut is_place = false;
+    let mut is_found = false;
     for place in 0..places {
         let mut name = String::new(alloc);
         add_place_name(&mut name, counts, place)?;
-        is_place = is_place || word == name.as_str();
+        is_found = is_found || word == name.as_str();
     }
-    Ok(is_place)
+    Ok(is_found)
 }
 
 /// Whether a word names lines or objects of the script.
 fn is_known(alloc: Global, script: &Script, word: &str) -> Result<bool, AllocError>
     ensures { IfOk result (λ is. is ≡ is_known (fields_of script.now) word.now) }
 {
-    let is_place = is_place_up_to(alloc, word, &counts_of(script), places_of(script))?;
+    let is_place = is_place(alloc, word, &counts_of(script), places_of(script))?;
     Ok(is_kind(word) || is_place)
 }
 

@@ -1,8 +1,9 @@
 //! The question `ccan-lab outcomes`: its words, and its answer.
 
-ghost use Rattle.std.specs.Prelude.{◌≡◌, codes, option_map};
+ghost use Rattle.std.specs.Prelude.{◌≡◌, IfOk, codes, option_map};
 ghost use Rattle.clap.specs.Words.{first_value, found_of, one_text};
-ghost use Rattle.ccan_lab.specs.Question.{AsksBy};
+ghost use Rattle.ccan_line.specs.Script.{fields_of};
+ghost use Rattle.ccan_lab.specs.Question.{AreKnown, AsksBy};
 
 use crate::answer::answer_of;
 use crate::asked::Asked;
@@ -144,7 +145,10 @@ pub fn outcomes_question<'a>(words: &ArgMatches<'a>) -> OutcomesQuestion<'a>
 }
 
 /// Refuses names to be observed that are those of no line and no object of the script.
-fn refuse_unknown(alloc: Global, script: &Script, asked: Asked<'_>) -> Result<(), LabError> {
+#[tactic(auto, using(crate::proofs::Apart::none_found))]
+fn refuse_unknown(alloc: Global, script: &Script, asked: Asked<'_>) -> Result<(), LabError>
+    ensures { IfOk result (λ done. AreKnown (fields_of script.now) asked.entry) }
+{
     let Asked::Observed(names) = asked else {
         return Ok(());
     };

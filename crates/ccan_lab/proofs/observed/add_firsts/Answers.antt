@@ -7,7 +7,11 @@ use Rattle.ccan_lab.proofs.observed.add_firsts.Goals as goal
 use Rattle.ccan_lab.proofs.observed.add_firsts.Goals.{then-branch, else-branch}
 
 pub loop-number-init : goal.loop-number-init
-loop-number-init c = (le_refl 0, sym (count_none (map string_bytes c.args.texts.now)), ([], sym (append-nil (string_bytes c.args.text.now)), refl))
+loop-number-init c = (
+  le_refl 0,
+  sym (count_none (map string_bytes c.args.texts.now)),
+  ([], sym (append-nil (string_bytes c.args.text.now)), refl),
+)
 
 pub loop-number-preserved : goal.loop-number-preserved
 loop-number-preserved c =
@@ -17,7 +21,6 @@ loop-number-preserved c =
     let number = c.loop-number.number in
     let count = c.loop-number.count in
     let first = c.in_ok-add_if_first.field-0 in
-    let few = c.loop-number.invariant.0 in
     let so_far = c.loop-number.invariant.2 in
     let last = c.in_ok-add_if_first.ensures.text.0 in
     let counted : c.if-branch.count ≡ (if first then count + 1 else count) =

@@ -1,6 +1,7 @@
 use Rattle.std.proofs.Common.{◌≡◌, ◌++◌, ℕ, List, length, map, ap, ◌∙◌, subst, string_bytes, rules}
+use Rattle.std.specs.List.{range_with_len}
 use Rattle.ccan_line.specs.Script.{fields_of}
-use Rattle.ccan_lab.specs.Observed.{AreFirstTexts, first_count, marks_of, names_in, observed_heading, observed_lines, observed_texts}
+use Rattle.ccan_lab.specs.Observed.{AreFirstTexts, first_count, is_observed, marks_of, names_in, observed_heading, observed_lines, observed_texts}
 use Rattle.ccan_lab.proofs.Apart.{texts_by_rows}
 use Rattle.ccan_lab.proofs.observed.observed_listing.Goals as goal
 
@@ -11,7 +12,20 @@ returns c =
     let names = names_in c.args.list.now in
     let count = length keys in
     let texts = map string_bytes c.in_ok-texts.texts.items in
-    let marks_are : c.in_ok-marks.marks.items ≡ marks_of names script = search rules in
+    let k = c.counts_of.result in
+    let p = c.places_of.result in
+    let if1 = length script.if1 in
+    let if2 = length script.if2 in
+    let bus = length script.bus in
+    let names_are : map (λ name. name.now) c.as_slice.result.now ≡ names =
+    ap (map (λ name. name.now)) c.as_slice.ensures.value ∙ c.in_ok-names.ensures in
+    let marks_are : c.in_ok-marks.marks.items ≡ marks_of names script =
+    c.in_ok-marks.ensures
+    ∙ ap (λ (all : List (List ℕ)). map (is_observed all k.if1 k.if2 k.bus) (range_with_len 0 p)) names_are
+    ∙ ap (λ (n : ℕ). map (is_observed names n k.if2 k.bus) (range_with_len 0 p)) c.counts_of.ensures.if1
+    ∙ ap (λ (n : ℕ). map (is_observed names if1 n k.bus) (range_with_len 0 p)) c.counts_of.ensures.if2
+    ∙ ap (λ (n : ℕ). map (is_observed names if1 if2 n) (range_with_len 0 p)) c.counts_of.ensures.bus
+    ∙ ap (λ (n : ℕ). map (is_observed names if1 if2 bus) (range_with_len 0 n)) c.places_of.ensures in
     let by_marks : texts ≡ map (observed_lines c.in_ok-marks.marks.items) c.args.all.now = search rules in
     let texts_are : texts ≡ observed_texts names script keys =
     by_marks ∙ ap (λ marks. map (observed_lines marks) c.args.all.now) marks_are
