@@ -18,3 +18,4 @@ pub mod LoopLaws
 pub mod LoadLaws
 pub mod ArbitrationLaws
 pub mod OffLaws
+pub mod Controllers

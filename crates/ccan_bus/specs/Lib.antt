@@ -13,4 +13,5 @@ pub mod Decision
 pub mod Decide
 pub mod Complete
 pub mod RoundReport
+pub mod Controller
 pub mod Laws

@@ -27,6 +27,7 @@ pub mod bus;
 pub mod choice;
 mod complete;
 mod contenders;
+mod controller;
 mod decide;
 pub mod decision;
 pub mod laws;

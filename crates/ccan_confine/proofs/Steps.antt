@@ -6,7 +6,7 @@ use Rattle.std.proofs.lemmas.List.Sums.{sum_by-cons}
 use Rattle.ccan_confine.specs.Counters.{Levels, is_off, levels_after, NodeEvent, Bus, Groups, ClearInit, groups_of, groups_in}
 use Rattle.ccan_confine.specs.Counters.{clears_init, is_clearing, levels_of, since_off, since_clearing, counted}
 use Rattle.ccan_confine.specs.Counters.{groups_to_return, is_back, life_of, Counts, counts_in_life, counts_of, new_counts}
-use Rattle.ccan_confine.specs.Counters.{is_recovering}
+use Rattle.ccan_confine.specs.Counters.{faults_to_off, is_recovering}
 
 -- what an event makes of the levels of a life
 abbrev pub levels_by : NodeEvent → Levels → Levels
@@ -175,6 +175,12 @@ pub counts-none : (host : Bool) → counts_of host [] ≡ new_counts host
 unfolding counts_of life_of since_off since_clearing levels_of
 counts-none true = refl
 counts-none false = refl
+
+-- a new controller after the faults that lead it off
+pub counts-off : record { host = true; levels = record { tec = 256; rec = 0 }; init_cleared = false; groups = 0 }
+    ≡ counts_of true faults_to_off
+unfolding counts_of life_of since_off since_clearing levels_of
+counts-off = refl
 
 -- the counters after a list with an event added, where that brings the node back, and where it doesn't
 pub counts-back : (host : Bool) (event : NodeEvent) (events : List NodeEvent)

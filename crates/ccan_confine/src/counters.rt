@@ -2,7 +2,7 @@ ghost use Rattle.std.specs.Prelude.{◌≡◌, ℕ, ◌+◌, ◌-◌, ◌<◌, �
 ghost use Rattle.ccan_confine.specs.Counters.{NodeEvent, Bus, Groups, ClearInit, reaches, is_off, by_table, state_of};
 ghost use Rattle.ccan_confine.specs.Counters.{passive_limit, rec_after_passive, groups_to_return, levels_after_all};
 ghost use Rattle.ccan_confine.specs.Counters.{is_recovering_after, AreAfter, AddsEvent, new_counts, counts_after};
-ghost use Rattle.ccan_confine.specs.Counters.{counts_cleared, is_recovering, most_rec, off_limit, send_fault_step};
+ghost use Rattle.ccan_confine.specs.Counters.{counts_cleared, faults_to_off, is_recovering, most_rec, off_limit, send_fault_step};
 
 use crate::bus_event::BusEvent;
 use crate::node_state::NodeState;
@@ -68,6 +68,20 @@ impl Counters {
         Counters {
             host,
             tec: 0,
+            rec: 0,
+            init_cleared: false,
+            groups: 0,
+        }
+    }
+
+    /// The controller as faults of its own frames alone lead it off: TEC is 256, and Init was not cleared since.
+    pub fn gone_off() -> Counters
+        ensures off { is_off result.levels ≡ true }
+        ensures listed { AreAfter true faults_to_off result }
+    {
+        Counters {
+            host: true,
+            tec: OFF,
             rec: 0,
             init_cleared: false,
             groups: 0,

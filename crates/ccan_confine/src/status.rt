@@ -3,7 +3,7 @@ ghost use Rattle.ccan_confine.specs.StatusEvent.{HasFaultCode};
 ghost use Rattle.ccan_confine.specs.Counters.{Levels, is_off, reaches};
 ghost use Rattle.ccan_confine.specs.Status.{StatusStep, Happened, Enabled, WasRead, IsPending, IsHeldAfter, AddsStep};
 ghost use Rattle.ccan_confine.specs.Status.{nothing_held, warning_limit, raises, held_after, word_held, word_after};
-ghost use Rattle.ccan_confine.specs.Status.{word_of};
+ghost use Rattle.ccan_confine.specs.Status.{lec_of, word_of};
 
 use crate::counters::{Counters, PASSIVE};
 use crate::status_event::StatusEvent;
@@ -101,8 +101,8 @@ impl Status {
         ensures listed { AddsStep (Happened event counters.now.levels) self.old self.new }
     {
         self.pending = self.pending || self.is_raised(event, counters);
-        self.tx_ok = self.tx_ok || event == StatusEvent::Sent;
-        self.rx_ok = self.rx_ok || event == StatusEvent::Received;
+        self.tx_ok = self.tx_ok || event.is_sent();
+        self.rx_ok = self.rx_ok || event.is_received();
         self.lec = event.code().unwrap_or(self.lec);
         self.boff = counters.is_off();
         self.ewarn = counters.reaches(WARNING);
@@ -138,6 +138,16 @@ impl Status {
             → (IsTrue result ↔ IsPending steps) }
     {
         self.pending
+    }
+
+    /// LEC, the last error code: 0 none, 1 stuff, 2 form, 3 acknowledgement, 4 bit 1, 5 bit 0, 6 CRC.
+    pub fn lec(&self) -> u8
+        ensures value { result ≡ self.now.lec }
+        ensures in_range { result ≤ 6 }
+        ensures listed { (steps : List StatusStep) → IsHeldAfter steps self.now
+            → result ≡ lec_of steps }
+    {
+        self.lec
     }
 
     fn word(&self, counters: &Counters) -> u16

@@ -1,5 +1,5 @@
 ghost use Rattle.std.specs.Prelude.{◌≡◌};
-ghost use Rattle.ccan_confine.specs.StatusEvent.{code_of, is_transfer_or_error};
+ghost use Rattle.ccan_confine.specs.StatusEvent.{code_of, is_received, is_sent, is_transfer_or_error};
 
 /// What happens to the Status register of the controller (C_CAN User's Manual 1.2, "Status Register"). Each is given
 /// with the error counters as they are after it, since BOff and EWarn follow them.
@@ -9,6 +9,8 @@ pub enum StatusEvent {
     Sent,
     /// It received a frame, whether a message object accepts it or not: sets RxOk, and LEC to 0.
     Received,
+    /// In loop back mode it sent a frame and received it: sets TxOk and RxOk, and LEC to 0.
+    Looped,
     /// An error on the bus, with its last error code, which becomes LEC: 1 stuff, 2 form, 3 acknowledgement, 4 bit 1,
     /// 5 bit 0, 6 CRC.
     Fault(u8),
@@ -25,11 +27,25 @@ impl StatusEvent {
         ensures { result ≡ code_of self }
     {
         match self {
-            StatusEvent::Sent | StatusEvent::Received => Some(0),
+            StatusEvent::Sent | StatusEvent::Received | StatusEvent::Looped => Some(0),
             StatusEvent::Fault(code) => Some(code),
             StatusEvent::Recovery => Some(5),
             StatusEvent::Level => None,
         }
+    }
+
+    // Whether the controller sent a frame.
+    pub(crate) fn is_sent(self) -> bool
+        ensures { result ≡ is_sent self }
+    {
+        matches!(self, StatusEvent::Sent | StatusEvent::Looped)
+    }
+
+    // Whether it received one.
+    pub(crate) fn is_received(self) -> bool
+        ensures { result ≡ is_received self }
+    {
+        matches!(self, StatusEvent::Received | StatusEvent::Looped)
     }
 
     // Whether a message transfer ended or a bus error came.
@@ -38,7 +54,7 @@ impl StatusEvent {
     {
         matches!(
             self,
-            StatusEvent::Sent | StatusEvent::Received | StatusEvent::Fault(_)
+            StatusEvent::Sent | StatusEvent::Received | StatusEvent::Looped | StatusEvent::Fault(_)
         )
     }
 }

@@ -66,8 +66,8 @@ impl StatusFlags {
         ensures { result ≡ flags_after event self }
     {
         StatusFlags {
-            tx_ok: self.tx_ok || event == StatusEvent::Sent,
-            rx_ok: self.rx_ok || event == StatusEvent::Received,
+            tx_ok: self.tx_ok || event.is_sent(),
+            rx_ok: self.rx_ok || event.is_received(),
             lec: event.code().unwrap_or(self.lec),
         }
     }
