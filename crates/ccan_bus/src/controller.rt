@@ -1,7 +1,7 @@
 //! A controller whose registers stand outside of the bus: they are told to the bus before a round, and what the round was
 //! to them is read off the bus afterwards.
 
-ghost use Rattle.std.specs.Prelude.{◌≡◌, None, List, true};
+ghost use Rattle.std.specs.Prelude.{◌≡◌, ◌≤◌, None, List, true};
 ghost use Rattle.ccan_confine.specs.Counters.{AreAfter, NodeEvent};
 ghost use Rattle.ccan_confine.specs.Status.{lec_of};
 ghost use Rattle.ccan_bus.specs.Controller.{with_controller};
@@ -38,7 +38,8 @@ impl Bus {
     /// LEC of the Status register, the last error code: 0 none, 1 stuff, 2 form, 3 acknowledgement, 4 bit 1, 5 bit 0,
     /// 6 CRC.
     pub fn last_error(&self) -> u8
-        ensures { (past : BusPast) → LedTo past self.now → result ≡ lec_of past.steps }
+        ensures listed { (past : BusPast) → LedTo past self.now → result ≡ lec_of past.steps }
+        ensures in_range { result ≤ 6 }
     {
         self.status.lec()
     }

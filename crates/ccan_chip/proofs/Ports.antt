@@ -1,0 +1,53 @@
+-- What a port of a chip has seen, before and after its steps.
+use Rattle.std.proofs.Common.{ℕ, ◌≡◌, [], refl, sym, ap, subst, true}
+use Rattle.std.specs.Prelude.{Result, Ok, Err, IfOk, IfErr, Option, Some}
+use Rattle.ccan_confine.specs.declared.bus_event.BusEvent.{BusEvent}
+use Rattle.ccan_confine.specs.declared.controller.Controller.{Controller}
+use Rattle.ccan_confine.specs.declared.controller_change.ControllerChange.TheVariants.{Frame}
+use Rattle.ccan_confine.specs.declared.status_event.StatusEvent.{StatusEvent}
+use Rattle.ccan_confine.specs.Controller.{IsController, controller_after}
+use Rattle.ccan_confine.specs.Counters.{AreAfter}
+use Rattle.ccan_endless.specs.declared.chip.ControllerStep.TheVariants.{Look, Make}
+use Rattle.ccan_endless.specs.declared.controller_changed.ControllerBusy.{ControllerBusy}
+use Rattle.ccan_endless.specs.declared.controller_changed.ControllerChanged.{ControllerChanged}
+use Rattle.ccan_endless.specs.Chip.{controller_at}
+use Rattle.ccan_endless.specs.ChipPort.{AddsController, AddsNone, ChipPass, HasChanges, SeesOne}
+use Rattle.ccan_endless.proofs.ChipLaws.{chip_counters}
+use Rattle.ccan_chip.specs.Round.{IsNoted, Notes, events_in}
+
+-- a port as it stands goes on from itself
+pub none_yet : (port : ChipPass) → SeesOne port → AddsNone port port
+none_yet port sees =
+    record {
+      same = record { memory = refl; port = refl };
+      from = sees;
+      to = sees;
+      part = ([], refl);
+      own = refl;
+    }
+
+-- the counters of a controller that a look found are those of what it went through
+pub counters_found : (old new : ChipPass) (found : Controller) → AddsController old new Look found
+    → AreAfter true (events_in new.whole) found.counters
+counters_found old new found looks =
+    subst (λ (c : Controller). AreAfter true (events_in new.whole) c.counters) (ap controller_at looks.whole)
+    (chip_counters new.whole looks.to.legal)
+
+-- how a change of the controller ends
+pub noted_of : (own : BusEvent × StatusEvent) (tries : ℕ) (old new : ChipPass) (outcome : Result ControllerChanged ControllerBusy)
+    → IfOk outcome (λ made. AddsController old new (Make (Frame own.0 own.1)) made.before)
+    → IfOk outcome (λ made. made.after ≡ controller_after (Frame own.0 own.1) made.before)
+    → IfErr outcome (λ busy. (busy.controller ≡ controller_at new.whole) × IsController busy.controller × AddsNone old new)
+    → IfErr outcome (λ busy. (busy.tries ≡ tries) × HasChanges tries old.whole new.whole)
+    → IsNoted own tries old new outcome
+noted_of own tries old new (Ok made) adds after busy lost = (adds, after)
+noted_of own tries old new (Err busy) adds after none lost = (none.2, lost.1, lost.0)
+
+-- so the round's event ends
+pub notes_some : (own : BusEvent × StatusEvent) (tries : ℕ) (old new new' : ChipPass)
+    (outcome : Result ControllerChanged ControllerBusy) (any : Option (BusEvent × StatusEvent))
+    (told : Option (Result ControllerChanged ControllerBusy)) → any ≡ Some own → new' ≡ new → told ≡ Some outcome
+    → IsNoted own tries old new outcome → Notes any tries old new' told
+notes_some own tries old new new' outcome any told is port is_told noted =
+    subst (λ (u : Option (BusEvent × StatusEvent) × ChipPass × Option (Result ControllerChanged ControllerBusy)).
+    Notes u.0 tries old u.1 u.2) (λ i. (sym is i, sym port i, sym is_told i)) noted

@@ -1,0 +1,61 @@
+-- The look tells what the controller is; the bus takes it; its steps go on from there, with no step at the controller; and what
+-- they were to the controller is made there.
+use Rattle.std.proofs.Common.{refl, sym, subst, ◌∙◌}
+use Rattle.ccan_ram.specs.declared.port.PortName.{PortName}
+use Rattle.ccan_ram.specs.SharedRam.{Memory, terms_of}
+use Rattle.ccan_confine.specs.declared.bus_event.BusEvent.{BusEvent}
+use Rattle.ccan_confine.specs.declared.status_event.StatusEvent.{StatusEvent}
+use Rattle.ccan_bus.specs.Controller.{WasTo}
+use Rattle.ccan_bus.specs.RoundReport.{RunsSteps}
+use Rattle.ccan_endless.specs.Layout.{same_object}
+use Rattle.ccan_chip.specs.Round.{as_found, events_in}
+use Rattle.ccan_chip.proofs.Ports.{counters_found, none_yet, noted_of, notes_some}
+use Rattle.ccan_chip.proofs.Rounds.{found_on, runs_to}
+use Rattle.ccan_chip.proofs.chip_bus.ChipBus.round.Goals.{in-None, in-Some}
+use Rattle.ccan_chip.proofs.chip_bus.ChipBus.round.Goals as goal
+
+pub own_in-own-requires : goal.own_in-own-requires
+own_in-own-requires c = c.last_error.ensures.in_range
+
+pub returns-clause-round : goal.returns-clause-round
+returns-clause-round c past led =
+    let looks = c.look_controller-found.ensures.looks in
+    let looked = c.look_controller-found.new.port in
+    let found = c.look_controller-found.result in
+    let between = c.steps-report.result.1 in
+    let report = c.steps-report.result.0 in
+    let events = events_in looked.whole in
+    let counts = counters_found c.args.port looked found looks in
+    let there = c.take.ensures.takes past events led counts in
+    let goes = c.steps-report.ensures.goes_on.each looked.pass.seen (refl, c.look_controller-found.ensures.objects.sees) in
+    let ran = goes.2.each (as_found found events past) there in
+    let runs = subst (λ (u : Memory × PortName). RunsSteps (terms_of same_object u.0 u.1) c.args.line.now c.args.tries
+    looked.pass.seen goes.0 (as_found found events past) ran.0 report)
+    (λ i. (looks.same.memory i, (looks.same.port ∙ c.requires.bus) i)) ran.2 in
+    let was = runs_to _ c.args.line.now c.args.tries looked.pass.seen goes.0 (as_found found events past) ran.0 report
+    c.last_error.result (c.last_error.ensures.listed ran.0 ran.1) runs c.takes_part.result
+    (found_on found events past counts ∙ sym c.takes_part.ensures) in
+    (
+      ran.0,
+      ran.1,
+      record {
+        looked = looked;
+        looks = looks;
+        between = between;
+        rests = c.steps-report.ensures.none;
+        added = goes.0;
+        adds = sym goes.1.0;
+        runs = runs;
+        own = subst (λ o. WasTo o (as_found found events past) ran.0) (sym c.own_in-own.ensures.is) was;
+        notes = elim c.match-own.branch [
+          | in-None w ↦
+              rw (w.in-None.is, w.port-is, w.noted-is) (none_yet between c.steps-report.ensures.none.to, refl)
+          | in-Some w ↦
+              let e = w.change_controller.ensures in
+              let own : BusEvent × StatusEvent = (w.in-Some.event, w.in-Some.status) in
+              let new = w.change_controller.new.port in
+              notes_some own c.args.tries between new _ w.change_controller.result _ _ w.in-Some.is w.port-is w.noted-is
+              (noted_of own c.args.tries between new w.change_controller.result e.made e.after e.busy e.lost)
+        ];
+      },
+    )

@@ -1,0 +1,100 @@
+-- Rounds of a chip whose controller's registers stand beside its objects, where any port may change them at any time. Source:
+-- C_CAN User's Manual 1.2, "CAN Control Register" (Init), "Test Register" (LBack) and section 4.2 (message handling). That a
+-- round looks at the controller once, before all else, and makes its event there after the memory steps, is this project's own.
+use Rattle.std.specs.Prelude.{ℕ, ◌≡◌, ◌==◌, Bool, false, ◌&&◌, not, List, ◌++◌, Option, Some, None, Result, Ok, Err, if◌then◌else◌}
+use Rattle.ccan_ram.specs.declared.event.Event.{Event}
+use Rattle.ccan_ram.specs.Terms.{Terms}
+use Rattle.ccan_confine.specs.declared.bus_event.BusEvent.{BusEvent}
+use Rattle.ccan_confine.specs.declared.bus_event.BusEvent.TheVariants as event
+use Rattle.ccan_confine.specs.declared.controller.Controller.{Controller}
+use Rattle.ccan_confine.specs.declared.controller_change.ControllerChange.TheVariants.{Frame}
+use Rattle.ccan_confine.specs.declared.status_event.StatusEvent.{StatusEvent}
+use Rattle.ccan_confine.specs.declared.status_event.StatusEvent.TheVariants as status
+use Rattle.ccan_confine.specs.Controller.{controller_after}
+use Rattle.ccan_confine.specs.ControllerLaws.{node_events}
+use Rattle.ccan_confine.specs.Counters.{NodeEvent, faults_to_off, is_off}
+use Rattle.ccan_bus.specs.declared.decision.Decision.{Decision}
+use Rattle.ccan_bus.specs.declared.decision.Decision.TheVariants as decision
+use Rattle.ccan_bus.specs.declared.round_line.RoundLine.{RoundLine}
+use Rattle.ccan_bus.specs.Controller.{WasTo, with_controller}
+use Rattle.ccan_bus.specs.Past.{BusPast}
+use Rattle.ccan_bus.specs.RoundReport.{RunsSteps}
+use Rattle.ccan_endless.specs.declared.chip.ControllerStep.TheVariants.{Look, Make}
+use Rattle.ccan_endless.specs.declared.controller_changed.ControllerChanged.{ControllerChanged}
+use Rattle.ccan_endless.specs.declared.controller_changed.ControllerBusy.{ControllerBusy}
+use Rattle.ccan_endless.specs.Chip.{ChipHistory}
+use Rattle.ccan_endless.specs.ChipLaws.{changes_in}
+use Rattle.ccan_endless.specs.ChipPort.{AddsController, AddsNone, ChipPass, HasChanges}
+use Rattle.ccan_chip.specs.declared.chip_report.ChipReport.{ChipReport}
+
+-- the controller takes part in what is on the bus: its software initialization is over, and it is not bus off
+abbrev pub takes_part : Controller → Bool
+takes_part c = not c.control.init && not (is_off c.counters.levels)
+
+-- loop back mode: LBack of the Test register counts where Test of the Control register is 1
+abbrev pub loops_back : Controller → Bool
+loops_back c = c.control.test && c.test.lback
+
+-- The past of the bus as a round finds it, where the look showed this controller and it had these events: a controller that
+-- takes no part is to the bus as one that is off, and nothing is loaded then.
+abbrev pub as_found : Controller → List NodeEvent → BusPast → BusPast
+as_found c events past =
+    if takes_part c then with_controller events (loops_back c) past
+    else record (with_controller faults_to_off false past) { loaded = None }
+
+-- what the controller's error counters went through
+abbrev pub events_in : ChipHistory → List NodeEvent
+events_in whole = node_events (changes_in whole)
+
+-- the sender's event, or that of those who listen
+abbrev pub fault_of : Bool → BusEvent
+fault_of sends = if sends then event.SendFault else event.ReceiveFault
+
+-- a fault with its last error code, where there is one
+abbrev pub faulted : Bool → ℕ → Option (BusEvent × StatusEvent)
+faulted sends lec = if lec == 0 then None else Some (fault_of sends, status.Fault lec)
+
+-- what a decision is to the registers of a controller that takes part, where it leaves this last error code: that of a bit is
+-- left in a collision to those who sent alone
+abbrev pub own_of : Decision → ℕ → Option (BusEvent × StatusEvent)
+own_of decision.Idle lec = None
+own_of decision.Collision lec = faulted (lec == 4) lec
+own_of (decision.Fault winner frame) lec = faulted (winner == 0) lec
+own_of (decision.NoAck winner frame) lec = Some (event.SendNoAck, status.Fault 3)
+own_of (decision.Finish object frame) lec = Some (event.Sent, status.Sent)
+own_of (decision.Receipt winner frame) lec = Some (event.Received, status.Received)
+own_of (decision.Passed winner frame) lec = None
+own_of (decision.LoopBack object frame) lec = Some (event.Sent, status.Looped)
+
+-- what a round is to the registers of a controller, by what was decided, if anything was
+abbrev pub own_in : Bool → Option Decision → ℕ → Option (BusEvent × StatusEvent)
+own_in takes None lec = None
+own_in takes (Some decided) lec = if takes then own_of decided lec else None
+
+-- the round's event is made at the controller as it is then, or each try was lost to a change of another port
+abbrev pub IsNoted : (BusEvent × StatusEvent) → ℕ → ChipPass → ChipPass → Result ControllerChanged ControllerBusy → Type 0
+IsNoted own tries old new (Ok made) =
+    AddsController old new (Make (Frame own.0 own.1)) made.before × (made.after ≡ controller_after (Frame own.0 own.1) made.before)
+IsNoted own tries old new (Err busy) = AddsNone old new × HasChanges tries old.whole new.whole × (busy.tries ≡ tries)
+
+-- the end of a round at the controller: its event, if it has one
+abbrev pub Notes : Option (BusEvent × StatusEvent) → ℕ → ChipPass → ChipPass → Option (Result ControllerChanged ControllerBusy)
+    → Type 0
+Notes None tries old new told = AddsNone old new × (told ≡ None)
+Notes (Some own) tries old new None = ⊥
+Notes (Some own) tries old new (Some outcome) = IsNoted own tries old new outcome
+
+-- A round: a look at the controller; then a load, a decision and the memory steps that are due, as the bus is with that
+-- controller; and last what all this was to the controller, as one change of it. Between, its port makes no other step there.
+pub record ChipRound (terms : Terms) (line : RoundLine) (tries : ℕ) (old new : ChipPass) (past after : BusPast)
+    (told : ChipReport) : Type 0 where
+  pub looked : ChipPass
+  pub looks : AddsController old looked Look told.found
+  pub between : ChipPass
+  pub rests : AddsNone looked between
+  pub added : List Event
+  pub adds : between.pass.seen ≡ added ++ looked.pass.seen
+  pub runs : RunsSteps terms line tries looked.pass.seen added (as_found told.found (events_in looked.whole) past) after
+      told.report
+  pub own : WasTo told.own (as_found told.found (events_in looked.whole) past) after
+  pub notes : Notes told.own tries between new told.noted

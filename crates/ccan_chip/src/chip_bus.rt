@@ -1,0 +1,132 @@
+ghost use Rattle.std.specs.Prelude.{◌≡◌, ◌≤◌, true, List};
+ghost use Rattle.ccan_ram.specs.declared.port.PortName.{PortName};
+ghost use Rattle.ccan_ram.specs.declared.port.PortName.TheVariants.{Bus as BusPort};
+ghost use Rattle.ccan_ram.specs.SharedRam.{passes_of, terms_of};
+ghost use Rattle.ccan_confine.specs.Counters.{AreAfter, NodeEvent};
+ghost use Rattle.ccan_bus.specs.Bus.{GoesOnWith, IsSameBus, LedTo};
+ghost use Rattle.ccan_bus.specs.Past.{BusPast, opened_at_once};
+ghost use Rattle.ccan_bus.specs.RoundReport.{RunsSteps};
+ghost use Rattle.ccan_endless.specs.ChipPort.{AddsNone};
+ghost use Rattle.ccan_endless.specs.Layout.{same_object};
+ghost use Rattle.ccan_chip.specs.Round.{ChipRound, as_found, loops_back, takes_part};
+
+use crate::chip_report::ChipReport;
+use crate::objects::{Earlier, Objects};
+use crate::own_event::own_in;
+use ccan_bus::{Bus, RoundLine, RoundReport};
+use ccan_confine::{Controller, ControllerChange, Counters, NodeState};
+use ccan_endless::{EndlessRam, Port};
+use ccan_object::Profile;
+use ccan_ram::Tries;
+use std::marker::Brand;
+
+/// The bus of a chip: the other nodes, and what the controller is about to send. The controller's registers stand in the chip,
+/// where the hosts read and change them at any time.
+#[derive(Clone, Copy, PartialEq, Eq, Hash, Debug)]
+pub struct ChipBus {
+    bus: Bus,
+}
+
+/// Whether a controller takes part in what is on the bus: Init is 0, and it is not bus off.
+fn takes_part(controller: &Controller) -> bool
+    ensures { result ≡ takes_part controller.now }
+{
+    !controller.control.init && !matches!(controller.counters.state(), NodeState::Off)
+}
+
+/// Whether it is in loop back mode: Test of the Control register and LBack of the Test register are 1.
+fn loops_back(controller: &Controller) -> bool
+    ensures { result ≡ loops_back controller.now }
+{
+    controller.control.test && controller.test.lback
+}
+
+/// The steps of a round that are made at the objects.
+fn steps<E: Earlier>(
+    bus: &mut Bus,
+    ram: &EndlessRam,
+    port: Port,
+    line: &RoundLine,
+    tries: Tries,
+) -> (RoundReport, Port)
+    requires memory { port.pass.memory ≡ ram.now.words }
+    requires profile { port.pass.memory.profile ≡ bus.old.profile }
+    requires none { AddsNone E.earlier port }
+    ensures none { AddsNone E.earlier result.1 }
+    ensures same { IsSameBus bus.old bus.new }
+    ensures goes_on { GoesOnWith (passes_of same_object port.pass) (passes_of same_object result.1.pass) bus.old bus.new
+        (λ terms seen added past after. RunsSteps terms line.now tries seen added past after result.0) }
+{
+    let mut objects = Objects::<E>::new(ram, port);
+    let report = bus.report_round(&mut objects, line, tries);
+    (report, objects.into_port())
+}
+
+impl ChipBus {
+    /// The bus of a chip of this profile, with so many other nodes, to which nothing happened yet.
+    pub fn new(profile: Profile, nodes: u8) -> ChipBus
+        requires { nodes ≤ 8 }
+        ensures same_profile { result.bus.profile ≡ profile }
+        ensures opened { LedTo (opened_at_once nodes) result.bus }
+    {
+        ChipBus {
+            bus: Bus::choosing_at_once(profile, nodes),
+        }
+    }
+
+    /// Takes the controller that a look found.
+    fn take(&mut self, found: &Controller)
+        ensures same { IsSameBus self.old.bus self.new.bus }
+        ensures takes { (past : BusPast) (events : List NodeEvent) → LedTo past self.old.bus
+            → AreAfter true events found.now.counters
+            → LedTo (as_found found.now events past) self.new.bus }
+    {
+        if takes_part(found) {
+            self.bus.take_controller(found.counters, loops_back(found));
+        } else {
+            self.bus.take_controller(Counters::gone_off(), false);
+            self.bus.unload();
+        }
+    }
+
+    /// A round. The controller takes part as its registers are at the first look; what the round was to it is made there last,
+    /// so that whoever is woken by it finds the object done.
+    pub fn round(
+        &mut self,
+        ram: &EndlessRam,
+        mut port: Port,
+        line: &RoundLine,
+        tries: Tries,
+    ) -> (ChipReport, Port)
+        requires memory { port.pass.memory ≡ ram.now.words }
+        requires bus { port.pass.port ≡ BusPort }
+        requires profile { port.pass.memory.profile ≡ self.old.bus.profile }
+        ensures same { IsSameBus self.old.bus self.new.bus }
+        ensures memory { result.1.pass.memory ≡ port.pass.memory }
+        ensures port { result.1.pass.port ≡ port.pass.port }
+        ensures round { (past : BusPast) → LedTo past self.old.bus
+            → (after : BusPast) × LedTo after self.new.bus
+            × ChipRound (terms_of same_object port.pass.memory BusPort) line.now tries port result.1 past after result.0 }
+    {
+        let found = ram.look_controller(&mut port);
+        self.take(&found);
+        let (report, mut port) = steps::<Brand>(&mut self.bus, ram, port, line, tries);
+        let own = own_in(takes_part(&found), &report.decision, self.bus.last_error());
+        let noted = match own {
+            None => None,
+            Some((event, status)) => {
+                let change = ControllerChange::Frame(event, status);
+                Some(ram.change_controller(&mut port, &change, tries))
+            }
+        };
+        (
+            ChipReport {
+                found,
+                report,
+                own,
+                noted,
+            },
+            port,
+        )
+    }
+}

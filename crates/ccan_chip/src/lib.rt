@@ -1,0 +1,12 @@
+//! The bus of a chip whose controller's registers any thread may reach.
+#![tactic(auto)]
+
+mod chip_bus;
+mod chip_report;
+mod objects;
+mod own_event;
+
+pub use chip_bus::ChipBus;
+pub use chip_report::ChipReport;
+pub use objects::{Earlier, Objects};
+pub use own_event::OwnEvent;
