@@ -1,3 +1,4 @@
 pub mod Ports
 pub mod Owns
 pub mod Rounds
+pub mod RoundLaws

@@ -7,7 +7,7 @@ use Rattle.ccan_ram.specs.Terms.{Terms}
 use Rattle.ccan_confine.specs.declared.bus_event.BusEvent.{BusEvent}
 use Rattle.ccan_confine.specs.declared.bus_event.BusEvent.TheVariants as event
 use Rattle.ccan_confine.specs.declared.controller.Controller.{Controller}
-use Rattle.ccan_confine.specs.declared.controller_change.ControllerChange.TheVariants.{Frame}
+use Rattle.ccan_confine.specs.declared.controller_change.ControllerChange.TheVariants.{Frame, Recessive}
 use Rattle.ccan_confine.specs.declared.status_event.StatusEvent.{StatusEvent}
 use Rattle.ccan_confine.specs.declared.status_event.StatusEvent.TheVariants as status
 use Rattle.ccan_confine.specs.Controller.{controller_after}
@@ -17,7 +17,9 @@ use Rattle.ccan_bus.specs.declared.decision.Decision.{Decision}
 use Rattle.ccan_bus.specs.declared.decision.Decision.TheVariants as decision
 use Rattle.ccan_bus.specs.declared.round_line.RoundLine.{RoundLine}
 use Rattle.ccan_bus.specs.Controller.{WasTo, with_controller}
-use Rattle.ccan_bus.specs.Past.{BusPast}
+use Rattle.ccan_bus.specs.declared.bus.Bus.{Bus}
+use Rattle.ccan_bus.specs.Bus.{GoesOn}
+use Rattle.ccan_bus.specs.Past.{BusPast, recovers}
 use Rattle.ccan_bus.specs.RoundReport.{RunsSteps}
 use Rattle.ccan_endless.specs.declared.chip.ControllerStep.TheVariants.{Look, Make}
 use Rattle.ccan_endless.specs.declared.controller_changed.ControllerChanged.{ControllerChanged}
@@ -98,3 +100,15 @@ pub record ChipRound (terms : Terms) (line : RoundLine) (tries : ℕ) (old new :
       told.report
   pub own : WasTo told.own (as_found told.found (events_in looked.whole) past) after
   pub notes : Notes told.own tries between new told.noted
+
+-- groups of recessive bits: one change of the controller, and every other node has them
+pub record IsRecessive (groups : ℕ) (old new : ChipPass) (before after : Bus) (made : ControllerChanged) : Type 0 where
+  pub adds : AddsController old new (Make (Recessive groups)) made.before
+  pub left : made.after ≡ controller_after (Recessive groups) made.before
+  pub others : GoesOn before after (λ past next. next ≡ recovers groups past)
+
+-- each try was lost to a change of another port, and the port made no step at the controller
+pub record IsRecessiveLost (tries : ℕ) (old new : ChipPass) (busy : ControllerBusy) : Type 0 where
+  pub none : AddsNone old new
+  pub lost : HasChanges tries old.whole new.whole
+  pub all : busy.tries ≡ tries

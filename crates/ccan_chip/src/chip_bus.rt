@@ -1,4 +1,4 @@
-ghost use Rattle.std.specs.Prelude.{◌≡◌, ◌≤◌, true, List};
+ghost use Rattle.std.specs.Prelude.{◌≡◌, ◌≤◌, true, false, List, None, IfOk, IfErr};
 ghost use Rattle.ccan_ram.specs.declared.port.PortName.{PortName};
 ghost use Rattle.ccan_ram.specs.declared.port.PortName.TheVariants.{Bus as BusPort};
 ghost use Rattle.ccan_ram.specs.SharedRam.{passes_of, terms_of};
@@ -8,15 +8,15 @@ ghost use Rattle.ccan_bus.specs.Past.{BusPast, opened_at_once};
 ghost use Rattle.ccan_bus.specs.RoundReport.{RunsSteps};
 ghost use Rattle.ccan_endless.specs.ChipPort.{AddsNone};
 ghost use Rattle.ccan_endless.specs.Layout.{same_object};
-ghost use Rattle.ccan_chip.specs.Round.{ChipRound, as_found, loops_back, takes_part};
+ghost use Rattle.ccan_chip.specs.Round.{ChipRound, IsRecessive, IsRecessiveLost, as_found, loops_back, takes_part};
 
 use crate::chip_report::ChipReport;
 use crate::objects::{Earlier, Objects};
 use crate::own_event::own_in;
 use ccan_bus::{Bus, RoundLine, RoundReport};
 use ccan_confine::{Controller, ControllerChange, Counters, NodeState};
-use ccan_endless::{EndlessRam, Port};
-use ccan_object::Profile;
+use ccan_endless::{ControllerBusy, ControllerChanged, EndlessRam, Port};
+use ccan_object::{ObjectNo, Profile, Record};
 use ccan_ram::Tries;
 use std::marker::Brand;
 
@@ -74,6 +74,29 @@ impl ChipBus {
         }
     }
 
+    /// How many nodes there are beside the controller.
+    pub fn others(&self) -> u8
+        ensures { result ≡ self.now.bus.others }
+    {
+        self.bus.others()
+    }
+
+    /// The error counters of another node, from 1 on. Those of the controller stand in the chip.
+    pub fn counters(&self, node: u8) -> Counters
+        requires { (1 ≤ node) × (node ≤ self.now.bus.others) }
+        ensures { (past : BusPast) → LedTo past self.now.bus
+            → AreAfter false (past.events node) result }
+    {
+        self.bus.counters(node)
+    }
+
+    /// The object whose transmission was started and whose frame has not been sent yet, with its record after the start.
+    pub fn loaded(&self) -> Option<(ObjectNo, Record)>
+        ensures { (past : BusPast) → LedTo past self.now.bus → result ≡ past.loaded }
+    {
+        self.bus.loaded()
+    }
+
     /// Takes the controller that a look found.
     fn take(&mut self, found: &Controller)
         ensures same { IsSameBus self.old.bus self.new.bus }
@@ -104,6 +127,7 @@ impl ChipBus {
         ensures same { IsSameBus self.old.bus self.new.bus }
         ensures memory { result.1.pass.memory ≡ port.pass.memory }
         ensures port { result.1.pass.port ≡ port.pass.port }
+        ensures out { takes_part result.0.found ≡ false → result.0.own ≡ None }
         ensures round { (past : BusPast) → LedTo past self.old.bus
             → (after : BusPast) × LedTo after self.new.bus
             × ChipRound (terms_of same_object port.pass.memory BusPort) line.now tries port result.1 past after result.0 }
@@ -128,5 +152,27 @@ impl ChipBus {
             },
             port,
         )
+    }
+
+    /// So many groups of eleven recessive bits pass on the bus, and every node sees them. Where each try at the controller was
+    /// lost to a change of another port, no node has seen any, and the call may be made again.
+    pub fn recessive(
+        &mut self,
+        ram: &EndlessRam,
+        port: &mut Port,
+        groups: u16,
+        tries: Tries,
+    ) -> Result<ControllerChanged, ControllerBusy>
+        requires memory { port.old.pass.memory ≡ ram.now.words }
+        requires bus { port.old.pass.port ≡ BusPort }
+        ensures same { IsSameBus self.old.bus self.new.bus }
+        ensures made { IfOk result (λ made.
+            IsRecessive groups port.old port.new self.old.bus self.new.bus made) }
+        ensures busy { IfErr result (λ busy.
+            IsRecessiveLost tries port.old port.new busy × (self.new ≡ self.old)) }
+    {
+        let made = ram.change_controller(port, &ControllerChange::Recessive(groups), tries)?;
+        self.bus.recessive(groups);
+        Ok(made)
     }
 }

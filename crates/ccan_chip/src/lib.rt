@@ -3,6 +3,7 @@
 
 mod chip_bus;
 mod chip_report;
+pub mod laws;
 mod objects;
 mod own_event;
 

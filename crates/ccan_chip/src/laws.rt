@@ -1,0 +1,9 @@
+//! Laws of the rounds of a chip. The functions do nothing: their contracts are the laws.
+
+ghost use Rattle.ccan_chip.specs.Laws.{RoundsFindTheirCounters};
+
+/// The error counters that a round's change of the controller finds are those that its look found, whatever hosts changed of
+/// the controller between. So a round is decided by the counters that it counts on.
+pub fn rounds_find_their_counters()
+    ensures { RoundsFindTheirCounters }
+{}
