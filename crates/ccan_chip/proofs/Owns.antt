@@ -126,8 +126,7 @@ module _ (line : RoundLine) (past after : BusPast) where
         let g = has _ _ past after h.success.happened on in (g.events, g.steps)
     between_on on (decision.Receipt winner frame) h =
         let g = has _ _ past after h.success.happened on in
-        let not = not_own winner h.another in
-        (
+        let not = not_own winner h.another in (
           g.events ∙ ap (λ b. Bus (cond b event.Sent event.Received) ∷ past.events 0) (other_way winner ∙ not),
           g.steps ∙ ap (λ b. Happened (cond b status.Sent status.Received) (levels_at after 0) ∷ past.steps) not,
         )

@@ -1,7 +1,6 @@
 -- Laws of the rounds of a chip. Source: CAN Specification 2.0, "Fault Confinement" (an event changes the counters as they are);
 -- that hosts may change the controller's registers in the midst of a round is this project's own.
 use Rattle.std.specs.Prelude.{ℕ, ◌≡◌, Some, Ok}
-use Rattle.ccan_confine.specs.declared.controller.Controller.{Controller}
 use Rattle.ccan_ram.specs.declared.port.PortName.TheVariants.{Bus}
 use Rattle.ccan_ram.specs.Terms.{Terms}
 use Rattle.ccan_bus.specs.declared.round_line.RoundLine.{RoundLine}

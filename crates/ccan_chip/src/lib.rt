@@ -1,4 +1,23 @@
-//! The bus of a chip whose controller's registers any thread may reach.
+//! The bus of a chip whose controller's registers stand beside its objects, where every port reads and writes them at any time.
+//!
+//! A `ccan_bus::Bus` keeps the controller's error counters and its Status register itself, so only the thread that runs the
+//! rounds can reach them. On the part a host clears Init, reads Status and sets loop back mode while frames pass. Here these
+//! registers are one word of a `ccan_endless::EndlessRam`, and a [`ChipBus`] keeps the rest: the other nodes, and what is about
+//! to be sent. Each round looks at the word once, first, and changes it once, last:
+//!
+//! ```text
+//!   hosts                  the controller's word              a round
+//!                                 |
+//!   write Init, SIE, ... ------>  |  ---- look ------------>  takes part? loop back mode? error counters?
+//!   read and clear Status <---->  |                           load, decision, finish or store: at the objects
+//!   set and clear Init   ------>  |  <--- event ------------  TEC or REC, TxOk, RxOk, LEC, bus off
+//!                                 |
+//! ```
+//!
+//! Whoever is woken by the event finds the object done. A host may change anything of the word between the two: the event is
+//! made of the word as it is then, so neither is lost; and TEC and REC are still those of the look, since only rounds change
+//! them ([`laws`]). All of it is in the one history of the chip: the look, the steps at the objects, and the event, in that
+//! order, and no other step of the bus between (`specs/Round.antt`).
 #![tactic(auto)]
 
 mod chip_bus;

@@ -37,7 +37,7 @@ impl<'a, E: Earlier> Model for Objects<'a, E> {
     ghost view = { λ objects. objects.port };
 
     ghost invariant = { λ objects. (objects.port.pass.memory ≡ objects.ram.now.words)
-      × AddsNone E.earlier objects.port };
+        × AddsNone E.earlier objects.port };
 }
 
 impl<'a, E: Earlier> Access for Objects<'a, E> {

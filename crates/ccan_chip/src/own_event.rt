@@ -52,11 +52,7 @@ fn own_of(decision: &Decision, last_error: u8) -> Option<OwnEvent>
 }
 
 /// What a round is to the registers of a controller, by what was decided, if anything was.
-pub fn own_in(
-    takes_part: bool,
-    decision: &Option<Decision>,
-    last_error: u8,
-) -> Option<OwnEvent>
+pub fn own_in(takes_part: bool, decision: &Option<Decision>, last_error: u8) -> Option<OwnEvent>
     requires { last_error ≤ 6 }
     ensures is { result ≡ own_in takes_part decision.now last_error }
     ensures known { IfSome result (λ own. HasFaultCode own.1) }

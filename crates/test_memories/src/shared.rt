@@ -2,6 +2,8 @@
 //! threads of their own. `Contended` is an access whose every try of a change is disturbed by another port.
 
 mod calls;
+mod chip_bench;
+mod chip_threads;
 mod chips;
 mod contended;
 mod drafts;

@@ -5,6 +5,7 @@ use crate::shared::calls;
 use crate::shared::drafts::{commit_beside, prepare_beside};
 use crate::shared::rivals::{Seen, Task, work};
 
+mod chip_rounds;
 mod controller;
 mod orders;
 mod pictures;

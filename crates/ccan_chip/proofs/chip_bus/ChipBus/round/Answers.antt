@@ -34,8 +34,7 @@ returns-clause-round c past led =
     (λ i. (looks.same.memory i, (looks.same.port ∙ c.requires.bus) i)) ran.2 in
     let was = runs_to _ c.args.line.now c.args.tries looked.pass.seen goes.0 (as_found found events past) ran.0 report
     c.last_error.result (c.last_error.ensures.listed ran.0 ran.1) runs c.takes_part.result
-    (found_on found events past counts ∙ sym c.takes_part.ensures) in
-    (
+    (found_on found events past counts ∙ sym c.takes_part.ensures) in (
       ran.0,
       ran.1,
       record {
