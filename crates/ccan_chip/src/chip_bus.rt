@@ -54,8 +54,10 @@ fn steps<E: Earlier>(
     requires none { AddsNone E.earlier port }
     ensures none { AddsNone E.earlier result.1 }
     ensures same { IsSameBus bus.old bus.new }
-    ensures goes_on { GoesOnWith (passes_of same_object port.pass) (passes_of same_object result.1.pass) bus.old bus.new
-        (λ terms seen added past after. RunsSteps terms line.now tries seen added past after result.0) }
+    ensures goes_on { GoesOnWith (passes_of same_object port.pass)
+        (passes_of same_object result.1.pass) bus.old bus.new
+        (λ terms seen added past after.
+        RunsSteps terms line.now tries seen added past after result.0) }
 {
     let mut objects = Objects::<E>::new(ram, port);
     let report = bus.report_round(&mut objects, line, tries);
@@ -130,7 +132,8 @@ impl ChipBus {
         ensures out { takes_part result.0.found ≡ false → result.0.own ≡ None }
         ensures round { (past : BusPast) → LedTo past self.old.bus
             → (after : BusPast) × LedTo after self.new.bus
-            × ChipRound (terms_of same_object port.pass.memory BusPort) line.now tries port result.1 past after result.0 }
+            × ChipRound (terms_of same_object port.pass.memory BusPort) line.now tries
+            port result.1 past after result.0 }
     {
         let found = ram.look_controller(&mut port);
         self.take(&found);
