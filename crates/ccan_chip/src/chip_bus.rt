@@ -115,7 +115,7 @@ impl ChipBus {
     }
 
     /// A round. The controller takes part as its registers are at the first look; what the round was to it is made there last,
-    /// so that whoever is woken by it finds the object done.
+    /// so that whoever is woken by it finds the object done, unless the step that is due there was refused.
     pub fn round(
         &mut self,
         ram: &EndlessRam,

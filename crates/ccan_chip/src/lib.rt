@@ -14,10 +14,11 @@
 //!                                 |
 //! ```
 //!
-//! Whoever is woken by the event finds the object done. A host may change anything of the word between the two: the event is
-//! made of the word as it is then, so neither is lost; and TEC and REC are still those of the look, since only rounds change
-//! them ([`laws`]). All of it is in the one history of the chip: the look, the steps at the objects, and the event, in that
-//! order, and no other step of the bus between (`specs/Round.antt`).
+//! Whoever is woken by the event finds the object done, unless that step was refused. A host may change anything of the word
+//! between the two: where the event is made, it is made of the word as it is then, and TEC and REC are still those of the look,
+//! since only rounds change them ([`laws`]). Where each of its tries was lost to a change of another port it is not made, and
+//! the report has it, for the caller to make. All of it is in the one history of the chip: the look, the steps at the objects,
+//! and the event, in that order, and no other step of the bus at the controller between (`specs/Round.antt`).
 #![tactic(auto)]
 
 mod chip_bus;
