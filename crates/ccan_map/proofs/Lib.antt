@@ -1,0 +1,4 @@
+pub mod Parts
+pub mod NarrowPlaces
+pub mod DcanPlaces
+pub mod MapPlaces

@@ -1,0 +1,57 @@
+-- Where the registers stand in D_CAN, as the 16-bit halves of its registers of 32 bits. Source: Texas Instruments AM335x
+-- Technical Reference Manual, chapter DCAN; the table reg_map_d_can of the mainline Linux driver c_can has the same offsets.
+use Rattle.std.specs.Prelude.{ℕ, ◌≡◌, ◌+◌, ◌*◌}
+use Rattle.ccan_object.specs.declared.register.Reg.{Reg}
+use Rattle.ccan_object.specs.declared.register.Reg.TheVariants.{CMask, Mask1, Mask2, Arb1, Arb2, Ctrl, DataA1, DataA2, DataB1, DataB2}
+use Rattle.ccan_ram.specs.declared.flag.Flag.{Flag}
+use Rattle.ccan_ram.specs.declared.flag.Flag.TheVariants.{NewDat, MsgLst, IntPnd, TxRqst, MsgVal}
+use Rattle.ccan_map.specs.declared.interface.Interface.{Interface}
+use Rattle.ccan_map.specs.declared.interface.Interface.TheVariants.{One, Two}
+use Rattle.ccan_map.specs.declared.register.Register.{Register}
+use Rattle.ccan_map.specs.declared.register.Register.TheVariants.{Control, Status, ErrorCounter, BitTiming, Interrupt, Test, Extension, Request, Buffer, Flags}
+use Rattle.ccan_map.specs.FlagPart.{index_of}
+
+-- where an interface begins
+abbrev pub interface_base : Interface → ℕ
+interface_base One = 0x100
+interface_base Two = 0x120
+
+-- where a register stands from there on
+abbrev pub buffer_place : Reg → ℕ
+buffer_place CMask = 0x02
+buffer_place Mask1 = 0x04
+buffer_place Mask2 = 0x06
+buffer_place Arb1 = 0x08
+buffer_place Arb2 = 0x0a
+buffer_place Ctrl = 0x0c
+buffer_place DataA1 = 0x10
+buffer_place DataA2 = 0x12
+buffer_place DataB1 = 0x14
+buffer_place DataB2 = 0x16
+
+-- where the registers of a flag begin; MsgLst has none, and its number here says nothing
+abbrev pub flag_base : Flag → ℕ
+flag_base TxRqst = 0x88
+flag_base NewDat = 0x9c
+flag_base IntPnd = 0xb0
+flag_base MsgVal = 0xc4
+flag_base MsgLst = 0x00
+
+-- where a register stands
+abbrev pub dcan_offset : Register → ℕ
+dcan_offset Control = 0x00
+dcan_offset Status = 0x04
+dcan_offset ErrorCounter = 0x08
+dcan_offset BitTiming = 0x0c
+dcan_offset Interrupt = 0x10
+dcan_offset Test = 0x14
+dcan_offset Extension = 0x0e
+dcan_offset (Request interface) = interface_base interface
+dcan_offset (Buffer interface register) = interface_base interface + buffer_place register
+dcan_offset (Flags flag part) = flag_base flag + 2 * index_of part
+
+-- a register of an interface, so far from where the interface begins
+abbrev pub IsAtInterface : Interface → ℕ → Register → Type 0
+IsAtInterface interface place (Request owner) = (owner ≡ interface) × (0 ≡ place)
+IsAtInterface interface place (Buffer owner register) = (owner ≡ interface) × (buffer_place register ≡ place)
+IsAtInterface interface place register = ⊥

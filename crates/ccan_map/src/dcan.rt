@@ -1,0 +1,80 @@
+//! D_CAN, whose registers of 32 bits are taken as halves of 16 bits.
+ghost use Rattle.std.specs.Prelude.{◌≡◌, IfSome};
+ghost use Rattle.ccan_object.specs.declared.register.Reg.{Reg};
+ghost use Rattle.ccan_map.specs.declared.register.Register.{Register};
+ghost use Rattle.ccan_map.specs.Dcan.{buffer_place, dcan_offset, IsAtInterface};
+ghost use Rattle.ccan_map.specs.Register.{IsGeneral, IsIn};
+
+use crate::flags;
+use crate::interface::Interface;
+use crate::register::Register;
+use ccan_object::{Profile, Reg};
+use ccan_ram::flag::Flag;
+
+/// The register at an offset that stands once.
+fn general_at(offset: u32) -> Option<Register>
+    ensures some { IfSome result (λ r. (dcan_offset r ≡ offset) × IsGeneral r) }
+    ensures each { (r : Register) → IsGeneral r → dcan_offset r ≡ offset → result ≡ Some r }
+{
+    match offset {
+        0x00 => Some(Register::Control),
+        0x04 => Some(Register::Status),
+        0x08 => Some(Register::ErrorCounter),
+        0x0c => Some(Register::BitTiming),
+        0x0e => Some(Register::Extension),
+        0x10 => Some(Register::Interrupt),
+        0x14 => Some(Register::Test),
+        _ => None,
+    }
+}
+
+/// The Command Mask or message buffer register at a place, in bytes from where its interface begins.
+fn buffer_at(place: u32) -> Option<Reg>
+    ensures some { IfSome result (λ register. buffer_place register ≡ place) }
+    ensures each { (register : Reg) → buffer_place register ≡ place → result ≡ Some register }
+{
+    match place {
+        0x02 => Some(Reg::CMask),
+        0x04 => Some(Reg::Mask1),
+        0x06 => Some(Reg::Mask2),
+        0x08 => Some(Reg::Arb1),
+        0x0a => Some(Reg::Arb2),
+        0x0c => Some(Reg::Ctrl),
+        0x10 => Some(Reg::DataA1),
+        0x12 => Some(Reg::DataA2),
+        0x14 => Some(Reg::DataB1),
+        0x16 => Some(Reg::DataB2),
+        _ => None,
+    }
+}
+
+/// The register of an interface at a place, in bytes from where the interface begins.
+fn interface_at(interface: Interface, place: u32) -> Option<Register>
+    ensures some { IfSome result (IsAtInterface interface place) }
+    ensures each { (r : Register) → IsAtInterface interface place r → result ≡ Some r }
+{
+    if place == 0 {
+        return Some(Register::Request(interface));
+    }
+    match buffer_at(place) {
+        Some(register) => Some(Register::Buffer(interface, register)),
+        None => None,
+    }
+}
+
+/// The register at an offset, if a chip with so many objects has one there.
+pub fn register_at(profile: Profile, offset: u32) -> Option<Register>
+    ensures some { IfSome result (λ r. (dcan_offset r ≡ offset) × IsIn profile r) }
+    ensures each { (r : Register) → IsIn profile r → dcan_offset r ≡ offset → result ≡ Some r }
+{
+    match offset {
+        0x00..=0x14 => general_at(offset),
+        0x88..=0x8e => flags::register_at(profile, Flag::TxRqst, offset - 0x88),
+        0x9c..=0xa2 => flags::register_at(profile, Flag::NewDat, offset - 0x9c),
+        0xb0..=0xb6 => flags::register_at(profile, Flag::IntPnd, offset - 0xb0),
+        0xc4..=0xca => flags::register_at(profile, Flag::MsgVal, offset - 0xc4),
+        0x100..=0x116 => interface_at(Interface::One, offset - 0x100),
+        0x120..=0x136 => interface_at(Interface::Two, offset - 0x120),
+        _ => None,
+    }
+}
