@@ -10,6 +10,7 @@ use Rattle.ccan_confine.specs.declared.status_event.StatusEvent.TheVariants as e
 use Rattle.ccan_confine.specs.StatusEvent.{is_sent, is_received}
 use Rattle.ccan_confine.specs.Counters.{Counts, Levels, NodeEvent, Groups, ClearInit, AreAfter, AddsEvent, counts_after}
 use Rattle.ccan_confine.specs.Counters.{counts_cleared, is_recovering, new_counts, is_off}
+use Rattle.ccan_confine.specs.RegisterWords.{control_with}
 use Rattle.ccan_confine.specs.Controller.{controller_after, counts_grouped, clears_init_of, is_handlers}
 use Rattle.ccan_confine.specs.ControllerLaws.{controller_of, add_event, node_events, CountersAreAsDefined, HostsLeaveTheCounters}
 use Rattle.ccan_confine.specs.ControllerLaws.{GoingOffSetsInit, StatusReadsClear, MasksLoseNothing, FlagsAreGivenLast}
@@ -59,7 +60,12 @@ change_adds change.ReadStatus c events e = e
 change_adds change.ReadAndClearStatus c events e = e
 change_adds (change.WriteStatus flags) c events e = e
 change_adds (change.WriteControl control) c events e = cleared_adds (clears_init_of c control) c.counters events e
+change_adds (change.WriteControlBits which to) c events e =
+    cleared_adds (clears_init_of c (control_with which to c.control)) c.counters events e
 change_adds (change.WriteTest test) c events e = e
+change_adds (change.WriteBitTiming word) c events e = e
+change_adds (change.WriteExtension word) c events e = e
+change_adds change.Reset c events e = sym (counts-none true)
 
 pub counters_defined : CountersAreAsDefined
 unfolding controller_of node_events
@@ -78,7 +84,13 @@ hosts_leave change.ReadAndClearStatus c host = refl
 hosts_leave (change.WriteStatus flags) c host = refl
 hosts_leave (change.WriteControl control) c host =
     one_levels (clears_init_of c control) (counts_cleared c.counters) c.counters c.counters.levels refl refl
+hosts_leave (change.WriteControlBits which to) c host =
+    one_levels (clears_init_of c (control_with which to c.control)) (counts_cleared c.counters) c.counters c.counters.levels refl
+    refl
 hosts_leave (change.WriteTest test) c host = refl
+hosts_leave (change.WriteBitTiming word) c host = refl
+hosts_leave (change.WriteExtension word) c host = refl
+hosts_leave change.Reset c host = absurd cc
 
 -- Init after new counters
 init_with : (init before after : Bool) → before ≡ false → after ≡ true → (init || (not before && after)) ≡ true
@@ -100,7 +112,11 @@ off_sets_init change.ReadStatus c on off = stays change.ReadStatus c refl on off
 off_sets_init change.ReadAndClearStatus c on off = stays change.ReadAndClearStatus c refl on off
 off_sets_init (change.WriteStatus flags) c on off = stays (change.WriteStatus flags) c refl on off
 off_sets_init (change.WriteControl control) c on off = stays (change.WriteControl control) c refl on off
+off_sets_init (change.WriteControlBits which to) c on off = stays (change.WriteControlBits which to) c refl on off
 off_sets_init (change.WriteTest test) c on off = stays (change.WriteTest test) c refl on off
+off_sets_init (change.WriteBitTiming word) c on off = stays (change.WriteBitTiming word) c refl on off
+off_sets_init (change.WriteExtension word) c on off = stays (change.WriteExtension word) c refl on off
+off_sets_init change.Reset c on off = refl
 
 masked : (a b : Bool) → ((a && false) || (b && false)) ≡ false
 masked true true = refl
@@ -118,7 +134,11 @@ masks_keep change.ReadStatus c control = (refl, refl)
 masks_keep change.ReadAndClearStatus c control = (refl, refl)
 masks_keep (change.WriteStatus flags) c control = (refl, refl)
 masks_keep (change.WriteControl written) c control = (refl, refl)
+masks_keep (change.WriteControlBits which to) c control = (refl, refl)
 masks_keep (change.WriteTest test) c control = (refl, refl)
+masks_keep (change.WriteBitTiming word) c control = (refl, refl)
+masks_keep (change.WriteExtension word) c control = (refl, refl)
+masks_keep change.Reset c control = (refl, refl)
 
 -- a flag that is set or stays
 set_by : (b before : Bool) → (before || b) ≡ unwrap_or (cond b (Some true) None) before
@@ -146,7 +166,11 @@ tx_step change.ReadStatus c = refl
 tx_step change.ReadAndClearStatus c = refl
 tx_step (change.WriteStatus flags) c = refl
 tx_step (change.WriteControl control) c = refl
+tx_step (change.WriteControlBits which to) c = refl
 tx_step (change.WriteTest test) c = refl
+tx_step (change.WriteBitTiming word) c = refl
+tx_step (change.WriteExtension word) c = refl
+tx_step change.Reset c = refl
 
 rx_step : (z : ControllerChange) (c : Controller) → (controller_after z c).status.rx_ok ≡ unwrap_or (rx_ok_given z) c.status.rx_ok
 rx_step (change.Frame event noted) c = set_by (is_received noted) c.status.rx_ok
@@ -155,7 +179,11 @@ rx_step change.ReadStatus c = refl
 rx_step change.ReadAndClearStatus c = refl
 rx_step (change.WriteStatus flags) c = refl
 rx_step (change.WriteControl control) c = refl
+rx_step (change.WriteControlBits which to) c = refl
 rx_step (change.WriteTest test) c = refl
+rx_step (change.WriteBitTiming word) c = refl
+rx_step (change.WriteExtension word) c = refl
+rx_step change.Reset c = refl
 
 pub given_last : FlagsAreGivenLast
 unfolding controller_of newest_given

@@ -3,11 +3,13 @@ use Rattle.std.proofs.Common.{ℕ, ◌≡◌, ◌≤◌, ◌<◌, ◌+◌, ◌^�
 use Rattle.std.specs.Int.{bit_at}
 use Rattle.ccan_confine.specs.declared.controller.Controller.{Controller}
 use Rattle.ccan_confine.specs.Bits.{bit, part, flag}
-use Rattle.ccan_confine.specs.Controller.{packed, packed_flags, packed_numbers, unpacked, IsController}
-use Rattle.std.proofs.Common.{false, inl, inr, nat_le, cond, ◌&&◌, not}
+use Rattle.ccan_confine.specs.BitTiming.{register_in, extension_in}
+use Rattle.ccan_confine.specs.Controller.{packed, packed_flags, packed_numbers, packed_timing, flags_part, unpacked, IsController}
+use Rattle.std.proofs.Common.{false, inl, inr, nat_le, cond}
 use Rattle.std.proofs.lemmas.Bool.Decides.{leb_tells}
 use Rattle.ccan_confine.specs.Counters.{Counts, is_recovering, new_counts}
-use Rattle.ccan_confine.specs.Controller.{counts_grouped, controller_after}
+use Rattle.ccan_confine.specs.Controller.{counts_grouped, controller_after, clears_init_of}
+use Rattle.ccan_confine.specs.RegisterWords.{control_with}
 use Rattle.ccan_confine.specs.Counters.{counts_cleared}
 use Rattle.ccan_confine.specs.declared.controller_change.ControllerChange.{ControllerChange}
 use Rattle.ccan_confine.specs.declared.controller_change.ControllerChange.TheVariants as change
@@ -40,8 +42,20 @@ module _ (c : Controller) (w : ℕ) (is : IsController c) (word : packed c ≡ w
   small : packed_numbers c < 2 ^ 27
   small = omega (arith, is.tec, is.rec, is.groups, is.lec)
 
-  high : w / 2 ^ 27 ≡ packed_flags c
-  high = omega (arith, word, small)
+  few : packed_flags c < 2 ^ 15
+  few = omega (arith, limits)
+
+  high : flags_part w ≡ packed_flags c
+  high = omega (arith, word, small, few)
+
+  timing : w / 2 ^ 42 ≡ packed_timing c
+  timing = omega (arith, word, small, few)
+
+  register_is : register_in (part w 42 15) ≡ c.timing.register
+  register_is = omega (arith, timing, is.register)
+
+  extension_is : extension_in (part w 57 4) ≡ c.timing.extension
+  extension_is = omega (arith, timing, is.register, is.extension)
 
   low : part w 0 27 ≡ packed_numbers c
   low = omega (arith, word, small)
@@ -61,52 +75,52 @@ module _ (c : Controller) (w : ℕ) (is : IsController c) (word : packed c ≡ w
   tec_min : min (part w 8 9) 263 ≡ c.counters.levels.tec
   tec_min = omega (arith, tec_is, is.tec)
 
-  at_place : (k : ℕ) (on : Bool) → bit_at (packed_flags c) k ≡ flag on → bit (w / 2 ^ 27) k ≡ on
-  at_place k on e = bit-flag (w / 2 ^ 27) k on (ap (λ (n : ℕ). bit_at n k) high ∙ e)
+  at_place : (k : ℕ) (on : Bool) → bit_at (packed_flags c) k ≡ flag on → bit (flags_part w) k ≡ on
+  at_place k on e = bit-flag (flags_part w) k on (ap (λ (n : ℕ). bit_at n k) high ∙ e)
 
-  b0 : bit (w / 2 ^ 27) 0 ≡ c.status.tx_ok
+  b0 : bit (flags_part w) 0 ≡ c.status.tx_ok
   b0 = at_place 0 c.status.tx_ok (omega (arith, limits))
 
-  b1 : bit (w / 2 ^ 27) 1 ≡ c.status.rx_ok
+  b1 : bit (flags_part w) 1 ≡ c.status.rx_ok
   b1 = at_place 1 c.status.rx_ok (omega (arith, limits))
 
-  b2 : bit (w / 2 ^ 27) 2 ≡ c.transfer_pending
+  b2 : bit (flags_part w) 2 ≡ c.transfer_pending
   b2 = at_place 2 c.transfer_pending (omega (arith, limits))
 
-  b3 : bit (w / 2 ^ 27) 3 ≡ c.level_pending
+  b3 : bit (flags_part w) 3 ≡ c.level_pending
   b3 = at_place 3 c.level_pending (omega (arith, limits))
 
-  b4 : bit (w / 2 ^ 27) 4 ≡ c.counters.init_cleared
+  b4 : bit (flags_part w) 4 ≡ c.counters.init_cleared
   b4 = at_place 4 c.counters.init_cleared (omega (arith, limits))
 
-  b5 : bit (w / 2 ^ 27) 5 ≡ c.control.init
+  b5 : bit (flags_part w) 5 ≡ c.control.init
   b5 = at_place 5 c.control.init (omega (arith, limits))
 
-  b6 : bit (w / 2 ^ 27) 6 ≡ c.control.ie
+  b6 : bit (flags_part w) 6 ≡ c.control.ie
   b6 = at_place 6 c.control.ie (omega (arith, limits))
 
-  b7 : bit (w / 2 ^ 27) 7 ≡ c.control.sie
+  b7 : bit (flags_part w) 7 ≡ c.control.sie
   b7 = at_place 7 c.control.sie (omega (arith, limits))
 
-  b8 : bit (w / 2 ^ 27) 8 ≡ c.control.eie
+  b8 : bit (flags_part w) 8 ≡ c.control.eie
   b8 = at_place 8 c.control.eie (omega (arith, limits))
 
-  b9 : bit (w / 2 ^ 27) 9 ≡ c.control.dar
+  b9 : bit (flags_part w) 9 ≡ c.control.dar
   b9 = at_place 9 c.control.dar (omega (arith, limits))
 
-  b10 : bit (w / 2 ^ 27) 10 ≡ c.control.cce
+  b10 : bit (flags_part w) 10 ≡ c.control.cce
   b10 = at_place 10 c.control.cce (omega (arith, limits))
 
-  b11 : bit (w / 2 ^ 27) 11 ≡ c.control.test
+  b11 : bit (flags_part w) 11 ≡ c.control.test
   b11 = at_place 11 c.control.test (omega (arith, limits))
 
-  b12 : bit (w / 2 ^ 27) 12 ≡ c.test.basic
+  b12 : bit (flags_part w) 12 ≡ c.test.basic
   b12 = at_place 12 c.test.basic (omega (arith, limits))
 
-  b13 : bit (w / 2 ^ 27) 13 ≡ c.test.silent
+  b13 : bit (flags_part w) 13 ≡ c.test.silent
   b13 = at_place 13 c.test.silent (omega (arith, limits))
 
-  b14 : bit (w / 2 ^ 27) 14 ≡ c.test.lback
+  b14 : bit (flags_part w) 14 ≡ c.test.lback
   b14 = at_place 14 c.test.lback (omega (arith, limits))
 
   pub read_back : unpacked w ≡ c
@@ -125,6 +139,7 @@ module _ (c : Controller) (w : ℕ) (is : IsController c) (word : packed c ≡ w
         transfer_pending = b2 i;
         level_pending = b3 i;
         test = record { basic = b12 i; silent = b13 i; lback = b14 i };
+        timing = record { register = register_is i; extension = extension_is i };
       }
 
 -- a word tells its controller
@@ -162,17 +177,22 @@ one_host : (b : Bool) (x y : Counts) (h : Bool) → x.host ≡ h → y.host ≡ 
 one_host true x y h e f = e
 one_host false x y h e f = f
 
-pub host_after : (z : ControllerChange) (c : Controller) → (controller_after z c).counters.host ≡ c.counters.host
-host_after (change.Frame event happened) c = refl
-host_after (change.Recessive n) c =
+pub host_after : (z : ControllerChange) (c : Controller) → c.counters.host ≡ true → (controller_after z c).counters.host ≡ true
+host_after (change.Frame event happened) c is = is
+host_after (change.Recessive n) c is =
     one_host (is_recovering c.counters)
     (cond (nat_le 128 (c.counters.groups + n)) (new_counts c.counters.host)
-    (record c.counters { groups = c.counters.groups + n })) c.counters c.counters.host
+    (record c.counters { groups = c.counters.groups + n })) c.counters true
     (one_host (nat_le 128 (c.counters.groups + n)) (new_counts c.counters.host)
-    (record c.counters { groups = c.counters.groups + n }) c.counters.host refl refl) refl
-host_after change.ReadStatus c = refl
-host_after change.ReadAndClearStatus c = refl
-host_after (change.WriteStatus flags) c = refl
-host_after (change.WriteControl control) c =
-    one_host (c.control.init && not control.init) (counts_cleared c.counters) c.counters c.counters.host refl refl
-host_after (change.WriteTest test) c = refl
+    (record c.counters { groups = c.counters.groups + n }) true is is) is
+host_after change.ReadStatus c is = is
+host_after change.ReadAndClearStatus c is = is
+host_after (change.WriteStatus flags) c is = is
+host_after (change.WriteControl control) c is =
+    one_host (clears_init_of c control) (counts_cleared c.counters) c.counters true is is
+host_after (change.WriteControlBits which to) c is =
+    one_host (clears_init_of c (control_with which to c.control)) (counts_cleared c.counters) c.counters true is is
+host_after (change.WriteTest test) c is = is
+host_after (change.WriteBitTiming word) c is = is
+host_after (change.WriteExtension word) c is = is
+host_after change.Reset c is = refl

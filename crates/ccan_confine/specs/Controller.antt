@@ -1,8 +1,9 @@
 -- The registers of a controller at one moment, what each step makes of them, and the word that they pack to. Source: C_CAN
--- User's Manual 1.2, "CAN Control Register", "Status Register", "Error Counter" and "Test Register". That a status
--- interrupt is raised whatever SIE and EIE say, and the packed word, are this project's own. The clearing read: Texas
+-- User's Manual 1.2, "CAN Control Register", "Status Register", "Error Counter", "Bit Timing Register", "BRP Extension
+-- Register", "Test Register" and "Hardware Reset Description". That a status interrupt is raised whatever SIE and EIE say, and
+-- the packed word, are this project's own. The clearing read: Texas
 -- Instruments, AM335x Technical Reference Manual, D_CAN's "Error and Status Register".
-use Rattle.std.specs.Prelude.{ℕ, ◌≡◌, ◌+◌, ◌<◌, ◌≤◌, Bool, true, false, ◌&&◌, ◌||◌, not, nat_le, min, ◌/◌, ◌^◌, if◌then◌else◌}
+use Rattle.std.specs.Prelude.{ℕ, ◌≡◌, ◌+◌, ◌<◌, ◌≤◌, Bool, true, false, ◌&&◌, ◌||◌, not, nat_le, min, ◌^◌, if◌then◌else◌}
 use Rattle.ccan_confine.specs.declared.status_event.StatusEvent.{StatusEvent}
 use Rattle.ccan_confine.specs.declared.status_event.StatusEvent.TheVariants.{Recovery, Level}
 use Rattle.ccan_confine.specs.declared.controller.Controller.{Controller}
@@ -13,6 +14,8 @@ use Rattle.ccan_confine.specs.declared.controller_change.ControllerChange.TheVar
 use Rattle.ccan_confine.specs.Bits.{flag, at, bit, part}
 use Rattle.ccan_confine.specs.StatusEvent.{HasFaultCode, is_transfer_or_error}
 use Rattle.ccan_confine.specs.StatusFlags.{flags_after, no_flags, highest_code}
+use Rattle.ccan_confine.specs.BitTiming.{Timing, timing_of, no_timing, reset_timing, register_bits, extension_bits}
+use Rattle.ccan_confine.specs.RegisterWords.{control_with}
 use Rattle.ccan_confine.specs.Status.{warning_limit, differ, word_of}
 use Rattle.ccan_confine.specs.Counters.{Levels, Counts, counts_after, counts_cleared, is_recovering, is_off, reaches, new_counts}
 use Rattle.ccan_confine.specs.Counters.{groups_to_return, off_limit, send_fault_step, most_rec}
@@ -54,40 +57,18 @@ recovery_of groups counts = if nat_le 1 groups && is_recovering counts then Reco
 abbrev pub clears_init_of : Controller → ControlRegister → Bool
 clears_init_of c control = c.control.init && not control.init
 
--- what a step makes of a controller
-abbrev pub controller_after : ControllerChange → Controller → Controller
-controller_after (change.Frame event noted) c = counted noted (counts_after event c.counters) c
-controller_after (change.Recessive groups) c = counted (recovery_of groups c.counters) (counts_grouped groups c.counters) c
-controller_after change.ReadStatus c = record c { transfer_pending = false; level_pending = false }
-controller_after change.ReadAndClearStatus c =
-    record c {
-      status = record { tx_ok = false; rx_ok = false; lec = 7 };
-      transfer_pending = false;
-      level_pending = false;
-    }
-controller_after (change.WriteStatus flags) c = record c { status = flags }
-controller_after (change.WriteControl control) c =
+-- after a write of the Control register
+abbrev pub controlled : ControlRegister → Controller → Controller
+controlled control c =
     record c { control = control; counters = (if clears_init_of c control then counts_cleared c.counters else c.counters) }
-controller_after (change.WriteTest test) c = record c { test = (if c.control.test then test else c.test) }
 
--- the event has a code that the register can show
-abbrev pub CanMake : ControllerChange → Type 0
-CanMake (change.Frame event noted) = HasFaultCode noted
-CanMake _ = Unit {0}
+-- a host may write the bit timing: Init and CCE are 1
+abbrev pub configures : Controller → Bool
+configures c = c.control.init && c.control.cce
 
--- the ends of frames and the groups of recessive bits are the message handler's, all else is a host's
-abbrev pub is_handlers : ControllerChange → Bool
-is_handlers (change.Frame event noted) = true
-is_handlers (change.Recessive groups) = true
-is_handlers _ = false
-
--- the Interrupt register shows a status interrupt: one that was raised, and is not masked
-abbrev pub shows_interrupt : Controller → Bool
-shows_interrupt c = (c.control.sie && c.transfer_pending) || (c.control.eie && c.level_pending)
-
--- the word of the Status register
-abbrev pub status_word : Controller → ℕ
-status_word c = word_of c.status.tx_ok c.status.rx_ok c.status.lec c.counters.levels
+-- after a write of the bit timing
+abbrev pub timed : Timing → Controller → Controller
+timed timing c = record c { timing = (if configures c then timing else c.timing) }
 
 -- as it opens: nothing happened, everything is 0
 abbrev pub no_control : ControlRegister
@@ -106,7 +87,51 @@ new_controller =
       transfer_pending = false;
       level_pending = false;
       test = no_test;
+      timing = no_timing;
     }
+
+-- as a hardware reset leaves it: Init is 1, and the Bit Timing register has its value of that
+abbrev pub reset_controller : Controller
+reset_controller = record new_controller { control = record no_control { init = true }; timing = reset_timing }
+
+-- what a step makes of a controller
+abbrev pub controller_after : ControllerChange → Controller → Controller
+controller_after (change.Frame event noted) c = counted noted (counts_after event c.counters) c
+controller_after (change.Recessive groups) c = counted (recovery_of groups c.counters) (counts_grouped groups c.counters) c
+controller_after change.ReadStatus c = record c { transfer_pending = false; level_pending = false }
+controller_after change.ReadAndClearStatus c =
+    record c {
+      status = record { tx_ok = false; rx_ok = false; lec = 7 };
+      transfer_pending = false;
+      level_pending = false;
+    }
+controller_after (change.WriteStatus flags) c = record c { status = flags }
+controller_after (change.WriteControl control) c = controlled control c
+controller_after (change.WriteControlBits which to) c = controlled (control_with which to c.control) c
+controller_after (change.WriteTest test) c = record c { test = (if c.control.test then test else c.test) }
+controller_after (change.WriteBitTiming word) c = timed (timing_of word c.timing.extension) c
+controller_after (change.WriteExtension word) c = timed (timing_of c.timing.register word) c
+controller_after change.Reset c = reset_controller
+
+-- the event has a code that the register can show
+abbrev pub CanMake : ControllerChange → Type 0
+CanMake (change.Frame event noted) = HasFaultCode noted
+CanMake _ = Unit {0}
+
+-- the ends of frames, the groups of recessive bits and a reset are the message handler's side's, all else is a host's
+abbrev pub is_handlers : ControllerChange → Bool
+is_handlers (change.Frame event noted) = true
+is_handlers (change.Recessive groups) = true
+is_handlers change.Reset = true
+is_handlers _ = false
+
+-- the Interrupt register shows a status interrupt: one that was raised, and is not masked
+abbrev pub shows_interrupt : Controller → Bool
+shows_interrupt c = (c.control.sie && c.transfer_pending) || (c.control.eie && c.level_pending)
+
+-- the word of the Status register
+abbrev pub status_word : Controller → ℕ
+status_word c = word_of c.status.tx_ok c.status.rx_ok c.status.lec c.counters.levels
 
 -- it is a controller, and its numbers are in their ranges
 pub record IsController (c : Controller) : Type 0 where
@@ -115,6 +140,8 @@ pub record IsController (c : Controller) : Type 0 where
   pub rec : c.counters.levels.rec ≤ most_rec
   pub groups : c.counters.groups < groups_to_return
   pub lec : c.status.lec ≤ highest_code
+  pub register : c.timing.register < 2 ^ register_bits
+  pub extension : c.timing.extension < 2 ^ extension_bits
 
 -- REC at bits 0 to 7, TEC at 8 to 16, the groups at 17 to 23, LEC at 24 to 26
 abbrev pub packed_numbers : Controller → ℕ
@@ -129,9 +156,17 @@ packed_flags c =
     + at 6 (flag c.control.ie) + at 5 (flag c.control.init) + at 4 (flag c.counters.init_cleared)
     + at 3 (flag c.level_pending) + at 2 (flag c.transfer_pending) + at 1 (flag c.status.rx_ok) + flag c.status.tx_ok
 
+-- from bit 42 on: the Bit Timing register, and from 57 on the BRP Extension register
+abbrev pub packed_timing : Controller → ℕ
+packed_timing c = at 15 c.timing.extension + c.timing.register
+
 -- the word
 abbrev pub packed : Controller → ℕ
-packed c = at 27 (packed_flags c) + packed_numbers c
+packed c = at 42 (packed_timing c) + at 27 (packed_flags c) + packed_numbers c
+
+-- the flags in a word
+abbrev pub flags_part : ℕ → ℕ
+flags_part word = part word 27 15
 
 -- the controller in a word; some controller where none packs to it
 abbrev pub unpacked : ℕ → Controller
@@ -141,27 +176,28 @@ unpacked word =
           record {
             host = true;
             levels = record { tec = min (part word 8 9) 263; rec = part word 0 8 };
-            init_cleared = bit (word / 2 ^ 27) 4;
+            init_cleared = bit (flags_part word) 4;
             groups = part word 17 7;
           };
       control =
           record {
-            init = bit (word / 2 ^ 27) 5;
-            ie = bit (word / 2 ^ 27) 6;
-            sie = bit (word / 2 ^ 27) 7;
-            eie = bit (word / 2 ^ 27) 8;
-            dar = bit (word / 2 ^ 27) 9;
-            cce = bit (word / 2 ^ 27) 10;
-            test = bit (word / 2 ^ 27) 11;
+            init = bit (flags_part word) 5;
+            ie = bit (flags_part word) 6;
+            sie = bit (flags_part word) 7;
+            eie = bit (flags_part word) 8;
+            dar = bit (flags_part word) 9;
+            cce = bit (flags_part word) 10;
+            test = bit (flags_part word) 11;
           };
       status =
-          record { tx_ok = bit (word / 2 ^ 27) 0; rx_ok = bit (word / 2 ^ 27) 1; lec = part word 24 3 };
-      transfer_pending = bit (word / 2 ^ 27) 2;
-      level_pending = bit (word / 2 ^ 27) 3;
+          record { tx_ok = bit (flags_part word) 0; rx_ok = bit (flags_part word) 1; lec = part word 24 3 };
+      transfer_pending = bit (flags_part word) 2;
+      level_pending = bit (flags_part word) 3;
       test =
           record {
-            basic = bit (word / 2 ^ 27) 12;
-            silent = bit (word / 2 ^ 27) 13;
-            lback = bit (word / 2 ^ 27) 14;
+            basic = bit (flags_part word) 12;
+            silent = bit (flags_part word) 13;
+            lback = bit (flags_part word) 14;
           };
+      timing = timing_of (part word 42 15) (part word 57 4);
     }

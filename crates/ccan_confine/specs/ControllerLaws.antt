@@ -7,6 +7,7 @@ use Rattle.ccan_confine.specs.declared.controller_change.ControllerChange.{Contr
 use Rattle.ccan_confine.specs.declared.controller_change.ControllerChange.TheVariants as change
 use Rattle.ccan_confine.specs.StatusEvent.{is_sent, is_received}
 use Rattle.ccan_confine.specs.Counters.{NodeEvent, Bus, Groups, ClearInit, AreAfter, is_off}
+use Rattle.ccan_confine.specs.RegisterWords.{control_with}
 use Rattle.ccan_confine.specs.Controller.{controller_after, new_controller, is_handlers, clears_init_of, shows_interrupt}
 use Rattle.ccan_confine.specs.Controller.{IsController, packed}
 
@@ -15,11 +16,14 @@ unfoldable pub controller_of : List ControllerChange → Controller
 controller_of [] = new_controller
 controller_of (z ∷ earlier) = controller_after z (controller_of earlier)
 
--- what a change of this controller is to its error counters, before other events
+-- what a change of this controller is to its error counters, before other events; with a reset they begin anew
 abbrev pub add_event : ControllerChange → Controller → List NodeEvent → List NodeEvent
 add_event (change.Frame event noted) c events = Bus event ∷ events
 add_event (change.Recessive groups) c events = Groups groups ∷ events
 add_event (change.WriteControl control) c events = if clears_init_of c control then ClearInit ∷ events else events
+add_event (change.WriteControlBits which to) c events =
+    if clears_init_of c (control_with which to c.control) then ClearInit ∷ events else events
+add_event change.Reset c events = []
 add_event _ c events = events
 
 -- what a list of changes is to them
@@ -61,11 +65,12 @@ MasksLoseNothing =
     → ((controller_after z (record c { control = control })).transfer_pending ≡ (controller_after z c).transfer_pending)
     × ((controller_after z (record c { control = control })).level_pending ≡ (controller_after z c).level_pending)
 
--- what gives TxOk: the end of a frame that was sent sets it, a write or a clearing read gives it, all else leaves it
+-- what gives TxOk: the end of a frame that was sent sets it, a write, a clearing read or a reset gives it, all else leaves it
 abbrev pub tx_ok_given : ControllerChange → Option Bool
 tx_ok_given (change.Frame event noted) = if is_sent noted then Some true else None
 tx_ok_given change.ReadAndClearStatus = Some false
 tx_ok_given (change.WriteStatus flags) = Some flags.tx_ok
+tx_ok_given change.Reset = Some false
 tx_ok_given _ = None
 
 -- and RxOk
@@ -73,6 +78,7 @@ abbrev pub rx_ok_given : ControllerChange → Option Bool
 rx_ok_given (change.Frame event noted) = if is_received noted then Some true else None
 rx_ok_given change.ReadAndClearStatus = Some false
 rx_ok_given (change.WriteStatus flags) = Some flags.rx_ok
+rx_ok_given change.Reset = Some false
 rx_ok_given _ = None
 
 -- what the newest change gives that gives something; at the opening 0

@@ -4,6 +4,8 @@ pub mod Counters
 pub mod Status
 pub mod Bits
 pub mod StatusFlags
+pub mod BitTiming
+pub mod RegisterWords
 pub mod Controller
 pub mod Laws
 pub mod ControllerLaws

@@ -2,20 +2,25 @@ ghost use Rattle.std.specs.Prelude.{◌≡◌, ◌<◌, ◌^◌, false};
 ghost use Rattle.ccan_confine.specs.declared.controller.Controller.{Controller};
 ghost use Rattle.ccan_confine.specs.StatusEvent.{HasFaultCode};
 ghost use Rattle.ccan_confine.specs.Controller.{CanMake, IsController, changes_level, controller_after, counted};
-ghost use Rattle.ccan_confine.specs.Controller.{new_controller, packed, packed_flags, packed_numbers};
-ghost use Rattle.ccan_confine.specs.Controller.{recovery_of, shows_interrupt, status_word, unpacked};
+ghost use Rattle.ccan_confine.specs.Controller.{controlled, new_controller, packed, packed_flags, packed_numbers, packed_timing};
+ghost use Rattle.ccan_confine.specs.Controller.{recovery_of, reset_controller, shows_interrupt, status_word, timed, unpacked};
+ghost use Rattle.ccan_confine.specs.RegisterWords.{error_counter_word};
 
+use crate::bit_timing::BitTiming;
 use crate::bits::{bit, flag, part};
 use crate::control_register::ControlRegister;
 use crate::controller_change::ControllerChange;
-use crate::counters::Counters;
+use crate::counters::{Counters, PASSIVE};
 use crate::status::{WARNING, register_word};
 use crate::status_event::StatusEvent;
 use crate::status_flags::StatusFlags;
 use crate::test_register::TestRegister;
 
-/// The registers of a controller at one moment: Control, Status, the error counters and Test, with the status interrupts
-/// that are pending.
+/// The Bit Timing register after a hardware reset: TSeg2 2, TSeg1 3, SJW 0 and BRP 1.
+const BIT_TIMING_AT_RESET: u16 = 0x2301;
+
+/// The registers of a controller at one moment: Control, Status, the error counters, Bit Timing, BRP Extension and Test, with
+/// the status interrupts that are pending.
 ///
 /// They fit into one word of 64 bits, so that they may stand beside the words of the message objects:
 ///
@@ -30,9 +35,9 @@ use crate::test_register::TestRegister;
 /// | 29 | pending of a transfer or an error | 39 | Basic |
 /// | 30 | pending of a change of BOff or EWarn | 40 | Silent |
 /// | 31 | Init was cleared since it went off | 41 | LBack |
-/// | 32 | Init | 42 to 63 | 0 |
-///
-/// The Bit Timing register has no place in it.
+/// | 32 | Init | 42 to 56 | Bit Timing |
+/// | | | 57 to 60 | BRP Extension |
+/// | | | 61 to 63 | 0 |
 #[derive(Clone, Copy, Debug, PartialEq, Eq, Hash)]
 pub struct Controller {
     /// The error counters, with what the way back from bus off needs.
@@ -47,6 +52,8 @@ pub struct Controller {
     pub level_pending: bool,
     /// The Test register.
     pub test: TestRegister,
+    /// The Bit Timing and the BRP Extension register.
+    pub timing: BitTiming,
 }
 
 impl Controller {
@@ -62,6 +69,22 @@ impl Controller {
             transfer_pending: false,
             level_pending: false,
             test: TestRegister::default(),
+            timing: BitTiming::new(0, 0),
+        }
+    }
+
+    // The controller as a hardware reset leaves it.
+    fn reset() -> Controller
+        ensures { result ≡ reset_controller }
+    {
+        let control = ControlRegister {
+            init: true,
+            ..ControlRegister::default()
+        };
+        Controller {
+            control,
+            timing: BitTiming::new(BIT_TIMING_AT_RESET, 0),
+            ..Controller::new()
         }
     }
 
@@ -76,6 +99,8 @@ impl Controller {
         // What these answer is in its range.
         let _ = after.counters.numbers();
         let _ = after.status.lec();
+        let _ = after.timing.register();
+        let _ = after.timing.extension();
         after
     }
 
@@ -100,12 +125,21 @@ impl Controller {
         )
     }
 
-    /// The registers in one word, below 2^42.
+    /// The word of the Error Counter register: RP 15 (REC is at least 128), the low seven bits of REC 14 to 8, TEC 7 to 0, where
+    /// a TEC above 255 shows as 255 (C_CAN User's Manual 1.2, "Error Counter").
+    pub fn error_counter_word(&self) -> u16
+        ensures { result ≡ error_counter_word self.now }
+    {
+        let (tec, rec, _) = self.counters.numbers();
+        (flag(rec >= u64::from(PASSIVE), 15) + ((rec % (1 << 7)) << 8) + tec.min(255)) as u16
+    }
+
+    /// The registers in one word, below 2^61.
     pub fn pack(&self) -> u64
         ensures word { result ≡ packed self.now }
-        ensures small { result < 2 ^ 42 }
+        ensures small { result < 2 ^ 61 }
     {
-        (self.pack_flags() << 27) + self.pack_numbers()
+        (self.pack_timing() << 42) + (self.pack_flags() << 27) + self.pack_numbers()
     }
 
     /// The controller that packs to this word; some controller where none does.
@@ -144,10 +178,19 @@ impl Controller {
         (u64::from(self.status.lec()) << 24) + (groups << 17) + (tec << 8) + rec
     }
 
+    fn pack_timing(&self) -> u64
+        ensures word { result ≡ packed_timing self.now }
+        ensures small { result < 2 ^ 19 }
+    {
+        (u64::from(self.timing.extension()) << 15) + u64::from(self.timing.register())
+    }
+
     fn unpacked(word: u64) -> Controller
         ensures { result ≡ unpacked word }
     {
-        let flags = word >> 27;
+        let flags = part(word, 27, 15);
+        let register = part(word, 42, 15) as u16;
+        let extension = part(word, 57, 4) as u16;
         let lec = part(word, 24, 3) as u8;
         Controller {
             counters: Counters {
@@ -174,6 +217,7 @@ impl Controller {
                 silent: bit(flags, 13),
                 lback: bit(flags, 14),
             },
+            timing: BitTiming::new(register, extension),
         }
     }
 
@@ -191,8 +235,14 @@ impl Controller {
             ControllerChange::ReadAndClearStatus => self.read(StatusFlags::new(false, false, 7)),
             ControllerChange::WriteStatus(status) => Controller { status, ..self },
             ControllerChange::WriteControl(control) => self.controlled(control),
+            ControllerChange::WriteControlBits(which, to) => {
+                self.controlled(self.control.with(which, to))
+            }
             ControllerChange::WriteTest(test) if self.control.test => Controller { test, ..self },
             ControllerChange::WriteTest(_) => self,
+            ControllerChange::WriteBitTiming(word) => self.timed(self.timing.with_register(word)),
+            ControllerChange::WriteExtension(word) => self.timed(self.timing.with_extension(word)),
+            ControllerChange::Reset => Controller::reset(),
         }
     }
 
@@ -211,7 +261,7 @@ impl Controller {
             status: self.status.after(event),
             transfer_pending: self.transfer_pending || event.is_transfer_or_error(),
             level_pending: self.level_pending || changes_level(self.counters, counters),
-            test: self.test,
+            ..self
         }
     }
 
@@ -237,7 +287,7 @@ impl Controller {
 
     // After a write of the Control register.
     fn controlled(self, control: ControlRegister) -> Controller
-        ensures { result ≡ controller_after (ControllerChange.WriteControl control) self }
+        ensures { result ≡ controlled control self }
     {
         let counters = if self.control.init && !control.init {
             self.counters.clear_init()
@@ -248,6 +298,17 @@ impl Controller {
             counters,
             control,
             ..self
+        }
+    }
+
+    // After a write of the bit timing.
+    fn timed(self, timing: BitTiming) -> Controller
+        ensures { result ≡ timed timing self }
+    {
+        if self.control.init && self.control.cce {
+            Controller { timing, ..self }
+        } else {
+            self
         }
     }
 }

@@ -21,6 +21,19 @@ pub enum ControllerChange {
     WriteStatus(StatusFlags),
     /// A host writes the Control register. Where it clears Init and the controller is bus off, the way back begins.
     WriteControl(ControlRegister),
+    /// A host writes the bits of the Control register that are 1 in the first value, as they are in the second one; the others
+    /// stay. So a read and a write of the register end between which nobody came (C_CAN User's Manual 1.2, "CAN Control
+    /// Register").
+    WriteControlBits(ControlRegister, ControlRegister),
     /// A host writes the Test register, which stays where Test of the Control register is 0.
     WriteTest(TestRegister),
+    /// A host writes the Bit Timing register, without its reserved bit. It stays where Init or CCE of the Control register is 0
+    /// (C_CAN User's Manual 1.2, "Bit Timing Register").
+    WriteBitTiming(u16),
+    /// A host writes the BRP Extension register, without its reserved bits. It stays where Init or CCE of the Control register
+    /// is 0 (C_CAN User's Manual 1.2, "BRP Extension Register").
+    WriteExtension(u16),
+    /// A hardware reset: Init is 1, the Bit Timing register is 0x2301, and all else is 0 as in a new controller (C_CAN User's
+    /// Manual 1.2, "Hardware Reset Description"). By the message handler's side alone.
+    Reset,
 }

@@ -98,7 +98,7 @@ pub fn counters_are_as_defined()
     ensures { CountersAreAsDefined }
 {}
 
-/// Only the message handler's changes, the ends of frames and the groups of recessive bits, change TEC or REC.
+/// Only the message handler's side, by the ends of frames, the groups of recessive bits and a reset, changes TEC or REC.
 pub fn hosts_leave_the_counters()
     ensures { HostsLeaveTheCounters }
 {}
@@ -118,7 +118,7 @@ pub fn masks_lose_nothing()
     ensures { MasksLoseNothing }
 {}
 
-/// TxOk and RxOk are what the newest transfer, write or clearing read made of them.
+/// TxOk and RxOk are what the newest transfer, write, clearing read or reset made of them.
 pub fn flags_are_given_last()
     ensures { FlagsAreGivenLast }
 {}

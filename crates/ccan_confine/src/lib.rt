@@ -33,12 +33,13 @@
 //! 1.2, "Status Register" and "CAN Control Register").
 //!
 //! [`Controller`] has all registers of a controller in one value, which packs into one word: Control, Status, the error
-//! counters and Test. A [`ControllerChange`] is what one step makes of it, of a host or of the message handler.
+//! counters, Bit Timing, BRP Extension and Test. A [`ControllerChange`] is what one step makes of it, of a host or of the message handler.
 //!
 //! Neither counters nor Status register store what happened. Their contracts do: whatever list of events led to a value, the value after a call is
 //! that of the list with one event more. [`laws`] says what follows over whole lists.
 #![tactic(auto)]
 
+pub mod bit_timing;
 mod bits;
 pub mod bus_event;
 pub mod control_register;
@@ -52,6 +53,7 @@ pub mod status_event;
 pub mod status_flags;
 pub mod test_register;
 
+pub use bit_timing::BitTiming;
 pub use bus_event::BusEvent;
 pub use control_register::ControlRegister;
 pub use controller::Controller;

@@ -1,7 +1,9 @@
 ghost use Rattle.std.specs.Prelude.{◌≡◌, ◌≤◌};
 ghost use Rattle.ccan_confine.specs.StatusFlags.{Flags, flags_after, highest_code};
 ghost use Rattle.ccan_confine.specs.StatusEvent.{HasFaultCode};
+ghost use Rattle.ccan_confine.specs.RegisterWords.{flags_in};
 
+use crate::bits::{bit, part};
 use crate::status_event::StatusEvent;
 use std::marker::Model;
 
@@ -36,6 +38,14 @@ impl StatusFlags {
         ensures { result ≡ record { tx_ok = tx_ok; rx_ok = rx_ok; lec = lec } }
     {
         StatusFlags { tx_ok, rx_ok, lec }
+    }
+
+    /// What a host writes into the Status register by this word: RxOk 4, TxOk 3, LEC 2 to 0. Its other bits are dropped.
+    pub fn of_word(word: u16) -> StatusFlags
+        ensures { result ≡ flags_in word }
+    {
+        let word = u64::from(word);
+        StatusFlags::new(bit(word, 3), bit(word, 4), part(word, 0, 3) as u8)
     }
 
     /// TxOk: a frame was sent.

@@ -2,10 +2,12 @@
 
 use crate::expect::{holds, same};
 use ccan_confine::ControllerChange::{
-    Frame, ReadAndClearStatus, ReadStatus, Recessive, WriteControl, WriteStatus, WriteTest,
+    Frame, ReadAndClearStatus, ReadStatus, Recessive, Reset, WriteBitTiming, WriteControl,
+    WriteControlBits, WriteExtension, WriteStatus, WriteTest,
 };
 use ccan_confine::{
-    BusEvent, ControlRegister, Controller, NodeState, StatusEvent, StatusFlags, TestRegister, laws,
+    BitTiming, BusEvent, ControlRegister, Controller, NodeState, StatusEvent, StatusFlags,
+    TestRegister, laws,
 };
 
 /// A controller as it opens, after so many errors in its own frames, with the code of bit 1.
@@ -149,6 +151,95 @@ fn test_needs_its_bit(rt: HostRuntime) {
 }
 
 #[test]
+fn bit_timing_needs_init_and_cce(rt: HostRuntime) {
+    for bits in [0x00, 0x01, 0x40, 0xbe] {
+        let refused = Controller::new()
+            .after(&WriteControl(control(bits)))
+            .after(&WriteBitTiming(0x2301))
+            .after(&WriteExtension(0x000f));
+        same(&rt, refused.timing.register(), 0);
+        same(&rt, refused.timing.extension(), 0);
+    }
+    let open = Controller::new().after(&WriteControl(control(0x41)));
+    // The reserved bits are dropped, and each register leaves the other.
+    let slow = open.after(&WriteBitTiming(0xa301));
+    same(&rt, slow.timing, BitTiming::new(0x2301, 0));
+    let slower = slow.after(&WriteExtension(0xfff3));
+    same(&rt, slower.timing, BitTiming::new(0x2301, 3));
+    same(&rt, slower.timing.with_register(0x8014).register(), 0x0014);
+    same(&rt, slower.timing.with_extension(0x0010).extension(), 0);
+    // Without Init they stay as they are.
+    let begun = slower
+        .after(&WriteControl(control(0x40)))
+        .after(&WriteBitTiming(0x0000));
+    same(&rt, begun.timing, slower.timing);
+}
+
+#[test]
+fn control_is_written_bit_by_bit(rt: HostRuntime) {
+    // IE and SIE are set, EIE and CCE cleared; DAR and Init stay.
+    let written = Controller::new().after(&WriteControl(control(0x69)));
+    let changed = written.after(&WriteControlBits(control(0x4e), control(0xa6)));
+    same(&rt, changed.control.word(), 0x0027);
+    // Where the bits clear Init of a controller that is off, the way back begins.
+    let off = after_send_faults(32);
+    let begun = off.after(&WriteControlBits(control(0x01), control(0x00)));
+    same(&rt, begun.counters.recovering(), true);
+    let waits = off.after(&WriteControlBits(control(0x02), control(0x02)));
+    holds(&rt, !waits.counters.recovering() && waits.control.init);
+}
+
+#[test]
+fn a_reset_gives_the_values_of_the_manual(rt: HostRuntime) {
+    let busy = after_send_faults(32)
+        .after(&WriteControl(control(0xff)))
+        .after(&WriteTest(test_of(0x1c)))
+        .after(&WriteBitTiming(0x1234))
+        .after(&WriteExtension(0x000f));
+    let reset = busy.after(&Reset);
+    same(&rt, reset.control.word(), 0x0001);
+    same(&rt, reset.status_word(), 0x0000);
+    same(&rt, reset.error_counter_word(), 0x0000);
+    same(&rt, reset.timing.register(), 0x2301);
+    same(&rt, reset.timing.extension(), 0x0000);
+    same(&rt, reset.test.word(), 0x0000);
+    holds(&rt, !reset.transfer_pending && !reset.level_pending);
+    same(&rt, reset.pack(), (0x2301 << 42) + (1 << 32));
+}
+
+#[test]
+fn registers_have_their_words(rt: HostRuntime) {
+    for bits in [0x01, 0x02, 0x04, 0x08, 0x20, 0x40, 0x80] {
+        same(&rt, control(bits).word(), u16::from(bits));
+        same(&rt, ControlRegister::of_word(u16::from(bits)), control(bits));
+    }
+    for bits in [0x04, 0x08, 0x10] {
+        same(&rt, test_of(bits).word(), u16::from(bits));
+        same(&rt, TestRegister::of_word(u16::from(bits)), test_of(bits));
+    }
+    // Reserved bits, and those of the pins, are dropped.
+    same(&rt, ControlRegister::of_word(0xff10), control(0x00));
+    same(&rt, TestRegister::of_word(0xffe3), test_of(0x00));
+    same(&rt, StatusFlags::of_word(0x0008), StatusFlags::new(true, false, 0));
+    same(&rt, StatusFlags::of_word(0x0010), StatusFlags::new(false, true, 0));
+    same(&rt, StatusFlags::of_word(0xffe7), StatusFlags::new(false, false, 7));
+}
+
+#[test]
+fn error_counter_word_has_both_counters(rt: HostRuntime) {
+    same(&rt, after_send_faults(31).error_counter_word(), 248);
+    // TEC 256 shows as 255.
+    same(&rt, after_send_faults(32).error_counter_word(), 255);
+    let mut controller = after_send_faults(2);
+    for (times, word) in [(127, 0x7f10), (1, 0x8010), (5, 0x8510)] {
+        for _ in 0..times {
+            controller = controller.after(&Frame(BusEvent::ReceiveFault, StatusEvent::Fault(1)));
+        }
+        same(&rt, controller.error_counter_word(), word);
+    }
+}
+
+#[test]
 fn each_register_has_its_bits(rt: HostRuntime) {
     for (bits, word) in [
         (0x01, 1 << 32),
@@ -169,6 +260,15 @@ fn each_register_has_its_bits(rt: HostRuntime) {
     same(&rt, testing(0x10).pack(), (1 << 41) + (1 << 38));
     let status = Controller::new().after(&WriteStatus(StatusFlags::new(true, true, 7)));
     same(&rt, status.pack(), (1 << 28) + (1 << 27) + (7 << 24));
+    // Bit Timing from bit 42 on, BRP Extension from bit 57 on, beside Init and CCE.
+    let timed = Controller::new()
+        .after(&WriteControl(control(0x41)))
+        .after(&WriteBitTiming(0x7fff));
+    same(&rt, timed.pack(), (0x7fff << 42) + (1 << 37) + (1 << 32));
+    let extended = timed
+        .after(&WriteBitTiming(0))
+        .after(&WriteExtension(0x000f));
+    same(&rt, extended.pack(), (15 << 57) + (1 << 37) + (1 << 32));
     // TEC 8 from bit 8 on, LEC 4 from bit 24 on, and the transfer pending at bit 29.
     let fault = (1 << 29) + (4 << 24) + (8 << 8);
     same(&rt, after_send_faults(1).pack(), fault);
@@ -180,6 +280,8 @@ fn a_word_reads_back(rt: HostRuntime) {
     let returning = off
         .after(&WriteControl(control(0xee)))
         .after(&Recessive(100));
+    let reset = off.after(&Reset);
+    same(&rt, Controller::unpack(reset.pack()), reset);
     same(&rt, Controller::unpack(off.pack()), off);
     same(&rt, Controller::unpack(returning.pack()), returning);
     // TEC 256, 100 groups, LEC 5, both interrupts pending, Init cleared, and every bit of Control but Init.

@@ -12,12 +12,16 @@ returns-clause-is c is =
     let groups = n.groups in
     let value = code.value in
     let in_range = code.in_range in
+    let register = c.register.ensures in
+    let extension = c.extension.ensures in
     record {
       host =
           ap (λ (z : Controller). z.counters.host) c.changed-after.ensures
-          ∙ (host_after c.args.change.now c.args.self ∙ is.host);
+          ∙ host_after c.args.change.now c.args.self is.host;
       tec = (let a = tec.0 in let b = tec.1 in omega arith);
       rec = (let a = rec'.0 in let b = rec'.1 in omega arith);
       groups = (let a = groups.0 in let b = groups.1 in omega arith);
       lec = omega arith;
+      register = (let a = register.value in let b = register.in_range in omega arith);
+      extension = (let a = extension.value in let b = extension.in_range in omega arith);
     }
