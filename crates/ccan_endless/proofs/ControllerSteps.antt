@@ -42,7 +42,15 @@ use Rattle.ccan_endless.proofs.Moves.{saw_all}
 use Rattle.ccan_endless.proofs.Lifting.{ChipState, chip_with_view, map_at, goes_again, goes_more, agree_saw, sees_all, chip_moved}
 
 pub new_is : IsController new_controller
-new_is = record { host = refl; tec = lit< tt; rec = lit≤ tt; groups = lit< tt; lec = lit≤ tt }
+new_is = record {
+  host = refl;
+  tec = lit< tt;
+  rec = lit≤ tt;
+  groups = lit< tt;
+  lec = lit≤ tt;
+  register = lit< tt;
+  extension = lit< tt;
+}
 
 -- what a legal history leaves is a controller
 pub controller_is : (h : ChipHistory) → IsControllerLegal h → IsController (controller_at h)

@@ -1,9 +1,10 @@
--- What a port of a chip knows, and what its steps at the controller add to that. Source: this project's own.
-use Rattle.std.specs.Prelude.{◌≡◌, ℕ, ◌+◌, ◌≤◌, ◌∷◌, [], true, length, Option, Some, None}
+-- What a port of a chip knows, and what its steps at the controller add to that. Source: this project's own; what a reset leaves
+-- is that of C_CAN User's Manual 1.2, "Hardware Reset Description".
+use Rattle.std.specs.Prelude.{◌≡◌, ℕ, ◌+◌, ◌≤◌, ◌∷◌, [], length, Option, Some, None}
 use Rattle.ccan_confine.specs.declared.controller.Controller.{Controller}
-use Rattle.ccan_confine.specs.declared.controller_change.ControllerChange.TheVariants.{WriteControl}
-use Rattle.ccan_confine.specs.Controller.{new_controller, no_control}
-use Rattle.ccan_ram.specs.declared.port.PortName.TheVariants.{If1}
+use Rattle.ccan_confine.specs.declared.controller_change.ControllerChange.TheVariants.{Reset}
+use Rattle.ccan_confine.specs.Controller.{new_controller}
+use Rattle.ccan_ram.specs.declared.port.PortName.TheVariants.{Bus}
 use Rattle.ccan_ram.specs.History.{BeginsWith, events_of}
 use Rattle.ccan_ram.specs.SharedRam.{Pass, CanSee, IsSamePort}
 use Rattle.ccan_endless.specs.declared.chip.ChipEvent.TheVariants.{OfController}
@@ -63,7 +64,6 @@ pub record ChipMeets (a b new_a new_b : ChipPass) : Type 0 where
   pub none_b : AddsNone b new_b
   pub one : new_b.whole ≡ new_a.whole
 
--- a chip after its reset: the first event is IF1's write of Init
+-- a chip after its hardware reset: the first event is that reset, by the bus's port
 abbrev pub reset_history : ChipHistory
-reset_history =
-    OfController (step_at If1 (Make (WriteControl (record no_control { init = true }))) new_controller) ∷ []
+reset_history = OfController (step_at Bus (Make Reset) new_controller) ∷ []

@@ -3,7 +3,7 @@
 use super::*;
 use crate::expect::{holds, same};
 use crate::shared::chips::{changed, looked, three_at_the_controller};
-use ccan_confine::{BusEvent, ControllerChange, StatusEvent};
+use ccan_confine::{BusEvent, ControlRegister, ControllerChange, StatusEvent};
 
 #[test]
 fn reset_and_an_event_of_the_bus(rt: HostRuntime) {
@@ -11,13 +11,23 @@ fn reset_and_an_event_of_the_bus(rt: HostRuntime) {
     else {
         panic!(&rt; "no memory")
     };
-    same(&rt, looked(&ram, &mut if1).control.init, true);
+    let reset = looked(&ram, &mut if1);
+    same(&rt, reset.control.word(), 0x0001);
+    same(&rt, reset.timing.register(), 0x2301);
+    // A host sets CCE beside Init and writes the Bit Timing register, and the bus's port sees it.
+    let cce = ControlRegister::of_word(0x0040);
+    let open = ControllerChange::WriteControlBits(cce, cce);
+    holds(&rt, changed(&ram, &mut if1, &open, tries(1)).is_some());
+    let timing = ControllerChange::WriteBitTiming(0x1234);
+    holds(&rt, changed(&ram, &mut if1, &timing, tries(1)).is_some());
+    same(&rt, looked(&ram, &mut bus).timing.register(), 0x1234);
     let fault = ControllerChange::Frame(BusEvent::SendFault, StatusEvent::Fault(4));
     holds(&rt, changed(&ram, &mut bus, &fault, tries(1)).is_some());
     let last = ram.close_chip(if1, if2, bus).controller;
     same(&rt, last.counters.tec(), 8);
     same(&rt, last.status_word(), 0x0004);
-    same(&rt, last.control.init, true);
+    same(&rt, last.control.word(), 0x0041);
+    same(&rt, last.timing.register(), 0x1234);
 }
 
 #[test]
