@@ -1,6 +1,8 @@
 -- What a port of a chip has seen, before and after its steps.
-use Rattle.std.proofs.Common.{ℕ, ◌≡◌, [], refl, sym, ap, subst, true}
+use Rattle.std.proofs.Common.{ℕ, ◌≡◌, List, [], refl, sym, ap, subst, true}
 use Rattle.std.specs.Prelude.{Result, Ok, Err, IfOk, IfErr, Option, Some}
+use Rattle.ccan_ram.specs.declared.event.Event.{Event}
+use Rattle.ccan_ram.specs.SharedRam.{CanSee, IsWithin, Pass, passes_of}
 use Rattle.ccan_confine.specs.declared.bus_event.BusEvent.{BusEvent}
 use Rattle.ccan_confine.specs.declared.controller.Controller.{Controller}
 use Rattle.ccan_confine.specs.declared.controller_change.ControllerChange.TheVariants.{Frame}
@@ -12,6 +14,7 @@ use Rattle.ccan_endless.specs.declared.controller_changed.ControllerBusy.{Contro
 use Rattle.ccan_endless.specs.declared.controller_changed.ControllerChanged.{ControllerChanged}
 use Rattle.ccan_endless.specs.Chip.{controller_at}
 use Rattle.ccan_endless.specs.ChipPort.{AddsController, AddsNone, ChipPass, HasChanges, SeesOne}
+use Rattle.ccan_endless.specs.Layout.{same_object}
 use Rattle.ccan_endless.proofs.ChipLaws.{chip_counters}
 use Rattle.ccan_chip.specs.Round.{IsNoted, Notes, events_in}
 
@@ -33,6 +36,10 @@ counters_found old new found looks =
     subst (λ (c : Controller). AreAfter true (events_in new.whole) c.counters) (ap controller_at looks.whole)
     (chip_counters new.whole looks.to.legal)
 
+-- what a port has seen after steps at the objects is such as it can see
+pub sees_on : (pass : Pass) (seen : List Event) → (passes_of same_object pass).has_seen seen → CanSee pass
+sees_on pass seen h = subst (IsWithin pass.memory) h.0 h.1
+
 -- how a change of the controller ends
 pub noted_of : (own : BusEvent × StatusEvent) (tries : ℕ) (old new : ChipPass) (outcome : Result ControllerChanged ControllerBusy)
     → IfOk outcome (λ made. AddsController old new (Make (Frame own.0 own.1)) made.before)
@@ -42,6 +49,14 @@ pub noted_of : (own : BusEvent × StatusEvent) (tries : ℕ) (old new : ChipPass
     → IsNoted own tries old new outcome
 noted_of own tries old new (Ok made) adds after busy lost = (adds, after)
 noted_of own tries old new (Err busy) adds after none lost = (none.2, lost.1, lost.0)
+
+-- and the port goes on in one history then
+pub one_after : (own : BusEvent × StatusEvent) (old new : ChipPass) (outcome : Result ControllerChanged ControllerBusy)
+    → IfOk outcome (λ made. AddsController old new (Make (Frame own.0 own.1)) made.before)
+    → IfErr outcome (λ busy. (busy.controller ≡ controller_at new.whole) × IsController busy.controller × AddsNone old new)
+    → SeesOne new
+one_after own old new (Ok made) adds none = adds.to
+one_after own old new (Err busy) adds none = none.2.to
 
 -- so the round's event ends
 pub notes_some : (own : BusEvent × StatusEvent) (tries : ℕ) (old new new' : ChipPass)

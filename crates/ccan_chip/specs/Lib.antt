@@ -1,2 +1,3 @@
 pub mod Round
+pub mod Load
 pub mod Laws

@@ -1,19 +1,21 @@
 ghost use Rattle.std.specs.Prelude.{◌≡◌, ◌≤◌, true, false, List, None, IfOk, IfErr};
 ghost use Rattle.ccan_ram.specs.declared.port.PortName.{PortName};
 ghost use Rattle.ccan_ram.specs.declared.port.PortName.TheVariants.{Bus as BusPort};
-ghost use Rattle.ccan_ram.specs.SharedRam.{passes_of, terms_of};
+ghost use Rattle.ccan_ram.specs.SharedRam.{CanSee, passes_of, terms_of};
 ghost use Rattle.ccan_confine.specs.Counters.{AreAfter, NodeEvent};
 ghost use Rattle.ccan_bus.specs.Bus.{GoesOnWith, IsSameBus, LedTo};
+ghost use Rattle.ccan_bus.specs.Load.{Loads};
 ghost use Rattle.ccan_bus.specs.Past.{BusPast, opened_at_once};
 ghost use Rattle.ccan_bus.specs.RoundReport.{RunsSteps};
-ghost use Rattle.ccan_endless.specs.ChipPort.{AddsNone};
+ghost use Rattle.ccan_endless.specs.ChipPort.{AddsNone, SeesOne};
 ghost use Rattle.ccan_endless.specs.Layout.{same_object};
+ghost use Rattle.ccan_chip.specs.Load.{ChipLoad};
 ghost use Rattle.ccan_chip.specs.Round.{ChipRound, IsRecessive, IsRecessiveLost, as_found, loops_back, takes_part};
 
 use crate::chip_report::ChipReport;
 use crate::objects::{Earlier, Objects};
 use crate::own_event::own_in;
-use ccan_bus::{Bus, RoundLine, RoundReport};
+use ccan_bus::{Bus, LoadAnswer, RoundLine, RoundReport};
 use ccan_confine::{Controller, ControllerChange, Counters, NodeState};
 use ccan_endless::{ControllerBusy, ControllerChanged, EndlessRam, Port};
 use ccan_object::{ObjectNo, Profile, Record};
@@ -64,6 +66,27 @@ fn steps<E: Earlier>(
     (report, objects.into_port())
 }
 
+/// A load, over the objects.
+fn load_over<E: Earlier>(
+    bus: &mut Bus,
+    ram: &EndlessRam,
+    port: Port,
+    tries: Tries,
+) -> (LoadAnswer, Port)
+    requires memory { port.pass.memory ≡ ram.now.words }
+    requires profile { port.pass.memory.profile ≡ bus.old.profile }
+    requires none { AddsNone E.earlier port }
+    ensures none { AddsNone E.earlier result.1 }
+    ensures same { IsSameBus bus.old bus.new }
+    ensures goes_on { GoesOnWith (passes_of same_object port.pass)
+        (passes_of same_object result.1.pass) bus.old bus.new
+        (λ terms seen added past after. Loads terms tries seen added past after result.0) }
+{
+    let mut objects = Objects::<E>::new(ram, port);
+    let answer = bus.load(&mut objects, tries);
+    (answer, objects.into_port())
+}
+
 impl ChipBus {
     /// The bus of a chip of this profile, with so many other nodes, to which nothing happened yet.
     pub fn new(profile: Profile, nodes: u8) -> ChipBus
@@ -78,7 +101,8 @@ impl ChipBus {
 
     /// How many nodes there are beside the controller.
     pub fn others(&self) -> u8
-        ensures { result ≡ self.now.bus.others }
+        ensures value { result ≡ self.now.bus.others }
+        ensures in_range { result ≤ 8 }
     {
         self.bus.others()
     }
@@ -114,6 +138,33 @@ impl ChipBus {
         }
     }
 
+    /// Chooses and starts an object, where nothing is loaded. The controller takes part as its registers are at the first look;
+    /// where it takes none, nothing is loaded afterwards. The answer comes with the controller that the look found.
+    pub fn load(
+        &mut self,
+        ram: &EndlessRam,
+        mut port: Port,
+        tries: Tries,
+    ) -> (Controller, LoadAnswer, Port)
+        requires memory { port.pass.memory ≡ ram.now.words }
+        requires bus { port.pass.port ≡ BusPort }
+        requires profile { port.pass.memory.profile ≡ self.old.bus.profile }
+        ensures same { IsSameBus self.old.bus self.new.bus }
+        ensures memory { result.2.pass.memory ≡ port.pass.memory }
+        ensures port { result.2.pass.port ≡ port.pass.port }
+        ensures sees { CanSee port.pass → CanSee result.2.pass }
+        ensures one { SeesOne result.2 }
+        ensures load { (past : BusPast) → LedTo past self.old.bus
+            → (after : BusPast) × LedTo after self.new.bus
+            × ChipLoad (terms_of same_object port.pass.memory BusPort) tries
+            port result.2 past after result.0 result.1 }
+    {
+        let controller = ram.look_controller(&mut port);
+        self.take(&controller);
+        let (answer, port) = load_over::<Brand>(&mut self.bus, ram, port, tries);
+        (controller, answer, port)
+    }
+
     /// A round. The controller takes part as its registers are at the first look; what the round was to it is made there last,
     /// so that whoever is woken by it finds the object done, unless the step that is due there was refused.
     pub fn round(
@@ -129,6 +180,8 @@ impl ChipBus {
         ensures same { IsSameBus self.old.bus self.new.bus }
         ensures memory { result.1.pass.memory ≡ port.pass.memory }
         ensures port { result.1.pass.port ≡ port.pass.port }
+        ensures sees { CanSee port.pass → CanSee result.1.pass }
+        ensures one { SeesOne result.1 }
         ensures out { takes_part result.0.found ≡ false → result.0.own ≡ None }
         ensures round { (past : BusPast) → LedTo past self.old.bus
             → (after : BusPast) × LedTo after self.new.bus
@@ -169,6 +222,7 @@ impl ChipBus {
         requires memory { port.old.pass.memory ≡ ram.now.words }
         requires bus { port.old.pass.port ≡ BusPort }
         ensures same { IsSameBus self.old.bus self.new.bus }
+        ensures sees { CanSee port.old.pass → CanSee port.new.pass }
         ensures made { IfOk result (λ made.
             IsRecessive groups port.old port.new self.old.bus self.new.bus made) }
         ensures busy { IfErr result (λ busy.

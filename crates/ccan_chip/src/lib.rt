@@ -14,6 +14,8 @@
 //!                                 |
 //! ```
 //!
+//! A load by itself is the look and the steps of a load, and no event.
+//!
 //! Whoever is woken by the event finds the object done, unless that step was refused. A host may change anything of the word
 //! between the two: where the event is made, it is made of the word as it is then, and TEC and REC are still those of the look,
 //! since only rounds change them ([`laws`]). Where each of its tries was lost to a change of another port it is not made, and

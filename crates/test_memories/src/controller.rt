@@ -211,7 +211,11 @@ fn a_reset_gives_the_values_of_the_manual(rt: HostRuntime) {
 fn registers_have_their_words(rt: HostRuntime) {
     for bits in [0x01, 0x02, 0x04, 0x08, 0x20, 0x40, 0x80] {
         same(&rt, control(bits).word(), u16::from(bits));
-        same(&rt, ControlRegister::of_word(u16::from(bits)), control(bits));
+        same(
+            &rt,
+            ControlRegister::of_word(u16::from(bits)),
+            control(bits),
+        );
     }
     for bits in [0x04, 0x08, 0x10] {
         same(&rt, test_of(bits).word(), u16::from(bits));
@@ -220,9 +224,21 @@ fn registers_have_their_words(rt: HostRuntime) {
     // Reserved bits, and those of the pins, are dropped.
     same(&rt, ControlRegister::of_word(0xff10), control(0x00));
     same(&rt, TestRegister::of_word(0xffe3), test_of(0x00));
-    same(&rt, StatusFlags::of_word(0x0008), StatusFlags::new(true, false, 0));
-    same(&rt, StatusFlags::of_word(0x0010), StatusFlags::new(false, true, 0));
-    same(&rt, StatusFlags::of_word(0xffe7), StatusFlags::new(false, false, 7));
+    same(
+        &rt,
+        StatusFlags::of_word(0x0008),
+        StatusFlags::new(true, false, 0),
+    );
+    same(
+        &rt,
+        StatusFlags::of_word(0x0010),
+        StatusFlags::new(false, true, 0),
+    );
+    same(
+        &rt,
+        StatusFlags::of_word(0xffe7),
+        StatusFlags::new(false, false, 7),
+    );
 }
 
 #[test]

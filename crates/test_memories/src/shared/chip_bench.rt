@@ -10,7 +10,7 @@ ghost use Rattle.ccan_endless.specs.Chip.{MayMake};
 use crate::shared::chips::{changed, looked};
 use arrayvec::ArrayVec;
 use ccan_accept::Frame;
-use ccan_bus::{Fault, RoundLine};
+use ccan_bus::{Fault, LoadAnswer, RoundLine};
 use ccan_chip::{ChipBus, ChipReport};
 use ccan_confine::{Controller, ControllerChange, Counters};
 use ccan_endless::{ControllerChanged, EndlessRam, FinalChip, Port};
@@ -79,6 +79,31 @@ impl ChipBench {
     {
         let made = self.ram.change(&mut self.if1, object, change, self.tries);
         matches!(made, Ok(Changed::Done { .. }))
+    }
+
+    /// A load, with whether Init was 1 at its look.
+    pub fn load(self) -> (ChipBench, bool, LoadAnswer) {
+        let ChipBench {
+            ram,
+            if1,
+            if2,
+            port,
+            mut bus,
+            tries,
+        } = self;
+        let (found, answer, port) = bus.load(&ram, port, tries);
+        (
+            ChipBench {
+                ram,
+                if1,
+                if2,
+                port,
+                bus,
+                tries,
+            },
+            found.control.init,
+            answer,
+        )
     }
 
     /// A round of this line.

@@ -72,6 +72,42 @@ fn takes_no_part_until_init_is_cleared(rt: HostRuntime) {
 }
 
 #[test]
+fn loads_while_init_is_clear(rt: HostRuntime) {
+    let mut bench = bench(&rt, rt.alloc());
+    let object = Profile::One.last();
+    holds(&rt, bench.object(object, &message(0x0188)));
+    let (mut bench, init, answer) = bench.load();
+    same(&rt, (init, answer), (true, LoadAnswer::Nothing));
+    same(&rt, bench.loaded(), None);
+    let clear = WriteControl(control(false, false, false));
+    holds(&rt, bench.host(&clear).is_some());
+    let (bench, init, answer) = bench.load();
+    holds(&rt, !init);
+    holds(&rt, matches!(answer, LoadAnswer::Loaded(_, _)));
+    same(&rt, bench.loaded(), Some(32));
+    let (mut bench, _, answer) = bench.load();
+    same(&rt, answer, LoadAnswer::Held(object));
+    // A host sets Init, and nothing is loaded any more.
+    let set = WriteControl(control(true, false, false));
+    holds(&rt, bench.host(&set).is_some());
+    let (mut bench, init, answer) = bench.load();
+    same(&rt, (init, answer), (true, LoadAnswer::Nothing));
+    same(&rt, bench.loaded(), None);
+    holds(&rt, bench.host(&clear).is_some());
+    let (bench, _, answer) = bench.load();
+    holds(&rt, matches!(answer, LoadAnswer::Loaded(_, _)));
+    // A round sends what is loaded.
+    let (mut bench, told) = bench.round(&silent(&rt, Fault::Quiet));
+    same(&rt, told.report.loading, LoadAnswer::Held(object));
+    holds(
+        &rt,
+        matches!(told.report.end.answer, RoundAnswer::Sent(_, _)),
+    );
+    // TxOk, and LEC 0: the loads themselves left the controller.
+    same(&rt, bench.controller().status_word(), 0x0008);
+}
+
+#[test]
 fn receives_what_it_hears(rt: HostRuntime) {
     let mut bench = bench(&rt, rt.alloc());
     holds(

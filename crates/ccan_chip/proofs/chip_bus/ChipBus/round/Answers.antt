@@ -9,13 +9,33 @@ use Rattle.ccan_bus.specs.Controller.{WasTo}
 use Rattle.ccan_bus.specs.RoundReport.{RunsSteps}
 use Rattle.ccan_endless.specs.Layout.{same_object}
 use Rattle.ccan_chip.specs.Round.{as_found, events_in}
-use Rattle.ccan_chip.proofs.Ports.{counters_found, none_yet, noted_of, notes_some}
+use Rattle.ccan_chip.proofs.Ports.{counters_found, none_yet, noted_of, notes_some, one_after, sees_on}
 use Rattle.ccan_chip.proofs.Rounds.{found_on, runs_to}
 use Rattle.ccan_chip.proofs.chip_bus.ChipBus.round.Goals.{in-None, in-Some}
 use Rattle.ccan_chip.proofs.chip_bus.ChipBus.round.Goals as goal
 
 pub own_in-own-requires : goal.own_in-own-requires
 own_in-own-requires c = c.last_error.ensures.in_range
+
+pub returns-clause-sees : goal.returns-clause-sees
+returns-clause-sees c can =
+    let goes = c.steps-report.ensures.goes_on.each c.look_controller-found.new.port.pass.seen
+    (refl, c.look_controller-found.ensures.objects.sees) in
+    let between = sees_on c.steps-report.result.1.pass _ goes.1 in
+    elim c.match-own.branch [
+      | in-None w ↦ rw w.port-is between
+      | in-Some w ↦ rw w.port-is w.change_controller.ensures.objects.sees
+    ]
+
+pub returns-clause-one : goal.returns-clause-one
+returns-clause-one c =
+    elim c.match-own.branch [
+      | in-None w ↦ rw w.port-is c.steps-report.ensures.none.to
+      | in-Some w ↦
+          let e = w.change_controller.ensures in
+          rw w.port-is (one_after (w.in-Some.event, w.in-Some.status) c.steps-report.result.1 w.change_controller.new.port
+          w.change_controller.result e.made e.busy)
+    ]
 
 pub returns-clause-round : goal.returns-clause-round
 returns-clause-round c past led =

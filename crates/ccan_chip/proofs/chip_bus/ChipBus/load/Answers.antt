@@ -1,0 +1,45 @@
+-- The look tells what the controller is; the bus takes it; its load goes on from there, with no step at the controller.
+use Rattle.std.proofs.Common.{refl, sym, subst, ◌∙◌}
+use Rattle.ccan_ram.specs.declared.port.PortName.{PortName}
+use Rattle.ccan_ram.specs.SharedRam.{Memory, terms_of}
+use Rattle.ccan_bus.specs.Load.{Loads}
+use Rattle.ccan_endless.specs.Layout.{same_object}
+use Rattle.ccan_chip.specs.Round.{as_found, events_in}
+use Rattle.ccan_chip.proofs.Ports.{counters_found, sees_on}
+use Rattle.ccan_chip.proofs.chip_bus.ChipBus.load.Goals as goal
+
+pub returns-clause-sees : goal.returns-clause-sees
+returns-clause-sees c can =
+    let goes = c.load_over-answer.ensures.goes_on.each c.look_controller-controller.new.port.pass.seen
+    (refl, c.look_controller-controller.ensures.objects.sees) in
+    sees_on c.load_over-answer.result.1.pass _ goes.1
+
+pub returns-clause-one : goal.returns-clause-one
+returns-clause-one c = c.load_over-answer.ensures.none.to
+
+pub returns-clause-load : goal.returns-clause-load
+returns-clause-load c past led =
+    let looks = c.look_controller-controller.ensures.looks in
+    let looked = c.look_controller-controller.new.port in
+    let found = c.look_controller-controller.result in
+    let answer = c.load_over-answer.result.0 in
+    let events = events_in looked.whole in
+    let counts = counters_found c.args.port looked found looks in
+    let there = c.take.ensures.takes past events led counts in
+    let goes = c.load_over-answer.ensures.goes_on.each looked.pass.seen
+    (refl, c.look_controller-controller.ensures.objects.sees) in
+    let ran = goes.2.each (as_found found events past) there in
+    let loads = subst (λ (u : Memory × PortName). Loads (terms_of same_object u.0 u.1) c.args.tries looked.pass.seen goes.0
+    (as_found found events past) ran.0 answer)
+    (λ i. (looks.same.memory i, (looks.same.port ∙ c.requires.bus) i)) ran.2 in (
+      ran.0,
+      ran.1,
+      record {
+        looked = looked;
+        looks = looks;
+        rests = c.load_over-answer.ensures.none;
+        added = goes.0;
+        adds = sym goes.1.0;
+        loads = loads;
+      },
+    )
