@@ -13,7 +13,7 @@ use Rattle.ccan_endless.specs.declared.chip.ControllerStep.TheVariants.{Look, Ma
 use Rattle.ccan_endless.specs.declared.controller_changed.ControllerBusy.{ControllerBusy}
 use Rattle.ccan_endless.specs.declared.controller_changed.ControllerChanged.{ControllerChanged}
 use Rattle.ccan_endless.specs.Chip.{controller_at}
-use Rattle.ccan_endless.specs.ChipPort.{AddsController, AddsNone, ChipPass, HasChanges, SeesOne}
+use Rattle.ccan_endless.specs.ChipPort.{AddsController, AddsNoEvent, AddsNone, ChipPass, HasChanges, SeesOne}
 use Rattle.ccan_endless.specs.Layout.{same_object}
 use Rattle.ccan_endless.proofs.ChipLaws.{chip_counters}
 use Rattle.ccan_chip.specs.Round.{IsNoted, Notes, events_in}
@@ -28,6 +28,10 @@ none_yet port sees =
       part = ([], refl);
       own = refl;
     }
+
+-- and makes no event
+pub no_event_yet : (port : ChipPass) → CanSee port.pass → AddsNoEvent port port
+no_event_yet port sees = record { part = ([], refl); own = refl; sees = sees }
 
 -- the counters of a controller that a look found are those of what it went through
 pub counters_found : (old new : ChipPass) (found : Controller) → AddsController old new Look found
@@ -45,10 +49,10 @@ pub noted_of : (own : BusEvent × StatusEvent) (tries : ℕ) (old new : ChipPass
     → IfOk outcome (λ made. AddsController old new (Make (Frame own.0 own.1)) made.before)
     → IfOk outcome (λ made. made.after ≡ controller_after (Frame own.0 own.1) made.before)
     → IfErr outcome (λ busy. (busy.controller ≡ controller_at new.whole) × IsController busy.controller × AddsNone old new)
-    → IfErr outcome (λ busy. (busy.tries ≡ tries) × HasChanges tries old.whole new.whole)
+    → IfErr outcome (λ busy. (busy.tries ≡ tries) × HasChanges tries old.whole new.whole) → AddsNoEvent old new
     → IsNoted own tries old new outcome
-noted_of own tries old new (Ok made) adds after busy lost = (adds, after)
-noted_of own tries old new (Err busy) adds after none lost = (none.2, lost.1, lost.0)
+noted_of own tries old new (Ok made) adds after busy lost quiet = (adds, after, quiet)
+noted_of own tries old new (Err busy) adds after none lost quiet = (none.2, lost.1, lost.0, quiet)
 
 -- and the port goes on in one history then
 pub one_after : (own : BusEvent × StatusEvent) (old new : ChipPass) (outcome : Result ControllerChanged ControllerBusy)

@@ -9,7 +9,7 @@ use Rattle.ccan_bus.specs.declared.answer.LoadAnswer.{LoadAnswer}
 use Rattle.ccan_bus.specs.Load.{Loads}
 use Rattle.ccan_bus.specs.Past.{BusPast}
 use Rattle.ccan_endless.specs.declared.chip.ControllerStep.TheVariants.{Look}
-use Rattle.ccan_endless.specs.ChipPort.{AddsController, AddsNone, ChipPass}
+use Rattle.ccan_endless.specs.ChipPort.{AddsController, AddsNoEvent, AddsNone, ChipPass}
 use Rattle.ccan_chip.specs.Round.{as_found, events_in}
 
 -- A load: a look at the controller, and then the choice and the start of an object, as the bus is with that controller. After the
@@ -18,6 +18,7 @@ pub record ChipLoad (terms : Terms) (tries : ℕ) (old new : ChipPass) (past aft
     (answer : LoadAnswer) : Type 0 where
   pub looked : ChipPass
   pub looks : AddsController old looked Look found
+  pub quiet : AddsNoEvent old looked
   pub rests : AddsNone looked new
   pub added : List Event
   pub adds : new.pass.seen ≡ added ++ looked.pass.seen

@@ -3,6 +3,7 @@
 -- round looks at the controller once, before all else, and makes its event there after the memory steps, is this project's own.
 use Rattle.std.specs.Prelude.{ℕ, ◌≡◌, ◌==◌, Bool, false, ◌&&◌, not, List, ◌++◌, Option, Some, None, Result, Ok, Err, if◌then◌else◌}
 use Rattle.ccan_ram.specs.declared.event.Event.{Event}
+use Rattle.ccan_ram.specs.SharedRam.{CanSee}
 use Rattle.ccan_ram.specs.Terms.{Terms}
 use Rattle.ccan_confine.specs.declared.bus_event.BusEvent.{BusEvent}
 use Rattle.ccan_confine.specs.declared.bus_event.BusEvent.TheVariants as event
@@ -26,7 +27,7 @@ use Rattle.ccan_endless.specs.declared.controller_changed.ControllerChanged.{Con
 use Rattle.ccan_endless.specs.declared.controller_changed.ControllerBusy.{ControllerBusy}
 use Rattle.ccan_endless.specs.Chip.{ChipHistory}
 use Rattle.ccan_endless.specs.ChipLaws.{changes_in}
-use Rattle.ccan_endless.specs.ChipPort.{AddsController, AddsNone, ChipPass, HasChanges}
+use Rattle.ccan_endless.specs.ChipPort.{AddsController, AddsNoEvent, AddsNone, ChipPass, HasChanges}
 use Rattle.ccan_chip.specs.declared.chip_report.ChipReport.{ChipReport}
 
 -- the controller takes part in what is on the bus: its software initialization is over, and it is not bus off
@@ -73,16 +74,19 @@ abbrev pub own_in : Bool → Option Decision → ℕ → Option (BusEvent × Sta
 own_in takes None lec = None
 own_in takes (Some decided) lec = if takes then own_of decided lec else None
 
--- the round's event is made at the controller as it is then, or each try was lost to a change of another port
+-- the round's event is made at the controller as it is then, or each try was lost to a change of another port; no step is made at
+-- an object
 abbrev pub IsNoted : (BusEvent × StatusEvent) → ℕ → ChipPass → ChipPass → Result ControllerChanged ControllerBusy → Type 0
 IsNoted own tries old new (Ok made) =
     AddsController old new (Make (Frame own.0 own.1)) made.before × (made.after ≡ controller_after (Frame own.0 own.1) made.before)
-IsNoted own tries old new (Err busy) = AddsNone old new × HasChanges tries old.whole new.whole × (busy.tries ≡ tries)
+    × AddsNoEvent old new
+IsNoted own tries old new (Err busy) =
+    AddsNone old new × HasChanges tries old.whole new.whole × (busy.tries ≡ tries) × AddsNoEvent old new
 
 -- the end of a round at the controller: its event, if it has one
 abbrev pub Notes : Option (BusEvent × StatusEvent) → ℕ → ChipPass → ChipPass → Option (Result ControllerChanged ControllerBusy)
     → Type 0
-Notes None tries old new told = AddsNone old new × (told ≡ None)
+Notes None tries old new told = AddsNone old new × (told ≡ None) × AddsNoEvent old new
 Notes (Some own) tries old new None = ⊥
 Notes (Some own) tries old new (Some outcome) = IsNoted own tries old new outcome
 
@@ -92,8 +96,10 @@ pub record ChipRound (terms : Terms) (line : RoundLine) (tries : ℕ) (old new :
     (told : ChipReport) : Type 0 where
   pub looked : ChipPass
   pub looks : AddsController old looked Look told.found
+  pub quiet : AddsNoEvent old looked
   pub between : ChipPass
   pub rests : AddsNone looked between
+  pub sees : CanSee between.pass
   pub added : List Event
   pub adds : between.pass.seen ≡ added ++ looked.pass.seen
   pub runs : RunsSteps terms line tries looked.pass.seen added (as_found told.found (events_in looked.whole) past) after
@@ -105,10 +111,12 @@ pub record ChipRound (terms : Terms) (line : RoundLine) (tries : ℕ) (old new :
 pub record IsRecessive (groups : ℕ) (old new : ChipPass) (before after : Bus) (made : ControllerChanged) : Type 0 where
   pub adds : AddsController old new (Make (Recessive groups)) made.before
   pub left : made.after ≡ controller_after (Recessive groups) made.before
+  pub quiet : AddsNoEvent old new
   pub others : GoesOn before after (λ past next. next ≡ recovers groups past)
 
 -- each try was lost to a change of another port, and the port made no step at the controller
 pub record IsRecessiveLost (tries : ℕ) (old new : ChipPass) (busy : ControllerBusy) : Type 0 where
   pub none : AddsNone old new
   pub lost : HasChanges tries old.whole new.whole
+  pub quiet : AddsNoEvent old new
   pub all : busy.tries ≡ tries

@@ -37,6 +37,7 @@ returns-clause-load c past led =
       record {
         looked = looked;
         looks = looks;
+        quiet = c.look_controller-controller.ensures.objects;
         rests = c.load_over-answer.ensures.none;
         added = goes.0;
         adds = sym goes.1.0;

@@ -9,7 +9,7 @@ use Rattle.ccan_bus.specs.Controller.{WasTo}
 use Rattle.ccan_bus.specs.RoundReport.{RunsSteps}
 use Rattle.ccan_endless.specs.Layout.{same_object}
 use Rattle.ccan_chip.specs.Round.{as_found, events_in}
-use Rattle.ccan_chip.proofs.Ports.{counters_found, none_yet, noted_of, notes_some, one_after, sees_on}
+use Rattle.ccan_chip.proofs.Ports.{counters_found, no_event_yet, none_yet, noted_of, notes_some, one_after, sees_on}
 use Rattle.ccan_chip.proofs.Rounds.{found_on, runs_to}
 use Rattle.ccan_chip.proofs.chip_bus.ChipBus.round.Goals.{in-None, in-Some}
 use Rattle.ccan_chip.proofs.chip_bus.ChipBus.round.Goals as goal
@@ -60,21 +60,25 @@ returns-clause-round c past led =
       record {
         looked = looked;
         looks = looks;
+        quiet = c.look_controller-found.ensures.objects;
         between = between;
         rests = c.steps-report.ensures.none;
+        sees = sees_on between.pass _ goes.1;
         added = goes.0;
         adds = sym goes.1.0;
         runs = runs;
         own = subst (λ o. WasTo o (as_found found events past) ran.0) (sym c.own_in-own.ensures.is) was;
         notes = elim c.match-own.branch [
           | in-None w ↦
-              rw (w.in-None.is, w.port-is, w.noted-is) (none_yet between c.steps-report.ensures.none.to, refl)
+              rw (w.in-None.is, w.port-is, w.noted-is)
+              (none_yet between c.steps-report.ensures.none.to, refl, no_event_yet between (sees_on between.pass _ goes.1))
           | in-Some w ↦
               let e = w.change_controller.ensures in
               let own : BusEvent × StatusEvent = (w.in-Some.event, w.in-Some.status) in
               let new = w.change_controller.new.port in
               notes_some own c.args.tries between new _ w.change_controller.result _ _ w.in-Some.is w.port-is w.noted-is
-              (noted_of own c.args.tries between new w.change_controller.result e.made e.after e.busy e.lost)
+              (noted_of own c.args.tries between new w.change_controller.result e.made e.after e.busy e.lost
+              e.objects)
         ];
       },
     )
