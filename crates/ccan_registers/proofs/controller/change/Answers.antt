@@ -1,0 +1,8 @@
+use Rattle.ccan_registers.proofs.Going.{changes_of}
+use Rattle.ccan_registers.proofs.controller.change.Goals as goal
+
+pub returns : goal.returns
+returns c =
+    let e = c.change_controller.ensures in
+    changes_of c.args.port.now c.change_controller.new.port c.args.change.now c.args.tries c.change_controller.result
+    e.made e.after e.busy e.lost e.objects

@@ -1,0 +1,12 @@
+use Rattle.ccan_registers.proofs.Rounding.{loads_on_chip}
+use Rattle.ccan_registers.proofs.rounds.load.Goals as goal
+
+pub returns-clause-goes : goal.returns-clause-goes
+returns-clause-goes c past led =
+    let run = c.load in
+    let there = run.ensures.load past led in (
+      there.0,
+      there.1,
+      loads_on_chip c.args.port run.result.2 c.args.tries past there.0 run.result.0 run.result.1 c.requires.bus run.ensures.sees
+          there.2,
+    )

@@ -1,0 +1,5 @@
+pub mod ChipSteps
+pub mod Objects
+pub mod InterfaceSet
+pub mod Register
+pub mod Rounds

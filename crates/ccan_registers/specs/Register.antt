@@ -1,0 +1,210 @@
+-- What a read and a write of a register of the chip come to. Source: C_CAN User's Manual 1.2, section 3 (Programmer's Model);
+-- that a read of the Status register of a D_CAN clears it: Texas Instruments AM335x Technical Reference Manual, "Error and
+-- Status Register"; what a port may do there that is not the owner of an interface is this project's own.
+use Rattle.std.specs.Prelude.{ℕ, ◌≡◌, ◌*◌, ◌==◌, Bool, false, not, ◌&&◌, [], Option, Some, None, Result, Ok, Err, MatchBool, MatchOption}
+use Rattle.ccan_object.specs.declared.register.Reg.{Reg}
+use Rattle.ccan_object.specs.Interface.{Registers, set_register, shown}
+use Rattle.ccan_object.specs.Bits.{part}
+use Rattle.ccan_object.specs.declared.profile.Profile.{Profile}
+use Rattle.ccan_confine.specs.declared.controller.Controller.{Controller}
+use Rattle.ccan_confine.specs.declared.controller_change.ControllerChange.{ControllerChange}
+use Rattle.ccan_confine.specs.declared.controller_change.ControllerChange.TheVariants as change
+use Rattle.ccan_confine.specs.RegisterWords.{control_in, control_word, error_counter_word, flags_in, test_in, test_word}
+use Rattle.ccan_confine.specs.Controller.{shows_interrupt, status_word}
+use Rattle.ccan_ram.specs.declared.flag.Flag.{Flag}
+use Rattle.ccan_ram.specs.declared.port.PortName.{PortName}
+use Rattle.ccan_ram.specs.declared.port.PortName.TheVariants.{If1, If2}
+use Rattle.ccan_ram.specs.Port.{same_port}
+use Rattle.ccan_ram.specs.Terms.{Terms}
+use Rattle.ccan_line.specs.declared.line_answer.LineAnswer.{LineAnswer}
+use Rattle.ccan_line.specs.declared.line_answer.LineAnswer.TheVariants as answer
+use Rattle.ccan_endless.specs.declared.chip.ControllerStep.TheVariants.{Look}
+use Rattle.ccan_endless.specs.declared.controller_changed.ControllerBusy.{ControllerBusy}
+use Rattle.ccan_endless.specs.declared.controller_changed.ControllerChanged.{ControllerChanged}
+use Rattle.ccan_endless.specs.Chip.{ChipHistory}
+use Rattle.ccan_map.specs.declared.interface.Interface.{Interface}
+use Rattle.ccan_map.specs.declared.interface.Interface.TheVariants.{One, Two}
+use Rattle.ccan_map.specs.declared.map.Map.{Map}
+use Rattle.ccan_map.specs.declared.map.Map.TheVariants.{Dcan, Narrow, Wide}
+use Rattle.ccan_map.specs.declared.register.Register.{Register}
+use Rattle.ccan_map.specs.declared.register.Register.TheVariants as register
+use Rattle.ccan_map.specs.FlagPart.{index_of}
+use Rattle.ccan_map.specs.Map.{offset_of}
+use Rattle.ccan_map.specs.Register.{IsIn}
+use Rattle.ccan_registers.specs.declared.access_error.AccessError.{AccessError}
+use Rattle.ccan_registers.specs.declared.access_error.AccessError.TheVariants.{Busy, OtherInterface, Spent}
+use Rattle.ccan_registers.specs.declared.interface_set.InterfaceSet.{InterfaceSet}
+use Rattle.ccan_registers.specs.ChipSteps.{AtController, Changes, Then}
+use Rattle.ccan_registers.specs.InterfaceSet.{Transferred}
+use Rattle.ccan_registers.specs.Objects.{ShowsFlags, ShowsInterrupt}
+
+-- ---- whose a register is
+
+-- the port of an interface
+abbrev pub port_of : Interface → PortName
+port_of One = If1
+port_of Two = If2
+
+-- the interface is the port's
+abbrev pub is_own : PortName → Interface → Bool
+is_own port interface = same_port port (port_of interface)
+
+-- the register is of another port's interface, and nothing happens; the port's own registers are as they were
+pub record IsOthers {Value : Type 0} (own left : InterfaceSet) (added : ChipHistory) (told : Result Value AccessError) : Type 0 where
+  pub quiet : added ≡ []
+  pub left_is : left ≡ own
+  pub told_is : told ≡ Err OtherInterface
+
+-- no step is made
+pub record IsQuiet {Value : Type 0} (added : ChipHistory) (told : Result Value AccessError) (value : Value) : Type 0 where
+  pub quiet : added ≡ []
+  pub told_is : told ≡ Ok value
+
+-- ---- registers of the controller
+
+-- one look at the controller, of which this word is read
+abbrev pub Shows : Terms → (Controller → ℕ) → ChipHistory → ChipHistory → Result ℕ AccessError → Type 0
+Shows terms word seen added told = (c : Controller) × AtController terms.port Look c seen added × (told ≡ Ok (word c))
+
+-- what a read of the Status register is to the controller: C_CAN leaves the flags, D_CAN clears them
+abbrev pub read_of : Map → ControllerChange
+read_of Narrow = change.ReadStatus
+read_of Wide = change.ReadStatus
+read_of Dcan = change.ReadAndClearStatus
+
+-- the Status register as the read found it, or the read was given up
+abbrev pub status_told : Result ControllerChanged ControllerBusy → Result ℕ AccessError
+status_told (Ok made) = Ok (status_word made.before)
+status_told (Err busy) = Err Busy
+
+-- a read of the Status register, which changes the controller
+abbrev pub ReadsStatus : Terms → ControllerChange → ℕ → ChipHistory → ChipHistory → Result ℕ AccessError → Type 0
+ReadsStatus terms z tries seen added told =
+    (outcome : Result ControllerChanged ControllerBusy) × Changes terms.port z tries seen added outcome
+    × (told ≡ status_told outcome)
+
+-- a write was made or given up
+abbrev pub made_or_busy : Result ControllerChanged ControllerBusy → Result (Unit {0}) AccessError
+made_or_busy (Ok made) = Ok tt
+made_or_busy (Err busy) = Err Busy
+
+-- a write of a register of the controller, which makes one change of it
+abbrev pub Makes : Terms → ControllerChange → ℕ → ChipHistory → ChipHistory → Result (Unit {0}) AccessError → Type 0
+Makes terms z tries seen added told =
+    (outcome : Result ControllerChanged ControllerBusy) × Changes terms.port z tries seen added outcome
+    × (told ≡ made_or_busy outcome)
+
+-- The interrupt value: a look at the controller, which tells whether a status interrupt is shown; and then, where none is, the
+-- objects that ask for one in one moment.
+pub record InterruptValue (terms : Terms) (seen added : ChipHistory) (found : Controller) (value : ℕ) : Type 0 where
+  pub steps : Then (AtController terms.port Look found)
+      (λ s a. ShowsInterrupt terms (shows_interrupt found) s a value) seen added
+
+-- the interrupt line is pulled where IE is 1 and the interrupt value is not 0
+abbrev pub PullsLine : Terms → ChipHistory → ChipHistory → Bool → Type 0
+PullsLine terms seen added pulls =
+    (found : Controller) × (value : ℕ) × InterruptValue terms seen added found value
+    × (pulls ≡ (found.control.ie && not (value == 0)))
+
+-- ---- a read
+
+-- what a read of a register of the port's own interface answers
+abbrev pub ReadsOwn : PortName → Interface → ℕ → InterfaceSet → ChipHistory → Result ℕ AccessError → Type 0
+ReadsOwn port interface value own added told =
+    MatchBool (is_own port interface) (IsQuiet added told value) (IsOthers own own added told)
+
+abbrev pub Reads : Terms → ℕ → Map → Register → InterfaceSet → ChipHistory → ChipHistory → Result ℕ AccessError → Type 0
+Reads terms tries map register.Control own seen added told = Shows terms (λ c. control_word c.control) seen added told
+Reads terms tries map register.Status own seen added told = ReadsStatus terms (read_of map) tries seen added told
+Reads terms tries map register.ErrorCounter own seen added told = Shows terms error_counter_word seen added told
+Reads terms tries map register.BitTiming own seen added told = Shows terms (λ c. c.timing.register) seen added told
+Reads terms tries map register.Interrupt own seen added told =
+    (found : Controller) × (value : ℕ) × InterruptValue terms seen added found value × (told ≡ Ok value)
+Reads terms tries map register.Test own seen added told = Shows terms (λ c. test_word c.test) seen added told
+Reads terms tries map register.Extension own seen added told = Shows terms (λ c. c.timing.extension) seen added told
+Reads terms tries map (register.Request interface) own seen added told = ReadsOwn terms.port interface own.asked own added told
+Reads terms tries map (register.Buffer interface reg) own seen added told =
+    ReadsOwn terms.port interface (shown reg own.registers) own added told
+Reads terms tries map (register.Flags flag place) own seen added told =
+    (word : ℕ) × ShowsFlags terms flag seen added word × (told ≡ Ok (part word (16 * index_of place) 16))
+
+-- ---- a write
+
+-- what a transfer answers: it is done, or its change was refused
+abbrev pub transfer_told : LineAnswer → Result (Unit {0}) AccessError
+transfer_told (answer.Busy object) = Err Busy
+transfer_told (answer.Spent object) = Err Spent
+transfer_told reply = Ok tt
+
+-- a write of the Command Request register makes the transfer
+pub record Requests (terms : Terms) (tries value : ℕ) (own : InterfaceSet) (seen added : ChipHistory)
+    (told : Result (Unit {0}) AccessError) (left : InterfaceSet) : Type 0 where
+  pub reply : LineAnswer
+  pub transferred : Transferred terms tries value own seen added reply left
+  pub told_is : told ≡ transfer_told reply
+
+-- a write of another register of the port's own interface sets it
+pub record SetsOwn (reg : Reg) (value : ℕ) (own : InterfaceSet) (added : ChipHistory) (told : Result (Unit {0}) AccessError)
+    (left : InterfaceSet) : Type 0 where
+  pub done : IsQuiet added told tt
+  pub left_is : left ≡ record own { registers = set_register reg value own.registers }
+
+-- a write of a register of the controller leaves the interface
+pub record WritesController (terms : Terms) (z : ControllerChange) (tries : ℕ) (own : InterfaceSet) (seen added : ChipHistory)
+    (told : Result (Unit {0}) AccessError) (left : InterfaceSet) : Type 0 where
+  pub makes : Makes terms z tries seen added told
+  pub left_is : left ≡ own
+
+-- a register that can only be read
+pub record IsReadOnly (own : InterfaceSet) (added : ChipHistory) (told : Result (Unit {0}) AccessError) (left : InterfaceSet) : Type 0 where
+  pub done : IsQuiet added told tt
+  pub left_is : left ≡ own
+
+-- what a write of this word is to the controller, where the register is one that it has and that can be written
+abbrev pub change_by : Register → ℕ → Option ControllerChange
+change_by register.Control value = Some (change.WriteControl (control_in value))
+change_by register.Status value = Some (change.WriteStatus (flags_in value))
+change_by register.BitTiming value = Some (change.WriteBitTiming value)
+change_by register.Test value = Some (change.WriteTest (test_in value))
+change_by register.Extension value = Some (change.WriteExtension value)
+change_by r value = None
+
+-- a write of another register: of an interface, or of one that can only be read
+abbrev pub WritesRest : Terms → ℕ → Register → ℕ → InterfaceSet → ChipHistory → ChipHistory → Result (Unit {0}) AccessError
+    → InterfaceSet → Type 0
+WritesRest terms tries (register.Request interface) value own seen added told left =
+    MatchBool (is_own terms.port interface) (Requests terms tries value own seen added told left)
+    (IsOthers own left added told)
+WritesRest terms tries (register.Buffer interface reg) value own seen added told left =
+    MatchBool (is_own terms.port interface) (SetsOwn reg value own added told left) (IsOthers own left added told)
+WritesRest terms tries r value own seen added told left = IsReadOnly own added told left
+
+abbrev pub Writes : Terms → ℕ → Register → ℕ → InterfaceSet → ChipHistory → ChipHistory → Result (Unit {0}) AccessError
+    → InterfaceSet → Type 0
+Writes terms tries r value own seen added told left =
+    MatchOption (change_by r value) (WritesRest terms tries r value own seen added told left)
+    (λ z. WritesController terms z tries own seen added told left)
+
+-- ---- by offsets
+
+-- the register that a chip of this profile has at this offset
+pub record IsAt (map : Map) (profile : Profile) (offset : ℕ) (r : Register) : Type 0 where
+  pub stands : offset_of map r ≡ offset
+  pub has : IsIn profile r
+
+-- a chip of this profile has no register there
+abbrev pub HasNone : Map → Profile → ℕ → Type 0
+HasNone map profile offset = (r : Register) → IsIn profile r → offset_of map r ≡ offset → ⊥
+
+-- a read at an offset: of the register that stands there; where none does, nothing happens
+abbrev pub ReadsAt : Terms → ℕ → Map → ℕ → InterfaceSet → ChipHistory → ChipHistory → Option (Result ℕ AccessError) → Type 0
+ReadsAt terms tries map offset own seen added None = HasNone map terms.profile offset × (added ≡ [])
+ReadsAt terms tries map offset own seen added (Some told) =
+    (r : Register) × IsAt map terms.profile offset r × Reads terms tries map r own seen added told
+
+-- a write at an offset
+abbrev pub WritesAt : Terms → ℕ → Map → ℕ → ℕ → InterfaceSet → ChipHistory → ChipHistory
+    → Option (Result (Unit {0}) AccessError) → InterfaceSet → Type 0
+WritesAt terms tries map offset value own seen added None left = HasNone map terms.profile offset × (added ≡ []) × (left ≡ own)
+WritesAt terms tries map offset value own seen added (Some told) left =
+    (r : Register) × IsAt map terms.profile offset r × Writes terms tries r value own seen added told left
