@@ -1,11 +1,15 @@
--- A call during which nobody else acts is one over a memory of one thread.
-use Rattle.std.proofs.Common.{◌≤◌, inl, inr, ℕ, Bool, true, false, List, ◌++◌, length, nat_le, MatchOption, MatchBool, Some, None, Ok, Err}
+-- A call during which nobody else acts is one over a memory of one thread. What it does at objects stands in the part of the
+-- history that is the message RAM's, of which that is known already; a step at the controller is the same under all terms of one
+-- port.
+use Rattle.std.proofs.Common.{◌≤◌, inl, inr, ℕ, Bool, true, false, List, ◌++◌, refl, Some, None, Ok, Err}
+use Rattle.std.specs.Prelude.{MatchBool, MatchOption, length, nat_le}
 use Rattle.std.specs.declared.option.Option.{Option}
 use Rattle.std.specs.declared.result.Result.{Result}
 use Rattle.std.specs.List.{list_all}
 use Rattle.ccan_object.specs.declared.record.Record.{Record}
-use Rattle.ccan_object.specs.Interface.{Registers}
 use Rattle.ccan_accept.specs.declared.frame.Frame.{Frame}
+use Rattle.ccan_confine.specs.declared.controller.Controller.{Controller}
+use Rattle.ccan_confine.specs.Controller.{shows_interrupt}
 use Rattle.ccan_ram.specs.declared.change.Change.TheVariants.{Finish, Store}
 use Rattle.ccan_ram.specs.declared.change.Changed.TheVariants.{Done}
 use Rattle.ccan_ram.specs.declared.change.Refused.{Refused}
@@ -20,6 +24,7 @@ use Rattle.ccan_handler.specs.declared.scan.ScanRefused.{ScanRefused}
 use Rattle.ccan_handler.specs.declared.scan.Stored.{Stored}
 use Rattle.ccan_handler.specs.Moment.{FlagsAtOnce, InterruptAtOnce}
 use Rattle.ccan_handler.specs.Scan.{Nowhere, MadeAt, RefusedAt, Scans}
+use Rattle.ccan_bus.specs.declared.answer.LoadAnswer.{LoadAnswer}
 use Rattle.ccan_bus.specs.declared.answer.RoundAnswer.{RoundAnswer}
 use Rattle.ccan_bus.specs.declared.decision.Decision.{Decision}
 use Rattle.ccan_bus.specs.declared.decision.Decision.TheVariants as decision
@@ -31,26 +36,40 @@ use Rattle.ccan_bus.specs.Complete.{Finishes, TakesBack, Stops, Scanned, Complet
 use Rattle.ccan_bus.specs.Past.{BusPast}
 use Rattle.ccan_bus.specs.Round.{refusal_of_round}
 use Rattle.ccan_bus.specs.RoundReport.{RunsOn, RunsSteps}
-use Rattle.ccan_line.specs.declared.bus_line.BusLine.{BusLine}
-use Rattle.ccan_line.specs.declared.bus_line.BusLine.TheVariants as line
-use Rattle.ccan_line.specs.declared.host_line.HostLine.TheVariants as host_line
+use Rattle.ccan_chip.specs.declared.chip_report.ChipReport.{ChipReport}
+use Rattle.ccan_chip.specs.Round.{as_found, events_in}
+use Rattle.ccan_endless.specs.declared.chip.ControllerStep.TheVariants.{Look}
+use Rattle.ccan_endless.specs.declared.controller_changed.ControllerBusy.{ControllerBusy}
+use Rattle.ccan_endless.specs.declared.controller_changed.ControllerChanged.{ControllerChanged}
+use Rattle.ccan_endless.specs.Chip.{ChipHistory, ram_of}
 use Rattle.ccan_line.specs.declared.line_answer.LineAnswer.{LineAnswer}
-use Rattle.ccan_line.specs.declared.line_answer.LineAnswer.TheVariants as answer
 use Rattle.ccan_line.specs.Limits.{most_frames, most_groups, most_turns}
-use Rattle.ccan_line.proofs.LinesApart.{host_apart, bus_apart}
+use Rattle.ccan_line.proofs.LinesApart.{host_apart}
 use Rattle.ccan_line.proofs.RoundsApart.{loads_apart}
-use Rattle.ccan_line.proofs.ScansApart.{apart, scans_apart}
+use Rattle.ccan_line.proofs.ScansApart.{apart, scans_apart, watches_apart}
+use Rattle.ccan_map.specs.declared.map.Map.{Map}
+use Rattle.ccan_map.specs.declared.register.Register.{Register}
+use Rattle.ccan_map.specs.declared.register.Register.TheVariants as register
+use Rattle.ccan_registers.specs.declared.access_error.AccessError.{AccessError}
+use Rattle.ccan_registers.specs.declared.interface_set.InterfaceSet.{InterfaceSet}
+use Rattle.ccan_registers.specs.ChipSteps.{AtController, OnObjects, Then}
+use Rattle.ccan_registers.specs.InterfaceSet.{Transferred}
+use Rattle.ccan_registers.specs.Objects.{ShowsFlags, ShowsInterrupt, ShowsObject, WaitsFor, transfer}
+use Rattle.ccan_registers.specs.Register as access
+use Rattle.ccan_registers.specs.Register.{InterruptValue, PullsLine, Reads, ReadsAt, Writes, WritesAt, WritesRest}
+use Rattle.ccan_registers.specs.Register.{change_by, is_own}
+use Rattle.ccan_registers.specs.Rounds.{LoadsOnChip, RecoversOnChip, RoundOnChip}
 use Rattle.ccan_c.specs.declared.offer.Offer.{Offer}
 use Rattle.ccan_c.specs.declared.shown_outcome.ShownOutcome.{ShownOutcome}
-use Rattle.ccan_c.specs.Answer.{counters_shown, load_shown, state_shown, word_shown}
 use Rattle.ccan_c.specs.Bus.{is_on}
 use Rattle.ccan_c.specs.BusCall as bus
-use Rattle.ccan_c.specs.BusCall.{BusCall, BusCallMeans, LineDone, LineTold, RoundTried}
-use Rattle.ccan_c.specs.Host.{flag_numbered, is_object, transfer}
+use Rattle.ccan_c.specs.BusCall.{BusCall, BusCallMeans, LoopsBack, RoundTried}
+use Rattle.ccan_c.specs.Host.{flag_numbered, is_object}
 use Rattle.ccan_c.specs.HostCall as host
-use Rattle.ccan_c.specs.HostCall.{HostCall, HostCallMeans}
+use Rattle.ccan_c.specs.HostCall.{HostCall, HostCallMeans, ReadsAtOffset, WritesAtOffset}
 use Rattle.ccan_c.specs.Round.{fault_numbered, is_frame}
 use Rattle.ccan_c.specs.Settings.{is_from_one_to}
+use Rattle.ccan_c.proofs.OwnEvents.{ActsAlone, alone_at_objects, alone_in_parts}
 
 known_or_not : {X : Type 0} (o : Option X) (P P' : Type 0) (Q Q' : X → Type 0) → (P → P') → ((x : X) → Q x → Q' x)
     → MatchOption o P Q → MatchOption o P' Q'
@@ -162,51 +181,229 @@ module _ (terms : Terms) (tries : ℕ) (some : 1 ≤ tries) where
   interrupt_apart false seen added value alone (shown, picture, is) =
       (shown, pictures_undisturbed terms shown seen added alone picture, is)
 
+  -- ---- steps in the history of a chip
+
+  objects_apart : (what what' : List Event → List Event → Type 0) (seen added : ChipHistory) → ActsAlone terms.port added
+      → ((s a : List Event) → NobodyElse terms.port a → what s a → what' s a)
+      → OnObjects terms.port what seen added → OnObjects terms.port what' seen added
+  objects_apart what what' seen added alone f h = record {
+    none = h.none;
+    means = f (ram_of seen) (ram_of added) (alone_at_objects terms.port added alone) h.means;
+  }
+
+  then_apart : (first second second' : ChipHistory → ChipHistory → Type 0) (seen added : ChipHistory)
+      → ActsAlone terms.port added
+      → ((s a : ChipHistory) → ActsAlone terms.port a → second s a → second' s a)
+      → Then first second seen added → Then first second' seen added
+  then_apart first second second' seen added alone f h = record {
+    earlier = h.earlier;
+    later = h.later;
+    whole = h.whole;
+    begins = h.begins;
+    ends =
+        f (h.earlier ++ seen) h.later (alone_in_parts terms.port h.later h.earlier added h.whole alone).0 h.ends;
+  }
+
+  shown_flags_apart : (flag : Flag) (seen added : ChipHistory) (word : ℕ) → ActsAlone terms.port added
+      → ShowsFlags terms flag seen added word → ShowsFlags single flag seen added word
+  shown_flags_apart flag seen added word alone h =
+      objects_apart (λ s a. FlagsAtOnce terms flag s a word) (λ s a. FlagsAtOnce single flag s a word) seen added alone
+      (λ s a only. flags_apart flag s a word only) h
+
+  shown_interrupt_apart : (pending : Bool) (seen added : ChipHistory) (value : ℕ) → ActsAlone terms.port added
+      → ShowsInterrupt terms pending seen added value → ShowsInterrupt single pending seen added value
+  shown_interrupt_apart pending seen added value alone h =
+      objects_apart (λ s a. InterruptAtOnce terms pending s a value) (λ s a. InterruptAtOnce single pending s a value)
+      seen added alone (λ s a only. interrupt_apart pending s a value only) h
+
+  transferred_apart : (request : ℕ) (own left : InterfaceSet) (seen added : ChipHistory) (reply : LineAnswer)
+      → ActsAlone terms.port added
+      → Transferred terms tries request own seen added reply left → Transferred single tries request own seen added reply left
+  transferred_apart request own left seen added reply alone h = record {
+    transfers =
+        objects_apart _ _ seen added alone
+        (λ s a only. host_apart terms tries some s a only (transfer request) own.registers reply left.registers) h.transfers;
+    asked = h.asked;
+  }
+
+  value_apart : (found : Controller) (value : ℕ) (seen added : ChipHistory) → ActsAlone terms.port added
+      → InterruptValue terms seen added found value → InterruptValue single seen added found value
+  value_apart found value seen added alone h = record {
+    steps =
+        then_apart (AtController terms.port Look found) (λ s a. ShowsInterrupt terms (shows_interrupt found) s a value)
+        (λ s a. ShowsInterrupt single (shows_interrupt found) s a value) seen added alone
+        (λ s a only. shown_interrupt_apart (shows_interrupt found) s a value only) h.steps;
+  }
+
+  line_apart : (pulls : Bool) (seen added : ChipHistory) → ActsAlone terms.port added
+      → PullsLine terms seen added pulls → PullsLine single seen added pulls
+  line_apart pulls seen added alone (found, value, h, is) = (found, value, value_apart found value seen added alone h, is)
+
+  -- ---- registers
+
+  reads_apart : (layout : Map) (r : Register) (own : InterfaceSet) (seen added : ChipHistory) (told : Result ℕ AccessError)
+      → ActsAlone terms.port added
+      → Reads terms tries layout r own seen added told → Reads single tries layout r own seen added told
+  reads_apart layout register.Control own seen added told alone h = h
+  reads_apart layout register.Status own seen added told alone h = h
+  reads_apart layout register.ErrorCounter own seen added told alone h = h
+  reads_apart layout register.BitTiming own seen added told alone h = h
+  reads_apart layout register.Interrupt own seen added told alone (found, value, h, is) =
+      (found, value, value_apart found value seen added alone h, is)
+  reads_apart layout register.Test own seen added told alone h = h
+  reads_apart layout register.Extension own seen added told alone h = h
+  reads_apart layout (register.Request interface) own seen added told alone h = h
+  reads_apart layout (register.Buffer interface reg) own seen added told alone h = h
+  reads_apart layout (register.Flags flag place) own seen added told alone (word, h, is) =
+      (word, shown_flags_apart flag seen added word alone h, is)
+
+  rest_written_apart : (r : Register) (value : ℕ) (own left : InterfaceSet) (seen added : ChipHistory)
+      (told : Result (Unit {0}) AccessError) → ActsAlone terms.port added
+      → WritesRest terms tries r value own seen added told left → WritesRest single tries r value own seen added told left
+  rest_written_apart register.Control value own left seen added told alone h = h
+  rest_written_apart register.Status value own left seen added told alone h = h
+  rest_written_apart register.ErrorCounter value own left seen added told alone h = h
+  rest_written_apart register.BitTiming value own left seen added told alone h = h
+  rest_written_apart register.Interrupt value own left seen added told alone h = h
+  rest_written_apart register.Test value own left seen added told alone h = h
+  rest_written_apart register.Extension value own left seen added told alone h = h
+  rest_written_apart (register.Request interface) value own left seen added told alone h =
+      passed_or_not (is_own terms.port interface) (access.Requests terms tries value own seen added told left)
+      (access.Requests single tries value own seen added told left) _ _
+      (λ k. record {
+        reply = k.reply;
+        transferred = transferred_apart value own left seen added k.reply alone k.transferred;
+        told_is = k.told_is;
+      })
+      same h
+  rest_written_apart (register.Buffer interface reg) value own left seen added told alone h = h
+  rest_written_apart (register.Flags flag place) value own left seen added told alone h = h
+
+  writes_apart : (r : Register) (value : ℕ) (own left : InterfaceSet) (seen added : ChipHistory)
+      (told : Result (Unit {0}) AccessError) → ActsAlone terms.port added
+      → Writes terms tries r value own seen added told left → Writes single tries r value own seen added told left
+  writes_apart r value own left seen added told alone h =
+      known_or_not (change_by r value) _ _ (λ z. access.WritesController terms z tries own seen added told left)
+      (λ z. access.WritesController single z tries own seen added told left)
+      (rest_written_apart r value own left seen added told alone)
+      (λ z k. record { makes = k.makes; left_is = k.left_is }) h
+
+  reads_at_apart : (layout : Map) (offset : ℕ) (own : InterfaceSet) (seen added : ChipHistory)
+      (told : Option (Result ℕ AccessError)) → ActsAlone terms.port added
+      → ReadsAt terms tries layout offset own seen added told → ReadsAt single tries layout offset own seen added told
+  reads_at_apart layout offset own seen added None alone h = h
+  reads_at_apart layout offset own seen added (Some told) alone (r, at, h) =
+      (r, at, reads_apart layout r own seen added told alone h)
+
+  writes_at_apart : (layout : Map) (offset value : ℕ) (own left : InterfaceSet) (seen added : ChipHistory)
+      (told : Option (Result (Unit {0}) AccessError)) → ActsAlone terms.port added
+      → WritesAt terms tries layout offset value own seen added told left
+      → WritesAt single tries layout offset value own seen added told left
+  writes_at_apart layout offset value own left seen added None alone h = h
+  writes_at_apart layout offset value own left seen added (Some told) alone (r, at, h) =
+      (r, at, writes_apart r value own left seen added told alone h)
+
+  -- ---- loads and rounds
+
+  load_apart : (past after : BusPast) (found : Controller) (loading : LoadAnswer) (seen added : ChipHistory)
+      → ActsAlone terms.port added
+      → LoadsOnChip terms tries past seen added after found loading
+      → LoadsOnChip single tries past seen added after found loading
+  load_apart past after found loading seen added alone h =
+      let parts = alone_in_parts terms.port h.later h.looked added h.whole alone in
+      let from : BusPast = as_found found (events_in (h.looked ++ seen)) past in
+      record {
+        looked = h.looked;
+        later = h.later;
+        whole = h.whole;
+        look = h.look;
+        loads =
+            objects_apart _ _ (h.looked ++ seen) h.later parts.0
+            (λ s a only. loads_apart terms tries some s a from after loading only) h.loads;
+      }
+
+  round_apart : (round : RoundLine) (past after : BusPast) (told : ChipReport) (seen added : ChipHistory)
+      → ActsAlone terms.port added
+      → RoundOnChip terms round tries past seen added after told → RoundOnChip single round tries past seen added after told
+  round_apart round past after told seen added alone h =
+      let outer = alone_in_parts terms.port h.last (h.steps ++ h.looked) added h.whole alone in
+      let inner = alone_in_parts terms.port h.steps h.looked (h.steps ++ h.looked) refl outer.1 in
+      let from : BusPast = as_found told.found (events_in (h.looked ++ seen)) past in
+      record {
+        looked = h.looked;
+        steps = h.steps;
+        last = h.last;
+        whole = h.whole;
+        look = h.look;
+        runs =
+            objects_apart _ _ (h.looked ++ seen) h.steps inner.0
+            (λ s a only. steps_apart round s a from after told.report only) h.runs;
+        own = h.own;
+        notes = h.notes;
+      }
+
   -- ---- calls
 
-  module _ (seen added : List Event) (alone : NobodyElse terms.port added) where
-    pub host_call_apart : (call : HostCall) (registers left : Registers)
-        → HostCallMeans terms tries call registers seen added left → HostCallMeans single tries call registers seen added left
-    host_call_apart (host.set number value result) registers left h = h
-    host_call_apart (host.get number result out) registers left h = h
-    host_call_apart (host.request number result) registers left (reply, code, h) =
-        (reply, code, host_apart terms tries some seen added alone (transfer number) registers reply left h)
-    host_call_apart (host.flags number result out) registers left h =
+  module _ (layout : Map) (seen added : ChipHistory) (alone : ActsAlone terms.port added) where
+    read_apart : (offset : ℕ) (own : InterfaceSet) (result out : ℕ)
+        → ReadsAtOffset terms tries layout offset own seen added result out
+        → ReadsAtOffset single tries layout offset own seen added result out
+    read_apart offset own result out (told, h, code, is) =
+        (told, reads_at_apart layout offset own seen added told alone h, code, is)
+
+    write_apart : (offset value : ℕ) (own left : InterfaceSet) (result : ℕ)
+        → WritesAtOffset terms tries layout offset value own seen added result left
+        → WritesAtOffset single tries layout offset value own seen added result left
+    write_apart offset value own left result (told, h, code) =
+        (told, writes_at_apart layout offset value own left seen added told alone h, code)
+
+    look_apart : (object : ℕ) (found : Record) → ShowsObject terms object seen added found
+        → ShowsObject single object seen added found
+    look_apart object found h =
+        objects_apart _ _ seen added alone (λ s a only. looks_undisturbed terms object found a only) h
+
+    wait_apart : (object : ℕ) (flag : Flag) (turns : ℕ) (shown : Bool) → WaitsFor terms object flag turns seen added shown
+        → WaitsFor single object flag turns seen added shown
+    wait_apart object flag turns shown h =
+        objects_apart _ _ seen added alone (λ s a only. watches_apart terms a only object flag turns shown) h
+
+    pub host_call_apart : (call : HostCall) (own left : InterfaceSet)
+        → HostCallMeans terms tries layout call own seen added left → HostCallMeans single tries layout call own seen added left
+    host_call_apart (host.set number value result) own left h = h
+    host_call_apart (host.get number result out) own left h = h
+    host_call_apart (host.request number result) own left (reply, code, h) =
+        (reply, code, transferred_apart number own left seen added reply alone h)
+    host_call_apart (host.flags number result out) own left h =
         known_or_not (flag_numbered number) _ _ _ _ same
-        (λ flag (code, word, keeps). (code, flags_apart flag seen added out alone word, keeps)) h
-    host_call_apart (host.interrupt result out) registers left (code, value, keeps) =
-        (code, interrupt_apart false seen added out alone value, keeps)
-    host_call_apart (host.peek object result out) registers left h =
+        (λ flag (code, word, keeps). (code, shown_flags_apart flag seen added out alone word, keeps)) h
+    host_call_apart (host.interrupt result out) own left (code, value, keeps) =
+        (code, shown_interrupt_apart false seen added out alone value, keeps)
+    host_call_apart (host.peek object result out) own left h =
         passed_or_not (is_object terms.profile object) _ _ _ _
-        (λ (code, (found, shows, look), keeps).
-        (code, (found, shows, looks_undisturbed terms object found added alone look), keeps))
+        (λ (code, (found, shows, look), keeps). (code, (found, shows, look_apart object found look), keeps))
         same h
-    host_call_apart (host.until object number turns result out) registers left h =
+    host_call_apart (host.until object number turns result out) own left h =
         passed_or_not (is_object terms.profile object) _ _ _ _
         (known_or_not (flag_numbered number) _ _ _ _ same
         (λ flag. passed_or_not (is_from_one_to most_turns turns) _ _ _ _
-        (λ (code, (shown, shows, m)). (
-          code,
-          (
-            shown,
-            shows,
-            host_apart terms tries some seen added alone
-                (host_line.Until object flag turns) registers (answer.Until object flag shown) left m,
-          ),
-        ))
+        (λ (code, (shown, shows, m), keeps). (code, (shown, shows, wait_apart object flag turns shown m), keeps))
         same))
         same h
+    host_call_apart (host.read16 offset result out) own left (h, keeps) = (read_apart offset own result out h, keeps)
+    host_call_apart (host.write16 offset value result) own left h = write_apart offset value own left result h
+    host_call_apart (host.line result out) own left (code, (pulls, is, h), keeps) =
+        (code, (pulls, is, line_apart pulls seen added alone h), keeps)
 
-    told_apart : {Out : Type 0} (l : BusLine) (shown : LineAnswer → Out) (past after : BusPast) (result : ℕ) (out : Out)
-        → LineTold terms tries l shown past seen added after result out
-        → LineTold single tries l shown past seen added after result out
-    told_apart l shown past after result out (reply, code, h, shows) =
-        (reply, code, bus_apart terms tries some seen added alone l past reply after h, shows)
+    loops_apart : (on : Bool) (result : ℕ) → LoopsBack terms tries on seen added result
+        → LoopsBack single tries on seen added result
+    loops_apart true result h = h
+    loops_apart false result h = h
 
-    done_apart : (l : BusLine) (past after : BusPast) (result : ℕ)
-        → LineDone terms tries l past seen added after result → LineDone single tries l past seen added after result
-    done_apart l past after result (reply, code, h) =
-        (reply, code, bus_apart terms tries some seen added alone l past reply after h)
+    recovery_apart : (groups : ℕ) (past after : BusPast) (outcome : Result ControllerChanged ControllerBusy)
+        → RecoversOnChip terms groups tries past seen added after outcome
+        → RecoversOnChip single groups tries past seen added after outcome
+    recovery_apart groups past after (Ok made) h = h
+    recovery_apart groups past after (Err busy) h = h
 
     tried_apart : (nodes : ℕ) (offers : List Offer) (fault : Fault) (past after : BusPast) (result : ℕ) (out : ShownOutcome)
         → RoundTried terms tries nodes offers fault past seen added after result out
@@ -216,32 +413,38 @@ module _ (terms : Terms) (tries : ℕ) (some : 1 ≤ tries) where
       is_round = h.is_round;
       are_senders = h.are_senders;
       report = h.report;
-      runs = steps_apart h.round seen added past after h.report alone h.runs;
+      runs = round_apart h.round past after h.report seen added alone h.runs;
       code_is = h.code_is;
       shows = h.shows;
     })
     tried_apart nodes offers fault past after result out (inr h) = inr h
 
     pub bus_call_apart : (nodes : ℕ) (call : BusCall) (past after : BusPast)
-        → BusCallMeans terms tries nodes call past seen added after → BusCallMeans single tries nodes call past seen added after
-    bus_call_apart nodes (bus.load result out) past after h = told_apart line.Load load_shown past after result out h
-    bus_call_apart nodes (bus.status result out) past after h = told_apart line.Status word_shown past after result out h
-    bus_call_apart nodes (bus.control sie eie result) past after h =
-        done_apart (line.Control (is_on sie) (is_on eie)) past after result h
-    bus_call_apart nodes (bus.init result) past after h = done_apart line.Init past after result h
-    bus_call_apart nodes (bus.loop_back on result) past after h = done_apart (line.LoopBack (is_on on)) past after result h
+        → BusCallMeans terms tries nodes layout call past seen added after
+        → BusCallMeans single tries nodes layout call past seen added after
+    bus_call_apart nodes (bus.load result out) past after (found, loading, h, code, shows) =
+        (found, loading, load_apart past after found loading seen added alone h, code, shows)
+    bus_call_apart nodes (bus.status result out) past after h = h
+    bus_call_apart nodes (bus.control sie eie result) past after h = h
+    bus_call_apart nodes (bus.init result) past after h = h
+    bus_call_apart nodes (bus.loop_back on result) past after (h, is) = (loops_apart (is_on on) result h, is)
     bus_call_apart nodes (bus.recessive groups result out) past after h =
         passed_or_not (is_from_one_to most_groups groups) _ _ _ _
-        (told_apart (line.Recessive groups) state_shown past after result out) same h
-    bus_call_apart nodes (bus.interrupt result out) past after (code, (pending, known, value, keeps)) =
-        (code, (pending, known, interrupt_apart pending seen added out alone value, keeps))
+        (λ (outcome, recovers, tells). (outcome, recovery_apart groups past after outcome recovers, tells)) same h
+    bus_call_apart nodes (bus.interrupt result out) past after (code, (found, h), is) =
+        (code, (found, value_apart found out seen added alone h), is)
     bus_call_apart nodes (bus.flags number result out) past after h =
         known_or_not (flag_numbered number) _ _ _ _ same
-        (λ flag (code, word, keeps). (code, flags_apart flag seen added out alone word, keeps)) h
-    bus_call_apart nodes (bus.counters node result out) past after h =
-        passed_or_not (nat_le node nodes) _ _ _ _ (told_apart (line.Counters node) counters_shown past after result out) same h
+        (λ flag (code, word, keeps). (code, shown_flags_apart flag seen added out alone word, keeps)) h
+    bus_call_apart nodes (bus.counters node result out) past after h = h
     bus_call_apart nodes (bus.round offers number result out) past after h =
         passed_or_not (nat_le (length offers) most_frames) _ _ _ _
         (passed_or_not (list_all is_frame offers) _ _ _ _
         (known_or_not (fault_numbered number) _ _ _ _ same
         (λ fault. tried_apart nodes offers fault past after result out)) same) same h
+    bus_call_apart nodes (bus.read16 offset result out) past after (own, h, is) =
+        (own, read_apart offset own result out h, is)
+    bus_call_apart nodes (bus.write16 offset value result) past after (own, h, is) =
+        (own, write_apart offset value own own result h, is)
+    bus_call_apart nodes (bus.line result out) past after (code, (pulls, is, h), keeps) =
+        (code, (pulls, is, line_apart pulls seen added alone h), keeps)

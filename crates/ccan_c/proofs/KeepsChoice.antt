@@ -1,6 +1,12 @@
--- A line of the bus keeps how the bus chooses what it sends. A round is its steps, so it is enough to go through what a load and
--- a decision leave.
-use Rattle.std.proofs.Common.{◌≡◌, ℕ, Bool, true, false, List, Option, Some, None, inl, inr, ap, ◌++◌, ◌∙◌}
+-- A call of the bus keeps how the bus chooses what it sends. A round is its steps, so it is enough to go through what a load and
+-- a decision leave; what a look at the controller tells the bus beforehand leaves the choice, and other calls leave the past, or
+-- are groups of recessive bits.
+use Rattle.std.proofs.Common.{◌≡◌, ℕ, Bool, true, false, List, Option, Some, None, Ok, Err, inl, inr, ap, refl, cond, ◌++◌, ◌∙◌}
+use Rattle.std.specs.Prelude.{◌==◌, MatchBool, MatchOption, length, nat_le}
+use Rattle.std.specs.List.{list_all}
+use Rattle.std.specs.declared.result.Result.{Result}
+use Rattle.ccan_confine.specs.declared.controller.Controller.{Controller}
+use Rattle.ccan_confine.specs.Counters.{NodeEvent, faults_to_off}
 use Rattle.ccan_ram.specs.declared.event.Event.{Event}
 use Rattle.ccan_ram.specs.Terms.{Terms}
 use Rattle.ccan_bus.specs.declared.answer.LoadAnswer.{LoadAnswer}
@@ -9,15 +15,28 @@ use Rattle.ccan_bus.specs.declared.answer.RoundAnswer.{RoundAnswer}
 use Rattle.ccan_bus.specs.declared.decision.Decision.{Decision}
 use Rattle.ccan_bus.specs.declared.decision.Decision.TheVariants as decision
 use Rattle.ccan_bus.specs.declared.round_end.RoundEnd.{RoundEnd}
+use Rattle.ccan_bus.specs.declared.round_line.Fault.{Fault}
 use Rattle.ccan_bus.specs.declared.round_line.RoundLine.{RoundLine}
-use Rattle.ccan_bus.specs.Past.{BusPast, hears_itself}
+use Rattle.ccan_bus.specs.declared.round_report.RoundReport.{RoundReport}
+use Rattle.ccan_bus.specs.Controller.{with_controller}
+use Rattle.ccan_bus.specs.Past.{BusPast, hears_itself, recovers}
 use Rattle.ccan_bus.specs.Load.{Loads}
 use Rattle.ccan_bus.specs.Decide.{Decides}
-use Rattle.ccan_bus.specs.Round.{Round, refusal_of_round}
-use Rattle.ccan_bus.specs.RoundReport.{RunsOn}
-use Rattle.ccan_bus.proofs.Steps.{rounds_are_steps}
-use Rattle.ccan_line.specs.declared.bus_line.BusLine.TheVariants as line
-use Rattle.ccan_c.specs.Bus.{LinesKeepTheChoice}
+use Rattle.ccan_bus.specs.Round.{refusal_of_round}
+use Rattle.ccan_bus.specs.RoundReport.{RunsOn, RunsSteps}
+use Rattle.ccan_chip.specs.Round.{as_found, events_in, loops_back, takes_part}
+use Rattle.ccan_endless.specs.declared.controller_changed.ControllerBusy.{ControllerBusy}
+use Rattle.ccan_endless.specs.declared.controller_changed.ControllerChanged.{ControllerChanged}
+use Rattle.ccan_endless.specs.Chip.{ChipHistory, ram_of}
+use Rattle.ccan_line.specs.Limits.{most_frames, most_groups}
+use Rattle.ccan_registers.specs.Rounds.{RecoversOnChip}
+use Rattle.ccan_c.specs.declared.offer.Offer.{Offer}
+use Rattle.ccan_c.specs.declared.shown_outcome.ShownOutcome.{ShownOutcome}
+use Rattle.ccan_c.specs.BusCall as bus
+use Rattle.ccan_c.specs.BusCall.{BusCall, BusCallMeans, CallsKeepTheChoice, RoundTried}
+use Rattle.ccan_c.specs.Host.{flag_numbered}
+use Rattle.ccan_c.specs.Round.{fault_numbered, is_frame}
+use Rattle.ccan_c.specs.Settings.{is_from_one_to}
 
 same_choice : (p q : BusPast) → p ≡ q → p.choice ≡ q.choice
 same_choice p q is = ap (λ (past : BusPast). past.choice) is
@@ -59,26 +78,83 @@ rest_keeps terms round tries seen added past after None (Some decided) end h =
     decision_keeps (hears_itself past) round past after decided h.0
 rest_keeps terms round tries seen added past after None None end h = absurd h
 
-round_keeps : (terms : Terms) (round : RoundLine) (tries : ℕ) (seen added : List Event) (past after : BusPast)
-    (reply : RoundAnswer) → Round terms round tries seen added past after reply → after.choice ≡ past.choice
-round_keeps terms round tries seen added past after reply h =
-    let steps = (rounds_are_steps terms round tries seen added past after reply).0 h in
-    let report = steps.0 in
-    let run = steps.1 in
+steps_keep : (terms : Terms) (round : RoundLine) (tries : ℕ) (seen added : List Event) (past after : BusPast)
+    (report : RoundReport) → RunsSteps terms round tries seen added past after report → after.choice ≡ past.choice
+steps_keep terms round tries seen added past after report run =
     rest_keeps terms round tries (run.first ++ seen) run.last run.between after (refusal_of_round report.loading)
     report.decision report.end run.runs
     ∙ load_keeps terms tries seen run.first past run.between report.loading run.loads
 
-pub lines_keep : LinesKeepTheChoice
-lines_keep terms tries line.Load past after seen added reply (loading, _, h) =
-    load_keeps terms tries seen added past after loading h
-lines_keep terms tries (line.Round round) past after seen added reply (ended, _, h) =
-    round_keeps terms round tries seen added past after ended h
-lines_keep terms tries line.Status past after seen added reply (word, _, _, h) = same_choice after _ h.read
-lines_keep terms tries (line.Control sie eie) past after seen added reply h = same_choice after _ h.past_is
-lines_keep terms tries line.Interrupt past after seen added reply h = same_choice after past h.past_is
-lines_keep terms tries (line.Flags flag) past after seen added reply h = same_choice after past h.past_is
-lines_keep terms tries (line.Counters node) past after seen added reply h = same_choice after past h.past_is
-lines_keep terms tries line.Init past after seen added reply h = same_choice after _ h.past_is
-lines_keep terms tries (line.Recessive groups) past after seen added reply h = same_choice after _ h.past_is
-lines_keep terms tries (line.LoopBack on) past after seen added reply h = same_choice after _ h.past_is
+-- as the bus is with the controller that a look found
+either_keeps : (b : Bool) (p q past : BusPast) → p.choice ≡ past.choice → q.choice ≡ past.choice
+    → (cond b p q).choice ≡ past.choice
+either_keeps true p q past h k = h
+either_keeps false p q past h k = k
+
+found_keeps : (c : Controller) (events : List NodeEvent) (past : BusPast) → (as_found c events past).choice ≡ past.choice
+found_keeps c events past =
+    either_keeps (takes_part c) (with_controller events (loops_back c) past)
+    (record (with_controller faults_to_off false past) { loaded = None }) past refl refl
+
+recovery_keeps : (terms : Terms) (groups tries : ℕ) (past after : BusPast) (seen added : ChipHistory)
+    (outcome : Result ControllerChanged ControllerBusy) → RecoversOnChip terms groups tries past seen added after outcome
+    → after.choice ≡ past.choice
+recovery_keeps terms groups tries past after seen added (Ok made) (h, is) = same_choice after _ is
+recovery_keeps terms groups tries past after seen added (Err busy) (h, is) = same_choice after past is
+
+tried_keeps : (terms : Terms) (tries nodes : ℕ) (offers : List Offer) (fault : Fault) (past after : BusPast)
+    (seen added : ChipHistory) (result : ℕ) (out : ShownOutcome)
+    → RoundTried terms tries nodes offers fault past seen added after result out → after.choice ≡ past.choice
+tried_keeps terms tries nodes offers fault past after seen added result out (inl h) =
+    let events = events_in (h.runs.looked ++ seen) in
+    steps_keep terms h.round tries (ram_of (h.runs.looked ++ seen)) (ram_of h.runs.steps)
+    (as_found h.report.found events past) after h.report.report h.runs.runs.means
+    ∙ found_keeps h.report.found events past
+tried_keeps terms tries nodes offers fault past after seen added result out (inr (none, rests)) =
+    same_choice after past rests.leaves
+
+-- by whether a number was known, and by a test
+known_or_not : {X : Type 0} (o : Option X) (P : Type 0) (Q : X → Type 0) (R : Type 0) → (P → R) → ((x : X) → Q x → R)
+    → MatchOption o P Q → R
+known_or_not None P Q R f g h = f h
+known_or_not (Some x) P Q R f g h = g x h
+
+passed_or_not : (b : Bool) (P Q R : Type 0) → (P → R) → (Q → R) → MatchBool b P Q → R
+passed_or_not true P Q R f g h = f h
+passed_or_not false P Q R f g h = g h
+
+pub calls_keep : CallsKeepTheChoice
+calls_keep terms tries nodes layout (bus.load result out) past after seen added (found, loading, h, _, _) =
+    load_keeps terms tries (ram_of (h.looked ++ seen)) (ram_of h.later)
+    (as_found found (events_in (h.looked ++ seen)) past) after loading h.loads.means
+    ∙ found_keeps found (events_in (h.looked ++ seen)) past
+calls_keep terms tries nodes layout (bus.status result out) past after seen added h = same_choice after past h.1
+calls_keep terms tries nodes layout (bus.control sie eie result) past after seen added h = same_choice after past h.1
+calls_keep terms tries nodes layout (bus.init result) past after seen added h = same_choice after past h.1
+calls_keep terms tries nodes layout (bus.loop_back on result) past after seen added h = same_choice after past h.1
+calls_keep terms tries nodes layout (bus.recessive groups result out) past after seen added h =
+    passed_or_not (is_from_one_to most_groups groups) _ _ _
+    (λ (outcome, recovers, _). recovery_keeps terms groups tries past after seen added outcome recovers)
+    (λ rests. same_choice after past rests.leaves) h
+calls_keep terms tries nodes layout (bus.interrupt result out) past after seen added h = same_choice after past h.2
+calls_keep terms tries nodes layout (bus.flags number result out) past after seen added h =
+    known_or_not (flag_numbered number) _ _ _
+    (λ rests. same_choice after past rests.leaves)
+    (λ flag (_, _, is). same_choice after past is) h
+calls_keep terms tries nodes layout (bus.counters node result out) past after seen added h =
+    passed_or_not (nat_le node nodes) _ _ _
+    (passed_or_not (node == 0) _ _ _
+    (λ (_, is). same_choice after past is)
+    (λ (_, _, _, rests). same_choice after past rests.leaves))
+    (λ rests. same_choice after past rests.leaves) h
+calls_keep terms tries nodes layout (bus.round offers number result out) past after seen added h =
+    passed_or_not (nat_le (length offers) most_frames) _ _ _
+    (passed_or_not (list_all is_frame offers) _ _ _
+    (known_or_not (fault_numbered number) _ _ _
+    (λ rests. same_choice after past rests.leaves)
+    (λ fault. tried_keeps terms tries nodes offers fault past after seen added result out))
+    (λ rests. same_choice after past rests.leaves))
+    (λ rests. same_choice after past rests.leaves) h
+calls_keep terms tries nodes layout (bus.read16 offset result out) past after seen added h = same_choice after past h.2
+calls_keep terms tries nodes layout (bus.write16 offset value result) past after seen added h = same_choice after past h.2
+calls_keep terms tries nodes layout (bus.line result out) past after seen added h = same_choice after past h.2

@@ -1,12 +1,11 @@
 pub mod AsBox
-pub mod Chips
-pub mod Lines
 pub mod Calls
-pub mod KeepsChoice
+pub mod Chips
+pub mod OwnEvents
 pub mod Meetings
+pub mod Looping
 pub mod Steps
-pub mod HostSteps
-pub mod BusSteps
+pub mod KeepsChoice
 pub mod ThreadsFit
 pub mod CallsApart
 pub mod TurnsInOrder

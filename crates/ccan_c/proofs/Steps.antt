@@ -1,147 +1,144 @@
--- Calls on an open handle, as steps in what its port has seen.
-use Rattle.std.proofs.Common.{◌≡◌, ℕ, Bool, true, false, List, [], ◌∷◌, ◌++◌, MatchOption, MatchBool, Some, None, refl, sym, ap, ap₂, subst, ◌∙◌}
+-- Calls on an open handle, as steps in what its port has seen of the chip.
+use Rattle.std.proofs.Common.{◌≡◌, ℕ, List, [], ◌∷◌, ◌++◌, Some, refl, sym, ap₂, subst, ◌∙◌}
 use Rattle.std.specs.declared.option.Option.{Option}
-use Rattle.ccan_ram.specs.declared.event.Event.{Event}
 use Rattle.ccan_ram.specs.declared.port.PortName.{PortName}
-use Rattle.ccan_ram.specs.Access.{Goes}
-use Rattle.ccan_ram.specs.SharedRam.{Memory, CanSee, IsSamePort, IsWithin, terms_of}
+use Rattle.ccan_ram.specs.SharedRam.{Memory, IsSamePort, terms_of}
 use Rattle.ccan_ram.specs.Terms.{Terms}
+use Rattle.ccan_endless.specs.Chip.{ChipHistory}
 use Rattle.ccan_endless.specs.Layout.{same_object}
+use Rattle.ccan_bus.specs.Bus.{LedTo}
+use Rattle.ccan_bus.specs.Past.{BusPast}
+use Rattle.ccan_map.specs.declared.map.Map.{Map}
+use Rattle.ccan_registers.specs.declared.interface_set.InterfaceSet.{InterfaceSet}
+use Rattle.ccan_registers.specs.ChipSteps.{SeesChip, terms_at}
 use Rattle.ccan_c.specs.declared.held.Held.{Held}
-use Rattle.ccan_c.specs.Call.{IsRefused}
-use Rattle.ccan_c.specs.Held.{pass_of, passes}
-use Rattle.ccan_c.specs.Step.{Place, Rests, CallsMean, Leads}
-
--- the memory of a port, by what the port works under
-abbrev memory_of : Terms → Memory
-memory_of terms = record { profile = terms.profile; quota = terms.quota; name = terms.memory }
+use Rattle.ccan_c.specs.BusCall.{BusCall, BusCallDoes, BusCallMeans}
+use Rattle.ccan_c.specs.Held.{WorksAsBefore, pass_of, port_of}
+use Rattle.ccan_c.specs.HostCall.{HostCall, HostCallDoes, HostCallMeans}
+use Rattle.ccan_c.specs.Opening.{Set}
+use Rattle.ccan_c.specs.Step.{Place, CallsMean, Leads}
 
 -- what the port of the handle works under
 abbrev pub here : Held → Terms
-here held = terms_of same_object (pass_of held).memory (pass_of held).port
+here held = terms_at (port_of held)
 
 -- the handle is open after the call, and its port has seen what it had seen and the added events, of which this holds
 pub record Step {State : Type 0} (led : State → Held → Type 0) (held : Held) (after : Option Held)
-    (what : List Event → State → Type 0) : Type 0 where
+    (what : ChipHistory → State → Type 0) : Type 0 where
   pub new : Held
   pub is_open : after ≡ Some new
   pub same : IsSamePort (pass_of held) (pass_of new)
-  pub tries : new.tries ≡ held.tries
-  pub nodes : new.nodes ≡ held.nodes
-  pub sees : CanSee (pass_of new)
-  pub added : List Event
-  pub seen : (pass_of new).seen ≡ added ++ (pass_of held).seen
+  pub works : WorksAsBefore held new
+  pub sees : SeesChip (port_of new)
+  pub added : ChipHistory
+  pub seen : (port_of new).whole ≡ added ++ (port_of held).whole
   pub left : State
   pub leads : led left new
   pub means : what added left
 
-module _ {State : Type 0} (led : State → Held → Type 0) (held : Held) (after : Option Held) (sees : CanSee (pass_of held)) where
-  pub moved : (new : Held) (does : Terms → List Event → List Event → Type 0) (what : List Event → State → Type 0)
-      → after ≡ Some new → new.tries ≡ held.tries → new.nodes ≡ held.nodes → Goes (passes held) (passes new) does
-      → ((added : List Event) → does (here held) (pass_of held).seen added → (left : State) × led left new × what added left)
-      → Step led held after what
-  moved new does what is_open tries nodes goes tell =
-      let a = goes.each (pass_of held).seen (refl, sees) in
-      let b = tell a.0 a.2 in
-      record {
-        new = new;
-        is_open = is_open;
-        same = record { memory = ap (λ (t : Terms). memory_of t) goes.same; port = ap (λ (t : Terms). t.port) goes.same };
-        tries = tries;
-        nodes = nodes;
-        sees = subst (λ (es : List Event). IsWithin (pass_of new).memory es) a.1.0 a.1.1;
-        added = a.0;
-        seen = sym a.1.0;
-        left = b.0;
-        leads = b.1;
-        means = b.2;
-      }
+-- ---- the calls of a host work on its registers
 
-  pub rested : (state : State) (what : List Event → State → Type 0) → led state held → after ≡ Some held → what [] state
-      → Step led held after what
-  rested state what leads is_open h = record {
-    new = held;
-    is_open = is_open;
-    same = record { memory = refl; port = refl };
-    tries = refl;
-    nodes = refl;
-    sees = sees;
-    added = [];
-    seen = refl;
-    left = state;
-    leads = leads;
-    means = h;
-  }
+abbrev pub HasSet : InterfaceSet → Held → Type 0
+HasSet own held = own ≡ held.own
 
-  pub refused : (state : State) (code result : ℕ) → led state held → IsRefused code held after result
-      → Step led held after (λ added left. Rests code state left added result)
-  refused state code result leads h =
-      rested state (λ added left. Rests code state left added result) leads h.kept
-      (record { code_is = h.code_is; quiet = refl; leaves = refl })
+pub host_step : (call : HostCall) (held : Held) (after : Option Held) (own : InterfaceSet) → SeesChip (port_of held)
+    → HasSet own held → HostCallDoes call (Some held) after
+    → Step HasSet held after
+    (λ added left. HostCallMeans (here held) held.tries held.map call own (port_of held).whole added left)
+host_step call held after own sees is (new, is_open, runs) =
+    let a = runs.goes.each sees in
+    record {
+      new = new;
+      is_open = is_open;
+      same = runs.goes.same;
+      works = runs.works;
+      sees = a.1;
+      added = a.0;
+      seen = a.2;
+      left = new.own;
+      leads = refl;
+      means =
+          subst (λ (o : InterfaceSet). HostCallMeans (here held) held.tries held.map call o (port_of held).whole a.0 new.own)
+          (sym is) a.3;
+    }
 
-  -- by whether a number was known
-  pub on_option : {X : Type 0} (o : Option X) (P : Type 0) (Q : X → Type 0) (P' : List Event → State → Type 0)
-      (Q' : X → List Event → State → Type 0)
-      → (P → Step led held after P') → ((x : X) → Q x → Step led held after (Q' x)) → MatchOption o P Q
-      → Step led held after (λ added left. MatchOption o (P' added left) (λ x. Q' x added left))
-  on_option None P Q P' Q' unknown known h = unknown h
-  on_option (Some x) P Q P' Q' unknown known h = known x h
+-- ---- those of the bus on its past
 
-  -- by a test
-  pub on_bool : (b : Bool) (P Q : Type 0) (P' Q' : List Event → State → Type 0)
-      → (P → Step led held after P') → (Q → Step led held after Q') → MatchBool b P Q
-      → Step led held after (λ added left. MatchBool b (P' added left) (Q' added left))
-  on_bool true P Q P' Q' passed failed h = passed h
-  on_bool false P Q P' Q' passed failed h = failed h
+abbrev pub HasPast : BusPast → Held → Type 0
+HasPast past held = LedTo past held.bus.bus
+
+pub bus_step : (call : BusCall) (held : Held) (after : Option Held) (past : BusPast) → SeesChip (port_of held)
+    → HasPast past held → BusCallDoes call (Some held) after
+    → Step HasPast held after
+    (λ added left. BusCallMeans (here held) held.tries held.nodes held.map call past (port_of held).whole added left)
+bus_step call held after past sees led (new, is_open, runs) =
+    let g = runs.goes past led in
+    let a = g.2.each sees in
+    record {
+      new = new;
+      is_open = is_open;
+      same = g.2.same;
+      works = runs.works;
+      sees = a.1;
+      added = a.0;
+      seen = a.2;
+      left = g.0;
+      leads = g.1;
+      means = a.3;
+    }
 
 -- ---- calls, one after another
 
--- the open handle of a port of this memory, of a chip that was opened with these numbers
-pub record IsAt (memory : Memory) (port : PortName) (nodes tries : ℕ) (held : Held) : Type 0 where
+-- the open handle of a port of this memory, of a chip that was opened with this
+pub record IsAt (memory : Memory) (port : PortName) (set : Set) (held : Held) : Type 0 where
   pub memory_is : (pass_of held).memory ≡ memory
   pub port_is : (pass_of held).port ≡ port
-  pub nodes_are : held.nodes ≡ nodes
-  pub tries_are : held.tries ≡ tries
-  pub sees : CanSee (pass_of held)
+  pub nodes_are : held.nodes ≡ set.nodes
+  pub tries_are : held.tries ≡ set.tries
+  pub map_is : held.map ≡ set.map
+  pub sees : SeesChip (port_of held)
 
 module _ {Call State : Type 0} (led : State → Held → Type 0) (does : Call → Option Held → Option Held → Type 0)
-    (means : Terms → ℕ → ℕ → Call → State → List Event → List Event → State → Type 0)
-    (step : (call : Call) (held : Held) (after : Option Held) (state : State) → CanSee (pass_of held) → led state held
+    (means : Terms → ℕ → ℕ → Map → Call → State → ChipHistory → ChipHistory → State → Type 0)
+    (step : (call : Call) (held : Held) (after : Option Held) (state : State) → SeesChip (port_of held) → led state held
     → does call (Some held) after
-    → Step led held after (λ added left. means (here held) held.tries held.nodes call state (pass_of held).seen added left))
-    (memory : Memory) (port : PortName) (nodes tries : ℕ) where
-  abbrev pub mean : Call → State → List Event → List Event → State → Type 0
-  mean = means (terms_of same_object memory port) tries nodes
+    → Step led held after
+    (λ added left. means (here held) held.tries held.nodes held.map call state (port_of held).whole added left))
+    (memory : Memory) (port : PortName) (set : Set) where
+  abbrev pub mean : Call → State → ChipHistory → ChipHistory → State → Type 0
+  mean = means (terms_of same_object memory port) set.tries set.nodes set.map
 
   -- where calls have led
   pub record Reached (calls : List Call) (old : Place State) (after : Option Held) : Type 0 where
     pub new : Held
     pub is_open : after ≡ Some new
-    pub at : IsAt memory port nodes tries new
+    pub at : IsAt memory port set new
     pub left : State
     pub leads : led left new
-    pub mean_all : CallsMean mean calls old (record { state = left; seen = (pass_of new).seen })
+    pub mean_all : CallsMean mean calls old (record { state = left; seen = (port_of new).whole })
 
-  by_name : (held : Held) (call : Call) (state left : State) (seen added : List Event) → IsAt memory port nodes tries held
-      → means (here held) held.tries held.nodes call state seen added left → mean call state seen added left
+  by_name : (held : Held) (call : Call) (state left : State) (seen added : ChipHistory) → IsAt memory port set held
+      → means (here held) held.tries held.nodes held.map call state seen added left → mean call state seen added left
   by_name held call state left seen added at h =
-      subst (λ (t : Terms). means t tries nodes call state seen added left)
+      subst (λ (t : Terms). means t set.tries set.nodes set.map call state seen added left)
       (ap₂ (λ (m : Memory) (p : PortName). terms_of same_object m p) at.memory_is at.port_is)
-      (subst (λ (n : ℕ). means (here held) n nodes call state seen added left) at.tries_are
-      (subst (λ (n : ℕ). means (here held) held.tries n call state seen added left) at.nodes_are h))
+      (subst (λ (n : ℕ). means (here held) n set.nodes set.map call state seen added left) at.tries_are
+      (subst (λ (n : ℕ). means (here held) held.tries n set.map call state seen added left) at.nodes_are
+      (subst (λ (m : Map). means (here held) held.tries held.nodes m call state seen added left) at.map_is h)))
 
-  pub reached : (calls : List Call) (held : Held) (after : Option Held) (state : State) → IsAt memory port nodes tries held
+  pub reached : (calls : List Call) (held : Held) (after : Option Held) (state : State) → IsAt memory port set held
       → led state held → Leads does calls (Some held) after
-      → Reached calls (record { state = state; seen = (pass_of held).seen }) after
+      → Reached calls (record { state = state; seen = (port_of held).whole }) after
   reached [] held after state at leads is =
       record { new = held; is_open = is; at = at; left = state; leads = leads; mean_all = refl }
   reached (call ∷ calls) held after state at leads (between, does_call, rest) =
       let s = step call held between state at.sees leads does_call in
-      let at_new : IsAt memory port nodes tries s.new = record {
+      let at_new : IsAt memory port set s.new = record {
         memory_is = s.same.memory ∙ at.memory_is;
         port_is = s.same.port ∙ at.port_is;
-        nodes_are = s.nodes ∙ at.nodes_are;
-        tries_are = s.tries ∙ at.tries_are;
+        nodes_are = s.works.nodes ∙ at.nodes_are;
+        tries_are = s.works.tries ∙ at.tries_are;
+        map_is = s.works.map ∙ at.map_is;
         sees = s.sees;
       } in
       let t = reached calls s.new after s.left at_new s.leads
@@ -155,8 +152,8 @@ module _ {Call State : Type 0} (led : State → Held → Type 0) (does : Call �
         mean_all = (
           s.added,
           s.left,
-          by_name held call state s.left (pass_of held).seen s.added at s.means,
-          subst (λ (es : List Event). CallsMean mean calls (record { state = s.left; seen = es })
-              (record { state = t.left; seen = (pass_of t.new).seen })) s.seen t.mean_all,
+          by_name held call state s.left (port_of held).whole s.added at s.means,
+          subst (λ (h : ChipHistory). CallsMean mean calls (record { state = s.left; seen = h })
+              (record { state = t.left; seen = (port_of t.new).whole })) s.seen t.mean_all,
         );
       }

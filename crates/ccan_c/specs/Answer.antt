@@ -1,10 +1,11 @@
--- How C sees the answers to lines. Source: this project's own.
+-- How C sees what calls answer. Source: this project's own.
 use Rattle.std.specs.Prelude.{ℕ}
 use Rattle.ccan_object.specs.declared.record.Record.{Record}
 use Rattle.ccan_object.specs.Record.{zero_record}
 use Rattle.ccan_bus.specs.declared.answer.LoadAnswer.{LoadAnswer}
 use Rattle.ccan_bus.specs.declared.answer.LoadAnswer.TheVariants as load
 use Rattle.ccan_bus.specs.declared.answer.RoundAnswer.TheVariants as round
+use Rattle.ccan_confine.specs.Counters.{Levels, state_of}
 use Rattle.ccan_confine.specs.declared.node_state.NodeState.{NodeState}
 use Rattle.ccan_confine.specs.declared.node_state.NodeState.TheVariants.{Active, Passive, Off}
 use Rattle.ccan_line.specs.declared.line_answer.LineAnswer.{LineAnswer}
@@ -37,11 +38,7 @@ c_load (load.Held object) = c_load_with 2 object zero_record
 c_load (load.Busy object) = c_load_with 3 object zero_record
 c_load (load.Spent object) = c_load_with 4 object zero_record
 
-abbrev pub load_shown : LineAnswer → ShownLoad
-load_shown (answer.Load loading) = c_load loading
-load_shown reply = c_load load.Nothing
-
--- ---- other lines of the bus
+-- ---- the controller and other nodes
 
 abbrev pub state_number : NodeState → ℕ
 state_number Active = 0
@@ -49,15 +46,5 @@ state_number Passive = 1
 state_number Off = 2
 
 -- the error counters of a node, and its state
-abbrev pub counters_shown : LineAnswer → ShownCounters
-counters_shown (answer.Counters node tec rec state) = record { tec = tec; rec = rec; state = state_number state }
-counters_shown reply = record { tec = 0; rec = 0; state = 0 }
-
-abbrev pub state_shown : LineAnswer → ℕ
-state_shown (answer.Recessive state) = state_number state
-state_shown reply = 0
-
--- the Status register
-abbrev pub word_shown : LineAnswer → ℕ
-word_shown (answer.Status word) = word
-word_shown reply = 0
+abbrev pub c_counters : Levels → ShownCounters
+c_counters levels = record { tec = levels.tec; rec = levels.rec; state = state_number (state_of levels) }

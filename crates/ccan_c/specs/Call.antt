@@ -3,11 +3,6 @@ use Rattle.std.specs.Prelude.{ℕ, ◌≡◌, Option, Some, None}
 use Rattle.ccan_c.specs.declared.held.Held.{Held}
 use Rattle.ccan_c.specs.Codes.{closed}
 
--- a call on an open handle is refused with this code, and the handle stays as it was
-pub record IsRefused (code : ℕ) (held : Held) (after : Option Held) (result : ℕ) : Type 0 where
-  pub code_is : result ≡ code
-  pub kept : after ≡ Some held
-
 -- a call on a closed handle is refused, and the handle stays closed; on an open one this comes of it
 abbrev pub IsCall : Option Held → Option Held → ℕ → (Held → Type 0) → Type 0
 IsCall None after result what = (result ≡ closed) × (after ≡ None)

@@ -1,17 +1,19 @@
 -- The three handles of a chip. Source: this project's own.
 use Rattle.std.specs.Prelude.{ℕ, ◌≡◌, ◌&&◌, Bool, Some, None, is_some}
 use Rattle.ccan_object.specs.declared.profile.Profile.{Profile}
-use Rattle.ccan_ram.specs.declared.ending.Final.{Final}
 use Rattle.ccan_ram.specs.declared.port.PortName.TheVariants.{If1, If2, Bus}
-use Rattle.ccan_ram.specs.Ending.{Ends}
-use Rattle.ccan_ram.specs.SharedRam.{Memory, IsMemoryOf, opened}
+use Rattle.ccan_ram.specs.SharedRam.{Memory, IsMemoryOf}
+use Rattle.ccan_endless.specs.declared.final_chip.FinalChip.{FinalChip}
+use Rattle.ccan_endless.specs.ChipEnding.{ChipEnds}
 use Rattle.ccan_endless.specs.Layout.{most}
+use Rattle.ccan_map.specs.declared.map.Map.{Map}
 use Rattle.ccan_c.specs.declared.held.Held.{Held}
 use Rattle.ccan_c.specs.declared.chip.Chip.{Chip}
 use Rattle.ccan_c.specs.declared.shown_final.ShownFinal.{ShownFinal}
-use Rattle.ccan_c.specs.Held.{pass_of, IsOpening}
+use Rattle.ccan_c.specs.Held.{port_of, IsOpening}
+use Rattle.ccan_c.specs.Opening.{Set, after_reset, begins_as}
 use Rattle.ccan_c.specs.Record.{IsFinal}
-use Rattle.ccan_c.specs.Settings.{profile_numbered}
+use Rattle.ccan_c.specs.Settings.{map_numbered, profile_numbered}
 
 -- all three are open
 abbrev pub are_open : Chip → Bool
@@ -31,18 +33,23 @@ pub record IsClosed (chip : Chip) : Type 0 where
   pub bus : chip.bus.handle.seal.value ≡ None
 
 -- the three ports of a memory that was just opened, each in its place; a port may make as many changes as the memory numbers
-pub record Opens (profile : Profile) (nodes tries : ℕ) (chip : Chip) : Type 0 where
+pub record Opens (profile : Profile) (set : Set) (chip : Chip) : Type 0 where
   pub memory : Memory
   pub memory_is : IsMemoryOf profile most memory
-  pub handles : AllOpen chip (λ h k l. IsOpening (opened memory If1) nodes tries h
-      × IsOpening (opened memory If2) nodes tries k × IsOpening (opened memory Bus) nodes tries l)
+  pub handles : AllOpen chip (λ h k l. IsOpening (begins_as memory If1 set.opening) set h
+      × IsOpening (begins_as memory If2 set.opening) set k × IsOpening (begins_as memory Bus set.opening) set l)
 
--- C gets the records that the one history leaves of which all three ports have seen a part
+-- C gets the records that the one history of the chip leaves of which all three ports have seen a part
 abbrev pub EndsWith : Chip → ShownFinal → Type 0
 EndsWith chip out =
-    AllOpen chip (λ h k l. (final : Final) × Ends (pass_of h) (pass_of k) (pass_of l) final × IsFinal final out)
+    AllOpen chip (λ h k l. (final : FinalChip) × ChipEnds (port_of h) (port_of k) (port_of l) final × IsFinal final.memory out)
 
 -- the same for a profile by its number
-abbrev pub OpensAs : ℕ → ℕ → ℕ → Chip → Type 0
-OpensAs number nodes tries chip =
-    (profile : Profile) × (profile_numbered number ≡ Some profile) × Opens profile nodes tries chip
+abbrev pub OpensAs : ℕ → Set → Chip → Type 0
+OpensAs number set chip = (profile : Profile) × (profile_numbered number ≡ Some profile) × Opens profile set chip
+
+-- and for a layout by its number, as after a reset
+abbrev pub ResetsAs : ℕ → ℕ → ℕ → ℕ → Chip → Type 0
+ResetsAs number nodes tries layout chip =
+    (map : Map) × (map_numbered layout ≡ Some map)
+    × OpensAs number (record { nodes = nodes; tries = tries; map = map; opening = after_reset }) chip

@@ -58,3 +58,12 @@ fault_range = 18
 
 abbrev pub senders : ℕ
 senders = 19
+
+abbrev pub offset_range : ℕ
+offset_range = 20
+
+abbrev pub other_interface : ℕ
+other_interface = 21
+
+abbrev pub map_range : ℕ
+map_range = 22

@@ -1,35 +1,49 @@
 -- What an open handle stands for. Source: this project's own.
 use Rattle.std.specs.Prelude.{ℕ, ◌≡◌, Option, Some}
-use Rattle.ccan_object.specs.Interface.{zero_registers}
-use Rattle.ccan_ram.specs.Access.{Passes}
-use Rattle.ccan_ram.specs.SharedRam.{Pass, passes_of}
-use Rattle.ccan_endless.specs.Layout.{same_object}
+use Rattle.ccan_ram.specs.SharedRam.{Pass}
+use Rattle.ccan_endless.specs.ChipPort.{ChipPass}
 use Rattle.ccan_bus.specs.Bus.{LedTo}
 use Rattle.ccan_bus.specs.Past as past
+use Rattle.ccan_map.specs.declared.map.Map.{Map}
+use Rattle.ccan_registers.specs.declared.interface_set.InterfaceSet.{InterfaceSet}
+use Rattle.ccan_registers.specs.ChipSteps.{SeesChip}
 use Rattle.ccan_c.specs.declared.held.Held.{Held}
+use Rattle.ccan_c.specs.Opening.{Set}
+use Rattle.ccan_c.specs.Port.{port_in}
 
--- what its port has seen
+-- its port, with all that it has seen of the chip
+abbrev pub port_of : Held → ChipPass
+port_of held = port_in held.port
+
+-- what its port has seen of the message RAM
 abbrev pub pass_of : Held → Pass
-pass_of held = held.access.port.pass
+pass_of held = (port_of held).pass
 
--- what its port works under, and what it has seen
-abbrev pub passes : Held → Passes
-passes held = passes_of same_object (pass_of held)
-
--- a handle as it opens: it stands for this port, its registers read 0, and nothing happened to its bus, which chooses what
--- it sends at one moment
-pub record IsOpening (pass : Pass) (nodes tries : ℕ) (held : Held) : Type 0 where
-  pub port_is : pass_of held ≡ pass
+-- a handle that stands for this port, with these settings and registers; nothing happened to its bus, which chooses what it
+-- sends at one moment
+pub record IsHolding (port : ChipPass) (nodes tries : ℕ) (map : Map) (own : InterfaceSet) (held : Held) : Type 0 where
+  pub port_is : port_of held ≡ port
+  pub sees : SeesChip (port_of held)
   pub tries_are : held.tries ≡ tries
   pub nodes_are : held.nodes ≡ nodes
-  pub registers_are : held.registers ≡ zero_registers
-  pub bus_is : LedTo (past.opened_at_once nodes) held.bus
+  pub map_is : held.map ≡ map
+  pub own_is : held.own ≡ own
+  pub bus_is : LedTo (past.opened_at_once nodes) held.bus.bus
+
+-- a handle as it opens, with what a chip is opened with
+abbrev pub IsOpening : ChipPass → Set → Held → Type 0
+IsOpening port set held = IsHolding port set.nodes set.tries set.map set.opening.own held
+
+-- the handle works as it did: with as many tries, other nodes, and the same layout
+pub record WorksAsBefore (old new : Held) : Type 0 where
+  pub tries : new.tries ≡ old.tries
+  pub nodes : new.nodes ≡ old.nodes
+  pub map : new.map ≡ old.map
 
 -- all else that the handle stands for is as it was
 pub record IsKept (old new : Held) : Type 0 where
-  pub tries : new.tries ≡ old.tries
-  pub nodes : new.nodes ≡ old.nodes
-  pub registers : new.registers ≡ old.registers
+  pub works : WorksAsBefore old new
+  pub own : new.own ≡ old.own
   pub bus : new.bus ≡ old.bus
 
 -- it is open, and this holds of what it stands for

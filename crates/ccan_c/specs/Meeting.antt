@@ -1,24 +1,27 @@
 -- The three ports of a chip that meet. Source: this project's own, over the definitions of two ports that meet.
 use Rattle.std.specs.Prelude.{◌≡◌}
 use Rattle.ccan_ram.specs.declared.port.PortName.TheVariants.{If1, If2, Bus}
-use Rattle.ccan_ram.specs.History.{BeginsWith, events_of}
-use Rattle.ccan_ram.specs.SharedRam.{Pass, CanSee, IsSamePort}
+use Rattle.ccan_ram.specs.SharedRam.{IsSamePort}
+use Rattle.ccan_endless.specs.Chip.{GoesFrom}
+use Rattle.ccan_endless.specs.ChipPort.{ChipPass}
+use Rattle.ccan_registers.specs.ChipSteps.{SeesChip}
 use Rattle.ccan_c.specs.declared.held.Held.{Held}
 use Rattle.ccan_c.specs.declared.chip.Chip.{Chip}
 use Rattle.ccan_c.specs.Chip.{AllOpen}
-use Rattle.ccan_c.specs.Held.{IsKept, pass_of}
+use Rattle.ccan_c.specs.Held.{IsKept, pass_of, port_of}
+use Rattle.ccan_c.specs.Step.{own_of}
 
--- the same port has now seen, in one legal history, at least what each of the three had seen, and has made no event
-pub record HasMet (if1 if2 bus old new : Pass) : Type 0 where
-  pub same : IsSamePort old new
-  pub sees : CanSee new
-  pub begins_if1 : BeginsWith new.seen if1.seen
-  pub begins_if2 : BeginsWith new.seen if2.seen
-  pub begins_bus : BeginsWith new.seen bus.seen
-  pub own : events_of old.port new.seen ≡ events_of old.port old.seen
+-- the same port has now seen, in one legal history of the chip, at least what each of the three had seen, and has made no event
+pub record HasMet (if1 if2 bus old new : ChipPass) : Type 0 where
+  pub same : IsSamePort old.pass new.pass
+  pub sees : SeesChip new
+  pub begins_if1 : GoesFrom new.whole if1.whole
+  pub begins_if2 : GoesFrom new.whole if2.whole
+  pub begins_bus : GoesFrom new.whole bus.whole
+  pub own : own_of old.pass.port new.whole ≡ own_of old.pass.port old.whole
 
 -- the same for each of the three
-pub record HaveMet (if1 if2 bus if1_after if2_after bus_after : Pass) : Type 0 where
+pub record HaveMet (if1 if2 bus if1_after if2_after bus_after : ChipPass) : Type 0 where
   pub if1_met : HasMet if1 if2 bus if1 if1_after
   pub if2_met : HasMet if1 if2 bus if2 if2_after
   pub bus_met : HasMet if1 if2 bus bus bus_after
@@ -33,7 +36,7 @@ pub record AreThree (h k l : Held) : Type 0 where
 
 -- the ports of three handles have met, and nothing else of the handles changed
 pub record MeetHeld (h k l h' k' l' : Held) : Type 0 where
-  pub ports : HaveMet (pass_of h) (pass_of k) (pass_of l) (pass_of h') (pass_of k') (pass_of l')
+  pub ports : HaveMet (port_of h) (port_of k) (port_of l) (port_of h') (port_of k') (port_of l')
   pub keeps_if1 : IsKept h h'
   pub keeps_if2 : IsKept k k'
   pub keeps_bus : IsKept l l'

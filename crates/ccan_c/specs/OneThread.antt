@@ -1,21 +1,21 @@
 -- The calls of one thread on the three handles of a chip, with a meeting before it goes on to another handle. Source: this
 -- project's own, in the way of an ordered run of a script.
-use Rattle.std.specs.Prelude.{ℕ, ◌≡◌, ◌≤◌, List, [], ◌∷◌, ◌++◌, map}
+use Rattle.std.specs.Prelude.{◌≡◌, ◌≤◌, List, [], ◌∷◌, ◌++◌, map}
 use Rattle.ccan_object.specs.declared.profile.Profile.{Profile}
-use Rattle.ccan_object.specs.Interface.{Registers, zero_registers}
-use Rattle.ccan_ram.specs.declared.event.Event.{Event}
 use Rattle.ccan_ram.specs.declared.port.PortName.{PortName}
 use Rattle.ccan_ram.specs.declared.port.PortName.TheVariants.{If1, If2, Bus}
 use Rattle.ccan_ram.specs.History.{IsLegal}
 use Rattle.ccan_ram.specs.Terms.{Terms, one_thread_terms}
+use Rattle.ccan_endless.specs.Chip.{ChipHistory, IsControllerLegal, ram_of}
 use Rattle.ccan_endless.specs.Layout.{most}
 use Rattle.ccan_bus.specs.Past.{BusPast, opened_at_once}
-use Rattle.ccan_line.specs.Turn.{Three}
+use Rattle.ccan_registers.specs.declared.interface_set.InterfaceSet.{InterfaceSet}
 use Rattle.ccan_c.specs.declared.chip.Chip.{Chip}
 use Rattle.ccan_c.specs.declared.shown_final.ShownFinal.{ShownFinal}
 use Rattle.ccan_c.specs.BusCall.{BusCall, BusCallMeans}
 use Rattle.ccan_c.specs.Chip.{Opens, EndsWith}
 use Rattle.ccan_c.specs.HostCall.{HostCall, HostCallMeans}
+use Rattle.ccan_c.specs.Opening.{Set}
 use Rattle.ccan_c.specs.Step.{CallsMean}
 use Rattle.ccan_c.specs.Threads.{Part, at_once, meeting, PartsDo, Shows}
 
@@ -60,40 +60,46 @@ abbrev pub calls_of : List Turn → List PortCall
 calls_of [] = []
 calls_of (turn ∷ turns) = calls_of_turn turn ++ calls_of turns
 
--- what the calls work on as a chip opens: registers that read 0, and a bus that chooses at one moment and to which nothing
--- happened
-abbrev pub opening_three : ℕ → Three
-opening_three nodes = record { first = zero_registers; second = zero_registers; bus = opened_at_once nodes }
+-- what the calls on the three handles work on
+pub record Three : Type 0 where
+  pub first : InterfaceSet
+  pub second : InterfaceSet
+  pub bus : BusPast
+
+-- as a chip opens: registers as they begin, and a bus that chooses at one moment and to which nothing happened
+abbrev pub opening_three : Set → Three
+opening_three set = record { first = set.opening.own; second = set.opening.own; bus = opened_at_once set.nodes }
 
 -- a call on some handle works on what is that handle's, under its port's terms, and the rest stays
-abbrev pub PortCallMeans : (PortName → Terms) → ℕ → ℕ → PortCall → Three → List Event → List Event → Three → Type 0
-PortCallMeans terms tries nodes (of_if1 call) three seen added left =
-    (after : Registers) × HostCallMeans (terms If1) tries call three.first seen added after
+abbrev pub PortCallMeans : (PortName → Terms) → Set → PortCall → Three → ChipHistory → ChipHistory → Three → Type 0
+PortCallMeans terms set (of_if1 call) three seen added left =
+    (after : InterfaceSet) × HostCallMeans (terms If1) set.tries set.map call three.first seen added after
     × (left ≡ record three { first = after })
-PortCallMeans terms tries nodes (of_if2 call) three seen added left =
-    (after : Registers) × HostCallMeans (terms If2) tries call three.second seen added after
+PortCallMeans terms set (of_if2 call) three seen added left =
+    (after : InterfaceSet) × HostCallMeans (terms If2) set.tries set.map call three.second seen added after
     × (left ≡ record three { second = after })
-PortCallMeans terms tries nodes (of_bus call) three seen added left =
-    (after : BusPast) × BusCallMeans (terms Bus) tries nodes call three.bus seen added after
+PortCallMeans terms set (of_bus call) three seen added left =
+    (after : BusPast) × BusCallMeans (terms Bus) set.tries set.nodes set.map call three.bus seen added after
     × (left ≡ record three { bus = after })
 
 -- the terms of a memory of one thread, whose ports may make as many changes as the memory numbers
 abbrev pub single_terms : Profile → PortName → Terms
 single_terms profile port = one_thread_terms profile port most
 
--- the calls ran in their order over a memory of one thread: each finds there all that those before it did, and nothing else;
--- and C gets the records that they leave
-pub record RunInOrder (profile : Profile) (nodes tries : ℕ) (calls : List PortCall) (out : ShownFinal) : Type 0 where
-  pub history : List Event
-  pub legal : IsLegal profile history
+-- the calls ran in their order over a chip of one thread: each finds there all that those before it did, and nothing else; and C
+-- gets the records that they leave
+pub record RunInOrder (profile : Profile) (set : Set) (calls : List PortCall) (out : ShownFinal) : Type 0 where
+  pub history : ChipHistory
+  pub legal : IsLegal profile (ram_of history)
+  pub steps_legal : IsControllerLegal history
   pub left : Three
-  pub means : CallsMean (PortCallMeans (single_terms profile) tries nodes) calls
-      (record { state = opening_three nodes; seen = [] }) (record { state = left; seen = history })
+  pub means : CallsMean (PortCallMeans (single_terms profile) set) calls
+      (record { state = opening_three set; seen = set.opening.begun }) (record { state = left; seen = history })
   pub shows : Shows profile history out
 
 -- the calls of one thread from the opening of a chip to its end
 abbrev pub TurnsRunInOrder : Type 0
 TurnsRunInOrder =
-    (profile : Profile) (nodes tries : ℕ) (turns : List Turn) (chip last : Chip) (out : ShownFinal) → 1 ≤ tries
-    → Opens profile nodes tries chip → PartsDo (in_turns turns) chip last → EndsWith last out
-    → RunInOrder profile nodes tries (calls_of turns) out
+    (profile : Profile) (set : Set) (turns : List Turn) (chip last : Chip) (out : ShownFinal) → 1 ≤ set.tries
+    → Opens profile set chip → PartsDo (in_turns turns) chip last → EndsWith last out
+    → RunInOrder profile set (calls_of turns) out

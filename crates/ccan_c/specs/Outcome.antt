@@ -1,5 +1,5 @@
 -- How C sees what came of a round. Source: this project's own, over the definitions of a round's steps.
-use Rattle.std.specs.Prelude.{ℕ, Option, Some, None, replicate}
+use Rattle.std.specs.Prelude.{ℕ, Bool, true, false, Option, Some, None, Result, Ok, Err, replicate, if◌then◌else◌}
 use Rattle.ccan_object.specs.declared.record.Record.{Record}
 use Rattle.ccan_object.specs.Record.{zero_record}
 use Rattle.ccan_accept.specs.declared.frame.Frame.{Frame}
@@ -10,10 +10,15 @@ use Rattle.ccan_bus.specs.declared.answer.RoundAnswer.TheVariants as round
 use Rattle.ccan_bus.specs.declared.decision.Decision.{Decision}
 use Rattle.ccan_bus.specs.declared.memory_step.MemoryStep.{MemoryStep}
 use Rattle.ccan_bus.specs.declared.memory_step.MemoryStep.TheVariants.{Start, Finish, Store}
-use Rattle.ccan_bus.specs.declared.round_report.RoundReport.{RoundReport}
 use Rattle.ccan_bus.specs.Decision.{winner_of}
+use Rattle.ccan_chip.specs.declared.chip_report.ChipReport.{ChipReport}
+use Rattle.ccan_endless.specs.declared.controller_changed.ControllerBusy.{ControllerBusy}
+use Rattle.ccan_endless.specs.declared.controller_changed.ControllerChanged.{ControllerChanged}
+use Rattle.ccan_line.specs.declared.line_answer.LineAnswer.TheVariants as answer
 use Rattle.ccan_c.specs.declared.shown_frame.ShownFrame.{ShownFrame}
 use Rattle.ccan_c.specs.declared.shown_outcome.ShownOutcome.{ShownOutcome}
+use Rattle.ccan_c.specs.Answer.{code_of}
+use Rattle.ccan_c.specs.Codes.{busy}
 use Rattle.ccan_c.specs.Host.{number_of}
 use Rattle.ccan_c.specs.Record.{c_record}
 
@@ -103,10 +108,27 @@ abbrev pub frame_shown : Option (ℕ × Frame) → ShownFrame
 frame_shown None = record { id = 0; xtd = 0; rtr = 0; dlc = 0; bytes = replicate 8 0 }
 frame_shown (Some won) = c_frame won.1
 
+-- ---- what it was to the controller
+
+-- the event of the round was to be made at the controller, and each try was lost
+abbrev pub is_lost : Option (Result ControllerChanged ControllerBusy) → Bool
+is_lost None = false
+is_lost (Some (Ok made)) = false
+is_lost (Some (Err lost)) = true
+
+-- what was refused: the event at the controller, or else a step of the message RAM
+abbrev pub refused_number : ChipReport → ℕ
+refused_number told = if is_lost told.noted then 4 else step_number told.report.end.refused
+
+-- the code of the call: busy, too, where the event at the controller was given up
+abbrev pub code_of_round : ChipReport → ℕ
+code_of_round told = if is_lost told.noted then busy else code_of (answer.Round told.report.end.answer)
+
 -- ---- the whole
 
-abbrev pub c_outcome : RoundReport → ShownOutcome
-c_outcome report =
+abbrev pub c_outcome : ChipReport → ShownOutcome
+c_outcome told =
+    let report = told.report in
     let reply = report.end.answer in
     let won = winner_in report.decision in
     record {
@@ -116,7 +138,7 @@ c_outcome report =
       stored = stored_object (stored_of reply);
       stored_record = c_record (stored_record (stored_of reply));
       loaded = loaded_by report.loading;
-      refused = step_number report.end.refused;
+      refused = refused_number told;
       winner = node_shown won;
       frame = frame_shown won;
     }

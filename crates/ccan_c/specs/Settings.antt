@@ -5,7 +5,9 @@ use Rattle.ccan_object.specs.declared.profile.Profile.{Profile}
 use Rattle.ccan_object.specs.declared.profile.Profile.TheVariants.{One, Two}
 use Rattle.ccan_ram.specs.Tries.{most_tries}
 use Rattle.ccan_line.specs.Limits.{most_nodes}
-use Rattle.ccan_c.specs.Codes.{profile_range, nodes_range, tries_range}
+use Rattle.ccan_map.specs.declared.map.Map.{Map}
+use Rattle.ccan_map.specs.declared.map.Map.TheVariants.{Narrow, Wide, Dcan}
+use Rattle.ccan_c.specs.Codes.{profile_range, nodes_range, tries_range, map_range}
 
 -- the profile of this number
 abbrev pub profile_numbered : ℕ → Option Profile
@@ -23,3 +25,14 @@ range_fault nodes tries =
 abbrev pub settings_fault : ℕ → ℕ → ℕ → Option ℕ
 settings_fault profile nodes tries =
     option_map_or (λ known. range_fault nodes tries) (profile_numbered profile) (Some profile_range)
+
+-- the layout of the registers of this number
+abbrev pub map_numbered : ℕ → Option Map
+map_numbered number =
+    if number == 0 then Some Narrow else (if number == 1 then Some Wide else (if number == 2 then Some Dcan else None))
+
+-- the first of the settings of a chip that opens as after a reset that is out of its range
+abbrev pub reset_fault : ℕ → ℕ → ℕ → ℕ → Option ℕ
+reset_fault profile nodes tries number =
+    option_map_or (λ fault. Some fault) (settings_fault profile nodes tries)
+    (option_map_or (λ known. None) (map_numbered number) (Some map_range))

@@ -1,18 +1,18 @@
 -- The calls of three threads on an open chip, each with a handle of its own, and meetings of the three between them. Source:
 -- this project's own.
-use Rattle.std.specs.Prelude.{ℕ, ◌≡◌, List, [], ◌∷◌, map}
+use Rattle.std.specs.Prelude.{◌≡◌, List, [], ◌∷◌, map}
 use Rattle.ccan_object.specs.declared.profile.Profile.{Profile}
-use Rattle.ccan_object.specs.Interface.{Registers, zero_registers}
 use Rattle.ccan_object.specs.Profile.{objects_in}
-use Rattle.ccan_ram.specs.declared.event.Event.{Event}
 use Rattle.ccan_ram.specs.declared.port.PortName.{PortName}
 use Rattle.ccan_ram.specs.declared.port.PortName.TheVariants.{If1, If2, Bus}
 use Rattle.ccan_ram.specs.Ending.{final_records}
-use Rattle.ccan_ram.specs.History.{IsLegal, BeginsWith, events_of}
+use Rattle.ccan_ram.specs.History.{IsLegal}
 use Rattle.ccan_ram.specs.SharedRam.{Memory, IsMemoryOf, terms_of}
 use Rattle.ccan_ram.specs.Terms.{Terms}
+use Rattle.ccan_endless.specs.Chip.{ChipHistory, GoesFrom, IsControllerLegal, ram_of}
 use Rattle.ccan_endless.specs.Layout.{most, same_object}
 use Rattle.ccan_bus.specs.Past.{BusPast, opened_at_once}
+use Rattle.ccan_registers.specs.declared.interface_set.InterfaceSet.{InterfaceSet}
 use Rattle.ccan_c.specs.declared.chip.Chip.{Chip}
 use Rattle.ccan_c.specs.declared.shown_final.ShownFinal.{ShownFinal}
 use Rattle.ccan_c.specs.Bus.{held_on}
@@ -21,8 +21,9 @@ use Rattle.ccan_c.specs.Chip.{Opens, EndsWith}
 use Rattle.ccan_c.specs.Host.{held_by}
 use Rattle.ccan_c.specs.HostCall.{HostCall, HostCallDoes, HostCallMeans}
 use Rattle.ccan_c.specs.Meeting.{Meet}
+use Rattle.ccan_c.specs.Opening.{Set}
 use Rattle.ccan_c.specs.Record.{c_record}
-use Rattle.ccan_c.specs.Step.{Place, CallsMean, Leads}
+use Rattle.ccan_c.specs.Step.{Place, CallsMean, Leads, own_of}
 
 -- ---- what C does
 
@@ -50,68 +51,70 @@ PartsDo (part ∷ parts) old new = (between : Chip) × PartDoes part old between
 
 -- where the three handles stand
 pub record Places : Type 0 where
-  pub if1 : Place Registers
-  pub if2 : Place Registers
+  pub if1 : Place InterfaceSet
+  pub if2 : Place InterfaceSet
   pub bus : Place BusPast
 
--- as a chip opens: registers that read 0, a bus that chooses at one moment and to which nothing happened, and nothing seen
-abbrev pub opening : ℕ → Places
-opening nodes =
+-- as a chip opens: registers as they begin, a bus that chooses at one moment and to which nothing happened, and the reset seen,
+-- if there was one
+abbrev pub opening : Set → Places
+opening set =
     record {
-      if1 = record { state = zero_registers; seen = [] };
-      if2 = record { state = zero_registers; seen = [] };
-      bus = record { state = opened_at_once nodes; seen = [] };
+      if1 = record { state = set.opening.own; seen = set.opening.begun };
+      if2 = record { state = set.opening.own; seen = set.opening.begun };
+      bus = record { state = opened_at_once set.nodes; seen = set.opening.begun };
     }
 
 -- the calls of each handle stand for events of its port's history
-pub record MeanAtOnce (terms : PortName → Terms) (tries nodes : ℕ) (if1 if2 : List HostCall) (bus : List BusCall)
+pub record MeanAtOnce (terms : PortName → Terms) (set : Set) (if1 if2 : List HostCall) (bus : List BusCall)
     (old new : Places) : Type 0 where
-  pub if1_means : CallsMean (HostCallMeans (terms If1) tries) if1 old.if1 new.if1
-  pub if2_means : CallsMean (HostCallMeans (terms If2) tries) if2 old.if2 new.if2
-  pub bus_means : CallsMean (BusCallMeans (terms Bus) tries nodes) bus old.bus new.bus
+  pub if1_means : CallsMean (HostCallMeans (terms If1) set.tries set.map) if1 old.if1 new.if1
+  pub if2_means : CallsMean (HostCallMeans (terms If2) set.tries set.map) if2 old.if2 new.if2
+  pub bus_means : CallsMean (BusCallMeans (terms Bus) set.tries set.nodes set.map) bus old.bus new.bus
 
 -- a handle has met the others: its port has seen at least what each of the three had, it made no event, and the state stays
 pub record MeetsAll {State : Type 0} (port : PortName) (all : Places) (old new : Place State) : Type 0 where
   pub keeps : new.state ≡ old.state
-  pub begins_if1 : BeginsWith new.seen all.if1.seen
-  pub begins_if2 : BeginsWith new.seen all.if2.seen
-  pub begins_bus : BeginsWith new.seen all.bus.seen
-  pub own : events_of port new.seen ≡ events_of port old.seen
+  pub begins_if1 : GoesFrom new.seen all.if1.seen
+  pub begins_if2 : GoesFrom new.seen all.if2.seen
+  pub begins_bus : GoesFrom new.seen all.bus.seen
+  pub own : own_of port new.seen ≡ own_of port old.seen
 
 pub record HaveMetAll (old new : Places) : Type 0 where
   pub if1_meets : MeetsAll If1 old old.if1 new.if1
   pub if2_meets : MeetsAll If2 old old.if2 new.if2
   pub bus_meets : MeetsAll Bus old old.bus new.bus
 
-abbrev pub PartMeans : (PortName → Terms) → ℕ → ℕ → Part → Places → Places → Type 0
-PartMeans terms tries nodes (at_once if1 if2 bus) old new = MeanAtOnce terms tries nodes if1 if2 bus old new
-PartMeans terms tries nodes meeting old new = HaveMetAll old new
+abbrev pub PartMeans : (PortName → Terms) → Set → Part → Places → Places → Type 0
+PartMeans terms set (at_once if1 if2 bus) old new = MeanAtOnce terms set if1 if2 bus old new
+PartMeans terms set meeting old new = HaveMetAll old new
 
-abbrev pub PartsMean : (PortName → Terms) → ℕ → ℕ → List Part → Places → Places → Type 0
-PartsMean terms tries nodes [] old new = new ≡ old
-PartsMean terms tries nodes (part ∷ parts) old new =
-    (between : Places) × PartMeans terms tries nodes part old between × PartsMean terms tries nodes parts between new
+abbrev pub PartsMean : (PortName → Terms) → Set → List Part → Places → Places → Type 0
+PartsMean terms set [] old new = new ≡ old
+PartsMean terms set (part ∷ parts) old new =
+    (between : Places) × PartMeans terms set part old between × PartsMean terms set parts between new
 
 -- all that a port had seen is a part of the history, which has no other events of the port
-pub record IsPartOf (port : PortName) (seen history : List Event) : Type 0 where
-  pub begins : BeginsWith history seen
-  pub own : events_of port history ≡ events_of port seen
+pub record IsPartOf (port : PortName) (seen history : ChipHistory) : Type 0 where
+  pub begins : GoesFrom history seen
+  pub own : own_of port history ≡ own_of port seen
 
 -- C gets the records that the history leaves
-pub record Shows (profile : Profile) (history : List Event) (out : ShownFinal) : Type 0 where
+pub record Shows (profile : Profile) (history : ChipHistory) (out : ShownFinal) : Type 0 where
   pub objects : out.objects ≡ objects_in profile
-  pub records : out.records ≡ map c_record (final_records profile history)
+  pub records : out.records ≡ map c_record (final_records profile (ram_of history))
 
--- one legal history of a memory holds all that the calls on each handle did, in the order of that handle's calls: each call
--- answers what its place in the history makes it, and C gets the records that the history leaves. Every event is one of the
--- three ports', so it has no others than theirs
-pub record FitOneHistory (profile : Profile) (nodes tries : ℕ) (parts : List Part) (out : ShownFinal) : Type 0 where
+-- one legal history of a chip holds all that the calls on each handle did, at objects and at the controller, in the order of that
+-- handle's calls: each call answers what its place in the history makes it, and C gets the records that the history leaves. Every
+-- event is one of the three ports', so it has no others than theirs
+pub record FitOneHistory (profile : Profile) (set : Set) (parts : List Part) (out : ShownFinal) : Type 0 where
   pub memory : Memory
   pub memory_is : IsMemoryOf profile most memory
   pub last : Places
-  pub means : PartsMean (terms_of same_object memory) tries nodes parts (opening nodes) last
-  pub history : List Event
-  pub legal : IsLegal profile history
+  pub means : PartsMean (terms_of same_object memory) set parts (opening set) last
+  pub history : ChipHistory
+  pub legal : IsLegal profile (ram_of history)
+  pub steps_legal : IsControllerLegal history
   pub if1 : IsPartOf If1 last.if1.seen history
   pub if2 : IsPartOf If2 last.if2.seen history
   pub bus : IsPartOf Bus last.bus.seen history
@@ -120,6 +123,6 @@ pub record FitOneHistory (profile : Profile) (nodes tries : ℕ) (parts : List P
 -- whatever C does with a chip from its opening to its end
 abbrev pub CallsFitOneHistory : Type 0
 CallsFitOneHistory =
-    (profile : Profile) (nodes tries : ℕ) (parts : List Part) (chip last : Chip) (out : ShownFinal)
-    → Opens profile nodes tries chip → PartsDo parts chip last → EndsWith last out
-    → FitOneHistory profile nodes tries parts out
+    (profile : Profile) (set : Set) (parts : List Part) (chip last : Chip) (out : ShownFinal)
+    → Opens profile set chip → PartsDo parts chip last → EndsWith last out
+    → FitOneHistory profile set parts out

@@ -3,20 +3,21 @@ ghost use Rattle.std.specs.Prelude.{◌≡◌, ◌≢◌, ◌⊎◌};
 ghost use Rattle.ccan_c.specs.Bus.{held_on};
 ghost use Rattle.ccan_c.specs.BusCall as bus_call;
 ghost use Rattle.ccan_c.specs.BusCall.{BusCallDoes};
-ghost use Rattle.ccan_c.specs.Codes.{busy, closed, done, spent, groups_range, node_range};
+ghost use Rattle.ccan_c.specs.Codes.{busy, closed, done, spent};
 
+use crate::access_code::{code_of_access, read_out};
 use crate::bus_handle::BusHandle;
+use crate::bus_lines::{enabling, starting};
 use crate::code::{
-    CLOSED, DONE, FAULT_RANGE, FLAG_RANGE, FRAME_RANGE, FRAMES_RANGE, GROUPS_RANGE, NODE_RANGE,
-    SENDERS, code_of,
+    BUSY, CLOSED, DONE, FAULT_RANGE, FLAG_RANGE, FRAME_RANGE, FRAMES_RANGE, GROUPS_RANGE,
+    NODE_RANGE, SENDERS, code_of,
 };
-use crate::numbers::flag_numbered;
+use crate::numbers::{flag_numbered, number_of};
 use crate::offer::{Offer, fault_numbered, read_offers};
-use crate::shown_counters::ShownCounters;
+use crate::shown_counters::{ShownCounters, state_number};
 use crate::shown_load::ShownLoad;
-use crate::shown_outcome::ShownOutcome;
-use crate::shown_words::{state_shown, word_shown};
-use ccan_line::{BusLine, LineAnswer, MAX_FRAMES};
+use crate::shown_outcome::{ShownOutcome, code_of_round};
+use ccan_line::{LineAnswer, MAX_FRAMES};
 
 /// The controller chooses an object to send, and starts it.
 #[unsafe(no_mangle)]
@@ -28,9 +29,9 @@ pub extern "C" fn ccan_load(bus: &mut BusHandle, out: &mut ShownLoad) -> u32
     if !bus.handle.is_open() {
         return CLOSED;
     }
-    let answer = bus.run(&BusLine::Load);
-    *out = ShownLoad::of(&answer);
-    code_of(&answer)
+    let (_, loading) = bus.handle.seal.as_mut().load();
+    *out = ShownLoad::of(&loading);
+    code_of(&LineAnswer::Load(loading))
 }
 
 /// Reads the Status register. The status interrupt is then no longer pending.
@@ -38,14 +39,13 @@ pub extern "C" fn ccan_load(bus: &mut BusHandle, out: &mut ShownLoad) -> u32
 pub extern "C" fn ccan_status(bus: &mut BusHandle, out: &mut u16) -> u32
     ensures call { BusCallDoes (bus_call.status result out.new)
         (held_on bus.old) (held_on bus.new) }
-    ensures refused { result ≡ closed → out.new ≡ out.old }
+    ensures refused { result ≢ done → out.new ≡ out.old }
 {
     if !bus.handle.is_open() {
         return CLOSED;
     }
-    let answer = bus.run(&BusLine::Status);
-    *out = word_shown(&answer);
-    code_of(&answer)
+    let told = bus.handle.seal.as_mut().status();
+    read_out(&Some(told), out)
 }
 
 /// Sets SIE and EIE, the enables of the status interrupt. 0 is off, each other number is on.
@@ -57,14 +57,15 @@ pub extern "C" fn ccan_control(bus: &mut BusHandle, sie: u32, eie: u32) -> u32
     if !bus.handle.is_open() {
         return CLOSED;
     }
-    let answer = bus.run(&BusLine::Control {
-        sie: sie != 0,
-        eie: eie != 0,
-    });
-    code_of(&answer)
+    let told = bus
+        .handle
+        .seal
+        .as_mut()
+        .change(&enabling(sie != 0, eie != 0));
+    code_of_access(&Some(told))
 }
 
-/// Clears Init, from where on groups count for a controller that is off.
+/// Clears Init, from where on groups count for a controller that is off, and any other takes part.
 #[unsafe(no_mangle)]
 pub extern "C" fn ccan_init(bus: &mut BusHandle) -> u32
     ensures { BusCallDoes (bus_call.init result)
@@ -73,11 +74,11 @@ pub extern "C" fn ccan_init(bus: &mut BusHandle) -> u32
     if !bus.handle.is_open() {
         return CLOSED;
     }
-    let answer = bus.run(&BusLine::Init);
-    code_of(&answer)
+    let told = bus.handle.seal.as_mut().change(&starting());
+    code_of_access(&Some(told))
 }
 
-/// Sets loop back mode. 0 is off, each other number is on.
+/// Sets loop back mode: Test of the Control register, and with it LBack of the Test register. 0 is off, each other number is on.
 #[unsafe(no_mangle)]
 pub extern "C" fn ccan_loop_back(bus: &mut BusHandle, on: u32) -> u32
     ensures { BusCallDoes (bus_call.loop_back on result)
@@ -86,8 +87,8 @@ pub extern "C" fn ccan_loop_back(bus: &mut BusHandle, on: u32) -> u32
     if !bus.handle.is_open() {
         return CLOSED;
     }
-    let answer = bus.run(&BusLine::LoopBack(on != 0));
-    code_of(&answer)
+    let told = bus.handle.seal.as_mut().loop_back(on != 0);
+    code_of_access(&Some(told))
 }
 
 /// Lets groups of eleven recessive bits pass, and tells the controller's state.
@@ -95,7 +96,7 @@ pub extern "C" fn ccan_loop_back(bus: &mut BusHandle, on: u32) -> u32
 pub extern "C" fn ccan_recessive(bus: &mut BusHandle, groups: u32, out: &mut u32) -> u32
     ensures call { BusCallDoes (bus_call.recessive groups result out.new)
         (held_on bus.old) (held_on bus.new) }
-    ensures refused { (result ≡ closed) ⊎ (result ≡ groups_range) → out.new ≡ out.old }
+    ensures refused { result ≢ done → out.new ≡ out.old }
 {
     if !bus.handle.is_open() {
         return CLOSED;
@@ -103,12 +104,16 @@ pub extern "C" fn ccan_recessive(bus: &mut BusHandle, groups: u32, out: &mut u32
     if groups == 0 || groups > 10_000 {
         return GROUPS_RANGE;
     }
-    let answer = bus.run(&BusLine::Recessive(groups as u16));
-    *out = state_shown(&answer);
-    code_of(&answer)
+    match bus.handle.seal.as_mut().recessive(groups as u16) {
+        Ok(made) => {
+            *out = state_number(made.after.counters.state());
+            DONE
+        }
+        Err(_) => BUSY,
+    }
 }
 
-/// Reads the interrupt value of one moment: 0x8000 the status interrupt, else the first object with IntPnd, or 0.
+/// Reads the interrupt value: 0x8000 the status interrupt, else the first object with IntPnd, or 0.
 #[unsafe(no_mangle)]
 pub extern "C" fn ccan_bus_interrupt(bus: &mut BusHandle, out: &mut u16) -> u32
     ensures call { BusCallDoes (bus_call.interrupt result out.new)
@@ -118,9 +123,8 @@ pub extern "C" fn ccan_bus_interrupt(bus: &mut BusHandle, out: &mut u16) -> u32
     if !bus.handle.is_open() {
         return CLOSED;
     }
-    let held = bus.handle.seal.as_mut();
-    let pending = held.bus.status_pending();
-    *out = held.interrupt(pending);
+    let (_, value) = bus.handle.seal.as_mut().interrupt_value();
+    *out = value;
     DONE
 }
 
@@ -146,18 +150,17 @@ pub extern "C" fn ccan_bus_flags(bus: &mut BusHandle, flag: u32, out: &mut u64) 
 pub extern "C" fn ccan_counters(bus: &mut BusHandle, node: u32, out: &mut ShownCounters) -> u32
     ensures call { BusCallDoes (bus_call.counters node result out.new)
         (held_on bus.old) (held_on bus.new) }
-    ensures refused { (result ≡ closed) ⊎ (result ≡ node_range) → out.new ≡ out.old }
+    ensures refused { result ≢ done → out.new ≡ out.old }
 {
     if !bus.handle.is_open() {
         return CLOSED;
     }
-    match bus.handle.seal.as_mut().count(node) {
-        Some(answer) => {
-            *out = ShownCounters::of(&answer);
-            code_of(&answer)
-        }
-        None => NODE_RANGE,
+    let held = bus.handle.seal.as_mut();
+    if node > u32::from(held.nodes) {
+        return NODE_RANGE;
     }
+    *out = ShownCounters::of(&held.count(node as u8));
+    DONE
 }
 
 /// Plays a round: the frames that other nodes offer contend with the controller's, and the winner's is spoiled by a fault,
@@ -188,8 +191,49 @@ pub extern "C" fn ccan_round(
     match bus.handle.seal.as_mut().play(sends, fault) {
         Some(report) => {
             *out = ShownOutcome::of(&report);
-            code_of(&LineAnswer::Round(report.end.answer))
+            code_of_round(&report)
         }
         None => SENDERS,
     }
+}
+
+/// As `ccan_read16`, by the thread of the bus.
+#[unsafe(no_mangle)]
+pub extern "C" fn ccan_bus_read16(bus: &mut BusHandle, offset: u32, out: &mut u16) -> u32
+    ensures call { BusCallDoes (bus_call.read16 offset result out.new)
+        (held_on bus.old) (held_on bus.new) }
+    ensures refused { result ≢ done → out.new ≡ out.old }
+{
+    if !bus.handle.is_open() {
+        return CLOSED;
+    }
+    let told = bus.handle.seal.as_mut().read(offset);
+    read_out(&told, out)
+}
+
+/// As `ccan_write16`, by the thread of the bus.
+#[unsafe(no_mangle)]
+pub extern "C" fn ccan_bus_write16(bus: &mut BusHandle, offset: u32, value: u16) -> u32
+    ensures { BusCallDoes (bus_call.write16 offset value result)
+        (held_on bus.old) (held_on bus.new) }
+{
+    if !bus.handle.is_open() {
+        return CLOSED;
+    }
+    let told = bus.handle.seal.as_mut().write(offset, value);
+    code_of_access(&told)
+}
+
+/// As `ccan_line`, by the thread of the bus.
+#[unsafe(no_mangle)]
+pub extern "C" fn ccan_bus_line(bus: &mut BusHandle, out: &mut u32) -> u32
+    ensures call { BusCallDoes (bus_call.line result out.new)
+        (held_on bus.old) (held_on bus.new) }
+    ensures refused { result ≢ done → out.new ≡ out.old }
+{
+    if !bus.handle.is_open() {
+        return CLOSED;
+    }
+    *out = number_of(bus.handle.seal.as_mut().line());
+    DONE
 }

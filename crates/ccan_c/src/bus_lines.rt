@@ -1,71 +1,224 @@
-//! The lines of the bus, on what an open handle stands for.
-use crate::bus_handle::BusHandle;
+//! The calls of the bus, on what an open handle stands for.
+ghost use Rattle.std.specs.Prelude.{◌≡◌};
+ghost use Rattle.ccan_confine.specs.Controller.{no_control};
+ghost use Rattle.ccan_c.specs.Bus as named;
+
 use crate::held::Held;
 use crate::offer::Sends;
-use ccan_bus::{Fault, RoundLine, RoundReport};
-use ccan_line::{BusLine, LineAnswer, Side};
+use ccan_bus::{Fault, LoadAnswer, RoundLine};
+use ccan_chip::ChipReport;
+use ccan_confine::{ControlRegister, Controller, ControllerChange, Counters, TestRegister};
+use ccan_endless::{ControllerBusy, ControllerChanged};
+use ccan_map::Map;
+use ccan_registers::{AccessError, load, look, read_status, recessive, round, write_controller};
 
 impl Held {
-    ghost use Rattle.std.specs.Prelude.{◌≡◌, IfNone, IfSome, false, nat_le, true};
-    ghost use Rattle.ccan_line.specs.declared.bus_line.BusLine.{BusLine};
+    ghost use Rattle.std.specs.Prelude.{◌≤◌, false, Some, IfNone, IfSome};
     ghost use Rattle.ccan_bus.specs.declared.round_line.RoundLine.{RoundLine};
+    ghost use Rattle.ccan_bus.specs.Bus.{LedTo};
+    ghost use Rattle.ccan_bus.specs.Past.{BusPast};
     ghost use Rattle.ccan_bus.specs.RoundLine.{AreSenders};
-    ghost use Rattle.ccan_line.specs.BusLine.{BusFits};
-    ghost use Rattle.ccan_c.specs.Bus.{RunsBus};
-    ghost use Rattle.ccan_c.specs.Round.{RunsRound};
+    ghost use Rattle.ccan_confine.specs.declared.controller_change.ControllerChange.TheVariants.{ReadStatus};
+    ghost use Rattle.ccan_confine.specs.Counters.{AreAfter};
+    ghost use Rattle.ccan_ram.specs.declared.port.PortName.TheVariants.{Bus};
+    ghost use Rattle.ccan_endless.specs.declared.chip.ControllerStep.TheVariants.{Look};
+    ghost use Rattle.ccan_endless.specs.Chip.{MayMake};
+    ghost use Rattle.ccan_registers.specs.ChipSteps.{AtController};
+    ghost use Rattle.ccan_registers.specs.Register.{Makes, ReadsStatus};
+    ghost use Rattle.ccan_registers.specs.Rounds.{LoadsOnChip, RecoversOnChip, RoundOnChip};
+    ghost use Rattle.ccan_c.specs.Answer.{c_counters};
+    ghost use Rattle.ccan_c.specs.BusCall.{Counts0, LoopsBack};
+    ghost use Rattle.ccan_c.specs.Codes.{done};
+    ghost use Rattle.ccan_c.specs.Held.{pass_of};
+    ghost use Rattle.ccan_c.specs.HostCall.{code_of_access};
+    ghost use Rattle.ccan_c.specs.Steps.{BusSteps, Steps};
 
-    /// Runs a line of the bus.
-    pub(crate) fn run_bus(&mut self, line: &BusLine) -> LineAnswer
-        requires { BusFits self.old.nodes line.now }
-        ensures { RunsBus line.now result self.old self.new }
+    /// Chooses an object to send, and starts it. With the controller that was found.
+    pub(crate) fn load(&mut self) -> (Controller, LoadAnswer)
+        requires { (pass_of self.old).port ≡ Bus }
+        ensures { BusSteps (λ terms past seen added after.
+            LoadsOnChip terms self.old.tries past seen added after result.0 result.1)
+            self.old self.new }
     {
-        self.bus.run_line(&mut self.access, line, self.tries)
+        let Some(port) = self.port.take() else {
+            unreachable!();
+        };
+        let (found, loading, port) = load(&mut self.bus, &self.ram, port, self.tries);
+        self.port = Some(port);
+        (found, loading)
     }
 
-    /// The error counters of a node. None where there is no such node.
-    pub(crate) fn count(&mut self, node: u32) -> Option<LineAnswer>
-        ensures none { IfNone result ((nat_le node self.old.nodes ≡ false)
-            × (self.new ≡ self.old)) }
-        ensures some { IfSome result (λ answer. (nat_le node self.old.nodes ≡ true)
-            × RunsBus (BusLine.Counters node) answer self.old self.new) }
+    /// Plays the round of a line.
+    fn run_round(&mut self, line: &RoundLine) -> ChipReport
+        requires { (pass_of self.old).port ≡ Bus }
+        ensures { BusSteps (λ terms past seen added after.
+            RoundOnChip terms line.now self.old.tries past seen added after result)
+            self.old self.new }
     {
-        if node > u32::from(self.nodes) {
-            return None;
-        }
-        Some(self.run_bus(&BusLine::Counters(node as u8)))
-    }
-
-    /// Runs the line of a round, and tells what came of its steps.
-    fn run_round(&mut self, round: &RoundLine) -> RoundReport
-        ensures { RunsRound round.now result self.old self.new }
-    {
-        self.bus.report_round(&mut self.access, round, self.tries)
+        let Some(port) = self.port.take() else {
+            unreachable!();
+        };
+        let (report, port) = round(&mut self.bus, &self.ram, port, line, self.tries);
+        self.port = Some(port);
+        report
     }
 
     /// Plays a round. None where a sender is none of the other nodes, or sends twice.
-    pub(crate) fn play(&mut self, sends: Sends, fault: Fault) -> Option<RoundReport>
+    pub(crate) fn play(&mut self, sends: Sends, fault: Fault) -> Option<ChipReport>
+        requires { (pass_of self.old).port ≡ Bus }
+        ensures port { (pass_of self.new).port ≡ (pass_of self.old).port }
         ensures none { IfNone result ((AreSenders self.old.nodes sends.items → ⊥)
             × (self.new ≡ self.old)) }
         ensures some { IfSome result (λ report. AreSenders self.old.nodes sends.items
-            × ((round : RoundLine) × (round.send.items ≡ sends.items) × (round.fault ≡ fault)
-            × RunsRound round report self.old self.new)) }
+            × ((line : RoundLine) × (line.send.items ≡ sends.items) × (line.fault ≡ fault)
+            × BusSteps (λ terms past seen added after.
+            RoundOnChip terms line self.old.tries past seen added after report)
+            self.old self.new)) }
     {
-        let round = RoundLine::new(self.nodes, sends, fault)?;
-        Some(self.run_round(&round))
+        let line = RoundLine::new(self.nodes, sends, fault)?;
+        Some(self.run_round(&line))
+    }
+
+    /// Lets groups of recessive bits pass.
+    pub(crate) fn recessive(&mut self, groups: u16) -> Result<ControllerChanged, ControllerBusy>
+        requires { (pass_of self.old).port ≡ Bus }
+        ensures { BusSteps (λ terms past seen added after.
+            RecoversOnChip terms groups self.old.tries past seen added after result)
+            self.old self.new }
+    {
+        let Some(mut port) = self.port.take() else {
+            unreachable!();
+        };
+        let told = recessive(&mut self.bus, &self.ram, &mut port, groups, self.tries);
+        self.port = Some(port);
+        told
+    }
+
+    /// Reads the Status register, as a C_CAN does it.
+    pub(crate) fn status(&mut self) -> Result<u16, AccessError>
+        ensures { Steps (λ terms seen added.
+            ReadsStatus terms ReadStatus self.old.tries seen added result) self.old self.new }
+    {
+        let Some(mut port) = self.port.take() else {
+            unreachable!();
+        };
+        let told = read_status(&self.ram, &mut port, Map::Narrow, self.tries);
+        self.port = Some(port);
+        told
+    }
+
+    /// Changes the controller.
+    pub(crate) fn change(&mut self, change: &ControllerChange) -> Result<(), AccessError>
+        requires { MayMake (pass_of self.old).port change.now }
+        ensures { Steps (λ terms seen added. Makes terms change.now self.old.tries seen added result)
+            self.old self.new }
+    {
+        let Some(mut port) = self.port.take() else {
+            unreachable!();
+        };
+        let told = write_controller(&self.ram, &mut port, change, self.tries);
+        self.port = Some(port);
+        told
+    }
+
+    /// The controller, by one look.
+    pub(crate) fn controller(&mut self) -> Controller
+        ensures { Steps (λ terms seen added. AtController terms.port Look result seen added)
+            self.old self.new }
+    {
+        let Some(mut port) = self.port.take() else {
+            unreachable!();
+        };
+        let found = look(&self.ram, &mut port);
+        self.port = Some(port);
+        found
+    }
+
+    /// The error counters of another node.
+    fn counters(&self, node: u8) -> Counters
+        requires { (1 ≤ node) × (node ≤ self.now.nodes) }
+        ensures { (past : BusPast) → LedTo past self.now.bus.bus
+            → AreAfter false (past.events node) result }
+    {
+        self.bus.counters(node)
+    }
+
+    /// The error counters of a node, node 0 being the controller.
+    pub(crate) fn count(&mut self, node: u8) -> Counters
+        requires { node ≤ self.old.nodes }
+        ensures { BusSteps (λ terms past seen added after.
+            Counts0 terms node past seen added after done (c_counters result.levels))
+            self.old self.new }
+    {
+        if node == 0 {
+            self.controller().counters
+        } else {
+            self.counters(node)
+        }
+    }
+
+    /// Sets loop back mode, or leaves test mode.
+    pub(crate) fn loop_back(&mut self, on: bool) -> Result<(), AccessError>
+        ensures { Steps (λ terms seen added.
+            LoopsBack terms self.old.tries on seen added (code_of_access (Some result)))
+            self.old self.new }
+    {
+        if !on {
+            return self.change(&testing(false));
+        }
+        match self.change(&testing(true)) {
+            Ok(()) => self.change(&looping()),
+            Err(why) => Err(why),
+        }
     }
 }
 
-impl BusHandle {
-    ghost use Rattle.std.specs.Prelude.{ℕ, IsSome};
-    ghost use Rattle.ccan_line.specs.BusLine.{BusFits};
-    ghost use Rattle.ccan_c.specs.Bus.{RunsOn, held_on};
-
-    /// Runs a line that fits however many nodes there are.
-    pub(crate) fn run(&mut self, line: &BusLine) -> LineAnswer
-        requires open { IsSome (held_on self.old) }
-        requires fits { (nodes : ℕ) → BusFits nodes line.now }
-        ensures { RunsOn line.now result (held_on self.old) (held_on self.new) }
-    {
-        self.handle.seal.as_mut().run_bus(line)
+/// A Control register with these bits, and all others 0.
+fn bits(init: bool, sie: bool, eie: bool, test: bool) -> ControlRegister
+    ensures { result ≡ record no_control { init = init; sie = sie; eie = eie; test = test } }
+{
+    ControlRegister {
+        init,
+        ie: false,
+        sie,
+        eie,
+        dar: false,
+        cce: false,
+        test,
     }
+}
+
+/// SIE and EIE become these.
+pub(crate) fn enabling(sie: bool, eie: bool) -> ControllerChange
+    ensures { result ≡ named.enabling sie eie }
+{
+    let which = bits(false, true, true, false);
+    ControllerChange::WriteControlBits(which, bits(false, sie, eie, false))
+}
+
+/// Init is cleared.
+pub(crate) fn starting() -> ControllerChange
+    ensures { result ≡ named.starting }
+{
+    let which = bits(true, false, false, false);
+    ControllerChange::WriteControlBits(which, bits(false, false, false, false))
+}
+
+/// Test mode is on or off.
+fn testing(on: bool) -> ControllerChange
+    ensures { result ≡ named.testing on }
+{
+    let which = bits(false, false, false, true);
+    ControllerChange::WriteControlBits(which, bits(false, false, false, on))
+}
+
+/// The controller receives what it sends.
+fn looping() -> ControllerChange
+    ensures { result ≡ named.looping }
+{
+    ControllerChange::WriteTest(TestRegister {
+        basic: false,
+        silent: false,
+        lback: true,
+    })
 }

@@ -45,6 +45,13 @@ pub(crate) const FAULT_RANGE: u32 = 18;
 /// A sender is none of the other nodes, or sends twice.
 pub(crate) const SENDERS: u32 = 19;
 
+/// No register of the layout begins at this offset.
+pub(crate) const OFFSET_RANGE: u32 = 20;
+/// The register is of another port's interface.
+pub(crate) const OTHER_INTERFACE: u32 = 21;
+/// There is no such layout.
+pub(crate) const MAP_RANGE: u32 = 22;
+
 /// Busy or spent where a step of the memory was, else done.
 pub(crate) fn code_of(answer: &LineAnswer) -> u32
     ensures { result ≡ code_of answer.now }

@@ -1,42 +1,43 @@
 //! How a chip ends.
 ghost use Rattle.std.specs.Prelude.{◌≡◌, ◌≢◌, ◌⊎◌, IfSome, true, false};
-ghost use Rattle.std.specs.Arc.{arc_value};
-ghost use Rattle.ccan_ram.specs.declared.port.PortName.TheVariants.{Bus, If1, If2};
-ghost use Rattle.ccan_ram.specs.Ending.{Ends};
+ghost use Rattle.ccan_endless.specs.ChipEnding.{ChipEnds};
 ghost use Rattle.ccan_c.specs.Codes.{closed, done, shared};
 ghost use Rattle.ccan_c.specs.Chip.{EndsWith, IsClosed, are_open};
+ghost use Rattle.ccan_c.specs.Held.{port_of};
+ghost use Rattle.ccan_c.specs.Meeting.{AreThree};
 
 use crate::chip::Chip;
 use crate::code::{CLOSED, DONE, SHARED};
-use crate::shared_port::SharedPort;
+use crate::held::Held;
 use crate::shown_final::ShownFinal;
-use ccan_ram::{Final, SharedRam};
+use ccan_endless::FinalChip;
 use std::alloc::Global;
 use std::mem::replace;
 use std::sync::Arc;
 
-/// The records of a memory that its three ports give back. None where somebody else holds it.
-fn ended(if1: SharedPort, if2: SharedPort, bus: SharedPort) -> Option<Final>
-    requires second { if1.port.pass.memory ≡ if2.port.pass.memory }
-    requires third { if1.port.pass.memory ≡ bus.port.pass.memory }
-    requires named_if1 { if1.port.pass.port ≡ If1 }
-    requires named_if2 { if2.port.pass.port ≡ If2 }
-    requires named_bus { bus.port.pass.port ≡ Bus }
-    ensures { IfSome result (Ends if1.port.pass if2.port.pass bus.port.pass) }
+/// What a chip holds that its three handles give back. None where somebody else holds the memory.
+fn ended(if1: Held, if2: Held, bus: Held) -> Option<FinalChip>
+    requires { AreThree if1 if2 bus }
+    ensures { IfSome result (ChipEnds (port_of if1) (port_of if2) (port_of bus)) }
 {
-    let SharedPort { ram, port: if1 } = if1;
-    let SharedPort {
+    let Held { ram, port: if1, .. } = if1;
+    let Held {
         ram: second,
         port: if2,
+        ..
     } = if2;
-    let SharedPort {
+    let Held {
         ram: third,
         port: bus,
+        ..
     } = bus;
     drop(second);
     drop(third);
+    let (Some(if1), Some(if2), Some(bus)) = (if1, if2, bus) else {
+        unreachable!();
+    };
     match Arc::try_unwrap(ram) {
-        Ok(ram) => Some(ram.close(if1, if2, bus)),
+        Ok(ram) => Some(ram.close_chip(if1, if2, bus)),
         Err(_) => None,
     }
 }
@@ -65,12 +66,12 @@ pub extern "C" fn ccan_end(alloc: Global, chip: &mut Chip, out: &mut ShownFinal)
         unreachable!();
     };
     match ended(
-        Box::into_inner(if1).access,
-        Box::into_inner(if2).access,
-        Box::into_inner(bus).access,
+        Box::into_inner(if1),
+        Box::into_inner(if2),
+        Box::into_inner(bus),
     ) {
         Some(last) => {
-            *out = ShownFinal::of(&last);
+            *out = ShownFinal::of(&last.memory);
             DONE
         }
         None => SHARED,

@@ -1,23 +1,34 @@
-ghost use Rattle.std.specs.Prelude.{◌≡◌, ◌≤◌};
+ghost use Rattle.std.specs.Prelude.{◌≡◌, ◌≤◌, true, is_some};
+ghost use Rattle.std.specs.Arc.{arc_value};
 ghost use Rattle.ccan_line.specs.Limits.{most_nodes};
+ghost use Rattle.ccan_c.specs.Port.{port_in};
 
-use crate::shared_port::SharedPort;
-use ccan_bus::Bus;
-use ccan_object::Iface;
+use ccan_chip::ChipBus;
+use ccan_endless::{EndlessRam, Port};
+use ccan_map::Map;
 use ccan_ram::Tries;
+use ccan_registers::InterfaceSet;
+use std::alloc::Global;
+use std::sync::Arc;
 
-/// What an open handle stands for: a port with its share of the memory, and what the calls on it work on. The calls of a
-/// host use the interface registers, those of the bus use the bus.
+/// What an open handle stands for: a port with its share of the chip, and what the calls on it work on. The calls of a host use
+/// the interface registers, those of the bus use the bus. The last share that goes takes the chip with it.
 #[derive(Drop)]
 pub struct Held {
-    pub access: SharedPort,
+    pub ram: Arc<EndlessRam, Global>,
+    /// The port. A call that works at objects takes it out, and puts it back before it returns.
+    pub port: Option<Port>,
     /// How often a call may try a change.
     pub tries: Tries,
-    pub registers: Iface,
+    /// How the registers lie for the calls by offsets.
+    pub map: Map,
+    pub own: InterfaceSet,
     /// How many other nodes the bus has.
     pub nodes: u8,
-    pub bus: Bus,
+    pub bus: ChipBus,
+    ghost here: { is_some port ≡ true },
+    ghost belongs: { (port_in port).pass.memory ≡ (arc_value ram).words },
     ghost few: { nodes ≤ most_nodes },
-    ghost known: { nodes ≤ bus.others },
-    ghost same_profile: { bus.profile ≡ access.port.pass.memory.profile },
+    ghost known: { bus.bus.others ≡ nodes },
+    ghost same_profile: { bus.bus.profile ≡ (port_in port).pass.memory.profile },
 }

@@ -5,6 +5,7 @@ ghost use Rattle.ccan_c.specs.Host.{held_by};
 ghost use Rattle.ccan_c.specs.HostCall as host_call;
 ghost use Rattle.ccan_c.specs.HostCall.{HostCallDoes};
 
+use crate::access_code::{code_of_access, read_out};
 use crate::code::{CLOSED, DONE, FLAG_RANGE, OBJECT_RANGE, REGISTER_RANGE, code_of};
 use crate::host_handle::HostHandle;
 use crate::numbers::{flag_numbered, number_of, register_numbered};
@@ -22,7 +23,7 @@ pub extern "C" fn ccan_set(host: &mut HostHandle, register: u32, value: u16) -> 
     let Some(register) = register_numbered(register) else {
         return REGISTER_RANGE;
     };
-    host.handle.seal.as_mut().registers.set(register, value);
+    host.handle.seal.as_mut().own.registers.set(register, value);
     DONE
 }
 
@@ -39,7 +40,7 @@ pub extern "C" fn ccan_get(host: &mut HostHandle, register: u32, out: &mut u16) 
     let Some(register) = register_numbered(register) else {
         return REGISTER_RANGE;
     };
-    *out = host.handle.seal.as_mut().registers.get(register);
+    *out = host.handle.seal.as_mut().own.registers.get(register);
     DONE
 }
 
@@ -83,7 +84,7 @@ pub extern "C" fn ccan_interrupt(host: &mut HostHandle, out: &mut u16) -> u32
     if !host.handle.is_open() {
         return CLOSED;
     }
-    *out = host.handle.seal.as_mut().interrupt(false);
+    *out = host.handle.seal.as_mut().interrupt();
     DONE
 }
 
@@ -129,4 +130,45 @@ pub extern "C" fn ccan_until(
         }
         Err(code) => code,
     }
+}
+
+/// Reads the 16-bit register at an offset, in bytes from where the chip begins.
+#[unsafe(no_mangle)]
+pub extern "C" fn ccan_read16(host: &mut HostHandle, offset: u32, out: &mut u16) -> u32
+    ensures call { HostCallDoes (host_call.read16 offset result out.new)
+        (held_by host.old) (held_by host.new) }
+    ensures refused { result ≢ done → out.new ≡ out.old }
+{
+    if !host.handle.is_open() {
+        return CLOSED;
+    }
+    let told = host.handle.seal.as_mut().read(offset);
+    read_out(&told, out)
+}
+
+/// Writes the 16-bit register at an offset, in bytes from where the chip begins.
+#[unsafe(no_mangle)]
+pub extern "C" fn ccan_write16(host: &mut HostHandle, offset: u32, value: u16) -> u32
+    ensures { HostCallDoes (host_call.write16 offset value result)
+        (held_by host.old) (held_by host.new) }
+{
+    if !host.handle.is_open() {
+        return CLOSED;
+    }
+    let told = host.handle.seal.as_mut().write(offset, value);
+    code_of_access(&told)
+}
+
+/// Whether the chip pulls its interrupt line: IE is 1, and the Interrupt register is not 0. 1 where it does, else 0.
+#[unsafe(no_mangle)]
+pub extern "C" fn ccan_line(host: &mut HostHandle, out: &mut u32) -> u32
+    ensures call { HostCallDoes (host_call.line result out.new)
+        (held_by host.old) (held_by host.new) }
+    ensures refused { result ≢ done → out.new ≡ out.old }
+{
+    if !host.handle.is_open() {
+        return CLOSED;
+    }
+    *out = number_of(host.handle.seal.as_mut().line());
+    DONE
 }

@@ -1,60 +1,103 @@
-//! The lines of a host port, on what an open handle stands for.
+//! The calls of a host, on what an open handle stands for.
 use crate::code::{FLAG_RANGE, OBJECT_RANGE, TURNS_RANGE};
 use crate::held::Held;
 use crate::numbers::flag_numbered;
-use ccan_handler::until;
-use ccan_line::{HostLine, LineAnswer, RegisterSet, Side};
-use ccan_object::ObjectNo;
-use ccan_ram::{Access, Flag};
+use ccan_line::LineAnswer;
+use ccan_object::{ObjectNo, Record};
+use ccan_ram::{Flag, SharedRam};
+use ccan_registers::{peek, wait};
 
 impl Held {
-    ghost use Rattle.std.specs.Prelude.{ℕ, ◌≡◌, ◌≢◌, ◌↔◌, Some, IfSome, IsSome, IsTrue, MatchResult};
+    ghost use Rattle.std.specs.Prelude.{◌≡◌, ◌↔◌, Some, true, false, IfErr, IfNone, IfOk, IfSome, IsSome, IsTrue};
     ghost use Rattle.ccan_object.specs.Profile.{Holds};
-    ghost use Rattle.ccan_line.specs.declared.host_line.HostLine.{HostLine};
-    ghost use Rattle.ccan_line.specs.declared.line_answer.LineAnswer.{LineAnswer};
-    ghost use Rattle.ccan_c.specs.Codes.{done};
+    ghost use Rattle.ccan_ram.specs.declared.flag.Flag.{Flag};
+    ghost use Rattle.ccan_registers.specs.InterfaceSet.{Transferred};
+    ghost use Rattle.ccan_registers.specs.Objects.{ShowsObject, WaitsFor};
+    ghost use Rattle.ccan_line.specs.Limits.{most_turns};
     ghost use Rattle.ccan_c.specs.Held.{pass_of};
-    ghost use Rattle.ccan_c.specs.Host.{RunsHost, WaitsFor, is_object, number_of, transfer};
+    ghost use Rattle.ccan_c.specs.Host as numbers;
+    ghost use Rattle.ccan_c.specs.Host.{is_object};
+    ghost use Rattle.ccan_c.specs.Settings.{is_from_one_to};
+    ghost use Rattle.ccan_c.specs.HostCall.{IsWaitRefused};
+    ghost use Rattle.ccan_c.specs.Steps.{HostSteps, Steps};
 
     /// Makes the transfer that the Command Mask register says.
     pub(crate) fn request(&mut self, request: u16) -> LineAnswer
-        ensures { RunsHost (transfer request) result self.old self.new }
-    {
-        let line = HostLine::Transfer {
-            request,
-            set: RegisterSet::new(),
-        };
-        self.registers.run_line(&mut self.access, &line, self.tries)
-    }
-
-    /// Looks at an object until it shows the flag.
-    pub(crate) fn until(&mut self, object: ObjectNo, flag: Flag, turns: u32) -> bool
-        requires { Holds (pass_of self.old).memory.profile object }
-        ensures { RunsHost (HostLine.Until object flag turns) (LineAnswer.Until object flag result)
+        ensures { HostSteps (λ terms seen added left.
+            Transferred terms self.old.tries request self.old.own seen added result left)
             self.old self.new }
     {
-        until(&mut self.access, object, flag, turns)
+        let Some(port) = self.port.take() else {
+            unreachable!();
+        };
+        let (answer, port) = self.own.request(&self.ram, port, request, self.tries);
+        self.port = Some(port);
+        answer
     }
 
     /// The object of this number, where the chip has it.
-    pub(crate) fn object_numbered(&self, number: u32) -> Option<ObjectNo>
+    fn object_numbered(&self, number: u32) -> Option<ObjectNo>
         ensures known { IsSome result
             ↔ IsTrue (is_object (pass_of self.now).memory.profile number) }
         ensures value { IfSome result (λ object. (object ≡ number)
             × Holds (pass_of self.now).memory.profile object) }
     {
-        if number == 0 || number > u32::from(self.access.profile().objects()) {
+        if number == 0 || number > u32::from(self.ram.profile().objects()) {
             return None;
         }
         ObjectNo::new(number as u8)
     }
 
+    /// Looks at an object once.
+    fn look(&mut self, object: ObjectNo) -> Record
+        requires { Holds (pass_of self.old).memory.profile object }
+        ensures { Steps (λ terms seen added. ShowsObject terms object seen added result)
+            self.old self.new }
+    {
+        let Some(port) = self.port.take() else {
+            unreachable!();
+        };
+        let (found, port) = peek(&self.ram, port, object);
+        self.port = Some(port);
+        found
+    }
+
+    /// The record of an object, by one look. None where the chip has no such object.
+    pub(crate) fn peek(&mut self, number: u32) -> Option<Record>
+        ensures none { IfNone result
+            ((is_object (pass_of self.old).memory.profile number ≡ false) × (self.new ≡ self.old)) }
+        ensures some { IfSome result
+            (λ found. (is_object (pass_of self.old).memory.profile number ≡ true)
+            × Steps (λ terms seen added. ShowsObject terms number seen added found)
+            self.old self.new) }
+    {
+        let object = self.object_numbered(number)?;
+        Some(self.look(object))
+    }
+
+    /// Looks at an object until it shows the flag.
+    fn until(&mut self, object: ObjectNo, flag: Flag, turns: u32) -> bool
+        requires { Holds (pass_of self.old).memory.profile object }
+        ensures { Steps (λ terms seen added. WaitsFor terms object flag turns seen added result)
+            self.old self.new }
+    {
+        let Some(port) = self.port.take() else {
+            unreachable!();
+        };
+        let (shown, port) = wait(&self.ram, port, object, flag, turns);
+        self.port = Some(port);
+        shown
+    }
+
     /// Looks at an object until it shows a flag, and tells the first of the numbers that is out of its range.
     pub(crate) fn wait(&mut self, object: u32, flag: u32, turns: u32) -> Result<bool, u32>
-        ensures { MatchResult result
-            (λ shown. WaitsFor object flag turns self.old (Some self.new) done (number_of shown))
-            (λ code. (code ≢ done) × ((out : ℕ)
-            → WaitsFor object flag turns self.old (Some self.new) code out)) }
+        ensures waits { IfOk result (λ shown. (known : Flag) × (numbers.flag_numbered flag ≡ Some known)
+            × (is_object (pass_of self.old).memory.profile object ≡ true)
+            × (is_from_one_to most_turns turns ≡ true)
+            × Steps (λ terms seen added. WaitsFor terms object known turns seen added shown)
+            self.old self.new) }
+        ensures refused { IfErr result (λ code. (self.new ≡ self.old)
+            × IsWaitRefused (pass_of self.old).memory.profile object flag turns code) }
     {
         let Some(object) = self.object_numbered(object) else {
             return Err(OBJECT_RANGE);

@@ -1,23 +1,23 @@
 //! Laws of the library. The functions do nothing: their contracts are the laws.
-ghost use Rattle.ccan_c.specs.Bus.{LinesKeepTheChoice};
+ghost use Rattle.ccan_c.specs.BusCall.{CallsKeepTheChoice};
 ghost use Rattle.ccan_c.specs.OneThread.{TurnsRunInOrder};
 ghost use Rattle.ccan_c.specs.Threads.{CallsFitOneHistory};
 
-/// A line of the bus keeps how the bus chooses what it sends: that of a chip always does so at one moment.
-pub fn lines_keep_the_choice()
-    ensures { LinesKeepTheChoice }
+/// A call on the bus's handle keeps how the bus chooses what it sends: that of a chip always does so at one moment.
+pub fn calls_keep_the_choice()
+    ensures { CallsKeepTheChoice }
 {}
 
 /// Whatever three threads do with a chip from `ccan_open` to a `ccan_end` that answers 0, each on a handle of its own and
-/// with meetings of the three between, stands in one legal history. The events of each handle's calls are in it in the
-/// order of these calls, each call answers what its place in the history makes it, and C gets the records that the history
-/// leaves.
+/// with meetings of the three between, stands in one legal history of the chip: its objects and its controller. The events of
+/// each handle's calls are in it in the order of these calls, each call answers what its place in the history makes it, and C
+/// gets the records that the history leaves.
 pub fn calls_fit_one_history()
     ensures { CallsFitOneHistory }
 {}
 
-/// One thread that calls `ccan_meet` before it goes on to another handle gets what a memory of one thread answers to its
-/// calls in their order, and the records that it leaves.
+/// One thread that calls `ccan_meet` before it goes on to another handle gets what a chip of one thread answers to its calls in
+/// their order, and the records that it leaves.
 pub fn turns_run_in_order()
     ensures { TurnsRunInOrder }
 {}

@@ -15,6 +15,8 @@
 //! ```
 #![tactic(auto)]
 
+mod access_code;
+mod begin;
 mod bus;
 mod bus_handle;
 mod bus_lines;
@@ -31,21 +33,19 @@ mod host;
 mod host_handle;
 mod host_lines;
 pub mod laws;
-mod looks;
 mod meeting;
 mod numbers;
 mod offer;
 mod opening;
+mod register_lines;
 mod seal;
 mod settings;
-mod shared_port;
 mod shown_counters;
 mod shown_final;
 mod shown_frame;
 mod shown_load;
 mod shown_outcome;
 mod shown_record;
-mod shown_words;
 #[cfg(test)]
 mod table;
 #[cfg(test)]
@@ -53,20 +53,22 @@ mod tests;
 mod version;
 
 pub use bus::{
-    ccan_bus_flags, ccan_bus_interrupt, ccan_control, ccan_counters, ccan_init, ccan_load,
-    ccan_loop_back, ccan_recessive, ccan_round, ccan_status,
+    ccan_bus_flags, ccan_bus_interrupt, ccan_bus_line, ccan_bus_read16, ccan_bus_write16,
+    ccan_control, ccan_counters, ccan_init, ccan_load, ccan_loop_back, ccan_recessive, ccan_round,
+    ccan_status,
 };
 pub use bus_handle::BusHandle;
 pub use chip::Chip;
 pub use ending::ccan_end;
 pub use handle::{Handle, handles_may_cross};
 pub use host::{
-    ccan_flags, ccan_get, ccan_interrupt, ccan_peek, ccan_request, ccan_set, ccan_until,
+    ccan_flags, ccan_get, ccan_interrupt, ccan_line, ccan_peek, ccan_read16, ccan_request,
+    ccan_set, ccan_until, ccan_write16,
 };
 pub use host_handle::HostHandle;
 pub use meeting::ccan_meet;
 pub use offer::Offer;
-pub use opening::{ccan_is_open, ccan_open};
+pub use opening::{ccan_is_open, ccan_open, ccan_open_reset};
 pub use shown_counters::ShownCounters;
 pub use shown_final::ShownFinal;
 pub use shown_frame::ShownFrame;

@@ -9,25 +9,25 @@ use crate::chip::Chip;
 use crate::code::{CLOSED, DONE};
 use crate::handle::Handle;
 use crate::held::Held;
-use crate::shared_port::SharedPort;
+use ccan_endless::{EndlessRam, Port};
 use ccan_ram::SharedRam;
 use std::alloc::Global;
 use std::mem::replace;
 
 /// Shows each of three ports what the others have seen.
-fn meet_ports(if1: &mut SharedPort, if2: &mut SharedPort, bus: &mut SharedPort)
-    requires second { if1.old.port.pass.memory ≡ if2.old.port.pass.memory }
-    requires third { if1.old.port.pass.memory ≡ bus.old.port.pass.memory }
-    requires named_if1 { if1.old.port.pass.port ≡ If1 }
-    requires named_if2 { if2.old.port.pass.port ≡ If2 }
-    requires named_bus { bus.old.port.pass.port ≡ Bus }
-    ensures { HaveMet if1.old.port.pass if2.old.port.pass bus.old.port.pass
-        if1.new.port.pass if2.new.port.pass bus.new.port.pass }
+fn meet_ports(ram: &EndlessRam, if1: &mut Port, if2: &mut Port, bus: &mut Port)
+    requires first { if1.old.pass.memory ≡ ram.now.words }
+    requires second { if1.old.pass.memory ≡ if2.old.pass.memory }
+    requires third { if1.old.pass.memory ≡ bus.old.pass.memory }
+    requires named_if1 { if1.old.pass.port ≡ If1 }
+    requires named_if2 { if2.old.pass.port ≡ If2 }
+    requires named_bus { bus.old.pass.port ≡ Bus }
+    ensures { HaveMet if1.old if2.old bus.old if1.new if2.new bus.new }
 {
-    if1.ram.meet(&mut if1.port, &mut if2.port);
-    if1.ram.meet(&mut if1.port, &mut bus.port);
+    ram.meet(if1, if2);
+    ram.meet(if1, bus);
     // Only now does IF2 see what the bus had seen.
-    if2.ram.meet(&mut if2.port, &mut if1.port);
+    ram.meet(if2, if1);
 }
 
 /// The ports of three handles meet.
@@ -36,7 +36,17 @@ fn meet_held(if1: &mut Held, if2: &mut Held, bus: &mut Held)
     ensures meet { MeetHeld if1.old if2.old bus.old if1.new if2.new bus.new }
     ensures three { AreThree if1.new if2.new bus.new }
 {
-    meet_ports(&mut if1.access, &mut if2.access, &mut bus.access);
+    let (Some(mut first), Some(mut second), Some(mut third)) = (
+        if1.port.take(),
+        if2.port.take(),
+        bus.port.take(),
+    ) else {
+        unreachable!();
+    };
+    meet_ports(&if1.ram, &mut first, &mut second, &mut third);
+    if1.port = Some(first);
+    if2.port = Some(second);
+    bus.port = Some(third);
 }
 
 /// Shows each port of a chip what the others have seen, so that a handle's next call goes on from all that was done. A

@@ -1,8 +1,9 @@
 ghost use Rattle.std.specs.Prelude.{◌≡◌, ◌≤◌, Some, None, IfOk, IfErr};
 ghost use Rattle.ccan_line.specs.Limits.{most_nodes};
-ghost use Rattle.ccan_c.specs.Settings.{profile_numbered, settings_fault};
+ghost use Rattle.ccan_c.specs.Settings.{map_numbered, profile_numbered, settings_fault};
 
 use crate::code::{NODES_RANGE, PROFILE_RANGE, TRIES_RANGE};
+use ccan_map::Map;
 use ccan_object::Profile;
 use ccan_ram::Tries;
 
@@ -22,6 +23,18 @@ fn profile_numbered(number: u32) -> Option<Profile>
     match number {
         1 => Some(Profile::One),
         2 => Some(Profile::Two),
+        _ => None,
+    }
+}
+
+/// The layout of the registers of this number.
+pub(crate) fn map_numbered(number: u32) -> Option<Map>
+    ensures { result ≡ map_numbered number }
+{
+    match number {
+        0 => Some(Map::Narrow),
+        1 => Some(Map::Wide),
+        2 => Some(Map::Dcan),
         _ => None,
     }
 }

@@ -1,8 +1,7 @@
 ghost use Rattle.std.specs.Prelude.{◌≡◌};
-ghost use Rattle.ccan_c.specs.Answer.{counters_shown, state_number};
+ghost use Rattle.ccan_c.specs.Answer.{c_counters, state_number};
 
-use ccan_confine::NodeState;
-use ccan_line::LineAnswer;
+use ccan_confine::{Counters, NodeState};
 
 /// The error counters of a node.
 #[repr(C)]
@@ -28,26 +27,14 @@ pub(crate) fn state_number(state: NodeState) -> u32
 }
 
 impl ShownCounters {
-    /// The answer to a question for counters.
-    pub(crate) fn of(answer: &LineAnswer) -> ShownCounters
-        ensures { result ≡ counters_shown answer.now }
+    /// The counters of a node as C sees them.
+    pub(crate) fn of(counters: &Counters) -> ShownCounters
+        ensures { result ≡ c_counters counters.now.levels }
     {
-        match answer {
-            LineAnswer::Counters {
-                tec,
-                rec,
-                state,
-                ..
-            } => ShownCounters {
-                tec: u32::from(*tec),
-                rec: u32::from(*rec),
-                state: state_number(*state),
-            },
-            _ => ShownCounters {
-                tec: 0,
-                rec: 0,
-                state: 0,
-            },
+        ShownCounters {
+            tec: u32::from(counters.tec()),
+            rec: u32::from(counters.rec()),
+            state: state_number(counters.state()),
         }
     }
 }

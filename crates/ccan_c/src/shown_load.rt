@@ -1,9 +1,8 @@
 ghost use Rattle.std.specs.Prelude.{◌≡◌};
-ghost use Rattle.ccan_c.specs.Answer.{c_load, c_load_with, load_shown};
+ghost use Rattle.ccan_c.specs.Answer.{c_load, c_load_with};
 
 use crate::shown_record::ShownRecord;
 use ccan_bus::LoadAnswer;
-use ccan_line::LineAnswer;
 use ccan_object::Record;
 
 /// What came of a load.
@@ -31,7 +30,7 @@ impl ShownLoad {
     }
 
     /// What came of a load.
-    fn of_load(loading: &LoadAnswer) -> ShownLoad
+    pub(crate) fn of(loading: &LoadAnswer) -> ShownLoad
         ensures { result ≡ c_load loading.now }
     {
         let zero = Record::zero();
@@ -45,16 +44,6 @@ impl ShownLoad {
             LoadAnswer::Held(object) => ShownLoad::with(2, u32::from(object.get()), &zero),
             LoadAnswer::Busy(object) => ShownLoad::with(3, u32::from(object.get()), &zero),
             LoadAnswer::Spent(object) => ShownLoad::with(4, u32::from(object.get()), &zero),
-        }
-    }
-
-    /// The answer to a load.
-    pub(crate) fn of(answer: &LineAnswer) -> ShownLoad
-        ensures { result ≡ load_shown answer.now }
-    {
-        match answer {
-            LineAnswer::Load(loading) => ShownLoad::of_load(loading),
-            _ => ShownLoad::of_load(&LoadAnswer::Nothing),
         }
     }
 }

@@ -1,16 +1,24 @@
 ghost use Rattle.std.specs.Prelude.{◌≡◌};
-ghost use Rattle.ccan_c.specs.Outcome.{c_outcome, finished_of, kind_of, loaded_by, node_shown};
+ghost use Rattle.ccan_c.specs.Outcome.{c_outcome, code_of_round, finished_of, is_lost, kind_of};
+ghost use Rattle.ccan_c.specs.Outcome.{loaded_by, node_shown, refused_number};
 ghost use Rattle.ccan_c.specs.Outcome.{object_of, step_number, stored_object, stored_of};
 ghost use Rattle.ccan_c.specs.Outcome.{stored_record, winner_in};
 
+use crate::code::{BUSY, code_of};
 use crate::shown_frame::ShownFrame;
 use crate::shown_record::ShownRecord;
 use ccan_accept::Frame;
-use ccan_bus::{Decision, LoadAnswer, MemoryStep, RoundAnswer, RoundReport};
+use ccan_bus::{Decision, LoadAnswer, MemoryStep, RoundAnswer};
+use ccan_chip::ChipReport;
+use ccan_endless::{ControllerBusy, ControllerChanged};
+use ccan_line::LineAnswer;
 use ccan_object::{ObjectNo, Record};
 
 /// The number that stands for no node.
 pub(crate) const NO_NODE: u32 = 255;
+
+/// The number that `refused` has where the round's event was not made at the controller.
+pub(crate) const NOT_NOTED: u32 = 4;
 
 /// What came of a round.
 #[repr(C)]
@@ -28,7 +36,7 @@ pub struct ShownOutcome {
     pub stored_record: ShownRecord,
     /// The object that this round itself loaded, 0 where an earlier load did or none was loaded.
     pub loaded: u32,
-    /// The step of the memory that was refused: 0 none, 1 the start of the load, 2 the finish, 3 the store.
+    /// What was refused: 0 nothing, 1 the start of the load, 2 the finish, 3 the store, 4 the round's event at the controller.
     pub refused: u32,
     /// The node whose frame was on the bus, 0 the controller; `NO_NODE` where no single frame was.
     pub winner: u32,
@@ -151,11 +159,44 @@ fn node_shown(winner: &Option<(u8, Frame)>) -> u32
     }
 }
 
+/// Whether the round's event was to be made at the controller, and each try was lost.
+fn is_lost(noted: &Option<Result<ControllerChanged, ControllerBusy>>) -> bool
+    ensures { result ≡ is_lost noted.now }
+{
+    match noted {
+        Some(Err(_)) => true,
+        _ => false,
+    }
+}
+
+/// What was refused: the event at the controller, or else a step of the message RAM.
+fn refused_number(told: &ChipReport) -> u32
+    ensures { result ≡ refused_number told.now }
+{
+    if is_lost(&told.noted) {
+        NOT_NOTED
+    } else {
+        step_number(told.report.end.refused)
+    }
+}
+
+/// The code of a round.
+pub(crate) fn code_of_round(told: &ChipReport) -> u32
+    ensures { result ≡ code_of_round told.now }
+{
+    if is_lost(&told.noted) {
+        BUSY
+    } else {
+        code_of(&LineAnswer::Round(told.report.end.answer))
+    }
+}
+
 impl ShownOutcome {
     /// What came of a round as C sees it.
-    pub(crate) fn of(report: &RoundReport) -> ShownOutcome
-        ensures { result ≡ c_outcome report.now }
+    pub(crate) fn of(told: &ChipReport) -> ShownOutcome
+        ensures { result ≡ c_outcome told.now }
     {
+        let report = &told.report;
         let reply = report.end.answer;
         let stored = stored_of(&reply);
         let winner = winner_in(&report.decision);
@@ -166,7 +207,7 @@ impl ShownOutcome {
             stored: stored_object(&stored),
             stored_record: ShownRecord::of(&stored_record(&stored)),
             loaded: loaded_by(&report.loading),
-            refused: step_number(report.end.refused),
+            refused: refused_number(told),
             winner: node_shown(&winner),
             frame: ShownFrame::of(&winner),
         }

@@ -2,18 +2,6 @@ use Rattle.std.proofs.Common.{Some, sym, ap, ◌∙◌}
 use Rattle.ccan_c.specs.declared.chip.Chip.{Chip}
 use Rattle.ccan_c.proofs.ending.ccan_end.Goals as goal
 
-pub ended-requires-clause-second : goal.ended-requires-clause-second
-ended-requires-clause-second c =
-    let taken = c.in-Some-Some-Some in
-    c.replace-if1.result.second c.into_inner.result c.into_inner-2.result
-    (taken.ensures ∙ ap Some (sym c.into_inner.ensures)) (taken.ensures' ∙ ap Some (sym c.into_inner-2.ensures))
-
-pub ended-requires-clause-third : goal.ended-requires-clause-third
-ended-requires-clause-third c =
-    let taken = c.in-Some-Some-Some in
-    c.replace-if1.result.third c.into_inner.result c.into_inner-3.result
-    (taken.ensures ∙ ap Some (sym c.into_inner.ensures)) (taken.ensures'' ∙ ap Some (sym c.into_inner-3.ensures))
-
 pub returns-in-Some-clause-done : goal.returns-in-Some-clause-done
 returns-in-Some-clause-done c _ =
     let taken = c.in-Some-Some-Some in

@@ -3,5 +3,5 @@ use Rattle.ccan_c.proofs.held.Held.play.Goals as goal
 
 pub returns-clause-some : goal.returns-clause-some
 returns-clause-some c =
-    let made = c.in_ok-round.ensures in
-    (made.known.0 refl, (c.in_ok-round.round, made.value.0, made.value.1, c.run_round.ensures))
+    let made = c.in_ok-line.ensures in
+    (made.known.0 refl, (c.in_ok-line.line, made.value.0, made.value.1, c.run_round.ensures))

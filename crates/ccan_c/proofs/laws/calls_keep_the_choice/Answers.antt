@@ -1,0 +1,5 @@
+use Rattle.ccan_c.proofs.KeepsChoice.{calls_keep}
+use Rattle.ccan_c.proofs.laws.calls_keep_the_choice.Goals as goal
+
+pub returns : goal.returns
+returns c = calls_keep

@@ -1,0 +1,15 @@
+-- The port of an open handle. A call takes it out of the handle while it works at objects, and puts it back. Source: this
+-- project's own.
+use Rattle.std.specs.Prelude.{[], Option, Some, None}
+use Rattle.ccan_object.specs.declared.profile.Profile.TheVariants.{One}
+use Rattle.ccan_ram.specs.declared.port.PortName.TheVariants.{Bus}
+use Rattle.ccan_ram.specs.SharedRam.{opened}
+use Rattle.ccan_endless.specs.ChipPort.{ChipPass}
+
+-- a port of a memory without a name, which stands for none
+abbrev pub nowhere : ChipPass
+nowhere = record { pass = opened (record { profile = One; quota = 0; name = [] }) Bus; whole = [] }
+
+abbrev pub port_in : Option ChipPass → ChipPass
+port_in None = nowhere
+port_in (Some port) = port

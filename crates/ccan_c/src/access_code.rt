@@ -1,0 +1,47 @@
+//! What C gets of an access to a register.
+ghost use Rattle.std.specs.Prelude.{◌≡◌, ◌≢◌};
+ghost use Rattle.ccan_c.specs.Codes.{done};
+ghost use Rattle.ccan_c.specs.HostCall as call;
+ghost use Rattle.ccan_c.specs.HostCall.{IsRead};
+
+use crate::code::{BUSY, DONE, OFFSET_RANGE, OTHER_INTERFACE, SPENT};
+use ccan_registers::AccessError;
+
+/// The code of an error.
+fn code_of_error(error: AccessError) -> u32
+    ensures value { result ≡ call.code_of_error error }
+    ensures refused { result ≢ done }
+{
+    match error {
+        AccessError::OtherInterface => OTHER_INTERFACE,
+        AccessError::Busy => BUSY,
+        AccessError::Spent => SPENT,
+    }
+}
+
+/// The code of an access, if there is a register at the offset.
+pub(crate) fn code_of_access<T: Copy>(told: &Option<Result<T, AccessError>>) -> u32
+    ensures { result ≡ call.code_of_access told.now }
+{
+    match told {
+        None => OFFSET_RANGE,
+        Some(Ok(_)) => DONE,
+        Some(Err(error)) => code_of_error(*error),
+    }
+}
+
+/// The code of a read, whose value goes into the place for it.
+pub(crate) fn read_out(told: &Option<Result<u16, AccessError>>, out: &mut u16) -> u32
+    ensures code { result ≡ call.code_of_access told.now }
+    ensures read { IsRead told.now out.new }
+    ensures refused { result ≢ done → out.new ≡ out.old }
+{
+    match told {
+        None => OFFSET_RANGE,
+        Some(Ok(value)) => {
+            *out = *value;
+            DONE
+        }
+        Some(Err(error)) => code_of_error(*error),
+    }
+}

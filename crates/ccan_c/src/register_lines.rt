@@ -1,0 +1,103 @@
+//! The calls on registers by their offsets, and on what the Message Handler Registers show, on what an open handle stands for.
+use crate::held::Held;
+use ccan_confine::Controller;
+use ccan_ram::Flag;
+use ccan_registers::{AccessError, flags, interrupt, interrupt_value, line, read_at, write_at};
+
+impl Held {
+    ghost use Rattle.std.specs.Prelude.{◌≡◌, false};
+    ghost use Rattle.ccan_ram.specs.declared.port.PortName.TheVariants.{Bus};
+    ghost use Rattle.ccan_registers.specs.Objects.{ShowsFlags, ShowsInterrupt};
+    ghost use Rattle.ccan_registers.specs.Register.{InterruptValue, PullsLine, ReadsAt, WritesAt};
+    ghost use Rattle.ccan_c.specs.Held.{pass_of};
+    ghost use Rattle.ccan_c.specs.Steps.{HostSteps, Steps};
+
+    /// Reads the register at an offset.
+    pub(crate) fn read(&mut self, offset: u32) -> Option<Result<u16, AccessError>>
+        ensures { Steps (λ terms seen added.
+            ReadsAt terms self.old.tries self.old.map offset self.old.own seen added result)
+            self.old self.new }
+    {
+        let Some(port) = self.port.take() else {
+            unreachable!();
+        };
+        let (told, port) = read_at(&self.own, &self.ram, port, self.map, offset, self.tries);
+        self.port = Some(port);
+        told
+    }
+
+    /// Writes the register at an offset.
+    pub(crate) fn write(&mut self, offset: u32, value: u16) -> Option<Result<(), AccessError>>
+        ensures steps { HostSteps (λ terms seen added left.
+            WritesAt terms self.old.tries self.old.map offset value self.old.own seen added result
+            left) self.old self.new }
+        ensures bus { (pass_of self.old).port ≡ Bus → self.new.own ≡ self.old.own }
+    {
+        let Some(port) = self.port.take() else {
+            unreachable!();
+        };
+        let (told, port) = write_at(
+            &mut self.own,
+            &self.ram,
+            port,
+            self.map,
+            offset,
+            value,
+            self.tries,
+        );
+        self.port = Some(port);
+        told
+    }
+
+    /// Whether the chip pulls its interrupt line.
+    pub(crate) fn line(&mut self) -> bool
+        ensures { Steps (λ terms seen added. PullsLine terms seen added result)
+            self.old self.new }
+    {
+        let Some(port) = self.port.take() else {
+            unreachable!();
+        };
+        let (pulls, port) = line(&self.ram, port);
+        self.port = Some(port);
+        pulls
+    }
+
+    /// The Interrupt register, with the controller that its look found.
+    pub(crate) fn interrupt_value(&mut self) -> (Controller, u16)
+        ensures { Steps (λ terms seen added. InterruptValue terms seen added result.0 result.1)
+            self.old self.new }
+    {
+        let Some(port) = self.port.take() else {
+            unreachable!();
+        };
+        let (found, value, port) = interrupt_value(&self.ram, port);
+        self.port = Some(port);
+        (found, value)
+    }
+
+    /// The number of the first object with IntPnd in one moment, or 0.
+    pub(crate) fn interrupt(&mut self) -> u16
+        ensures { Steps (λ terms seen added. ShowsInterrupt terms false seen added result)
+            self.old self.new }
+    {
+        let Some(port) = self.port.take() else {
+            unreachable!();
+        };
+        let (value, port) = interrupt(&self.ram, port, false);
+        self.port = Some(port);
+        value
+    }
+
+    /// A flag of all objects in one moment.
+    pub(crate) fn flags(&mut self, flag: Flag) -> u64
+        ensures { Steps (λ terms seen added. ShowsFlags terms flag seen added result)
+            self.old self.new }
+    {
+        let Some(port) = self.port.take() else {
+            unreachable!();
+        };
+        let (word, port) = flags(&self.ram, port, flag);
+        self.port = Some(port);
+        word
+    }
+}
