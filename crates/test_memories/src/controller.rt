@@ -43,6 +43,11 @@ fn test_of(bits: u8) -> TestRegister {
     }
 }
 
+/// The words of its Bit Timing and its BRP Extension register.
+fn timing_of(controller: &Controller) -> (u16, u16) {
+    (controller.timing.register(), controller.timing.extension())
+}
+
 /// A controller as it opens, with Test of the Control register and these bits of the Test register.
 fn testing(bits: u8) -> Controller {
     let opened = Controller::new().after(&WriteControl(control(0x80)));
@@ -157,22 +162,22 @@ fn bit_timing_needs_init_and_cce(rt: HostRuntime) {
             .after(&WriteControl(control(bits)))
             .after(&WriteBitTiming(0x2301))
             .after(&WriteExtension(0x000f));
-        same(&rt, refused.timing.register(), 0);
-        same(&rt, refused.timing.extension(), 0);
+        same(&rt, timing_of(&refused), (0, 0));
     }
     let open = Controller::new().after(&WriteControl(control(0x41)));
     // The reserved bits are dropped, and each register leaves the other.
     let slow = open.after(&WriteBitTiming(0xa301));
-    same(&rt, slow.timing, BitTiming::new(0x2301, 0));
+    same(&rt, timing_of(&slow), (0x2301, 0));
     let slower = slow.after(&WriteExtension(0xfff3));
-    same(&rt, slower.timing, BitTiming::new(0x2301, 3));
-    same(&rt, slower.timing.with_register(0x8014).register(), 0x0014);
-    same(&rt, slower.timing.with_extension(0x0010).extension(), 0);
+    same(&rt, timing_of(&slower), (0x2301, 3));
     // Without Init they stay as they are.
     let begun = slower
         .after(&WriteControl(control(0x40)))
         .after(&WriteBitTiming(0x0000));
-    same(&rt, begun.timing, slower.timing);
+    same(&rt, timing_of(&begun), (0x2301, 3));
+    let timing = BitTiming::new(0x2301, 3);
+    same(&rt, timing.with_register(0x8014).register(), 0x0014);
+    same(&rt, timing.with_extension(0x0010).extension(), 0);
 }
 
 #[test]
@@ -200,8 +205,7 @@ fn a_reset_gives_the_values_of_the_manual(rt: HostRuntime) {
     same(&rt, reset.control.word(), 0x0001);
     same(&rt, reset.status_word(), 0x0000);
     same(&rt, reset.error_counter_word(), 0x0000);
-    same(&rt, reset.timing.register(), 0x2301);
-    same(&rt, reset.timing.extension(), 0x0000);
+    same(&rt, timing_of(&reset), (0x2301, 0x0000));
     same(&rt, reset.test.word(), 0x0000);
     holds(&rt, !reset.transfer_pending && !reset.level_pending);
     same(&rt, reset.pack(), (0x2301 << 42) + (1 << 32));

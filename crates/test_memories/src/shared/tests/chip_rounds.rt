@@ -98,7 +98,7 @@ fn loads_while_init_is_clear(rt: HostRuntime) {
     holds(&rt, matches!(answer, LoadAnswer::Loaded(_, _)));
     // A round sends what is loaded.
     let (mut bench, told) = bench.round(&silent(&rt, Fault::Quiet));
-    same(&rt, told.report.loading, LoadAnswer::Held(object));
+    holds(&rt, matches!(told.report.loading, LoadAnswer::Held(_)));
     holds(
         &rt,
         matches!(told.report.end.answer, RoundAnswer::Sent(_, _)),
