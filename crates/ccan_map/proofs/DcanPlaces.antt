@@ -47,7 +47,9 @@ module _ (profile : Profile) (offset : ℕ) where
   at_flag flag (Buffer One register) shown has is low high = absurd (omega (arith, buffer-within))
   at_flag flag r shown has is low high = absurd (omega (arith, buffer-within, index-within))
 
-pub dcan-apart : (profile : Profile) (a b : Register) → IsIn profile a → IsIn profile b → dcan_offset a ≡ dcan_offset b → a ≡ b
+-- two registers of a chip never share an offset
+pub dcan-apart : (profile : Profile) (a b : Register) → IsIn profile a → IsIn profile b
+    → dcan_offset a ≡ dcan_offset b → a ≡ b
 dcan-apart profile Control Control has_a has_b e = refl
 dcan-apart profile Status Status has_a has_b e = refl
 dcan-apart profile ErrorCounter ErrorCounter has_a has_b e = refl

@@ -47,7 +47,9 @@ module _ (profile : Profile) (offset : ℕ) where
   at_flag flag (Buffer One register) shown has is low high = absurd (omega (arith, buffer-within))
   at_flag flag r shown has is low high = absurd (omega (arith, buffer-within, index-within))
 
-pub narrow-apart : (profile : Profile) (a b : Register) → IsIn profile a → IsIn profile b → narrow_offset a ≡ narrow_offset b → a ≡ b
+-- two registers of a chip never share an offset
+pub narrow-apart : (profile : Profile) (a b : Register) → IsIn profile a → IsIn profile b
+    → narrow_offset a ≡ narrow_offset b → a ≡ b
 narrow-apart profile Control Control has_a has_b e = refl
 narrow-apart profile Status Status has_a has_b e = refl
 narrow-apart profile ErrorCounter ErrorCounter has_a has_b e = refl

@@ -9,10 +9,10 @@ use Rattle.ccan_map.specs.declared.register.Register.{Register}
 use Rattle.ccan_map.specs.Narrow.{narrow_offset}
 use Rattle.ccan_map.specs.Dcan.{dcan_offset}
 
-abbrev pub number_of : Map → ℕ
-number_of Narrow = 0
-number_of Wide = 1
-number_of Dcan = 2
+abbrev pub map_number : Map → ℕ
+map_number Narrow = 0
+map_number Wide = 1
+map_number Dcan = 2
 
 -- the offset of a register in bytes
 abbrev pub offset_of : Map → Register → ℕ

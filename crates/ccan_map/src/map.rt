@@ -1,6 +1,6 @@
 ghost use Rattle.std.specs.Prelude.{◌≡◌, IfSome};
 ghost use Rattle.ccan_map.specs.declared.register.Register.{Register};
-ghost use Rattle.ccan_map.specs.Map.{number_of, offset_of};
+ghost use Rattle.ccan_map.specs.Map.{map_number, offset_of};
 ghost use Rattle.ccan_map.specs.Register.{IsIn};
 
 use crate::register::Register;
@@ -24,8 +24,8 @@ impl Map {
 
     /// The layout of this number: 0 `Narrow`, 1 `Wide`, 2 `Dcan`.
     pub fn numbered(number: u32) -> Option<Map>
-        ensures some { IfSome result (λ map. number_of map ≡ number) }
-        ensures each { (map : Map) → number_of map ≡ number → result ≡ Some map }
+        ensures some { IfSome result (λ map. map_number map ≡ number) }
+        ensures each { (map : Map) → map_number map ≡ number → result ≡ Some map }
     {
         match number {
             0 => Some(Map::Narrow),
@@ -39,7 +39,8 @@ impl Map {
     /// of the flags of objects 33 to 64. No odd offset is a register, nor is the upper half of a word of `Wide`.
     pub fn register_at(self, profile: Profile, offset: u32) -> Option<Register>
         ensures some { IfSome result (λ r. (offset_of self r ≡ offset) × IsIn profile r) }
-        ensures each { (r : Register) → IsIn profile r → offset_of self r ≡ offset → result ≡ Some r }
+        ensures each { (r : Register) → IsIn profile r → offset_of self r ≡ offset
+            → result ≡ Some r }
     {
         match self {
             Map::Narrow => narrow::register_at(profile, offset),

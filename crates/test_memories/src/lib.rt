@@ -1,6 +1,7 @@
 //! Tests of what lies below scripts, by worked examples whose expected values come from the rules and not from the program:
-//! objects, frames, fault confinement and the controller's registers; the message handler and the bus, over a plain memory
-//! and over one whose tries are lost on purpose; and the memories that threads share. There is nothing here but tests.
+//! objects, frames, fault confinement, the controller's registers, and where the registers of the chip stand; the message
+//! handler and the bus, over a plain memory and over one whose tries are lost on purpose; and the memories that threads
+//! share. There is nothing here but tests.
 #![tactic(auto)]
 
 #[cfg(test)]
@@ -19,6 +20,8 @@ mod found;
 mod frames;
 #[cfg(test)]
 mod handler;
+#[cfg(test)]
+mod map;
 #[cfg(test)]
 mod memory;
 #[cfg(test)]
