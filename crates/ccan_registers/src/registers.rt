@@ -1,6 +1,7 @@
 //! Reads and writes of the registers of a chip.
 ghost use Rattle.std.specs.Prelude.{◌≡◌, true, false, Ok, Err};
 ghost use Rattle.ccan_object.specs.Interface.{set_register};
+ghost use Rattle.ccan_ram.specs.declared.port.PortName.TheVariants.{Bus as BusPort};
 ghost use Rattle.ccan_endless.specs.Chip.{MayMake};
 ghost use Rattle.ccan_registers.specs.ChipSteps.{ChipGoes};
 ghost use Rattle.ccan_registers.specs.Register as says;
@@ -264,8 +265,9 @@ pub fn write(
     tries: Tries,
 ) -> (Result<(), AccessError>, Port)
     requires memory { port.pass.memory ≡ ram.now.words }
-    ensures { ChipGoes port result.1 (λ terms seen added.
+    ensures goes { ChipGoes port result.1 (λ terms seen added.
         Writes terms tries register value own.old seen added result.0 own.new) }
+    ensures bus { port.pass.port ≡ BusPort → own.new ≡ own.old }
 {
     if let Some(change) = change_by(register, value) {
         let told = write_controller(ram, &mut port, &change, tries);
@@ -294,8 +296,9 @@ pub fn write_at(
     tries: Tries,
 ) -> (Option<Result<(), AccessError>>, Port)
     requires memory { port.pass.memory ≡ ram.now.words }
-    ensures { ChipGoes port result.1 (λ terms seen added.
+    ensures goes { ChipGoes port result.1 (λ terms seen added.
         WritesAt terms tries map offset value own.old seen added result.0 own.new) }
+    ensures bus { port.pass.port ≡ BusPort → own.new ≡ own.old }
 {
     match map.register_at(ram.profile(), offset) {
         Some(register) => {
