@@ -12,5 +12,7 @@ pub use access_error::AccessError;
 pub use controller::{change, look};
 pub use interface_set::InterfaceSet;
 pub use objects::{flags, interrupt, peek, transfer, wait};
-pub use registers::{interrupt_value, line, read, read_at, read_status, write, write_at, write_controller};
+pub use registers::{
+    interrupt_value, line, read, read_at, read_status, write, write_at, write_controller,
+};
 pub use rounds::{load, recessive, round};

@@ -121,13 +121,7 @@ pub fn transfer(
 }
 
 /// Looks at an object until it shows the flag, at most so many times. Whether it did.
-pub fn wait(
-    ram: &EndlessRam,
-    port: Port,
-    object: ObjectNo,
-    flag: Flag,
-    turns: u32,
-) -> (bool, Port)
+pub fn wait(ram: &EndlessRam, port: Port, object: ObjectNo, flag: Flag, turns: u32) -> (bool, Port)
     requires memory { port.pass.memory ≡ ram.now.words }
     requires held { Holds ram.now.words.profile object }
     ensures { ChipGoes port result.1 (λ terms seen added.
