@@ -1,41 +1,60 @@
-/* libccan 0.2: a Bosch C_CAN controller (User's Manual 1.2) as a proved library for C11 and C++11.
+/* libccan 0.3: a Bosch C_CAN controller (User's Manual 1.2) as a proved library for C11 and C++11.
  *
- * A chip is the message RAM with its three ports: the hosts behind the interface registers IF1 and IF2, and the bus. A
- * ccan_chip has a handle for each, and each handle may be used by a thread of its own, without a lock. docs/EMBEDDING.md
- * shows how, from ccan_open to a running example.
+ * A chip is the message RAM and the controller's registers, with three ports: the hosts behind the interface registers IF1 and
+ * IF2, and the bus. A ccan_chip has a handle for each, and each handle may be used by a thread of its own, without a lock.
+ * Every handle reads and writes the registers of the chip by their offsets, as a driver does, while the bus plays rounds.
+ * docs/EMBEDDING.md shows how, from ccan_open to a running example and to a device of an emulator.
  *
  * What is proved, for each call as it is written here:
  *  - It is safe for every number that it is given, and it ends by returning, whatever the other threads do: it waits for
  *    nobody.
- *  - There is one history of the message RAM from ccan_open to ccan_end, in which the steps of each port stand in the order of
- *    the calls on its handle. ccan_request where it is done, ccan_flags, ccan_interrupt, ccan_peek, ccan_bus_flags and
- *    ccan_bus_interrupt answer what a memory of one thread answers at one place of it. ccan_until, ccan_load and ccan_round
- *    make several steps, each at a place of its own, and other ports' steps may stand between. What ccan_load and ccan_round
- *    choose to send is chosen at one place, as on the part: the first object that is ready there, or, where its start finds it
- *    ready no more, the next one that was. ccan_end gives the records that the whole history leaves.
- *  - ccan_request, ccan_until, ccan_load, ccan_round, ccan_status, ccan_counters, ccan_control, ccan_init, ccan_recessive and
- *    ccan_loop_back stand for the line of that name in a script of the program `ccan`: the same steps, the same answer, and the
- *    same registers or the same bus. But the bus of a chip chooses what it sends at one moment, and the four calls on flags and
- *    interrupt value are of one moment, as on the part; a script's lines of these names look at one object after another.
- *  - ccan_round also tells what came of its steps: whether it loaded an object itself, whose frame was on the bus and which one,
- *    and which step of the message RAM was refused.
+ *  - There is one history of the chip from its opening to ccan_end, of its objects and of its controller, in which the steps of
+ *    each port stand in the order of the calls on its handle. Each step answers what a memory of one thread answers at its
+ *    place. How many steps a call makes:
+ *      one     ccan_request where it is done, and a write of Command Request; ccan_flags, ccan_interrupt, ccan_peek,
+ *              ccan_bus_flags, and a read of a register of a flag: all objects in one moment, or one object.
+ *              ccan_status, ccan_control, ccan_init, ccan_recessive and ccan_counters of node 0 where they are done; a read or a
+ *              write of Control, Status, Bit Timing, Test and BRP Extension, and a read of Error Counter: at the controller.
+ *      two     ccan_bus_interrupt, ccan_line, ccan_bus_line and a read of Interrupt: a look at the controller, and then, where
+ *              no status interrupt is shown, all objects in one moment. ccan_loop_back, to switch it on.
+ *      more    ccan_until: its looks. ccan_load: a look at the controller, then the choice of what is sent, and its start.
+ *              ccan_round: these three, then the finish, the store or both, and last the round's event at the controller.
+ *      none    ccan_set, ccan_get, ccan_meet, ccan_counters of another node; reads and writes of the other registers of an
+ *              interface, and writes of registers that can only be read.
+ *    Between two steps of a call those of other ports may stand. What ccan_load and ccan_round choose to send is chosen at one
+ *    place, as on the part: the first object that is ready there, or, where its start finds it ready no more, the next one that
+ *    was. ccan_end gives the records that the whole history leaves.
+ *  - ccan_round takes part as the controller is at its look, and its event is made of the controller as it is then; the error
+ *    counters are still those of the look. It also tells what came of its steps: whether it loaded an object itself, whose frame
+ *    was on the bus and which one, and which step was refused.
  *  - It answers the numbers below, in just the cases that are said at each call. Where a call is refused, that is for each
  *    number but CCAN_DONE, CCAN_BUSY, CCAN_SPENT and CCAN_SHARED, handle and output stay as they were.
- * Read off the sources: that a call takes no lock, but for those of malloc, realloc and free in ccan_open and ccan_end.
- * Only tested: that no call but ccan_open takes memory, that a call needs at most 16 KiB of stack, that CCAN_SHARED never comes
- * where C keeps its promises, and that this header has the numbers, sizes and offsets of the library. Not proved, and not
- * claimed: how long a call takes, and that a thread is ever run. A look begins anew where another port changed what it looks
- * at meanwhile: one object for ccan_request, ccan_until and ccan_peek, any object for the flags and the interrupt value.
+ * Read off the sources: that a call takes no lock, but for those of malloc, realloc and free in ccan_open, ccan_open_reset and
+ * ccan_end. Only tested: that no call but the two that open takes memory, that a call needs at most 16 KiB of stack, that
+ * CCAN_SHARED never comes where C keeps its promises, and that this header has the numbers, sizes and offsets of the library.
+ * Not proved, and not claimed: how long a call takes, and that a thread is ever run. A look at objects begins anew where another
+ * port changed what it looks at meanwhile: one object for ccan_request, ccan_until, ccan_peek and a write of Command Request, any
+ * object for flags, interrupt values and the interrupt line.
+ *
+ * What differs from a line of that name in a script of the program `ccan`: all calls on objects, ccan_load and ccan_round mean
+ * what these lines mean, but for these.
+ *  - A status interrupt is raised whatever SIE and EIE are, and these mask it only where it is shown: one that was raised while
+ *    its enable was 0 is shown once the enable is 1, unless Status was read in between.
+ *  - Going bus off sets Init. ccan_init, or a write of Control with Init 0, then starts the way back, as a script's line init does.
+ *  - Init that is set by a write of Control keeps the controller out of rounds. What was loaded is dropped then, and stays
+ *    requested.
+ *  - Flags and interrupt values are of one moment, and what is sent is chosen at one, as on the part; a script's lines go on
+ *    object after object.
  *
  * What C promises. The proofs assume it, and no call can check it:
  *  1. A ccan_chip begins as CCAN_CHIP_CLOSED, or by ccan_chip_init. C neither reads nor writes the insides of a chip or a
  *     handle, and neither copies nor moves them. Only handles of such a chip are passed to a call.
  *  2. A handle is in one call at a time. Different handles of one chip may be in calls at the same time.
- *  3. ccan_open, ccan_end, ccan_meet and ccan_is_open take the whole chip: while one of them runs, no other of them does on
- *     that chip, and no call on one of its handles.
+ *  3. ccan_open, ccan_open_reset, ccan_end, ccan_meet and ccan_is_open take the whole chip: while one of them runs, no other of
+ *     them does on that chip, and no call on one of its handles.
  *  4. Where calls on one handle, or on the whole chip, are made by different threads, C orders them: by the start or the join
  *     of a thread, a mutex, a condition variable or a barrier, or an atomic that is stored and then loaded as seq_cst. So
- *     ccan_open comes before the first call of a thread that is started after it. A call orders no memory of C's own: what one
+ *     the opening comes before the first call of a thread that is started after it. A call orders no memory of C's own: what one
  *     thread wrote, another reads only after one of these too.
  *  5. Each pointer leads to a valid object of its type, none is null, and no two arguments of a call overlap. While a call
  *     runs, nobody else touches what its arguments lead to. A call writes to an output that may have held anything.
@@ -57,7 +76,7 @@ extern "C" {
 
 /* The version of this header: ten thousand times the first number, a hundred times the second, and the third. ccan_version
  * tells that of the library. */
-#define CCAN_VERSION 200
+#define CCAN_VERSION 300
 
 /* A call answers a code, which a program may not drop without a word. */
 #if defined(__GNUC__)
@@ -110,7 +129,8 @@ uint32_t ccan_version(void);
 enum ccan_code {
     CCAN_DONE = 0,
     CCAN_CLOSED = 1,         /* the handle is closed, or a handle of the chip is */
-    CCAN_BUSY = 2,           /* each try of a change was lost to a change of the same object by another port */
+    CCAN_BUSY = 2,           /* each try of a change was lost to a change of the same object, or of the controller, by another
+                                port; it never comes where no other port changes it meanwhile */
     CCAN_SPENT = 3,          /* the port has made all the changes that it can: 2^47 - 1, some 1.4 * 10^14 */
     CCAN_NO_MEMORY = 4,      /* malloc refused */
     CCAN_SHARED = 5,         /* C has broken its promises: somebody else holds the memory */
@@ -127,7 +147,10 @@ enum ccan_code {
     CCAN_FRAMES_RANGE = 16,  /* there are more than 8 frames */
     CCAN_FRAME_RANGE = 17,   /* an identifier has more than 11 or 29 bits, or a length is more than 15 */
     CCAN_FAULT_RANGE = 18,   /* no fault has this number */
-    CCAN_SENDERS = 19        /* a frame's node isn't 1 to the number of other nodes, or has another frame */
+    CCAN_SENDERS = 19,       /* a frame's node isn't 1 to the number of other nodes, or has another frame */
+    CCAN_OFFSET_RANGE = 20,  /* no register of the chip's layout begins at this offset */
+    CCAN_OTHER_INTERFACE = 21, /* the register is of IF1 or IF2, and this handle is not that of it */
+    CCAN_LAYOUT_RANGE = 22   /* no layout has this number */
 };
 
 /* The text of a code, without an end of line; for another number "no code". This function is not proved. */
@@ -140,7 +163,8 @@ static inline const char *ccan_text(uint32_t code)
         "the number of tries is out of range", "no such register", "no such object", "no such flag",
         "the number of turns is out of range", "no such node", "the number of groups is out of range",
         "too many frames", "an identifier or a length is out of range", "no such fault",
-        "a sender is none of the other nodes, or sends twice" };
+        "a sender is none of the other nodes, or sends twice", "no register begins at this offset",
+        "the register is of another port's interface", "no such layout" };
     return code < sizeof texts / sizeof texts[0] ? texts[code] : "no code";
 }
 
@@ -163,11 +187,26 @@ typedef struct {
 } ccan_final;
 CCAN_HOLDS(sizeof(ccan_final) == 1284 && offsetof(ccan_final, records) == 4);
 
-/* Opens a chip whose records and registers are all zero, all of it or nothing. `profile` is 1 for 32 message objects, 2 for
- * 64; `nodes` how many other nodes are on the bus, 0 to 8; `tries` how often a change may be tried, 1 to 1000. Answers the
- * first of CCAN_PROFILE_RANGE, CCAN_NODES_RANGE and CCAN_TRIES_RANGE that applies; else CCAN_NO_MEMORY or CCAN_DONE. A chip
- * that was open ends, without its records, where it answers CCAN_DONE. */
+/* Opens a chip whose records and registers are all zero, all of it or nothing: Init too, so that it takes part at once. (The
+ * Command Request registers read 1.) Its layout is CCAN_LAYOUT_C_CAN. `profile` is 1 for 32 message objects, 2 for 64; `nodes`
+ * how many other nodes are on the bus, 0 to 8; `tries` how often a change may be tried, 1 to 1000. Answers the first of
+ * CCAN_PROFILE_RANGE, CCAN_NODES_RANGE and CCAN_TRIES_RANGE that applies; else CCAN_NO_MEMORY or CCAN_DONE. A chip that was open
+ * ends, without its records, where it answers CCAN_DONE. */
 CCAN_CODE ccan_open(ccan_chip *chip, uint32_t profile, uint32_t nodes, uint32_t tries);
+
+/* How the registers lie, in bytes from where the chip begins. All have the same registers of 16 bits. */
+enum ccan_layout {
+    CCAN_LAYOUT_C_CAN,    /* C_CAN: the registers side by side, at the offsets of enum ccan_offset */
+    CCAN_LAYOUT_C_CAN_32, /* C_CAN: each register at twice that offset, alone in a word of 32 bits */
+    CCAN_LAYOUT_D_CAN     /* D_CAN: the halves of its registers of 32 bits, see docs/FORMATS.md */
+};
+
+/* Opens a chip as a part is after its reset, all of it or nothing: Init is 1, so that it takes part only once a write of Control
+ * has cleared it; Bit Timing is 0x2301; all bits of the masks of IF1 and IF2 are 1, but for bit 13 of Mask 2, which is reserved
+ * and reads 0 (Mask 1 reads 0xffff, Mask 2 0xdfff); Command Request reads 1; every other register is 0, and so are the records,
+ * which a part leaves undefined. `layout` is an enum ccan_layout. Answers the first of CCAN_PROFILE_RANGE, CCAN_NODES_RANGE,
+ * CCAN_TRIES_RANGE and CCAN_LAYOUT_RANGE that applies; all else is as with ccan_open. */
+CCAN_CODE ccan_open_reset(ccan_chip *chip, uint32_t profile, uint32_t nodes, uint32_t tries, uint32_t layout);
 
 /* Whether all three handles are open. */
 bool ccan_is_open(const ccan_chip *chip);
@@ -176,10 +215,96 @@ bool ccan_is_open(const ccan_chip *chip);
  * again. CCAN_CLOSED where it isn't open; CCAN_SHARED closes the chip, and leaves `out` as it was. */
 CCAN_CODE ccan_end(ccan_chip *chip, ccan_final *out);
 
-/* Shows each port of the chip what the others have seen: the next call on each handle goes on from all that was done on the
- * three. For who has the whole chip in one thread and reads by one handle what was written by another. It makes no step of the
- * message RAM. CCAN_CLOSED where the chip isn't open; else CCAN_DONE. */
+/* Shows each port of the chip what the others have seen, of objects and of the controller: the next call on each handle goes on
+ * from all that was done on the three. For who has the whole chip in one thread and reads by one handle what was written by
+ * another. It makes no step of the chip. CCAN_CLOSED where the chip isn't open; else CCAN_DONE. */
 CCAN_CODE ccan_meet(ccan_chip *chip);
+
+/* ---- registers by their offsets: each call answers CCAN_CLOSED first, where its handle is closed */
+
+/* The registers of CCAN_LAYOUT_C_CAN. In CCAN_LAYOUT_C_CAN_32 each stands at twice this offset. With 32 objects there are no
+ * registers 3 and 4 of a flag. */
+enum ccan_offset {
+    CCAN_OFFSET_CONTROL = 0x00,       /* Test 7, CCE 6, DAR 5, EIE 3, SIE 2, IE 1, Init 0 */
+    CCAN_OFFSET_STATUS = 0x02,        /* BOff 7, EWarn 6, EPass 5, RxOk 4, TxOk 3, the last error code in bits 2 to 0 */
+    CCAN_OFFSET_ERROR_COUNTER = 0x04, /* RP 15, REC in bits 14 to 8, TEC in bits 7 to 0 */
+    CCAN_OFFSET_BIT_TIMING = 0x06,    /* TSeg2 in bits 14 to 12, TSeg1 11 to 8, SJW 7 and 6, BRP 5 to 0 */
+    CCAN_OFFSET_INTERRUPT = 0x08,
+    CCAN_OFFSET_TEST = 0x0a,          /* LBack 4, Silent 3, Basic 2 */
+    CCAN_OFFSET_BRP_EXTENSION = 0x0c, /* BRPE in bits 3 to 0 */
+    CCAN_OFFSET_IF1_COMMAND_REQUEST = 0x10,
+    CCAN_OFFSET_IF1_COMMAND_MASK = 0x12,
+    CCAN_OFFSET_IF1_MASK_1 = 0x14,
+    CCAN_OFFSET_IF1_MASK_2 = 0x16,
+    CCAN_OFFSET_IF1_ARBITRATION_1 = 0x18,
+    CCAN_OFFSET_IF1_ARBITRATION_2 = 0x1a,
+    CCAN_OFFSET_IF1_MESSAGE_CONTROL = 0x1c,
+    CCAN_OFFSET_IF1_DATA_A1 = 0x1e,
+    CCAN_OFFSET_IF1_DATA_A2 = 0x20,
+    CCAN_OFFSET_IF1_DATA_B1 = 0x22,
+    CCAN_OFFSET_IF1_DATA_B2 = 0x24,
+    CCAN_OFFSET_IF2_COMMAND_REQUEST = 0x40,
+    CCAN_OFFSET_IF2_COMMAND_MASK = 0x42,
+    CCAN_OFFSET_IF2_MASK_1 = 0x44,
+    CCAN_OFFSET_IF2_MASK_2 = 0x46,
+    CCAN_OFFSET_IF2_ARBITRATION_1 = 0x48,
+    CCAN_OFFSET_IF2_ARBITRATION_2 = 0x4a,
+    CCAN_OFFSET_IF2_MESSAGE_CONTROL = 0x4c,
+    CCAN_OFFSET_IF2_DATA_A1 = 0x4e,
+    CCAN_OFFSET_IF2_DATA_A2 = 0x50,
+    CCAN_OFFSET_IF2_DATA_B1 = 0x52,
+    CCAN_OFFSET_IF2_DATA_B2 = 0x54,
+    CCAN_OFFSET_TRANSMISSION_REQUEST_1 = 0x80, /* objects 1 to 16; the next three those up to 32, 48 and 64 */
+    CCAN_OFFSET_TRANSMISSION_REQUEST_2 = 0x82,
+    CCAN_OFFSET_TRANSMISSION_REQUEST_3 = 0x84,
+    CCAN_OFFSET_TRANSMISSION_REQUEST_4 = 0x86,
+    CCAN_OFFSET_NEW_DATA_1 = 0x90,
+    CCAN_OFFSET_NEW_DATA_2 = 0x92,
+    CCAN_OFFSET_NEW_DATA_3 = 0x94,
+    CCAN_OFFSET_NEW_DATA_4 = 0x96,
+    CCAN_OFFSET_INTERRUPT_PENDING_1 = 0xa0,
+    CCAN_OFFSET_INTERRUPT_PENDING_2 = 0xa2,
+    CCAN_OFFSET_INTERRUPT_PENDING_3 = 0xa4,
+    CCAN_OFFSET_INTERRUPT_PENDING_4 = 0xa6,
+    CCAN_OFFSET_MESSAGE_VALID_1 = 0xb0,
+    CCAN_OFFSET_MESSAGE_VALID_2 = 0xb2,
+    CCAN_OFFSET_MESSAGE_VALID_3 = 0xb4,
+    CCAN_OFFSET_MESSAGE_VALID_4 = 0xb6
+};
+
+/* Reads the register of 16 bits at an offset of the chip's layout. Reserved bits are 0, and so is Rx of Test, the level of a pin.
+ *  - Control, Error Counter, Bit Timing, Test, BRP Extension: one look at the controller. Error Counter shows a TEC above 255 as
+ *    255, RP and the low seven bits of REC.
+ *  - Status: as it is; and the pending status interrupts are cleared, and in CCAN_LAYOUT_D_CAN also TxOk and RxOk, and LEC becomes
+ *    7. That is a change of the controller, so this read alone may answer CCAN_BUSY: then nothing was read and nothing cleared,
+ *    and the call may be made again.
+ *  - Interrupt: 0x8000 where a status interrupt is shown: SIE is 1 and a transfer or an error was since the last read of Status,
+ *    or EIE is 1 and BOff or EWarn has changed since. Else the number of the first object with IntPnd, or 0.
+ *  - The registers of an interface: what they hold. Command Request has the number of the object that was requested last, and
+ *    Busy, bit 15, is 0: the write that starts a transfer returns when it is over.
+ *  - The registers of the flags: 16 objects, at one moment.
+ * The first of CCAN_OFFSET_RANGE, CCAN_OTHER_INTERFACE, CCAN_BUSY that applies; else CCAN_DONE. */
+CCAN_CODE ccan_read16(ccan_host *host, uint32_t offset, uint16_t *out);
+
+/* Writes the register of 16 bits at an offset of the chip's layout. Reserved bits are dropped.
+ *  - Control: as it is written. Init from 1 to 0 starts the way back of a controller that is bus off.
+ *  - Status: TxOk, RxOk and LEC are set as written, the other bits dropped.
+ *  - Bit Timing, BRP Extension: taken only where Init and CCE are 1, else dropped. Test: only where Test of Control is 1.
+ *  - Command Request: the transfer that Command Mask says, as ccan_request.
+ *  - The other registers of an interface: as ccan_set.
+ *  - Error Counter, Interrupt and the registers of the flags: dropped.
+ * The first of CCAN_OFFSET_RANGE and CCAN_OTHER_INTERFACE that applies. Else CCAN_DONE; CCAN_BUSY, of Control, Status, Bit Timing,
+ * BRP Extension, Test and Command Request: nothing was changed, and the call may be made again; CCAN_SPENT, of Command Request. */
+CCAN_CODE ccan_write16(ccan_host *host, uint32_t offset, uint16_t value);
+
+/* Whether the part pulls its interrupt line: 1 where IE is 1 and the Interrupt register is not 0, else 0. */
+CCAN_CODE ccan_line(ccan_host *host, uint32_t *out);
+
+/* The same by the thread of the bus, whose handle has no registers of an interface: those of IF1 and IF2 are for their own handles
+ * alone, and answer CCAN_OTHER_INTERFACE here. */
+CCAN_CODE ccan_bus_read16(ccan_bus *bus, uint32_t offset, uint16_t *out);
+CCAN_CODE ccan_bus_write16(ccan_bus *bus, uint32_t offset, uint16_t value);
+CCAN_CODE ccan_bus_line(ccan_bus *bus, uint32_t *out);
 
 /* ---- a host: each call answers CCAN_CLOSED first, where its handle is closed */
 
@@ -198,14 +323,15 @@ CCAN_CODE ccan_get(ccan_host *host, uint32_t reg, uint16_t *out);
 
 /* Writes the Command Request register: makes the transfer that the Command Mask register says, between the interface
  * registers and the object that the low six bits of `request` name (0 is the last object). CCAN_DONE: the transfer is in the
- * history, and the registers show it. CCAN_BUSY, CCAN_SPENT: no change was made, and the registers are as they were; after
- * CCAN_BUSY the call may be made again. */
+ * history, and the registers show it. CCAN_BUSY, CCAN_SPENT: no change was made, and the message buffer is as it was; after
+ * CCAN_BUSY the call may be made again. Command Request then reads the number of the object, in each of these cases. */
 CCAN_CODE ccan_request(ccan_host *host, uint16_t request);
 
 /* A flag of all objects in one moment, that of object k in bit k - 1. CCAN_FLAG_RANGE. */
 CCAN_CODE ccan_flags(ccan_host *host, uint32_t flag, uint64_t *out);
 
-/* The interrupt value in one moment: the number of the first object with IntPnd, or 0. */
+/* The interrupt value of the objects in one moment: the number of the first object with IntPnd, or 0. It knows of no status
+ * interrupt; the Interrupt register at CCAN_OFFSET_INTERRUPT does. */
 CCAN_CODE ccan_interrupt(ccan_host *host, uint16_t *out);
 
 /* One look at an object: its record. The interface registers have no part in it, and nothing is changed. CCAN_OBJECT_RANGE. */
@@ -226,7 +352,8 @@ typedef struct {
 } ccan_loaded;
 CCAN_HOLDS(sizeof(ccan_loaded) == 28 && offsetof(ccan_loaded, object) == 4 && offsetof(ccan_loaded, held) == 8);
 
-/* The controller chooses the object to send, and starts it, where it is on and has none. It chooses in one moment: of the
+/* Looks at the controller; where Init is 1 or it is bus off, it takes no part: CCAN_LOAD_NOTHING, and what was loaded is dropped,
+ * and stays requested. Else it chooses the object to send, and starts it, where it has none. It chooses in one moment: of the
  * objects that are valid and requested then it starts the lowest; where a host has changed that one since, so that it is ready
  * no more, the next one. CCAN_BUSY and CCAN_SPENT go with the kinds of that name: `object` wasn't started; after CCAN_BUSY the
  * call may be made again. */
@@ -252,7 +379,7 @@ enum ccan_round_kind {
     CCAN_IDLE,      /* no frame contended */
     CCAN_SENT,      /* the controller's frame was sent, and its object finished */
     CCAN_RECEIVED,  /* another node's frame was sent; `stored` has it, or no object takes it */
-    CCAN_PASSED,    /* another node's frame was sent, and the controller is off */
+    CCAN_PASSED,    /* another node's frame was sent, and the controller took no part: it is off, or Init is 1 */
     CCAN_COLLISION, /* two or more frames with the same bits of arbitration were sent */
     CCAN_NO_ACK,    /* no other node is on, so nobody acknowledged the frame */
     CCAN_FAULT,     /* the fault spoiled the frame */
@@ -260,12 +387,13 @@ enum ccan_round_kind {
     CCAN_ROUND_BUSY, CCAN_ROUND_SPENT /* a change of `object` was given up; all else stands, see ccan_round */
 };
 
-/* The step of the message RAM that was refused. With CCAN_STEP_LOAD no frame was on the bus; with the two below it one was. */
+/* The step that was refused. With CCAN_STEP_LOAD no frame was on the bus; with those below it one was. */
 enum ccan_step {
     CCAN_STEP_NONE,
     CCAN_STEP_LOAD,   /* the start of the object to be sent */
     CCAN_STEP_FINISH, /* the finish of the object that was sent */
-    CCAN_STEP_STORE   /* the store of the frame that was received; in loop back mode its object was finished */
+    CCAN_STEP_STORE,  /* the store of the frame that was received; in loop back mode its object was finished */
+    CCAN_STEP_EVENT   /* the round's event at the controller: its error counters and Status don't have the frame */
 };
 
 /* The node of no frame. */
@@ -289,7 +417,8 @@ typedef struct {
     uint32_t stored;           /* the object that stored the frame, 0 where none did */
     ccan_record stored_record; /* its record after the store; else zero */
     uint32_t loaded;           /* the object that this round loaded itself; 0 where an earlier load did, or none is loaded */
-    uint32_t refused;          /* an enum ccan_step: with CCAN_ROUND_BUSY and CCAN_ROUND_SPENT the step that was refused */
+    uint32_t refused;          /* an enum ccan_step: CCAN_STEP_EVENT, with any kind; else with CCAN_ROUND_BUSY and
+                                  CCAN_ROUND_SPENT the step at an object that was refused */
     uint32_t winner;           /* the node whose frame was on the bus, 0 the controller. CCAN_NO_NODE where no single frame was:
                                   with CCAN_IDLE, CCAN_COLLISION and CCAN_STEP_LOAD */
     ccan_frame frame;          /* that frame, as it was on the bus; zero where no single frame was */
@@ -299,18 +428,23 @@ CCAN_HOLDS(offsetof(ccan_outcome, stored) == 28 && offsetof(ccan_outcome, stored
 CCAN_HOLDS(offsetof(ccan_outcome, loaded) == 52 && offsetof(ccan_outcome, refused) == 56);
 CCAN_HOLDS(offsetof(ccan_outcome, winner) == 60 && offsetof(ccan_outcome, frame) == 64);
 
-/* Plays a round: loads as ccan_load does; then the frames of all nodes that are on contend, and `fault` spoils the winner's
- * where it isn't CCAN_QUIET. The lowest identifier wins, by its first 11 bits and then by the 18 others; with the same first
- * 11 bits a standard frame beats an extended one, and with the same identifier a data frame beats a remote frame. `offers`
- * are `count` frames, not null even for 0. The first of CCAN_FRAMES_RANGE, CCAN_FRAME_RANGE, CCAN_FAULT_RANGE and
- * CCAN_SENDERS that applies; else CCAN_BUSY and CCAN_SPENT go with the kinds of that name, and `out` is written.
- * With CCAN_BUSY and CCAN_SPENT a change of `object` was given up, and is not made later; `refused` says which. With
- * CCAN_STEP_LOAD no frame was on the bus. Else `frame` was: the error counters and the Status register have it, but the object
- * that was sent is not finished, or no object stored the frame. A second call plays a second round. */
+/* Plays a round: looks at the controller and loads, as ccan_load does; then the frames of all nodes that are on contend, and
+ * `fault` spoils the winner's where it isn't CCAN_QUIET; then the object that was sent is finished, or the frame that was
+ * received is stored; and last the event is made at the controller: its error counters, TxOk, RxOk and LEC, its status
+ * interrupts, and Init where it goes off. A host that is woken by the event finds the object done. The lowest identifier wins,
+ * by its first 11 bits and then by the 18 others; with the same first 11 bits a standard frame beats an extended one, and with
+ * the same identifier a data frame beats a remote frame. `offers` are `count` frames, not null even for 0. The first of
+ * CCAN_FRAMES_RANGE, CCAN_FRAME_RANGE, CCAN_FAULT_RANGE and CCAN_SENDERS that applies; else `out` is written. CCAN_BUSY where
+ * `refused` is CCAN_STEP_EVENT; else CCAN_BUSY and CCAN_SPENT go with the kinds of that name. With both a step was given up,
+ * and is not made later; `refused` says which. With CCAN_STEP_LOAD no frame was on the bus. With CCAN_STEP_FINISH and
+ * CCAN_STEP_STORE `frame` was: the error counters and the Status register have it, but the object that was sent is not
+ * finished, or no object stored the frame. With CCAN_STEP_EVENT `frame` was, and `kind` tells what came of it at the objects,
+ * but the controller's registers have nothing of it: each try was lost to a write of Control, Status, Bit Timing, BRP
+ * Extension or Test, or a read of Status, by a host. A second call plays a second round. */
 CCAN_CODE ccan_round(ccan_bus *bus, const ccan_offer *offers, size_t count, uint32_t fault, ccan_outcome *out);
 
-/* The Status register: BOff 7, EWarn 6, EPass 5, RxOk 4, TxOk 3, the last error code in bits 2 to 0. The status interrupt is
- * then no longer pending. */
+/* The Status register, as it is read on a C_CAN, in each layout: BOff 7, EWarn 6, EPass 5, RxOk 4, TxOk 3, the last error code in
+ * bits 2 to 0. No status interrupt is then pending. CCAN_BUSY: nothing was read. */
 CCAN_CODE ccan_status(ccan_bus *bus, uint16_t *out);
 
 enum ccan_state { CCAN_ACTIVE, CCAN_PASSIVE, CCAN_OFF };
@@ -322,24 +456,27 @@ typedef struct {
 } ccan_counts;
 CCAN_HOLDS(sizeof(ccan_counts) == 12 && offsetof(ccan_counts, rec) == 4 && offsetof(ccan_counts, state) == 8);
 
-/* The error counters of a node; node 0 is the controller. CCAN_NODE_RANGE. */
+/* The error counters of a node; node 0 is the controller, by a look at its registers. CCAN_NODE_RANGE. */
 CCAN_CODE ccan_counters(ccan_bus *bus, uint32_t node, ccan_counts *out);
 
-/* Sets SIE and EIE of the CAN Control register, two switches: 0 is off, each other number is on. */
+/* Sets SIE and EIE of the CAN Control register in one step, and leaves its other bits. Two switches: 0 is off, each other number is
+ * on. CCAN_BUSY. */
 CCAN_CODE ccan_control(ccan_bus *bus, uint32_t sie, uint32_t eie);
 
-/* Clears Init, from where on groups of recessive bits count for a controller that is off. */
+/* Clears Init in one step, and leaves the other bits of Control: from then on the controller takes part, or, where it is bus off,
+ * groups of recessive bits count for it. CCAN_BUSY. */
 CCAN_CODE ccan_init(ccan_bus *bus);
 
 /* Lets 1 to 10000 groups of eleven recessive bits pass, and gives the controller's state, an enum ccan_state.
- * CCAN_GROUPS_RANGE. */
+ * CCAN_GROUPS_RANGE. CCAN_BUSY: no node has seen any group, and the call may be made again. */
 CCAN_CODE ccan_recessive(ccan_bus *bus, uint32_t groups, uint32_t *out);
 
-/* Sets loop back mode, a switch. */
+/* Sets loop back mode, a switch: on sets Test of Control, and then LBack of Test, with Basic and Silent 0; off clears Test of
+ * Control, and LBack stays and doesn't count. CCAN_BUSY: after that of the second step Test of Control is set; the call may be made
+ * again. Where another port clears Test between the two steps, LBack is not set. */
 CCAN_CODE ccan_loop_back(ccan_bus *bus, uint32_t on);
 
-/* The interrupt value in one moment, as the bus knows it: 0x8000 while the status interrupt is pending, else as
- * ccan_interrupt. */
+/* The Interrupt register, as at CCAN_OFFSET_INTERRUPT. */
 CCAN_CODE ccan_bus_interrupt(ccan_bus *bus, uint16_t *out);
 
 /* As ccan_flags, in one moment. CCAN_FLAG_RANGE. */

@@ -1,5 +1,6 @@
 /* Makes the calls that it reads, one a line, on a chip of the library, in one thread, and prints of each what `ccan` prints of
- * the line of a script that it stands for. tools/second_model writes the calls. The first line has profile, nodes and tries. */
+ * the line of a script that it stands for, or of a register what came of it. tools/check_library writes the calls. The first line
+ * has profile, nodes and tries, and where the chip opens as after a reset the layout. */
 #include "ccan.h"
 #include <stdio.h>
 #include <stdlib.h>
@@ -59,6 +60,73 @@ static uint16_t get(ccan_host *host, uint32_t reg)
     return value;
 }
 
+static uint16_t get16(ccan_host *host, unsigned offset)
+{
+    uint16_t value;
+    need(ccan_read16(host, offset, &value), "ccan_read16");
+    return value;
+}
+
+/* A transfer by registers at their offsets: that of Command Request, and those of the ten others, are in the line. */
+static void request16(const char *name, ccan_host *host)
+{
+    uint16_t asked = (uint16_t)next_number(16), value[10];
+    unsigned object = (asked & 63) % objects ? (asked & 63) % objects : objects;
+    unsigned at = (unsigned)next_number(16);
+    need(ccan_write16(host, at, asked), "ccan_write16");
+    if (get16(host, at) != object) {
+        printf("%s: Command Request reads %04x\n", name, (unsigned)get16(host, at));
+        return;
+    }
+    for (int reg = 0; reg < 10; reg++)
+        value[reg] = get16(host, (unsigned)next_number(16));
+    uint8_t bytes[8];
+    for (int pair = 0; pair < 4; pair++) {
+        bytes[2 * pair] = (uint8_t)value[CCAN_DATAA1 + pair];
+        bytes[2 * pair + 1] = (uint8_t)(value[CCAN_DATAA1 + pair] >> 8);
+    }
+    printf("%s %s %02u", name, value[CCAN_CMASK] & 0x80 ? "write" : "read", object);
+    show((uint32_t)value[CCAN_ARB2] << 16 | value[CCAN_ARB1], (uint32_t)value[CCAN_MASK2] << 16 | value[CCAN_MASK1],
+         value[CCAN_CTRL], bytes);
+}
+
+/* What came of an access to a register; a value that was read goes beside it. */
+static void show_access(const char *name, const char *call, unsigned offset, uint32_t code, const uint16_t *value)
+{
+    printf("%s %s %04x ", name, call, offset);
+    if (code == CCAN_OFFSET_RANGE || code == CCAN_OTHER_INTERFACE)
+        printf("refused %u\n", (unsigned)code);
+    else if (code != CCAN_DONE)
+        need(code, call);
+    else if (value)
+        printf("%04x\n", (unsigned)*value);
+    else
+        printf("done\n");
+}
+
+/* A call on a register or the interrupt line, by one of the hosts, or by the bus where there is none. */
+static int is_register_call(const char *name, ccan_host *host, const char *call)
+{
+    if (!strcmp(call, "read16")) {
+        unsigned offset = (unsigned)next_number(16);
+        uint16_t value = 0;
+        uint32_t code = host ? ccan_read16(host, offset, &value) : ccan_bus_read16(&chip.bus, offset, &value);
+        show_access(name, call, offset, code, &value);
+    } else if (!strcmp(call, "write16")) {
+        unsigned offset = (unsigned)next_number(16);
+        uint16_t value = (uint16_t)next_number(16);
+        uint32_t code = host ? ccan_write16(host, offset, value) : ccan_bus_write16(&chip.bus, offset, value);
+        show_access(name, call, offset, code, NULL);
+    } else if (!strcmp(call, "line")) {
+        uint32_t pulled;
+        need(host ? ccan_line(host, &pulled) : ccan_bus_line(&chip.bus, &pulled), "ccan_line");
+        printf("%s line %u\n", name, (unsigned)pulled);
+    } else {
+        return 0;
+    }
+    return 1;
+}
+
 static void request(const char *name, ccan_host *host)
 {
     uint16_t asked = (uint16_t)next_number(16);
@@ -90,6 +158,13 @@ static void host_call(const char *name, ccan_host *host, const char *call)
     if (!strcmp(call, "set")) {
         uint32_t reg = number_in(registers, 10, next());
         need(ccan_set(host, reg, (uint16_t)next_number(16)), "ccan_set");
+    } else if (!strcmp(call, "set16")) {
+        unsigned offset = (unsigned)next_number(16);
+        need(ccan_write16(host, offset, (uint16_t)next_number(16)), "ccan_write16");
+    } else if (!strcmp(call, "request16")) {
+        request16(name, host);
+    } else if (is_register_call(name, host, call)) {
+        return;
     } else if (!strcmp(call, "request")) {
         request(name, host);
     } else if (!strcmp(call, "until")) {
@@ -155,7 +230,9 @@ static void play(void)
 static void bus_call(const char *call)
 {
     uint16_t word;
-    if (!strcmp(call, "load")) {
+    if (is_register_call("bus", NULL, call)) {
+        return;
+    } else if (!strcmp(call, "load")) {
         load();
     } else if (!strcmp(call, "round")) {
         play();
@@ -197,11 +274,15 @@ int main(void)
 {
     static char line[2048];
     static ccan_final final;
-    unsigned profile, nodes, tries;
-    if (!fgets(line, sizeof line, stdin) || sscanf(line, "%u %u %u", &profile, &nodes, &tries) != 3)
+    unsigned profile, nodes, tries, layout;
+    int given = fgets(line, sizeof line, stdin) ? sscanf(line, "%u %u %u %u", &profile, &nodes, &tries, &layout) : 0;
+    if (given < 3)
         return 2;
     objects = profile == 2 ? 64 : 32;
-    need(ccan_open(&chip, profile, nodes, tries), "ccan_open");
+    if (given == 4)
+        need(ccan_open_reset(&chip, profile, nodes, tries, layout), "ccan_open_reset");
+    else
+        need(ccan_open(&chip, profile, nodes, tries), "ccan_open");
     while (fgets(line, sizeof line, stdin)) {
         const char *port = strtok(line, " \n"), *call = next();
         if (!strcmp(port, "bus"))

@@ -1,19 +1,21 @@
 //! The calls of C without their promises: a test that makes many of them has then no more to prove than its own lines.
 use crate::bus::{
-    ccan_bus_flags, ccan_bus_interrupt, ccan_control, ccan_counters, ccan_init, ccan_load,
-    ccan_loop_back, ccan_recessive, ccan_round, ccan_status,
+    ccan_bus_flags, ccan_bus_interrupt, ccan_bus_line, ccan_bus_read16, ccan_bus_write16,
+    ccan_control, ccan_counters, ccan_init, ccan_load, ccan_loop_back, ccan_recessive, ccan_round,
+    ccan_status,
 };
 use crate::bus_handle::BusHandle;
 use crate::chip::Chip;
 use crate::ending::ccan_end;
 use crate::expect::same;
 use crate::host::{
-    ccan_flags, ccan_get, ccan_interrupt, ccan_peek, ccan_request, ccan_set, ccan_until,
+    ccan_flags, ccan_get, ccan_interrupt, ccan_line, ccan_peek, ccan_read16, ccan_request,
+    ccan_set, ccan_until, ccan_write16,
 };
 use crate::host_handle::HostHandle;
 use crate::meeting::ccan_meet;
 use crate::offer::Offer;
-use crate::opening::{ccan_is_open, ccan_open};
+use crate::opening::{ccan_is_open, ccan_open, ccan_open_reset};
 use crate::shown_counters::ShownCounters;
 use crate::shown_final::ShownFinal;
 use crate::shown_load::ShownLoad;
@@ -26,6 +28,17 @@ use std::process::Abort;
 
 pub fn open(alloc: Global, chip: &mut Chip, profile: u32, nodes: u32, tries: u32) -> u32 {
     ccan_open(alloc, chip, profile, nodes, tries)
+}
+
+pub fn open_reset(
+    alloc: Global,
+    chip: &mut Chip,
+    profile: u32,
+    nodes: u32,
+    tries: u32,
+    layout: u32,
+) -> u32 {
+    ccan_open_reset(alloc, chip, profile, nodes, tries, layout)
 }
 
 pub fn is_open(chip: &Chip) -> bool {
@@ -44,6 +57,13 @@ pub fn end(alloc: Global, chip: &mut Chip, last: &mut ShownFinal) -> u32 {
 pub fn opened(rt: &impl Abort, alloc: Global, profile: u32, nodes: u32) -> Chip {
     let mut chip = Chip::closed(alloc);
     same(rt, open(alloc, &mut chip, profile, nodes, 100), 0);
+    chip
+}
+
+/// A chip with 32 objects and one other node, as after a reset, with this layout.
+pub fn reset(rt: &impl Abort, alloc: Global, layout: u32) -> Chip {
+    let mut chip = Chip::closed(alloc);
+    same(rt, open_reset(alloc, &mut chip, 1, 1, 100, layout), 0);
     chip
 }
 
@@ -87,7 +107,48 @@ pub fn until(host: &mut HostHandle, object: u32, flag: u32, turns: u32, shows: &
     ccan_until(host, object, flag, turns, shows)
 }
 
+pub fn read16(host: &mut HostHandle, offset: u32, value: &mut u16) -> u32 {
+    ccan_read16(host, offset, value)
+}
+
+pub fn write16(host: &mut HostHandle, offset: u32, value: u16) -> u32 {
+    ccan_write16(host, offset, value)
+}
+
+/// The register at this offset as a host reads it.
+pub fn reads(rt: &impl Abort, host: &mut HostHandle, offset: u32) -> u16 {
+    let mut value = 7;
+    same(rt, ccan_read16(host, offset, &mut value), 0);
+    value
+}
+
+/// Writes registers, each by its offset.
+pub fn write_all(rt: &impl Abort, host: &mut HostHandle, settings: &[(u32, u16)]) {
+    for (offset, value) in settings {
+        same(rt, write16(host, *offset, *value), 0);
+    }
+}
+
+/// Whether the interrupt line is pulled, as a host sees it.
+pub fn pulls(rt: &impl Abort, host: &mut HostHandle) -> u32 {
+    let mut pulled = 7;
+    same(rt, ccan_line(host, &mut pulled), 0);
+    pulled
+}
+
 // ---- the bus
+
+pub fn bus_read16(bus: &mut BusHandle, offset: u32, value: &mut u16) -> u32 {
+    ccan_bus_read16(bus, offset, value)
+}
+
+pub fn bus_write16(bus: &mut BusHandle, offset: u32, value: u16) -> u32 {
+    ccan_bus_write16(bus, offset, value)
+}
+
+pub fn bus_line(bus: &mut BusHandle, pulled: &mut u32) -> u32 {
+    ccan_bus_line(bus, pulled)
+}
 
 pub fn load(bus: &mut BusHandle, loaded: &mut ShownLoad) -> u32 {
     ccan_load(bus, loaded)

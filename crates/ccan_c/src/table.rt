@@ -7,23 +7,25 @@ use crate::expect::same;
 use crate::host_handle::HostHandle;
 use crate::numbers::{flag_numbered, register_numbered};
 use crate::offer::{Offer, fault_numbered};
+use crate::settings::map_numbered;
 use crate::shown_counters::{ShownCounters, state_number};
 use crate::shown_final::ShownFinal;
 use crate::shown_frame::ShownFrame;
 use crate::shown_load::ShownLoad;
-use crate::shown_outcome::{NO_NODE, ShownOutcome, step_number};
+use crate::shown_outcome::{NO_NODE, NOT_NOTED, ShownOutcome, step_number};
 use crate::shown_record::ShownRecord;
 use crate::version::ccan_version;
 use ccan_bus::{Fault, LoadAnswer, MemoryStep, RoundAnswer, RoundEnd, RoundReport};
-use ccan_confine::NodeState;
-use ccan_line::LineAnswer;
+use ccan_chip::ChipReport;
+use ccan_confine::{Controller, NodeState};
+use ccan_map::{FlagPart, Interface, Map, Register};
 use ccan_object::{Profile, Record, Reg};
 use ccan_ram::Flag;
 use std::mem::size_of;
 
 #[test]
 fn codes_of_opening(rt: HostRuntime) {
-    same(&rt, ccan_version(), 200); // CCAN_VERSION
+    same(&rt, ccan_version(), 300); // CCAN_VERSION
     same(&rt, code::DONE, 0); // CCAN_DONE
     same(&rt, code::CLOSED, 1); // CCAN_CLOSED
     same(&rt, code::BUSY, 2); // CCAN_BUSY
@@ -47,6 +49,120 @@ fn codes_of_handles(rt: HostRuntime) {
     same(&rt, code::FRAME_RANGE, 17); // CCAN_FRAME_RANGE
     same(&rt, code::FAULT_RANGE, 18); // CCAN_FAULT_RANGE
     same(&rt, code::SENDERS, 19); // CCAN_SENDERS
+}
+
+#[test]
+fn codes_of_registers(rt: HostRuntime) {
+    same(&rt, code::OFFSET_RANGE, 20); // CCAN_OFFSET_RANGE
+    same(&rt, code::OTHER_INTERFACE, 21); // CCAN_OTHER_INTERFACE
+    same(&rt, code::MAP_RANGE, 22); // CCAN_LAYOUT_RANGE
+}
+
+/// The number of a layout, 77 where it has none.
+fn layout(sought: Map) -> u32 {
+    for number in 0..77 {
+        if map_numbered(number) == Some(sought) {
+            return number;
+        }
+    }
+    77
+}
+
+#[test]
+fn layouts(rt: HostRuntime) {
+    same(&rt, layout(Map::Narrow), 0); // CCAN_LAYOUT_C_CAN
+    same(&rt, layout(Map::Wide), 1); // CCAN_LAYOUT_C_CAN_32
+    same(&rt, layout(Map::Dcan), 2); // CCAN_LAYOUT_D_CAN
+}
+
+/// The offset of a register of a chip with 64 objects, 777 where it has none.
+fn offset(sought: Register) -> u32 {
+    for number in 0..777 {
+        if Map::Narrow.register_at(Profile::Two, number) == Some(sought) {
+            return number;
+        }
+    }
+    777
+}
+
+#[test]
+fn offsets(rt: HostRuntime) {
+    same(&rt, offset(Register::Control), 0); // CCAN_OFFSET_CONTROL
+    same(&rt, offset(Register::Status), 2); // CCAN_OFFSET_STATUS
+    same(&rt, offset(Register::ErrorCounter), 4); // CCAN_OFFSET_ERROR_COUNTER
+    same(&rt, offset(Register::BitTiming), 6); // CCAN_OFFSET_BIT_TIMING
+    same(&rt, offset(Register::Interrupt), 8); // CCAN_OFFSET_INTERRUPT
+    same(&rt, offset(Register::Test), 10); // CCAN_OFFSET_TEST
+    same(&rt, offset(Register::Extension), 12); // CCAN_OFFSET_BRP_EXTENSION
+}
+
+/// The offset of a register of IF1.
+fn of_if1(sought: Reg) -> u32 {
+    offset(Register::Buffer(Interface::One, sought))
+}
+
+#[test]
+fn offsets_of_if1(rt: HostRuntime) {
+    same(&rt, offset(Register::Request(Interface::One)), 16); // CCAN_OFFSET_IF1_COMMAND_REQUEST
+    same(&rt, of_if1(Reg::CMask), 18); // CCAN_OFFSET_IF1_COMMAND_MASK
+    same(&rt, of_if1(Reg::Mask1), 20); // CCAN_OFFSET_IF1_MASK_1
+    same(&rt, of_if1(Reg::Mask2), 22); // CCAN_OFFSET_IF1_MASK_2
+    same(&rt, of_if1(Reg::Arb1), 24); // CCAN_OFFSET_IF1_ARBITRATION_1
+    same(&rt, of_if1(Reg::Arb2), 26); // CCAN_OFFSET_IF1_ARBITRATION_2
+    same(&rt, of_if1(Reg::Ctrl), 28); // CCAN_OFFSET_IF1_MESSAGE_CONTROL
+    same(&rt, of_if1(Reg::DataA1), 30); // CCAN_OFFSET_IF1_DATA_A1
+    same(&rt, of_if1(Reg::DataA2), 32); // CCAN_OFFSET_IF1_DATA_A2
+    same(&rt, of_if1(Reg::DataB1), 34); // CCAN_OFFSET_IF1_DATA_B1
+    same(&rt, of_if1(Reg::DataB2), 36); // CCAN_OFFSET_IF1_DATA_B2
+}
+
+/// The offset of a register of IF2.
+fn of_if2(sought: Reg) -> u32 {
+    offset(Register::Buffer(Interface::Two, sought))
+}
+
+#[test]
+fn offsets_of_if2(rt: HostRuntime) {
+    same(&rt, offset(Register::Request(Interface::Two)), 64); // CCAN_OFFSET_IF2_COMMAND_REQUEST
+    same(&rt, of_if2(Reg::CMask), 66); // CCAN_OFFSET_IF2_COMMAND_MASK
+    same(&rt, of_if2(Reg::Mask1), 68); // CCAN_OFFSET_IF2_MASK_1
+    same(&rt, of_if2(Reg::Mask2), 70); // CCAN_OFFSET_IF2_MASK_2
+    same(&rt, of_if2(Reg::Arb1), 72); // CCAN_OFFSET_IF2_ARBITRATION_1
+    same(&rt, of_if2(Reg::Arb2), 74); // CCAN_OFFSET_IF2_ARBITRATION_2
+    same(&rt, of_if2(Reg::Ctrl), 76); // CCAN_OFFSET_IF2_MESSAGE_CONTROL
+    same(&rt, of_if2(Reg::DataA1), 78); // CCAN_OFFSET_IF2_DATA_A1
+    same(&rt, of_if2(Reg::DataA2), 80); // CCAN_OFFSET_IF2_DATA_A2
+    same(&rt, of_if2(Reg::DataB1), 82); // CCAN_OFFSET_IF2_DATA_B1
+    same(&rt, of_if2(Reg::DataB2), 84); // CCAN_OFFSET_IF2_DATA_B2
+}
+
+/// The offset of a register of a flag.
+fn of_flag(sought: Flag, part: FlagPart) -> u32 {
+    offset(Register::Flags(sought, part))
+}
+
+#[test]
+fn offsets_of_requests_and_new_data(rt: HostRuntime) {
+    same(&rt, of_flag(Flag::TxRqst, FlagPart::First), 128); // CCAN_OFFSET_TRANSMISSION_REQUEST_1
+    same(&rt, of_flag(Flag::TxRqst, FlagPart::Second), 130); // CCAN_OFFSET_TRANSMISSION_REQUEST_2
+    same(&rt, of_flag(Flag::TxRqst, FlagPart::Third), 132); // CCAN_OFFSET_TRANSMISSION_REQUEST_3
+    same(&rt, of_flag(Flag::TxRqst, FlagPart::Fourth), 134); // CCAN_OFFSET_TRANSMISSION_REQUEST_4
+    same(&rt, of_flag(Flag::NewDat, FlagPart::First), 144); // CCAN_OFFSET_NEW_DATA_1
+    same(&rt, of_flag(Flag::NewDat, FlagPart::Second), 146); // CCAN_OFFSET_NEW_DATA_2
+    same(&rt, of_flag(Flag::NewDat, FlagPart::Third), 148); // CCAN_OFFSET_NEW_DATA_3
+    same(&rt, of_flag(Flag::NewDat, FlagPart::Fourth), 150); // CCAN_OFFSET_NEW_DATA_4
+}
+
+#[test]
+fn offsets_of_pending_and_valid(rt: HostRuntime) {
+    same(&rt, of_flag(Flag::IntPnd, FlagPart::First), 160); // CCAN_OFFSET_INTERRUPT_PENDING_1
+    same(&rt, of_flag(Flag::IntPnd, FlagPart::Second), 162); // CCAN_OFFSET_INTERRUPT_PENDING_2
+    same(&rt, of_flag(Flag::IntPnd, FlagPart::Third), 164); // CCAN_OFFSET_INTERRUPT_PENDING_3
+    same(&rt, of_flag(Flag::IntPnd, FlagPart::Fourth), 166); // CCAN_OFFSET_INTERRUPT_PENDING_4
+    same(&rt, of_flag(Flag::MsgVal, FlagPart::First), 176); // CCAN_OFFSET_MESSAGE_VALID_1
+    same(&rt, of_flag(Flag::MsgVal, FlagPart::Second), 178); // CCAN_OFFSET_MESSAGE_VALID_2
+    same(&rt, of_flag(Flag::MsgVal, FlagPart::Third), 180); // CCAN_OFFSET_MESSAGE_VALID_3
+    same(&rt, of_flag(Flag::MsgVal, FlagPart::Fourth), 182); // CCAN_OFFSET_MESSAGE_VALID_4
 }
 
 /// The number of a register, 77 where it has none.
@@ -117,7 +233,7 @@ fn faults_and_states(rt: HostRuntime) {
 
 /// The kind of a load.
 fn load(came: LoadAnswer) -> u32 {
-    ShownLoad::of(&LineAnswer::Load(came)).kind
+    ShownLoad::of(&came).kind
 }
 
 #[test]
@@ -140,7 +256,12 @@ fn round(came: RoundAnswer) -> u32 {
             refused: None,
         },
     };
-    ShownOutcome::of(&report).kind
+    ShownOutcome::of(&ChipReport {
+        found: Controller::new(),
+        report,
+        own: None,
+        noted: None,
+    }).kind
 }
 
 #[test]
@@ -165,6 +286,7 @@ fn steps_of_rounds(rt: HostRuntime) {
     same(&rt, step_number(Some(MemoryStep::Start)), 1); // CCAN_STEP_LOAD
     same(&rt, step_number(Some(MemoryStep::Finish)), 2); // CCAN_STEP_FINISH
     same(&rt, step_number(Some(MemoryStep::Store)), 3); // CCAN_STEP_STORE
+    same(&rt, NOT_NOTED, 4); // CCAN_STEP_EVENT
     same(&rt, NO_NODE, 255); // CCAN_NO_NODE
 }
 

@@ -3,9 +3,10 @@ use crate::bus_handle::BusHandle;
 use crate::chip::Chip;
 use crate::expect::{holds, same};
 use crate::from_c::{
-    bus_flags, bus_interrupt, control, counters, end, flags, init, interrupt, is_open, load,
-    loop_back, meet, open, opened, peek, recessive, request, round, set, set_all, shown, status,
-    until,
+    bus_flags, bus_interrupt, bus_line, bus_read16, bus_write16, control, counters, end, flags,
+    init, interrupt, is_open, load, loop_back, meet, open, open_reset, opened, peek, pulls,
+    read16, reads, recessive, request, reset, round, set, set_all, shown, status, until,
+    write16, write_all,
 };
 use crate::host::{ccan_request, ccan_set};
 use crate::host_handle::HostHandle;
@@ -17,7 +18,7 @@ use crate::shown_load::ShownLoad;
 use crate::shown_outcome::ShownOutcome;
 use crate::shown_record::ShownRecord;
 use crate::version::ccan_version;
-use ccan_line::LineAnswer;
+use ccan_bus::LoadAnswer;
 use ccan_object::Record;
 use std::process::Abort;
 
@@ -250,7 +251,7 @@ fn asks_to_send(rt: &impl Abort, host: &mut HostHandle) {
 
 /// The load of the controller's next frame.
 fn loads(rt: &impl Abort, bus: &mut BusHandle) -> u32 {
-    let mut loaded = ShownLoad::of(&LineAnswer::Init);
+    let mut loaded = ShownLoad::of(&LoadAnswer::Nothing);
     same(rt, load(bus, &mut loaded), 0);
     loaded.object
 }
@@ -369,25 +370,215 @@ fn numbers_out_of_range_are_refused(rt: HostRuntime) {
     same(&rt, counters(bus, 2, &mut counts), 14);
     same(&rt, counters(bus, 1, &mut counts), 0);
     same(&rt, (counts.tec, counts.rec, counts.state), (0, 0, 0));
-    same(&rt, control(bus, 1, 0), 0);
-    same(&rt, init(bus), 0);
     let mut state = 9;
     same(&rt, recessive(bus, 0, &mut state), 15);
     same(&rt, recessive(bus, 128, &mut state), 0);
     same(&rt, state, 0);
-    same(&rt, loop_back(bus, 1), 0);
-    same(&rt, played(&rt, bus, &[], 0).kind, 0);
+}
+
+// ---- registers by their offsets
+
+/// Control, Bit Timing, and of IF1 Command Request and both masks, whose reserved bit reads 0.
+#[test]
+fn a_chip_opens_as_after_a_reset(rt: HostRuntime) {
+    let alloc = rt.alloc();
+    let mut chip = Chip::closed(alloc);
+    same(&rt, open_reset(alloc, &mut chip, 1, 1, 0, 3), 9);
+    same(&rt, open_reset(alloc, &mut chip, 1, 1, 100, 3), 22);
+    holds(&rt, !is_open(&chip));
+    let mut chip = reset(&rt, alloc, 0);
+    same(&rt, reads(&rt, &mut chip.if1, 0x00), 0x0001);
+    same(&rt, reads(&rt, &mut chip.if1, 0x06), 0x2301);
+    same(&rt, reads(&rt, &mut chip.if1, 0x10), 0x0001);
+    same(&rt, reads(&rt, &mut chip.if1, 0x14), 0xffff);
+    same(&rt, reads(&rt, &mut chip.if1, 0x16), 0xdfff);
+}
+
+/// Bit Timing stands at twice its offset, and at 0x0c with D_CAN.
+#[test]
+fn a_layout_has_its_offsets(rt: HostRuntime) {
+    let mut wide = reset(&rt, rt.alloc(), 1);
+    same(&rt, reads(&rt, &mut wide.if1, 0x0c), 0x2301);
+    let mut dcan = reset(&rt, rt.alloc(), 2);
+    same(&rt, reads(&rt, &mut dcan.if1, 0x0c), 0x2301);
+    let mut value = 7;
+    same(&rt, read16(&mut dcan.if1, 0x02, &mut value), 20);
+    same(&rt, write16(&mut wide.if1, 0x0e, 0), 20);
+    same(&rt, value, 7);
+}
+
+#[test]
+fn another_interface_is_refused(rt: HostRuntime) {
+    let mut chip = reset(&rt, rt.alloc(), 0);
+    let mut value = 7;
+    same(&rt, read16(&mut chip.if1, 0x40, &mut value), 21);
+    same(&rt, write16(&mut chip.if2, 0x12, 0x00f3), 21);
+    same(&rt, bus_read16(&mut chip.bus, 0x10, &mut value), 21);
+    same(&rt, bus_write16(&mut chip.bus, 0x54, 1), 21);
+    same(&rt, value, 7);
+    let mut closed = Chip::closed(rt.alloc());
+    same(&rt, read16(&mut closed.if1, 0x00, &mut value), 1);
+    same(&rt, write16(&mut closed.if1, 0x00, 0), 1);
+}
+
+/// Bit Timing takes a write while Init and CCE are 1, and keeps what it has without CCE.
+#[test]
+fn bit_timing_is_written_while_it_is_configured(rt: HostRuntime) {
+    let mut chip = reset(&rt, rt.alloc(), 0);
+    write_all(&rt, &mut chip.if1, &[(0x06, 0x1c00)]);
+    same(&rt, reads(&rt, &mut chip.if2, 0x06), 0x2301);
+    write_all(&rt, &mut chip.if1, &[(0x00, 0x0041), (0x06, 0x9c00), (0x0c, 0x00f5)]);
+    same(&rt, reads(&rt, &mut chip.if2, 0x06), 0x1c00);
+    same(&rt, reads(&rt, &mut chip.if2, 0x0c), 0x0005);
+}
+
+/// Receives frames 0x123 in object 5, with RxIE, and starts with IE, SIE and EIE.
+fn starts(rt: &impl Abort, host: &mut HostHandle) {
+    write_all(rt, host, &[(0x12, 0x00f3), (0x1a, 0x848c), (0x1c, 0x0488), (0x10, 5), (0x00, 0x000e)]);
+}
+
+#[test]
+fn a_frame_is_received_by_interrupt(rt: HostRuntime) {
+    let mut chip = reset(&rt, rt.alloc(), 0);
+    starts(&rt, &mut chip.if1);
+    same(&rt, pulls(&rt, &mut chip.if1), 0);
+    same(&rt, played(&rt, &mut chip.bus, &[offer(1)], 0).stored, 5);
+    same(&rt, pulls(&rt, &mut chip.if1), 1);
+    same(&rt, reads(&rt, &mut chip.if1, 0x08), 0x8000);
+    same(&rt, reads(&rt, &mut chip.if1, 0x02), 0x0010);
+    same(&rt, reads(&rt, &mut chip.if1, 0x08), 5);
+    same(&rt, reads(&rt, &mut chip.if2, 0xa0), 0x0010);
+    write_all(&rt, &mut chip.if1, &[(0x12, 0x007f), (0x10, 5)]);
+    same(&rt, reads(&rt, &mut chip.if1, 0x1e), 0x2211);
+    same(&rt, pulls(&rt, &mut chip.if1), 0);
+}
+
+/// While Init is 1 nobody acknowledges what node 1 sends.
+#[test]
+fn the_bus_reads_and_writes_registers(rt: HostRuntime) {
+    let mut chip = reset(&rt, rt.alloc(), 0);
+    let mut value = 7;
+    same(&rt, bus_read16(&mut chip.bus, 0x00, &mut value), 0);
+    same(&rt, value, 0x0001);
+    same(&rt, played(&rt, &mut chip.bus, &[offer(1)], 0).kind, 5);
+    same(&rt, bus_write16(&mut chip.bus, 0x00, 0x0006), 0);
+    let mut pulled = 7;
+    same(&rt, bus_line(&mut chip.bus, &mut pulled), 0);
+    same(&rt, pulled, 0);
+    same(&rt, played(&rt, &mut chip.bus, &[offer(1)], 0).kind, 2);
+    same(&rt, bus_line(&mut chip.bus, &mut pulled), 0);
+    same(&rt, pulled, 1);
+}
+
+/// A read of Status leaves the flags of a C_CAN.
+#[test]
+fn a_read_of_status_leaves_its_flags(rt: HostRuntime) {
+    let mut chip = reset(&rt, rt.alloc(), 0);
+    write_all(&rt, &mut chip.if1, &[(0x00, 0)]);
+    same(&rt, played(&rt, &mut chip.bus, &[offer(1)], 0).kind, 2);
+    same(&rt, reads(&rt, &mut chip.if1, 0x02), 0x0010);
+    same(&rt, reads(&rt, &mut chip.if2, 0x02), 0x0010);
+    write_all(&rt, &mut chip.if1, &[(0x02, 0xffef)]);
+    same(&rt, reads(&rt, &mut chip.if1, 0x02), 0x000f);
+}
+
+/// A read of Status clears those of a D_CAN, and sets LEC 7.
+#[test]
+fn a_read_of_status_clears_a_dcan(rt: HostRuntime) {
+    let mut chip = reset(&rt, rt.alloc(), 2);
+    write_all(&rt, &mut chip.if1, &[(0x00, 0)]);
+    same(&rt, played(&rt, &mut chip.bus, &[offer(1)], 0).kind, 2);
+    same(&rt, reads(&rt, &mut chip.if1, 0x04), 0x0010);
+    same(&rt, reads(&rt, &mut chip.if2, 0x04), 0x0007);
+}
+
+/// SIE is set once the frame was there: the status interrupt was raised all the same.
+#[test]
+fn an_enable_shows_what_was_raised(rt: HostRuntime) {
+    let mut chip = opened(&rt, rt.alloc(), 1, 1);
+    same(&rt, played(&rt, &mut chip.bus, &[offer(1)], 0).kind, 2);
+    let mut word = 7;
+    same(&rt, bus_interrupt(&mut chip.bus, &mut word), 0);
+    same(&rt, word, 0);
+    same(&rt, control(&mut chip.bus, 1, 0), 0);
+    same(&rt, reads(&rt, &mut chip.if1, 0x00), 0x0004);
+    same(&rt, bus_interrupt(&mut chip.bus, &mut word), 0);
+    same(&rt, word, 0x8000);
+    same(&rt, status(&mut chip.bus, &mut word), 0);
+    same(&rt, bus_interrupt(&mut chip.bus, &mut word), 0);
+    same(&rt, word, 0);
+}
+
+#[test]
+fn loop_back_mode_is_in_the_registers(rt: HostRuntime) {
+    let mut chip = opened(&rt, rt.alloc(), 1, 0);
+    asks_to_send(&rt, &mut chip.if1);
+    same(&rt, loop_back(&mut chip.bus, 1), 0);
+    same(&rt, reads(&rt, &mut chip.if2, 0x00), 0x0080);
+    same(&rt, reads(&rt, &mut chip.if2, 0x0a), 0x0010);
+    same(&rt, played(&rt, &mut chip.bus, &[], 0).kind, 7);
+    same(&rt, loop_back(&mut chip.bus, 0), 0);
+    same(&rt, reads(&rt, &mut chip.if2, 0x00), 0);
+    same(&rt, played(&rt, &mut chip.bus, &[], 0).kind, 0);
+}
+
+/// Init is set while an object is loaded: it is dropped, and sent once Init is cleared.
+#[test]
+fn init_keeps_the_controller_out(rt: HostRuntime) {
+    let mut chip = opened(&rt, rt.alloc(), 1, 1);
+    asks_to_send(&rt, &mut chip.if1);
+    same(&rt, loads(&rt, &mut chip.bus), 2);
+    write_all(&rt, &mut chip.if1, &[(0x00, 0x0001)]);
+    same(&rt, loads(&rt, &mut chip.bus), 0);
+    same(&rt, played(&rt, &mut chip.bus, &[], 0).kind, 0);
+    same(&rt, init(&mut chip.bus), 0);
+    same(&rt, reads(&rt, &mut chip.if1, 0x00), 0);
+    same(&rt, loads(&rt, &mut chip.bus), 2);
+    same(&rt, played(&rt, &mut chip.bus, &[], 0).kind, 1);
+}
+
+/// The controller's frames are spoiled 32 times, 8 for TEC each time: 256, bus off.
+fn goes_off(rt: &impl Abort, chip: &mut Chip) {
+    asks_to_send(rt, &mut chip.if1);
+    for _ in 0..32 {
+        same(rt, played(rt, &mut chip.bus, &[], 3).kind, 6);
+    }
+}
+
+/// The controller's state after 128 groups of recessive bits.
+fn after_groups(rt: &impl Abort, bus: &mut BusHandle) -> u32 {
+    let mut state = 9;
+    same(rt, recessive(bus, 128, &mut state), 0);
+    state
+}
+
+#[test]
+fn going_off_sets_init(rt: HostRuntime) {
+    let mut chip = opened(&rt, rt.alloc(), 1, 1);
+    goes_off(&rt, &mut chip);
+    same(&rt, reads(&rt, &mut chip.if2, 0x00), 0x0001);
+    same(&rt, reads(&rt, &mut chip.if2, 0x04), 0x00ff);
+    let mut counts = ShownCounters {
+        tec: 9,
+        rec: 9,
+        state: 9,
+    };
+    same(&rt, counters(&mut chip.bus, 0, &mut counts), 0);
+    same(&rt, (counts.tec, counts.rec, counts.state), (256, 0, 2));
+    same(&rt, after_groups(&rt, &mut chip.bus), 2);
+    write_all(&rt, &mut chip.if2, &[(0x00, 0)]);
+    same(&rt, after_groups(&rt, &mut chip.bus), 0);
 }
 
 #[test]
 fn the_version_is_that_of_the_header(rt: HostRuntime) {
-    same(&rt, ccan_version(), 200);
+    same(&rt, ccan_version(), 300);
 }
 
 #[test]
 fn laws_hold() {
     crate::handle::handles_may_cross();
-    crate::laws::lines_keep_the_choice();
+    crate::laws::calls_keep_the_choice();
     crate::laws::calls_fit_one_history();
     crate::laws::turns_run_in_order();
 }
