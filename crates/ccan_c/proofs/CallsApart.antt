@@ -1,7 +1,7 @@
 -- A call during which nobody else acts is one over a memory of one thread. What it does at objects stands in the part of the
 -- history that is the message RAM's, of which that is known already; a step at the controller is the same under all terms of one
 -- port.
-use Rattle.std.proofs.Common.{◌≤◌, inl, inr, ℕ, Bool, true, false, List, ◌++◌, refl, Some, None, Ok, Err}
+use Rattle.std.proofs.Common.{◌≤◌, inl, inr, ℕ, Bool, true, false, List, ◌++◌, refl, Some, None, Ok, Err, ◌+◌, ◌/◌, ◌%◌, ◌^◌, ◌==◌}
 use Rattle.std.specs.Prelude.{MatchBool, MatchOption, length, nat_le}
 use Rattle.std.specs.declared.option.Option.{Option}
 use Rattle.std.specs.declared.result.Result.{Result}
@@ -56,7 +56,7 @@ use Rattle.ccan_registers.specs.ChipSteps.{AtController, OnObjects, Then}
 use Rattle.ccan_registers.specs.InterfaceSet.{Transferred}
 use Rattle.ccan_registers.specs.Objects.{ShowsFlags, ShowsInterrupt, ShowsObject, WaitsFor, transfer}
 use Rattle.ccan_registers.specs.Register as access
-use Rattle.ccan_registers.specs.Register.{InterruptValue, PullsLine, Reads, ReadsAt, Writes, WritesAt, WritesRest}
+use Rattle.ccan_registers.specs.Register.{InterruptValue, PullsLine, Reads, ReadsAt, ReadsWord, Writes, WritesAt, WritesRest, WritesWord, is_refused}
 use Rattle.ccan_registers.specs.Register.{change_by, is_own}
 use Rattle.ccan_registers.specs.Rounds.{LoadsOnChip, RecoversOnChip, RoundOnChip}
 use Rattle.ccan_c.specs.declared.offer.Offer.{Offer}
@@ -303,6 +303,59 @@ module _ (terms : Terms) (tries : ℕ) (some : 1 ≤ tries) where
   writes_at_apart layout offset value own left seen added (Some told) alone (r, at, h) =
       (r, at, writes_apart r value own left seen added told alone h)
 
+  both_apart : (first first' second second' : ChipHistory → ChipHistory → Type 0) (seen added : ChipHistory)
+      → ActsAlone terms.port added
+      → ((s a : ChipHistory) → ActsAlone terms.port a → first s a → first' s a)
+      → ((s a : ChipHistory) → ActsAlone terms.port a → second s a → second' s a)
+      → Then first second seen added → Then first' second' seen added
+  both_apart first first' second second' seen added alone f g h =
+      let parts = alone_in_parts terms.port h.later h.earlier added h.whole alone in
+      record {
+        earlier = h.earlier;
+        later = h.later;
+        whole = h.whole;
+        begins = f seen h.earlier parts.1 h.begins;
+        ends = g (h.earlier ++ seen) h.later parts.0 h.ends;
+      }
+
+  reads_word_apart : (layout : Map) (offset : ℕ) (own : InterfaceSet) (seen added : ChipHistory)
+      (told : Option (Result ℕ AccessError)) → ActsAlone terms.port added
+      → ReadsWord terms tries layout offset own seen added told → ReadsWord single tries layout offset own seen added told
+  reads_word_apart layout offset own seen added told alone h =
+      passed_or_not (offset % 4 == 0) _ _ _ _
+      (λ (low, k). (
+        low,
+        passed_or_not (is_refused low) _ _ _ _
+            (λ (x, is). (reads_at_apart layout offset own seen added low alone x, is))
+            (λ (high, x, is). (
+              high,
+              both_apart _ _ _ _ seen added alone
+                  (λ s a only. reads_at_apart layout offset own s a low only)
+                  (λ s a only. reads_at_apart layout (offset + 2) own s a high only) x,
+              is,
+            )) k,
+      )) same h
+
+  writes_word_apart : (layout : Map) (offset value : ℕ) (own left : InterfaceSet) (seen added : ChipHistory)
+      (told : Option (Result (Unit {0}) AccessError)) → ActsAlone terms.port added
+      → WritesWord terms tries layout offset value own seen added told left
+      → WritesWord single tries layout offset value own seen added told left
+  writes_word_apart layout offset value own left seen added told alone h =
+      passed_or_not (offset % 4 == 0) _ _ _ _
+      (λ (high, k). (
+        high,
+        passed_or_not (is_refused high) _ _ _ _
+            (λ (x, is). (writes_at_apart layout (offset + 2) (value / 2 ^ 16) own left seen added high alone x, is))
+            (λ (low, between, x, is). (
+              low,
+              between,
+              both_apart _ _ _ _ seen added alone
+                  (λ s a only. writes_at_apart layout (offset + 2) (value / 2 ^ 16) own between s a high only)
+                  (λ s a only. writes_at_apart layout offset (value % 2 ^ 16) between left s a low only) x,
+              is,
+            )) k,
+      )) same h
+
   -- ---- loads and rounds
 
   load_apart : (past after : BusPast) (found : Controller) (loading : LoadAnswer) (seen added : ChipHistory)
@@ -391,6 +444,10 @@ module _ (terms : Terms) (tries : ℕ) (some : 1 ≤ tries) where
         same h
     host_call_apart (host.read16 offset result out) own left (h, keeps) = (read_apart offset own result out h, keeps)
     host_call_apart (host.write16 offset value result) own left h = write_apart offset value own left result h
+    host_call_apart (host.read32 offset result out) own left ((told, h, code, is), keeps) =
+        ((told, reads_word_apart layout offset own seen added told alone h, code, is), keeps)
+    host_call_apart (host.write32 offset value result) own left (told, h, code) =
+        (told, writes_word_apart layout offset value own left seen added told alone h, code)
     host_call_apart (host.line result out) own left (code, (pulls, is, h), keeps) =
         (code, (pulls, is, line_apart pulls seen added alone h), keeps)
 
@@ -446,5 +503,9 @@ module _ (terms : Terms) (tries : ℕ) (some : 1 ≤ tries) where
         (own, read_apart offset own result out h, is)
     bus_call_apart nodes (bus.write16 offset value result) past after (own, h, is) =
         (own, write_apart offset value own own result h, is)
+    bus_call_apart nodes (bus.read32 offset result out) past after (own, (told, h, code, read), is) =
+        (own, (told, reads_word_apart layout offset own seen added told alone h, code, read), is)
+    bus_call_apart nodes (bus.write32 offset value result) past after (own, (told, h, code), is) =
+        (own, (told, writes_word_apart layout offset value own own seen added told alone h, code), is)
     bus_call_apart nodes (bus.line result out) past after (code, (pulls, is, h), keeps) =
         (code, (pulls, is, line_apart pulls seen added alone h), keeps)

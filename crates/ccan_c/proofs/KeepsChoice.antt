@@ -157,4 +157,6 @@ calls_keep terms tries nodes layout (bus.round offers number result out) past af
     (λ rests. same_choice after past rests.leaves) h
 calls_keep terms tries nodes layout (bus.read16 offset result out) past after seen added h = same_choice after past h.2
 calls_keep terms tries nodes layout (bus.write16 offset value result) past after seen added h = same_choice after past h.2
+calls_keep terms tries nodes layout (bus.read32 offset result out) past after seen added h = same_choice after past h.2
+calls_keep terms tries nodes layout (bus.write32 offset value result) past after seen added h = same_choice after past h.2
 calls_keep terms tries nodes layout (bus.line result out) past after seen added h = same_choice after past h.2

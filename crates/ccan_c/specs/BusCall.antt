@@ -38,7 +38,7 @@ use Rattle.ccan_c.specs.Call.{IsCall}
 use Rattle.ccan_c.specs.Codes.{busy, done, fault_range, flag_range, frame_range, frames_range, groups_range, node_range, senders}
 use Rattle.ccan_c.specs.Held.{IsOpenAs, WorksAsBefore, port_of}
 use Rattle.ccan_c.specs.Host.{flag_numbered, number_of}
-use Rattle.ccan_c.specs.HostCall.{IsRead, ReadsAtOffset, WritesAtOffset, code_of_access}
+use Rattle.ccan_c.specs.HostCall.{IsRead, ReadsAtOffset, ReadsWordAtOffset, WritesAtOffset, WritesWordAtOffset, code_of_access}
 use Rattle.ccan_c.specs.Outcome.{c_outcome, code_of_round}
 use Rattle.ccan_c.specs.Round.{IsRound, fault_numbered, is_frame, sending_of}
 use Rattle.ccan_c.specs.Settings.{is_from_one_to}
@@ -58,6 +58,8 @@ pub data BusCall : Type 0 where
   round : List Offer → ℕ → ℕ → ShownOutcome → BusCall
   read16 : ℕ → ℕ → ℕ → BusCall
   write16 : ℕ → ℕ → ℕ → BusCall
+  read32 : ℕ → ℕ → ℕ → BusCall
+  write32 : ℕ → ℕ → ℕ → BusCall
   line : ℕ → ℕ → BusCall
 
 -- the code that it got
@@ -74,6 +76,8 @@ code_got (counters node result out) = result
 code_got (round offers number result out) = result
 code_got (read16 offset result out) = result
 code_got (write16 offset value result) = result
+code_got (read32 offset result out) = result
+code_got (write32 offset value result) = result
 code_got (line result out) = result
 
 -- ---- the controller
@@ -178,6 +182,10 @@ BusCallMeans terms tries nodes map (read16 offset result out) past seen added af
     (own : InterfaceSet) × ReadsAtOffset terms tries map offset own seen added result out × (after ≡ past)
 BusCallMeans terms tries nodes map (write16 offset value result) past seen added after =
     (own : InterfaceSet) × WritesAtOffset terms tries map offset value own seen added result own × (after ≡ past)
+BusCallMeans terms tries nodes map (read32 offset result out) past seen added after =
+    (own : InterfaceSet) × ReadsWordAtOffset terms tries map offset own seen added result out × (after ≡ past)
+BusCallMeans terms tries nodes map (write32 offset value result) past seen added after =
+    (own : InterfaceSet) × WritesWordAtOffset terms tries map offset value own seen added result own × (after ≡ past)
 BusCallMeans terms tries nodes map (line result out) past seen added after =
     (result ≡ done) × ((pulls : Bool) × (out ≡ number_of pulls) × PullsLine terms seen added pulls) × (after ≡ past)
 

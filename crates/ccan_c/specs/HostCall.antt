@@ -16,7 +16,7 @@ use Rattle.ccan_registers.specs.declared.interface_set.InterfaceSet.{InterfaceSe
 use Rattle.ccan_registers.specs.ChipSteps.{ChipGoes}
 use Rattle.ccan_registers.specs.InterfaceSet.{Transferred}
 use Rattle.ccan_registers.specs.Objects.{ShowsFlags, ShowsInterrupt, ShowsObject, WaitsFor}
-use Rattle.ccan_registers.specs.Register.{PullsLine, ReadsAt, WritesAt}
+use Rattle.ccan_registers.specs.Register.{PullsLine, ReadsAt, ReadsWord, WritesAt, WritesWord}
 use Rattle.ccan_c.specs.declared.held.Held.{Held}
 use Rattle.ccan_c.specs.declared.shown_record.ShownRecord.{ShownRecord}
 use Rattle.ccan_c.specs.Answer.{code_of}
@@ -39,6 +39,8 @@ pub data HostCall : Type 0 where
   until : ℕ → ℕ → ℕ → ℕ → ℕ → HostCall
   read16 : ℕ → ℕ → ℕ → HostCall
   write16 : ℕ → ℕ → ℕ → HostCall
+  read32 : ℕ → ℕ → ℕ → HostCall
+  write32 : ℕ → ℕ → ℕ → HostCall
   line : ℕ → ℕ → HostCall
 
 -- the code that it got
@@ -52,6 +54,8 @@ code_got (peek object result out) = result
 code_got (until object number turns result out) = result
 code_got (read16 offset result out) = result
 code_got (write16 offset value result) = result
+code_got (read32 offset result out) = result
+code_got (write32 offset value result) = result
 code_got (line result out) = result
 
 -- ---- registers by their offsets
@@ -82,6 +86,17 @@ ReadsAtOffset terms tries map offset own seen added result out =
 abbrev pub WritesAtOffset : Terms → ℕ → Map → ℕ → ℕ → InterfaceSet → ChipHistory → ChipHistory → ℕ → InterfaceSet → Type 0
 WritesAtOffset terms tries map offset value own seen added result left =
     (told : Option (Result (Unit {0}) AccessError)) × WritesAt terms tries map offset value own seen added told left
+    × (result ≡ code_of_access told)
+
+-- the same of the word of 32 bits at an offset
+abbrev pub ReadsWordAtOffset : Terms → ℕ → Map → ℕ → InterfaceSet → ChipHistory → ChipHistory → ℕ → ℕ → Type 0
+ReadsWordAtOffset terms tries map offset own seen added result out =
+    (told : Option (Result ℕ AccessError)) × ReadsWord terms tries map offset own seen added told
+    × (result ≡ code_of_access told) × IsRead told out
+
+abbrev pub WritesWordAtOffset : Terms → ℕ → Map → ℕ → ℕ → InterfaceSet → ChipHistory → ChipHistory → ℕ → InterfaceSet → Type 0
+WritesWordAtOffset terms tries map offset value own seen added result left =
+    (told : Option (Result (Unit {0}) AccessError)) × WritesWord terms tries map offset value own seen added told left
     × (result ≡ code_of_access told)
 
 -- ---- other calls
@@ -141,6 +156,10 @@ HostCallMeans terms tries map (read16 offset result out) own seen added left =
     ReadsAtOffset terms tries map offset own seen added result out × (left ≡ own)
 HostCallMeans terms tries map (write16 offset value result) own seen added left =
     WritesAtOffset terms tries map offset value own seen added result left
+HostCallMeans terms tries map (read32 offset result out) own seen added left =
+    ReadsWordAtOffset terms tries map offset own seen added result out × (left ≡ own)
+HostCallMeans terms tries map (write32 offset value result) own seen added left =
+    WritesWordAtOffset terms tries map offset value own seen added result left
 HostCallMeans terms tries map (line result out) own seen added left =
     (result ≡ done) × ((pulls : Bool) × (out ≡ number_of pulls) × PullsLine terms seen added pulls) × (left ≡ own)
 

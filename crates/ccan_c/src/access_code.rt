@@ -30,6 +30,22 @@ pub(crate) fn code_of_access<T: Copy>(told: &Option<Result<T, AccessError>>) -> 
     }
 }
 
+/// The code of a read of a word, whose value goes into the place for it.
+pub(crate) fn read_word_out(told: &Option<Result<u32, AccessError>>, out: &mut u32) -> u32
+    ensures code { result ≡ call.code_of_access told.now }
+    ensures read { IsRead told.now out.new }
+    ensures refused { result ≢ done → out.new ≡ out.old }
+{
+    match told {
+        None => OFFSET_RANGE,
+        Some(Ok(value)) => {
+            *out = *value;
+            DONE
+        }
+        Some(Err(error)) => code_of_error(*error),
+    }
+}
+
 /// The code of a read, whose value goes into the place for it.
 pub(crate) fn read_out(told: &Option<Result<u16, AccessError>>, out: &mut u16) -> u32
     ensures code { result ≡ call.code_of_access told.now }

@@ -5,7 +5,7 @@ ghost use Rattle.ccan_c.specs.BusCall as bus_call;
 ghost use Rattle.ccan_c.specs.BusCall.{BusCallDoes};
 ghost use Rattle.ccan_c.specs.Codes.{busy, closed, done, spent};
 
-use crate::access_code::{code_of_access, read_out};
+use crate::access_code::{code_of_access, read_out, read_word_out};
 use crate::bus_handle::BusHandle;
 use crate::bus_lines::{enabling, starting};
 use crate::code::{
@@ -236,4 +236,31 @@ pub extern "C" fn ccan_bus_line(bus: &mut BusHandle, out: &mut u32) -> u32
     }
     *out = number_of(bus.handle.seal.as_mut().line());
     DONE
+}
+
+/// Reads the word of 32 bits at an offset, in bytes from where the chip begins: its lower half, and then its upper one.
+#[unsafe(no_mangle)]
+pub extern "C" fn ccan_bus_read32(bus: &mut BusHandle, offset: u32, out: &mut u32) -> u32
+    ensures call { BusCallDoes (bus_call.read32 offset result out.new)
+        (held_on bus.old) (held_on bus.new) }
+    ensures refused { result ≢ done → out.new ≡ out.old }
+{
+    if !bus.handle.is_open() {
+        return CLOSED;
+    }
+    let told = bus.handle.seal.as_mut().read_word(offset);
+    read_word_out(&told, out)
+}
+
+/// Writes the word of 32 bits at an offset, in bytes from where the chip begins: its upper half, and then its lower one.
+#[unsafe(no_mangle)]
+pub extern "C" fn ccan_bus_write32(bus: &mut BusHandle, offset: u32, value: u32) -> u32
+    ensures { BusCallDoes (bus_call.write32 offset value result)
+        (held_on bus.old) (held_on bus.new) }
+{
+    if !bus.handle.is_open() {
+        return CLOSED;
+    }
+    let told = bus.handle.seal.as_mut().write_word(offset, value);
+    code_of_access(&told)
 }

@@ -5,7 +5,7 @@ ghost use Rattle.ccan_c.specs.Host.{held_by};
 ghost use Rattle.ccan_c.specs.HostCall as host_call;
 ghost use Rattle.ccan_c.specs.HostCall.{HostCallDoes};
 
-use crate::access_code::{code_of_access, read_out};
+use crate::access_code::{code_of_access, read_out, read_word_out};
 use crate::code::{CLOSED, DONE, FLAG_RANGE, OBJECT_RANGE, REGISTER_RANGE, code_of};
 use crate::host_handle::HostHandle;
 use crate::numbers::{flag_numbered, number_of, register_numbered};
@@ -171,4 +171,31 @@ pub extern "C" fn ccan_line(host: &mut HostHandle, out: &mut u32) -> u32
     }
     *out = number_of(host.handle.seal.as_mut().line());
     DONE
+}
+
+/// Reads the word of 32 bits at an offset, in bytes from where the chip begins: its lower half, and then its upper one.
+#[unsafe(no_mangle)]
+pub extern "C" fn ccan_read32(host: &mut HostHandle, offset: u32, out: &mut u32) -> u32
+    ensures call { HostCallDoes (host_call.read32 offset result out.new)
+        (held_by host.old) (held_by host.new) }
+    ensures refused { result ≢ done → out.new ≡ out.old }
+{
+    if !host.handle.is_open() {
+        return CLOSED;
+    }
+    let told = host.handle.seal.as_mut().read_word(offset);
+    read_word_out(&told, out)
+}
+
+/// Writes the word of 32 bits at an offset, in bytes from where the chip begins: its upper half, and then its lower one.
+#[unsafe(no_mangle)]
+pub extern "C" fn ccan_write32(host: &mut HostHandle, offset: u32, value: u32) -> u32
+    ensures { HostCallDoes (host_call.write32 offset value result)
+        (held_by host.old) (held_by host.new) }
+{
+    if !host.handle.is_open() {
+        return CLOSED;
+    }
+    let told = host.handle.seal.as_mut().write_word(offset, value);
+    code_of_access(&told)
 }

@@ -2,13 +2,15 @@
 use crate::held::Held;
 use ccan_confine::Controller;
 use ccan_ram::Flag;
-use ccan_registers::{AccessError, flags, interrupt, interrupt_value, line, read_at, write_at};
+use ccan_registers::{
+    AccessError, flags, interrupt, interrupt_value, line, read_at, read_word, write_at, write_word,
+};
 
 impl Held {
     ghost use Rattle.std.specs.Prelude.{◌≡◌, false};
     ghost use Rattle.ccan_ram.specs.declared.port.PortName.TheVariants.{Bus};
     ghost use Rattle.ccan_registers.specs.Objects.{ShowsFlags, ShowsInterrupt};
-    ghost use Rattle.ccan_registers.specs.Register.{InterruptValue, PullsLine, ReadsAt, WritesAt};
+    ghost use Rattle.ccan_registers.specs.Register.{InterruptValue, PullsLine, ReadsAt, ReadsWord, WritesAt, WritesWord};
     ghost use Rattle.ccan_c.specs.Held.{pass_of};
     ghost use Rattle.ccan_c.specs.Steps.{HostSteps, Steps};
 
@@ -37,6 +39,43 @@ impl Held {
             unreachable!();
         };
         let (told, port) = write_at(
+            &mut self.own,
+            &self.ram,
+            port,
+            self.map,
+            offset,
+            value,
+            self.tries,
+        );
+        self.port = Some(port);
+        told
+    }
+
+    /// Reads the word of 32 bits at an offset.
+    pub(crate) fn read_word(&mut self, offset: u32) -> Option<Result<u32, AccessError>>
+        ensures { Steps (λ terms seen added.
+            ReadsWord terms self.old.tries self.old.map offset self.old.own seen added result)
+            self.old self.new }
+    {
+        let Some(port) = self.port.take() else {
+            unreachable!();
+        };
+        let (told, port) = read_word(&self.own, &self.ram, port, self.map, offset, self.tries);
+        self.port = Some(port);
+        told
+    }
+
+    /// Writes the word of 32 bits at an offset.
+    pub(crate) fn write_word(&mut self, offset: u32, value: u32) -> Option<Result<(), AccessError>>
+        ensures steps { HostSteps (λ terms seen added left.
+            WritesWord terms self.old.tries self.old.map offset value self.old.own seen added result
+            left) self.old self.new }
+        ensures bus { (pass_of self.old).port ≡ Bus → self.new.own ≡ self.old.own }
+    {
+        let Some(port) = self.port.take() else {
+            unreachable!();
+        };
+        let (told, port) = write_word(
             &mut self.own,
             &self.ram,
             port,

@@ -3,3 +3,4 @@ pub mod Going
 pub mod Lines
 pub mod Rounding
 pub mod Accesses
+pub mod Halves

@@ -1,7 +1,7 @@
 -- What a read and a write of a register of the chip come to. Source: C_CAN User's Manual 1.2, section 3 (Programmer's Model);
 -- that a read of the Status register of a D_CAN clears it: Texas Instruments AM335x Technical Reference Manual, "Error and
 -- Status Register"; what a port may do there that is not the owner of an interface is this project's own.
-use Rattle.std.specs.Prelude.{ℕ, ◌≡◌, ◌*◌, ◌==◌, Bool, false, not, ◌&&◌, [], Option, Some, None, Result, Ok, Err, MatchBool, MatchOption}
+use Rattle.std.specs.Prelude.{ℕ, ◌≡◌, ◌+◌, ◌*◌, ◌/◌, ◌%◌, ◌^◌, ◌==◌, Bool, true, false, not, ◌&&◌, [], Option, Some, None, Result, Ok, Err, MatchBool, MatchOption}
 use Rattle.ccan_object.specs.declared.register.Reg.{Reg}
 use Rattle.ccan_object.specs.Interface.{Registers, set_register, shown}
 use Rattle.ccan_object.specs.Bits.{part}
@@ -208,3 +208,56 @@ abbrev pub WritesAt : Terms → ℕ → Map → ℕ → ℕ → InterfaceSet →
 WritesAt terms tries map offset value own seen added None left = HasNone map terms.profile offset × (added ≡ []) × (left ≡ own)
 WritesAt terms tries map offset value own seen added (Some told) left =
     (r : Register) × IsAt map terms.profile offset r × Writes terms tries r value own seen added told left
+
+-- ---- 32 bits in one access
+
+-- an access to one half of a word was refused; where no register begins, none is
+abbrev pub is_refused : {Value : Type 0} → Option (Result Value AccessError) → Bool
+is_refused (Some (Err why)) = true
+is_refused told = false
+
+-- the halves of a word, the lower one first; a half without a register reads 0
+abbrev pub joined : Option (Result ℕ AccessError) → Option (Result ℕ AccessError) → Option (Result ℕ AccessError)
+joined None None = None
+joined None (Some (Ok high)) = Some (Ok (high * 2 ^ 16))
+joined None (Some (Err why)) = Some (Err why)
+joined (Some (Ok low)) None = Some (Ok low)
+joined (Some (Ok low)) (Some (Ok high)) = Some (Ok (high * 2 ^ 16 + low))
+joined (Some (Ok low)) (Some (Err why)) = Some (Err why)
+joined (Some (Err why)) high = Some (Err why)
+
+-- A read of the word at an offset: of its lower half, and then, unless that was refused, of its upper one. An offset that is not
+-- a multiple of 4 is none of a word.
+abbrev pub ReadsHalves : Terms → ℕ → Map → ℕ → InterfaceSet → ChipHistory → ChipHistory → Option (Result ℕ AccessError) → Type 0
+ReadsHalves terms tries map offset own seen added told =
+    (low : Option (Result ℕ AccessError)) × MatchBool (is_refused low)
+    (ReadsAt terms tries map offset own seen added low × (told ≡ low))
+    ((high : Option (Result ℕ AccessError)) × Then (λ s a. ReadsAt terms tries map offset own s a low)
+    (λ s a. ReadsAt terms tries map (offset + 2) own s a high) seen added × (told ≡ joined low high))
+
+abbrev pub ReadsWord : Terms → ℕ → Map → ℕ → InterfaceSet → ChipHistory → ChipHistory → Option (Result ℕ AccessError) → Type 0
+ReadsWord terms tries map offset own seen added told =
+    MatchBool (offset % 4 == 0) (ReadsHalves terms tries map offset own seen added told) ((added ≡ []) × (told ≡ None))
+
+-- how both halves were written, the upper one, which was not refused, before the lower one
+abbrev pub both_written : Option (Result (Unit {0}) AccessError) → Option (Result (Unit {0}) AccessError)
+    → Option (Result (Unit {0}) AccessError)
+both_written high None = high
+both_written high (Some low) = Some low
+
+-- A write of the word at an offset: of its upper half, and then, unless that was refused, of its lower one. So the Command Mask
+-- register of a D_CAN is written before the Command Request register, which stands below it and starts the transfer.
+abbrev pub WritesHalves : Terms → ℕ → Map → ℕ → ℕ → InterfaceSet → ChipHistory → ChipHistory
+    → Option (Result (Unit {0}) AccessError) → InterfaceSet → Type 0
+WritesHalves terms tries map offset value own seen added told left =
+    (high : Option (Result (Unit {0}) AccessError)) × MatchBool (is_refused high)
+    (WritesAt terms tries map (offset + 2) (value / 2 ^ 16) own seen added high left × (told ≡ high))
+    ((low : Option (Result (Unit {0}) AccessError)) × (between : InterfaceSet)
+    × Then (λ s a. WritesAt terms tries map (offset + 2) (value / 2 ^ 16) own s a high between)
+    (λ s a. WritesAt terms tries map offset (value % 2 ^ 16) between s a low left) seen added × (told ≡ both_written high low))
+
+abbrev pub WritesWord : Terms → ℕ → Map → ℕ → ℕ → InterfaceSet → ChipHistory → ChipHistory
+    → Option (Result (Unit {0}) AccessError) → InterfaceSet → Type 0
+WritesWord terms tries map offset value own seen added told left =
+    MatchBool (offset % 4 == 0) (WritesHalves terms tries map offset value own seen added told left)
+    ((added ≡ []) × (told ≡ None) × (left ≡ own))

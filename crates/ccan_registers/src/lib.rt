@@ -7,6 +7,7 @@ mod interface_set;
 mod objects;
 mod registers;
 mod rounds;
+mod words;
 
 pub use access_error::AccessError;
 pub use controller::{change, look};
@@ -16,3 +17,4 @@ pub use registers::{
     interrupt_value, line, read, read_at, read_status, write, write_at, write_controller,
 };
 pub use rounds::{load, recessive, round};
+pub use words::{read_word, write_word};

@@ -1,0 +1,12 @@
+use Rattle.std.proofs.Common.{refl}
+use Rattle.ccan_c.specs.BusCall as bus_call
+use Rattle.ccan_c.proofs.Calls.{bus_looked, on_open}
+use Rattle.ccan_c.proofs.bus.ccan_bus_read32.Goals as goal
+
+pub returns-clause-call : goal.returns-clause-call
+returns-clause-call c =
+    let run = c.read_word-told in
+    let held = c.as_mut.result.now in
+    on_open _ _ _ _ _ c.as_mut.ensures.value
+    (bus_looked (bus_call.read32 c.args.offset c.read_word_out.result c.read_word_out.new.out) held run.new.self _ run.ensures
+    (λ past seen added led h. (held.own, (run.result, h, c.read_word_out.ensures.code, c.read_word_out.ensures.read), refl)))
