@@ -261,7 +261,8 @@ fn round(came: RoundAnswer) -> u32 {
         report,
         own: None,
         noted: None,
-    }).kind
+    })
+    .kind
 }
 
 #[test]
