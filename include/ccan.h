@@ -14,7 +14,7 @@
  *      one     at the objects: ccan_request where it is done, and a write of Command Request; ccan_flags, ccan_interrupt,
  *              ccan_peek, ccan_bus_flags, and a read of a register of a flag. At the controller: ccan_status, ccan_control,
  *              ccan_init, ccan_recessive and ccan_counters of node 0 where they are done; a read or a write of Control, Status,
- *              Bit Timing, Test and BRP Extension, and a read of Error Counter.
+ *              Bit Timing, Test and BRP Extension, and a read of Error Counter; ccan_loop_back, to switch it off.
  *      two     ccan_bus_interrupt, ccan_line, ccan_bus_line and a read of Interrupt: a look at the controller, and then, where
  *              no status interrupt is shown, all objects in one moment. ccan_loop_back, to switch it on.
  *      more    ccan_until: its looks. ccan_load: a look at the controller, then the choice of what is sent, and its start.
@@ -194,7 +194,7 @@ CCAN_HOLDS(sizeof(ccan_final) == 1284 && offsetof(ccan_final, records) == 4);
  * ends, without its records, where it answers CCAN_DONE. */
 CCAN_CODE ccan_open(ccan_chip *chip, uint32_t profile, uint32_t nodes, uint32_t tries);
 
-/* How the registers lie, in bytes from where the chip begins. All have the same registers of 16 bits. */
+/* How the registers lie, in bytes from where the chip begins. All have the same registers of 16 bits, with the bits of C_CAN. */
 enum ccan_layout {
     CCAN_LAYOUT_C_CAN,    /* C_CAN: the registers side by side, at the offsets of enum ccan_offset */
     CCAN_LAYOUT_C_CAN_32, /* C_CAN: each register at twice that offset, alone in a word of 32 bits */
