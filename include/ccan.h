@@ -9,19 +9,19 @@
  *  - It is safe for every number that it is given, and it ends by returning, whatever the other threads do: it waits for
  *    nobody.
  *  - There is one history of the chip from its opening to ccan_end, of its objects and of its controller, in which the steps of
- *    each port stand in the order of the calls on its handle. Each step answers what a memory of one thread answers at its
- *    place. How many steps a call makes:
- *      one     ccan_request where it is done, and a write of Command Request; ccan_flags, ccan_interrupt, ccan_peek,
- *              ccan_bus_flags, and a read of a register of a flag: all objects in one moment, or one object.
- *              ccan_status, ccan_control, ccan_init, ccan_recessive and ccan_counters of node 0 where they are done; a read or a
- *              write of Control, Status, Bit Timing, Test and BRP Extension, and a read of Error Counter: at the controller.
+ *    each port stand in the order of the calls on its handle. What a call answers is what a memory of one thread answers at its
+ *    place there. How many places that is:
+ *      one     at the objects: ccan_request where it is done, and a write of Command Request; ccan_flags, ccan_interrupt,
+ *              ccan_peek, ccan_bus_flags, and a read of a register of a flag. At the controller: ccan_status, ccan_control,
+ *              ccan_init, ccan_recessive and ccan_counters of node 0 where they are done; a read or a write of Control, Status,
+ *              Bit Timing, Test and BRP Extension, and a read of Error Counter; ccan_loop_back, to switch it off.
  *      two     ccan_bus_interrupt, ccan_line, ccan_bus_line and a read of Interrupt: a look at the controller, and then, where
  *              no status interrupt is shown, all objects in one moment. ccan_loop_back, to switch it on.
  *      more    ccan_until: its looks. ccan_load: a look at the controller, then the choice of what is sent, and its start.
  *              ccan_round: these three, then the finish, the store or both, and last the round's event at the controller.
  *      none    ccan_set, ccan_get, ccan_meet, ccan_counters of another node; reads and writes of the other registers of an
  *              interface, and writes of registers that can only be read.
- *    Between two steps of a call those of other ports may stand. What ccan_load and ccan_round choose to send is chosen at one
+ *    Between two of a call's places steps of other ports may stand. What ccan_load and ccan_round choose to send is chosen at one
  *    place, as on the part: the first object that is ready there, or, where its start finds it ready no more, the next one that
  *    was. ccan_end gives the records that the whole history leaves.
  *  - ccan_round takes part as the controller is at its look, and its event is made of the controller as it is then; the error
@@ -194,7 +194,7 @@ CCAN_HOLDS(sizeof(ccan_final) == 1284 && offsetof(ccan_final, records) == 4);
  * ends, without its records, where it answers CCAN_DONE. */
 CCAN_CODE ccan_open(ccan_chip *chip, uint32_t profile, uint32_t nodes, uint32_t tries);
 
-/* How the registers lie, in bytes from where the chip begins. All have the same registers of 16 bits. */
+/* How the registers lie, in bytes from where the chip begins. All have the same registers of 16 bits, with the bits of C_CAN. */
 enum ccan_layout {
     CCAN_LAYOUT_C_CAN,    /* C_CAN: the registers side by side, at the offsets of enum ccan_offset */
     CCAN_LAYOUT_C_CAN_32, /* C_CAN: each register at twice that offset, alone in a word of 32 bits */

@@ -115,6 +115,12 @@ static void numbers(void)
     EXPECT(ccan_until(&chip.if2, 5, CCAN_NEWDAT, 1, &word.out) == CCAN_DONE && INTACT(word) && word.out == 1);
     EXPECT(ccan_until(&chip.if2, 5, CCAN_MSGLST, 1, &word.out) == CCAN_DONE && INTACT(word) && word.out == 0);
     EXPECT(ccan_recessive(&chip.bus, 1, &word.out) == CCAN_DONE && INTACT(word) && word.out == CCAN_ACTIVE);
+    EXPECT(ccan_read16(&chip.if1, CCAN_OFFSET_IF1_MASK_2, &half.out) == CCAN_DONE && INTACT(half) && half.out == 0xd567);
+    EXPECT(ccan_read16(&chip.if1, CCAN_OFFSET_IF2_MASK_2, &half.out) == CCAN_OTHER_INTERFACE && INTACT(half) && half.out == 0xd567);
+    EXPECT(ccan_bus_read16(&chip.bus, CCAN_OFFSET_INTERRUPT, &half.out) == CCAN_DONE && INTACT(half) && half.out == 5);
+    EXPECT(ccan_line(&chip.if1, &word.out) == CCAN_DONE && INTACT(word) && word.out == 0);
+    EXPECT(ccan_bus_write16(&chip.bus, CCAN_OFFSET_CONTROL, 0x0002) == CCAN_DONE);
+    EXPECT(ccan_bus_line(&chip.bus, &word.out) == CCAN_DONE && INTACT(word) && word.out == 1);
     EXPECT(ccan_version() == CCAN_VERSION && ccan_is_open(&chip));
 }
 

@@ -1,5 +1,5 @@
-/* Each request for memory of ccan_open is refused in turn: it answers CCAN_NO_MEMORY, the chip stays as it was, closed or
- * open, and nothing is lost. No other call asks for memory, and ccan_end gives all of it back. Link with
+/* Each request for memory of ccan_open and of ccan_open_reset is refused in turn: it answers CCAN_NO_MEMORY, the chip stays as it
+ * was, closed or open, and nothing is lost. No other call asks for memory, and ccan_end gives all of it back. Link with
  * -Wl,--wrap=malloc,--wrap=realloc,--wrap=free. */
 #include <ccan.h>
 #include <stdio.h>
@@ -59,18 +59,23 @@ static int all_calls(ccan_chip *chip)
         && !ccan_load(&chip->bus, &loaded) && !ccan_round(&chip->bus, &none, 0, CCAN_QUIET, &outcome)
         && !ccan_status(&chip->bus, &value) && !ccan_control(&chip->bus, 1, 1) && !ccan_init(&chip->bus)
         && !ccan_recessive(&chip->bus, 128, &number) && !ccan_loop_back(&chip->bus, 0)
+        && !ccan_write16(&chip->if1, CCAN_OFFSET_CONTROL, 0x000e) && !ccan_read16(&chip->if2, CCAN_OFFSET_STATUS, &value)
+        && !ccan_write16(&chip->if1, CCAN_OFFSET_IF1_COMMAND_REQUEST, 7)
+        && !ccan_read16(&chip->if2, CCAN_OFFSET_INTERRUPT, &value) && !ccan_line(&chip->if1, &number)
+        && !ccan_bus_write16(&chip->bus, CCAN_OFFSET_TEST, 0) && !ccan_bus_read16(&chip->bus, CCAN_OFFSET_NEW_DATA_1, &value)
+        && !ccan_bus_line(&chip->bus, &number)
         && !ccan_counters(&chip->bus, 0, &counts)
         && !ccan_bus_flags(&chip->bus, CCAN_NEWDAT, &word) && !ccan_bus_interrupt(&chip->bus, &value);
 }
 
-/* Refuses each request of ccan_open in turn, until none is refused: where one was, the chip is as it was before. Gives how many
- * there were, -1 where something is wrong. */
-static long open_refused(ccan_chip *chip, bool was_open)
+/* Refuses each request of ccan_open or ccan_open_reset in turn, until none is refused: where one was, the chip is as it was before.
+ * Gives how many there were, -1 where something is wrong. */
+static long open_refused(ccan_chip *chip, bool was_open, bool reset)
 {
     long before = live;
     for (long number = 0; number < 1000; number++) {
         left = number;
-        uint32_t code = ccan_open(chip, 2, 8, 100);
+        uint32_t code = reset ? ccan_open_reset(chip, 2, 8, 100, CCAN_LAYOUT_D_CAN) : ccan_open(chip, 2, 8, 100);
         left = -1;
         if (code == CCAN_DONE)
             return number;
@@ -90,9 +95,9 @@ int main(void)
     if (chip == NULL)
         return 2;
     ccan_chip_init(chip);
-    long number = open_refused(chip, false);
+    long number = open_refused(chip, false, false);
     long blocks = live;
-    if (number <= 0 || open_refused(chip, true) != number)
+    if (number <= 0 || open_refused(chip, true, true) != number || open_refused(chip, true, false) != number)
         return 1;
     if (live != blocks) {
         printf("an open chip that is opened again: %ld blocks instead of %ld\n", live, blocks);
@@ -111,7 +116,7 @@ int main(void)
     }
     /* with memory at hand: a call that takes a block and keeps it is found here alone */
     for (int turn = 0; turn < 3; turn++) {
-        if (ccan_open(chip, 1, 0, 1) != CCAN_DONE || !ccan_is_open(chip) || ccan_end(chip, &last) != CCAN_DONE || live != 0) {
+        if ((turn == 1 ? ccan_open_reset(chip, 1, 0, 1, CCAN_LAYOUT_C_CAN) : ccan_open(chip, 1, 0, 1)) != CCAN_DONE || !ccan_is_open(chip) || ccan_end(chip, &last) != CCAN_DONE || live != 0) {
             printf("opened and ended: %ld blocks left\n", live);
             return 1;
         }

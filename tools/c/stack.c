@@ -53,6 +53,18 @@ static uint32_t control(void) { return ccan_control(&chip.bus, 1, 1) | ccan_init
 static uint32_t recessive(void) { return ccan_recessive(&chip.bus, 10000, &number); }
 static uint32_t bus_flags(void) { return ccan_bus_flags(&chip.bus, CCAN_MSGVAL, &word); }
 static uint32_t bus_interrupt(void) { return ccan_bus_interrupt(&chip.bus, &value); }
+static uint32_t open_reset(void) { return ccan_open_reset(&chip, 2, 1, 3, CCAN_LAYOUT_C_CAN); }
+static uint32_t read_status(void) { return ccan_read16(&chip.if1, CCAN_OFFSET_STATUS, &value); }
+static uint32_t read_interrupt(void) { return ccan_read16(&chip.if1, CCAN_OFFSET_INTERRUPT, &value); }
+static uint32_t read_flags(void) { return ccan_read16(&chip.if1, CCAN_OFFSET_MESSAGE_VALID_4, &value); }
+static uint32_t write_control(void) { return ccan_write16(&chip.if1, CCAN_OFFSET_CONTROL, 0x000e); }
+static uint32_t write_request(void) { return ccan_write16(&chip.if1, CCAN_OFFSET_IF1_COMMAND_REQUEST, 1); }
+static uint32_t line(void) { return ccan_line(&chip.if1, &number); }
+static uint32_t bus_registers(void)
+{
+    return ccan_bus_read16(&chip.bus, CCAN_OFFSET_INTERRUPT, &value) | ccan_bus_write16(&chip.bus, CCAN_OFFSET_CONTROL, 0)
+        | ccan_bus_line(&chip.bus, &number);
+}
 static uint32_t end(void) { return ccan_end(&chip, &last); }
 
 static const struct { const char *name; uint32_t (*call)(void); } calls[] = {
@@ -60,7 +72,9 @@ static const struct { const char *name; uint32_t (*call)(void); } calls[] = {
     { "flags", host_flags }, { "interrupt", host_interrupt }, { "peek", peek }, { "until", wait_for_flag },
     { "round, received", round_received }, { "load", load }, { "round, sent", round_sent }, { "round, looped", round_looped },
     { "status", status }, { "control", control }, { "recessive", recessive }, { "bus flags", bus_flags },
-    { "bus interrupt", bus_interrupt }, { "end", end } };
+    { "bus interrupt", bus_interrupt }, { "open after a reset", open_reset }, { "read Status", read_status },
+    { "read Interrupt", read_interrupt }, { "read flags", read_flags }, { "write Control", write_control },
+    { "write Command Request", write_request }, { "line", line }, { "registers by the bus", bus_registers }, { "end", end } };
 
 static void *work(void *at)
 {

@@ -427,28 +427,19 @@ fn bit_timing_is_written_while_it_is_configured(rt: HostRuntime) {
     let mut chip = reset(&rt, rt.alloc(), 0);
     write_all(&rt, &mut chip.if1, &[(0x06, 0x1c00)]);
     same(&rt, reads(&rt, &mut chip.if2, 0x06), 0x2301);
-    write_all(
-        &rt,
-        &mut chip.if1,
-        &[(0x00, 0x0041), (0x06, 0x9c00), (0x0c, 0x00f5)],
-    );
+    let settings = [(0x00, 0x0041), (0x06, 0x9c00), (0x0c, 0x00f5)];
+    write_all(&rt, &mut chip.if1, &settings);
     same(&rt, reads(&rt, &mut chip.if2, 0x06), 0x1c00);
     same(&rt, reads(&rt, &mut chip.if2, 0x0c), 0x0005);
 }
 
-/// Receives frames 0x123 in object 5, with RxIE, and starts with IE, SIE and EIE.
+/// Receives frames 0x123 in object 5, with RxIE.
+const RECEIVES: [(u32, u16); 4] = [(0x12, 0x00f3), (0x1a, 0x848c), (0x1c, 0x0488), (0x10, 5)];
+
+/// Sets object 5 up, and starts with IE, SIE and EIE.
 fn starts(rt: &impl Abort, host: &mut HostHandle) {
-    write_all(
-        rt,
-        host,
-        &[
-            (0x12, 0x00f3),
-            (0x1a, 0x848c),
-            (0x1c, 0x0488),
-            (0x10, 5),
-            (0x00, 0x000e),
-        ],
-    );
+    write_all(rt, host, &RECEIVES);
+    write_all(rt, host, &[(0x00, 0x000e)]);
 }
 
 #[test]
