@@ -21,6 +21,7 @@
  *              ccan_round: these three, then the finish, the store or both, and last the round's event at the controller.
  *      none    ccan_set, ccan_get, ccan_meet, ccan_counters of another node; reads and writes of the other registers of an
  *              interface, and writes of registers that can only be read.
+ *      A word of 32 bits: those of its two halves, in the order in which they are read or written.
  *    Between two of a call's places steps of other ports may stand. What ccan_load and ccan_round choose to send is chosen at one
  *    place, as on the part: the first object that is ready there, or, where its start finds it ready no more, the next one that
  *    was. ccan_end gives the records that the whole history leaves.
@@ -297,6 +298,19 @@ CCAN_CODE ccan_read16(ccan_host *host, uint32_t offset, uint16_t *out);
  * BRP Extension, Test and Command Request: nothing was changed, and the call may be made again; CCAN_SPENT, of Command Request. */
 CCAN_CODE ccan_write16(ccan_host *host, uint32_t offset, uint16_t value);
 
+/* Reads the word of 32 bits at an offset of the chip's layout, a multiple of 4: as ccan_read16 its lower half, at the offset, and
+ * then, unless that is refused, its upper half, two bytes on. A half where no register begins reads 0. The halves are two reads:
+ * between them steps of other ports may stand, so the flags of 32 objects are read at two moments. The first of
+ * CCAN_OFFSET_RANGE (also where neither half is a register), CCAN_OTHER_INTERFACE and CCAN_BUSY that applies; else CCAN_DONE. */
+CCAN_CODE ccan_read32(ccan_host *host, uint32_t offset, uint32_t *out);
+
+/* Writes the word of 32 bits at an offset of the chip's layout, a multiple of 4: as ccan_write16 its upper half, two bytes on,
+ * and then, unless that is refused, its lower half. So the mask of a command of CCAN_LAYOUT_D_CAN is there before its request
+ * makes the transfer. What is for a half where no register begins is dropped. CCAN_OFFSET_RANGE (also where neither half is a
+ * register) and CCAN_OTHER_INTERFACE: nothing was written. Else CCAN_DONE; CCAN_BUSY and CCAN_SPENT as with ccan_write16, of the
+ * half that was refused: where that is the lower one, the upper one is written, and after CCAN_BUSY the call may be made again. */
+CCAN_CODE ccan_write32(ccan_host *host, uint32_t offset, uint32_t value);
+
 /* Whether the part pulls its interrupt line: 1 where IE is 1 and the Interrupt register is not 0, else 0. */
 CCAN_CODE ccan_line(ccan_host *host, uint32_t *out);
 
@@ -304,6 +318,8 @@ CCAN_CODE ccan_line(ccan_host *host, uint32_t *out);
  * alone, and answer CCAN_OTHER_INTERFACE here. */
 CCAN_CODE ccan_bus_read16(ccan_bus *bus, uint32_t offset, uint16_t *out);
 CCAN_CODE ccan_bus_write16(ccan_bus *bus, uint32_t offset, uint16_t value);
+CCAN_CODE ccan_bus_read32(ccan_bus *bus, uint32_t offset, uint32_t *out);
+CCAN_CODE ccan_bus_write32(ccan_bus *bus, uint32_t offset, uint32_t value);
 CCAN_CODE ccan_bus_line(ccan_bus *bus, uint32_t *out);
 
 /* ---- a host: each call answers CCAN_CLOSED first, where its handle is closed */

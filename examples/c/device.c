@@ -53,18 +53,27 @@ void device_write(struct device *device, uint32_t offset, uint16_t value)
         must(code);
 }
 
-/* A register of 32 bits of a D_CAN, as two halves: the upper one is written first, since the lower one of IFx Command makes the
- * transfer, by the mask in the upper one. */
+/* A register of 32 bits of a D_CAN. */
 uint32_t device_read32(struct device *device, uint32_t offset)
 {
-    uint32_t low = device_read(device, offset);
-    return low | (uint32_t)device_read(device, offset + 2) << 16;
+    uint32_t value = 0;
+    must(ccan_meet(&device->chip));
+    uint32_t code = ccan_read32(&device->chip.if1, offset, &value);
+    if (code == CCAN_OTHER_INTERFACE)
+        code = ccan_read32(&device->chip.if2, offset, &value);
+    if (code != CCAN_OFFSET_RANGE)
+        must(code);
+    return value;
 }
 
 void device_write32(struct device *device, uint32_t offset, uint32_t value)
 {
-    device_write(device, offset + 2, (uint16_t)(value >> 16));
-    device_write(device, offset, (uint16_t)value);
+    must(ccan_meet(&device->chip));
+    uint32_t code = ccan_write32(&device->chip.if1, offset, value);
+    if (code == CCAN_OTHER_INTERFACE)
+        code = ccan_write32(&device->chip.if2, offset, value);
+    if (code != CCAN_OFFSET_RANGE)
+        must(code);
 }
 
 /* Whether the controller pulls its interrupt line. */

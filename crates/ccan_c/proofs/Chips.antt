@@ -1,5 +1,5 @@
 -- The three handles of a chip that opens.
-use Rattle.std.proofs.Common.{◌≡◌, ℕ, Some, None, sym, ap, subst, ◌∙◌}
+use Rattle.std.proofs.Common.{◌≡◌, ℕ, Some, None, ap, subst, ◌∙◌}
 use Rattle.std.specs.Prelude.{Option, IfSome}
 use Rattle.ccan_object.specs.declared.profile.Profile.{Profile}
 use Rattle.ccan_ram.specs.declared.port.PortName.TheVariants.{If1, If2, Bus}

@@ -1,5 +1,5 @@
 -- Loop back mode: test mode, and then LBack.
-use Rattle.std.proofs.Common.{◌≡◌, ℕ, true, Some, Ok, inr, refl, subst, ◌∙◌}
+use Rattle.std.proofs.Common.{ℕ, true, Some, Ok, inr, refl, subst, ◌∙◌}
 use Rattle.std.specs.Prelude.{Result}
 use Rattle.ccan_ram.specs.Terms.{Terms}
 use Rattle.ccan_endless.specs.Chip.{ChipHistory}

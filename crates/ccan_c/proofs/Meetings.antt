@@ -1,6 +1,6 @@
 -- Three ports of a chip that meet, two at a time: IF1 meets IF2 and then the bus, and IF2 meets IF1 again. Two that meet have then
 -- seen one and the same, so at the end each has seen what any of the three had.
-use Rattle.std.proofs.Common.{◌≡◌, List, ◌++◌, refl, sym, ap, subst, ◌∙◌, arith}
+use Rattle.std.proofs.Common.{◌≡◌, List, ◌++◌, sym, ap, subst, ◌∙◌, arith}
 use Rattle.ccan_ram.specs.declared.event.Event.{Event}
 use Rattle.ccan_ram.specs.declared.port.PortName.{PortName}
 use Rattle.ccan_ram.specs.History.{BeginsWith, events_of}

@@ -1,16 +1,16 @@
 //! The calls of C without their promises: a test that makes many of them has then no more to prove than its own lines.
 use crate::bus::{
-    ccan_bus_flags, ccan_bus_interrupt, ccan_bus_line, ccan_bus_read16, ccan_bus_write16,
-    ccan_control, ccan_counters, ccan_init, ccan_load, ccan_loop_back, ccan_recessive, ccan_round,
-    ccan_status,
+    ccan_bus_flags, ccan_bus_interrupt, ccan_bus_line, ccan_bus_read16, ccan_bus_read32,
+    ccan_bus_write16, ccan_bus_write32, ccan_control, ccan_counters, ccan_init, ccan_load,
+    ccan_loop_back, ccan_recessive, ccan_round, ccan_status,
 };
 use crate::bus_handle::BusHandle;
 use crate::chip::Chip;
 use crate::ending::ccan_end;
 use crate::expect::same;
 use crate::host::{
-    ccan_flags, ccan_get, ccan_interrupt, ccan_line, ccan_peek, ccan_read16, ccan_request,
-    ccan_set, ccan_until, ccan_write16,
+    ccan_flags, ccan_get, ccan_interrupt, ccan_line, ccan_peek, ccan_read16, ccan_read32,
+    ccan_request, ccan_set, ccan_until, ccan_write16, ccan_write32,
 };
 use crate::host_handle::HostHandle;
 use crate::meeting::ccan_meet;
@@ -115,6 +115,14 @@ pub fn write16(host: &mut HostHandle, offset: u32, value: u16) -> u32 {
     ccan_write16(host, offset, value)
 }
 
+pub fn read32(host: &mut HostHandle, offset: u32, value: &mut u32) -> u32 {
+    ccan_read32(host, offset, value)
+}
+
+pub fn write32(host: &mut HostHandle, offset: u32, value: u32) -> u32 {
+    ccan_write32(host, offset, value)
+}
+
 /// The register at this offset as a host reads it.
 pub fn reads(rt: &impl Abort, host: &mut HostHandle, offset: u32) -> u16 {
     let mut value = 7;
@@ -144,6 +152,14 @@ pub fn bus_read16(bus: &mut BusHandle, offset: u32, value: &mut u16) -> u32 {
 
 pub fn bus_write16(bus: &mut BusHandle, offset: u32, value: u16) -> u32 {
     ccan_bus_write16(bus, offset, value)
+}
+
+pub fn bus_read32(bus: &mut BusHandle, offset: u32, value: &mut u32) -> u32 {
+    ccan_bus_read32(bus, offset, value)
+}
+
+pub fn bus_write32(bus: &mut BusHandle, offset: u32, value: u32) -> u32 {
+    ccan_bus_write32(bus, offset, value)
 }
 
 pub fn bus_line(bus: &mut BusHandle, pulled: &mut u32) -> u32 {

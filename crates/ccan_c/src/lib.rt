@@ -2,8 +2,8 @@
 //!
 //! A chip lies in memory of C's and has three handles, one for each port. A handle is a mark and a pointer that says
 //! nothing of what it leads to: a port of the memory without a lock with a share of that memory, interface registers, and
-//! a bus. A call runs the line of its name on these as a script would, so it means what that line means, or it looks at the
-//! memory in one moment; all of it is in one history of all three handles.
+//! a bus. A call makes steps on these, at the objects and at the controller, and its contract says what these steps are; all
+//! of them are in one history of all three handles.
 //!
 //! ```text
 //!  thread A     thread B     thread C

@@ -3,10 +3,10 @@ use crate::bus_handle::BusHandle;
 use crate::chip::Chip;
 use crate::expect::{holds, same};
 use crate::from_c::{
-    bus_flags, bus_interrupt, bus_line, bus_read16, bus_write16, control, counters, end, flags,
-    init, interrupt, is_open, load, loop_back, meet, open, open_reset, opened, peek, pulls, read16,
-    reads, recessive, request, reset, round, set, set_all, shown, status, until, write_all,
-    write16,
+    bus_flags, bus_interrupt, bus_line, bus_read16, bus_read32, bus_write16, bus_write32, control,
+    counters, end, flags, init, interrupt, is_open, load, loop_back, meet, open, open_reset,
+    opened, peek, pulls, read16, read32, reads, recessive, request, reset, round, set, set_all,
+    shown, status, until, write_all, write16, write32,
 };
 use crate::host::{ccan_request, ccan_set};
 use crate::host_handle::HostHandle;
@@ -497,6 +497,56 @@ fn a_read_of_status_clears_a_dcan(rt: HostRuntime) {
     same(&rt, reads(&rt, &mut chip.if2, 0x04), 0x0007);
 }
 
+/// Receives frames 0x123 in object 5 of a D_CAN: Arbitration, Message Control, and the command with its mask above.
+const RECEIVES_32: [(u32, u32); 4] = [
+    (0x108, 0x848c_0000),
+    (0x10c, 0x0000_0488),
+    (0x100, 0x00f3_0005),
+    (0x000, 0),
+];
+
+#[test]
+fn a_frame_is_received_by_words_of_32_bits(rt: HostRuntime) {
+    let mut chip = reset(&rt, rt.alloc(), 2);
+    for (offset, value) in &RECEIVES_32 {
+        same(&rt, write32(&mut chip.if1, *offset, *value), 0);
+    }
+    same(&rt, played(&rt, &mut chip.bus, &[offer(1)], 0).stored, 5);
+    same(&rt, write32(&mut chip.if1, 0x100, 0x007f_0005), 0);
+    let mut word = 7;
+    same(&rt, read32(&mut chip.if1, 0x110, &mut word), 0);
+    same(&rt, word, 0x0000_2211);
+}
+
+/// Bit Timing is the lower half of its word, and BRP Extension the upper one.
+#[test]
+fn the_bus_reads_and_writes_words_of_32_bits(rt: HostRuntime) {
+    let mut chip = reset(&rt, rt.alloc(), 2);
+    let mut word = 7;
+    same(&rt, bus_write32(&mut chip.bus, 0x000, 0xffff_0041), 0);
+    same(&rt, bus_read32(&mut chip.bus, 0x000, &mut word), 0);
+    same(&rt, word, 0x0000_0041);
+    same(&rt, bus_write32(&mut chip.bus, 0x00c, 0x0005_1c00), 0);
+    same(&rt, bus_read32(&mut chip.bus, 0x00c, &mut word), 0);
+    same(&rt, word, 0x0005_1c00);
+}
+
+/// At no multiple of 4, where neither half is a register, and where the lower or the upper half is another port's.
+#[test]
+fn words_out_of_range_are_refused(rt: HostRuntime) {
+    let mut chip = reset(&rt, rt.alloc(), 2);
+    let mut word = 7;
+    same(&rt, read32(&mut chip.if1, 0x00e, &mut word), 20);
+    same(&rt, write32(&mut chip.if1, 0x102, 0x00f3_0001), 20);
+    same(&rt, read32(&mut chip.if1, 0xffff_fffc, &mut word), 20);
+    same(&rt, write32(&mut chip.if1, 0x800, 0), 20);
+    same(&rt, read32(&mut chip.if1, 0x120, &mut word), 21);
+    same(&rt, write32(&mut chip.if1, 0x120, 1), 21);
+    same(&rt, bus_read32(&mut chip.bus, 0x100, &mut word), 21);
+    same(&rt, bus_write32(&mut chip.bus, 0x100, 1), 21);
+    same(&rt, word, 7);
+}
+
 /// SIE is set once the frame was there: the status interrupt was raised all the same.
 #[test]
 fn an_enable_shows_what_was_raised(rt: HostRuntime) {
@@ -543,10 +593,9 @@ fn init_keeps_the_controller_out(rt: HostRuntime) {
 }
 
 /// The controller's frames are spoiled 32 times, 8 for TEC each time: 256, bus off.
-fn goes_off(rt: &impl Abort, chip: &mut Chip) {
-    asks_to_send(rt, &mut chip.if1);
+fn goes_off(rt: &impl Abort, bus: &mut BusHandle) {
     for _ in 0..32 {
-        same(rt, played(rt, &mut chip.bus, &[], 3).kind, 6);
+        same(rt, played(rt, bus, &[], 3).kind, 6);
     }
 }
 
@@ -560,7 +609,8 @@ fn after_groups(rt: &impl Abort, bus: &mut BusHandle) -> u32 {
 #[test]
 fn going_off_sets_init(rt: HostRuntime) {
     let mut chip = opened(&rt, rt.alloc(), 1, 1);
-    goes_off(&rt, &mut chip);
+    asks_to_send(&rt, &mut chip.if1);
+    goes_off(&rt, &mut chip.bus);
     same(&rt, reads(&rt, &mut chip.if2, 0x00), 0x0001);
     same(&rt, reads(&rt, &mut chip.if2, 0x04), 0x00ff);
     let mut counts = ShownCounters {

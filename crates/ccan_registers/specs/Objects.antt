@@ -1,6 +1,6 @@
 -- What the steps of a port at the objects of a chip come to. Source: this project's own, over the definitions of the lines of
 -- a host port and of looks of one moment (C_CAN User's Manual 1.2, sections 3.3 and 3.4).
-use Rattle.std.specs.Prelude.{ℕ, ◌≡◌, Bool, []}
+use Rattle.std.specs.Prelude.{ℕ, Bool, []}
 use Rattle.ccan_object.specs.declared.record.Record.{Record}
 use Rattle.ccan_object.specs.Interface.{Registers}
 use Rattle.ccan_ram.specs.declared.flag.Flag.{Flag}

@@ -3,7 +3,7 @@
 -- Status Register"; what a port may do there that is not the owner of an interface is this project's own.
 use Rattle.std.specs.Prelude.{ℕ, ◌≡◌, ◌+◌, ◌*◌, ◌/◌, ◌%◌, ◌^◌, ◌==◌, Bool, true, false, not, ◌&&◌, [], Option, Some, None, Result, Ok, Err, MatchBool, MatchOption}
 use Rattle.ccan_object.specs.declared.register.Reg.{Reg}
-use Rattle.ccan_object.specs.Interface.{Registers, set_register, shown}
+use Rattle.ccan_object.specs.Interface.{set_register, shown}
 use Rattle.ccan_object.specs.Bits.{part}
 use Rattle.ccan_object.specs.declared.profile.Profile.{Profile}
 use Rattle.ccan_confine.specs.declared.controller.Controller.{Controller}
@@ -11,7 +11,6 @@ use Rattle.ccan_confine.specs.declared.controller_change.ControllerChange.{Contr
 use Rattle.ccan_confine.specs.declared.controller_change.ControllerChange.TheVariants as change
 use Rattle.ccan_confine.specs.RegisterWords.{control_in, control_word, error_counter_word, flags_in, test_in, test_word}
 use Rattle.ccan_confine.specs.Controller.{shows_interrupt, status_word}
-use Rattle.ccan_ram.specs.declared.flag.Flag.{Flag}
 use Rattle.ccan_ram.specs.declared.port.PortName.{PortName}
 use Rattle.ccan_ram.specs.declared.port.PortName.TheVariants.{If1, If2}
 use Rattle.ccan_ram.specs.Port.{same_port}

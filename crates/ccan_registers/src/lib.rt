@@ -1,4 +1,23 @@
 //! The registers of a C_CAN for whoever has a port of the chip.
+//!
+//! A port reads and writes a register by its offset, as a driver does. What it comes to is in the chip's one history: a register
+//! of the controller is one look or one change of the controller's word; a register of flags is all objects in one moment; a
+//! write of Command Request is a transfer; the other registers of an interface are the port's own, and no other port has them.
+//! Beside these, whoever drives the bus plays its rounds here.
+//!
+//! ```text
+//!   read_at, write_at             load, round, recessive
+//!   which register is there?      a round of the bus
+//!      |        |        |             |        |
+//!      v        v        v             v        v
+//!   controller  objects  own set    controller  objects
+//!    one look or  one moment or      a look, and   the steps
+//!    one change   a transfer         at last its   in between
+//!         |          |               event  |      |
+//!         \----------\--- EndlessRam ----------/------/
+//! ```
+//!
+//! A word of 32 bits (`read_word`, `write_word`) is two registers, one after the other.
 #![tactic(auto)]
 
 mod access_error;

@@ -1,5 +1,5 @@
 use Rattle.std.proofs.Common.{refl}
-use Rattle.ccan_c.proofs.Calls.{same_work, steps_from}
+use Rattle.ccan_c.proofs.Calls.{steps_from}
 use Rattle.ccan_c.proofs.held.Held.read_word.Goals as goal
 
 pub returns : goal.returns
