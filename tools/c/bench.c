@@ -1,6 +1,7 @@
 /* Times calls of the library from C: a wait that one look ends, a read that clears nothing, a write of a whole object, a flag
  * of 32 objects in one moment, and the same writes while the other host writes to an object of its own in a thread of its
- * own, and while the bus stores frames in a third. Prints nanoseconds a call, the median of the chips that it opens. */
+ * own, and while the bus stores frames in a third; and registers by their offsets, beside the calls that they stand for, with
+ * Status beside rounds. Prints nanoseconds a call, the median of the chips that it opens. */
 #define _POSIX_C_SOURCE 200809L
 #include <ccan.h>
 #include <pthread.h>
@@ -136,6 +137,84 @@ static double writes_beside_both(void)
     return took / (CALLS - 1);
 }
 
+/* ---- registers by their offsets */
+
+static double writes_by_offset(void)
+{
+    must(ccan_write16(&chip.if1, CCAN_OFFSET_IF1_COMMAND_MASK, 0x00f3));
+    double start = now();
+    for (int i = 0; i < CALLS; i++)
+        must(ccan_write16(&chip.if1, CCAN_OFFSET_IF1_COMMAND_REQUEST, 1));
+    return (now() - start) / CALLS;
+}
+
+static double sets(void)
+{
+    double start = now();
+    for (int i = 0; i < CALLS; i++)
+        must(ccan_set(&chip.if1, CCAN_DATAA1, (uint16_t)i));
+    return (now() - start) / CALLS;
+}
+
+static double sets_by_offset(void)
+{
+    double start = now();
+    for (int i = 0; i < CALLS; i++)
+        must(ccan_write16(&chip.if1, CCAN_OFFSET_IF1_DATA_A1, (uint16_t)i));
+    return (now() - start) / CALLS;
+}
+
+static double flags_by_offset(void)
+{
+    uint16_t shown = 0;
+    make_valid();
+    double start = now();
+    for (int i = 0; i < CALLS; i++)
+        must(ccan_read16(&chip.if1, CCAN_OFFSET_MESSAGE_VALID_1, &shown));
+    double took = now() - start;
+    must(shown == 0xffff ? CCAN_DONE : CCAN_FLAG_RANGE);
+    return took / CALLS;
+}
+
+static double statuses(void)
+{
+    uint16_t shown;
+    double start = now();
+    for (int i = 0; i < CALLS; i++)
+        must(ccan_status(&chip.bus, &shown));
+    return (now() - start) / CALLS;
+}
+
+/* Reads of one register by IF1. */
+static double reads_of(uint32_t offset)
+{
+    uint16_t shown;
+    double start = now();
+    for (int i = 0; i < CALLS; i++)
+        must(ccan_read16(&chip.if1, offset, &shown));
+    return (now() - start) / CALLS;
+}
+
+static double controls_by_offset(void) { return reads_of(CCAN_OFFSET_CONTROL); }
+static double statuses_by_offset(void) { return reads_of(CCAN_OFFSET_STATUS); }
+
+static double statuses_beside_rounds(void)
+{
+    pthread_t bus = begin(rounds);
+    double took = statuses_by_offset();
+    pthread_join(bus, NULL);
+    return took;
+}
+
+static double lines(void)
+{
+    uint32_t pulled;
+    double start = now();
+    for (int i = 0; i < CALLS; i++)
+        must(ccan_line(&chip.if1, &pulled));
+    return (now() - start) / CALLS;
+}
+
 static int compare(const void *a, const void *b)
 {
     double x = *(const double *)a, y = *(const double *)b;
@@ -160,6 +239,15 @@ int main(void)
     measure("a read into the registers", reads);
     measure("a full write", writes);
     measure("a flag of 32 objects in one moment", flags);
+    measure("a full write by the offset of Command Request", writes_by_offset);
+    measure("a flag of 16 objects by its offset", flags_by_offset);
+    measure("a register of an interface", sets);
+    measure("a register of an interface by its offset", sets_by_offset);
+    measure("a read of Status by the bus", statuses);
+    measure("a read of Status by its offset, by a host", statuses_by_offset);
+    measure("a read of Status by its offset, beside rounds", statuses_beside_rounds);
+    measure("a read of Control by its offset", controls_by_offset);
+    measure("the interrupt line", lines);
     measure("a full write beside the other host", writes_beside_the_other);
     measure("a full write beside the other host and the bus", writes_beside_both);
     return 0;
