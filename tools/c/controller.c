@@ -4,7 +4,7 @@
  *          lost to a write of Control, and none came twice.
  *   free   nobody waits. The bus counts TEC and REC by the rules beside the rounds, bus off and the way back included, and finds
  *          them in the registers after each round; of IF1's writes each reads back, but for Init, which bus off sets.
- * Each loop is bounded: a wait of too many turns is a fault. Usage: controller each|free ROUNDS TRIES */
+ * In both an object is pending throughout, so Interrupt never reads 0. Each loop is bounded: a wait of too many turns is a fault. Usage: controller each|free ROUNDS TRIES */
 #include <ccan.h>
 #include <pthread.h>
 #include <sched.h>
@@ -13,7 +13,7 @@
 #include <stdlib.h>
 #include <string.h>
 
-enum { INIT = 0x01, IE = 0x02, SIE = 0x04, EIE = 0x08, STATUS_INTERRUPT = 0x8000, TURNS = 100000000 };
+enum { INIT = 0x01, IE = 0x02, SIE = 0x04, EIE = 0x08, STATUS_INTERRUPT = 0x8000, PENDING = 5, TURNS = 100000000 };
 
 static ccan_chip chip = CCAN_CHIP_CLOSED;
 static int each;
@@ -85,6 +85,7 @@ static void *serves(void *unused)
         uint32_t code = CCAN_DONE;
         EXPECT(ccan_read16(host, CCAN_OFFSET_INTERRUPT, &value) == CCAN_DONE);
         if (value != STATUS_INTERRUPT) {
+            EXPECT(value == PENDING);
             sched_yield();
             continue;
         }
@@ -169,6 +170,14 @@ static void *plays(void *unused)
     return NULL;
 }
 
+/* An object that isn't valid has IntPnd from here on. */
+static void leave_pending(void)
+{
+    ccan_host *host = &chip.if1;
+    EXPECT(ccan_set(host, CCAN_CMASK, 0x0090) == CCAN_DONE && ccan_set(host, CCAN_CTRL, 0x2000) == CCAN_DONE
+        && ccan_request(host, PENDING) == CCAN_DONE);
+}
+
 /* Object 2 sends 0x200, which 0x123 wins against. From then on a transfer of IF1 requests it. */
 static void prepare(void)
 {
@@ -191,6 +200,7 @@ int main(int argc, char **argv)
     rounds = strtoull(argv[2], NULL, 10);
     if (ccan_open_reset(&chip, 1, 3, (uint32_t)atoi(argv[3]), CCAN_LAYOUT_C_CAN) != CCAN_DONE)
         return 2;
+    leave_pending();
     if (!each)
         prepare();
     for (int i = 0; i < 3; i++)
@@ -205,7 +215,7 @@ int main(int argc, char **argv)
     EXPECT(ccan_read16(&chip.if2, CCAN_OFFSET_INTERRUPT, &word) == CCAN_DONE);
     EXPECT(ccan_read16(&chip.if2, CCAN_OFFSET_STATUS, &status) == CCAN_DONE);
     if (each)
-        EXPECT(served == events && word == 0 && (status == (events ? 0x10 : 0)));
+        EXPECT(served == events && word == PENDING && (status == (events ? 0x10 : 0)));
     EXPECT(ccan_end(&chip, &last) == CCAN_DONE);
     printf("%s: %llu rounds, %llu events made, %llu given up, %llu rounds without the controller, %llu times off; "
         "%llu status interrupts served, %llu writes of Control, %llu faults\n", argv[1], (unsigned long long)rounds,
