@@ -1,6 +1,6 @@
 /* Every register of all three layouts, with 32 and with 64 objects: at which offsets there is one and for which handle, what it
- * reads after a reset, which of its bits can be written and when, and what a read leaves. The offsets of D_CAN are those of the
- * AM335x manual, the reset values and bits those of the C_CAN User's Manual. */
+ * reads after a reset, which of its bits can be written and when, what a read leaves, and words of 32 bits. The offsets of D_CAN
+ * are those of the AM335x manual, the reset values and bits those of the C_CAN User's Manual. */
 #include <ccan.h>
 #include <stdio.h>
 #include <stdlib.h>
@@ -281,6 +281,54 @@ static void line(void)
     EXPECT(ccan_bus_line(&chip.bus, &pulled) == CCAN_DONE && pulled == 1);
 }
 
+static uint32_t read_word_by(enum owner handle, uint32_t offset, uint32_t *word)
+{
+    return handle == IF1 ? ccan_read32(&chip.if1, offset, word) : handle == IF2 ? ccan_read32(&chip.if2, offset, word)
+        : ccan_bus_read32(&chip.bus, offset, word);
+}
+
+/* At each offset a word of 32 bits is the register there and the one two bytes on, or it is refused and leaves its output. No
+ * word is of two owners. */
+static void words_read(void)
+{
+    for (uint32_t offset = 0; offset < PAST; offset++) {
+        const struct row *low = row_at(offset), *high = row_at(offset + 2), *row = low ? low : high ? high : &nowhere;
+        uint32_t word = 0x5a5a5a5a;
+        if (offset % 4 != 0 || row == &nowhere) {
+            EXPECT(ccan_read32(&chip.if1, offset, &word) == CCAN_OFFSET_RANGE && word == 0x5a5a5a5a);
+            EXPECT(ccan_write32(&chip.if1, offset, 0) == CCAN_OFFSET_RANGE);
+            EXPECT(ccan_bus_write32(&chip.bus, offset, 0) == CCAN_OFFSET_RANGE);
+            continue;
+        }
+        uint32_t wanted = (uint32_t)(high ? get(high) : 0) << 16 | (low ? get(low) : 0);
+        for (enum owner handle = ANYBODY; handle <= IF2; handle++) {
+            uint32_t code = wanted_code(row, handle);
+            word = 0x5a5a5a5a;
+            EXPECT(read_word_by(handle, offset, &word) == code && word == (code == CCAN_DONE ? wanted : 0x5a5a5a5a));
+        }
+        if (row->owner != ANYBODY)
+            EXPECT(ccan_write32(row->owner == IF1 ? &chip.if2 : &chip.if1, offset, 0xffffffff) == CCAN_OTHER_INTERFACE);
+    }
+}
+
+/* The halves of a word are written, and where they are one word the mask of a command before its request. */
+static void words_written(void)
+{
+    const struct row *row = timing;
+    uint32_t half = place_of(timing) % 4 * 8;
+    put(control, 0x41);
+    EXPECT(ccan_write32(&chip.if2, place_of(timing) & ~3u, (uint32_t)0x1c00 << half) == CCAN_DONE && get(timing) == 0x1c00);
+    EXPECT(ccan_meet(&chip) == CCAN_DONE);
+    EXPECT(ccan_bus_write32(&chip.bus, place_of(timing) & ~3u, (uint32_t)0x2301 << half) == CCAN_DONE && get(timing) == 0x2301);
+    if (layout == CCAN_LAYOUT_C_CAN_32)
+        return;
+    row = &rows[FLAGS + 6];
+    put(&rows[8], 0x0000);  /* a Command Mask that moves nothing */
+    put(&rows[12], 0x8000); /* MsgVal */
+    EXPECT(ccan_meet(&chip) == CCAN_DONE && ccan_write32(&chip.if1, place_of(&rows[7]), 0x00b00005) == CCAN_DONE);
+    EXPECT(get(row) == 0x8010);
+}
+
 int main(void)
 {
     static ccan_final last;
@@ -302,6 +350,8 @@ int main(void)
             interface(18);
             flags();
             line();
+            words_read();
+            words_written();
             EXPECT(ccan_end(&chip, &last) == CCAN_DONE && last.objects == objects);
         }
     }
