@@ -1,4 +1,4 @@
-/* libccan 0.3: a Bosch C_CAN controller (User's Manual 1.2) as a proved library for C11 and C++11.
+/* libccan 0.4: a Bosch C_CAN controller (User's Manual 1.2) as a proved library for C11 and C++11.
  *
  * A chip is the message RAM and the controller's registers, with three ports: the hosts behind the interface registers IF1 and
  * IF2, and the bus. A ccan_chip has a handle for each, and each handle may be used by a thread of its own, without a lock.
@@ -21,18 +21,23 @@
  *              ccan_round: these three, then the finish, the store or both, and last the round's event at the controller.
  *      none    ccan_set, ccan_get, ccan_meet, ccan_counters of another node; reads and writes of the other registers of an
  *              interface, and writes of registers that can only be read.
- *      A word of 32 bits: those of its two halves, in the order in which they are read or written.
+ *      A word of 32 bits: one, where a read is of two registers of a flag; else those of its two halves, in the order in which
+ *      they are read or written.
  *    Between two of a call's places steps of other ports may stand. What ccan_load and ccan_round choose to send is chosen at one
  *    place, as on the part: the first object that is ready there, or, where its start finds it ready no more, the next one that
- *    was. ccan_end gives the records that the whole history leaves.
+ *    was. ccan_end gives the records that the whole history leaves. This one history is proved of a chip from ccan_open or
+ *    ccan_open_reset on, as long as ccan_save is not called. What ccan_save and ccan_restore do in the chip's history is proved
+ *    of each call by itself.
  *  - ccan_round takes part as the controller is at its look, and its event is made of the controller as it is then; the error
- *    counters are still those of the look. It also tells what came of its steps: whether it loaded an object itself, whose frame
- *    was on the bus and which one, and which step was refused.
+ *    counters are still those of the look. The event is tried 1000 times, however few tries the chip was opened with. It also
+ *    tells what came of its steps: whether it loaded an object itself, whose frame was on the bus and which one, and which step
+ *    was refused.
  *  - It answers the numbers below, in just the cases that are said at each call. Where a call is refused, that is for each
  *    number but CCAN_DONE, CCAN_BUSY, CCAN_SPENT and CCAN_SHARED, handle and output stay as they were.
- * Read off the sources: that a call takes no lock, but for those of malloc, realloc and free in ccan_open, ccan_open_reset and
- * ccan_end. Only tested: that no call but the two that open takes memory, that a call needs at most 16 KiB of stack, that
- * CCAN_SHARED never comes where C keeps its promises, and that this header has the numbers, sizes and offsets of the library.
+ * Read off the sources: that a call takes no lock, but for those of malloc, realloc and free in ccan_open, ccan_open_reset,
+ * ccan_restore and ccan_end. Only tested: that no call but the three that open takes memory, that a call needs at most 16 KiB of
+ * stack, that CCAN_SHARED never comes where C keeps its promises, and that this header has the numbers, sizes and offsets of the
+ * library.
  * Not proved, and not claimed: how long a call takes, and that a thread is ever run. A look at objects begins anew where another
  * port changed what it looks at meanwhile: one object for ccan_request, ccan_until, ccan_peek and a write of Command Request, any
  * object for flags, interrupt values and the interrupt line.
@@ -51,8 +56,8 @@
  *  1. A ccan_chip begins as CCAN_CHIP_CLOSED, or by ccan_chip_init. C neither reads nor writes the insides of a chip or a
  *     handle, and neither copies nor moves them. Only handles of such a chip are passed to a call.
  *  2. A handle is in one call at a time. Different handles of one chip may be in calls at the same time.
- *  3. ccan_open, ccan_open_reset, ccan_end, ccan_meet and ccan_is_open take the whole chip: while one of them runs, no other of
- *     them does on that chip, and no call on one of its handles.
+ *  3. ccan_open, ccan_open_reset, ccan_restore, ccan_save, ccan_end, ccan_meet and ccan_is_open take the whole chip: while one of
+ *     them runs, no other of them does on that chip, and no call on one of its handles.
  *  4. Where calls on one handle, or on the whole chip, are made by different threads, C orders them: by the start or the join
  *     of a thread, a mutex, a condition variable or a barrier, or an atomic that is stored and then loaded as seq_cst. So
  *     the opening comes before the first call of a thread that is started after it. A call orders no memory of C's own: what one
@@ -77,7 +82,7 @@ extern "C" {
 
 /* The version of this header: ten thousand times the first number, a hundred times the second, and the third. ccan_version
  * tells that of the library. */
-#define CCAN_VERSION 300
+#define CCAN_VERSION 400
 
 /* A call answers a code, which a program may not drop without a word. */
 #if defined(__GNUC__)
@@ -151,7 +156,9 @@ enum ccan_code {
     CCAN_SENDERS = 19,       /* a frame's node isn't 1 to the number of other nodes, or has another frame */
     CCAN_OFFSET_RANGE = 20,  /* no register of the chip's layout begins at this offset */
     CCAN_OTHER_INTERFACE = 21, /* the register is of IF1 or IF2, and this handle is not that of it */
-    CCAN_LAYOUT_RANGE = 22   /* no layout has this number */
+    CCAN_LAYOUT_RANGE = 22,  /* no layout has this number */
+    CCAN_NO_SAVED_CHIP = 23, /* the bytes are no saved chip, or one of a version that this library doesn't know */
+    CCAN_NO_CHIP = 24        /* no chip can be as the bytes say */
 };
 
 /* The text of a code, without an end of line; for another number "no code". This function is not proved. */
@@ -165,7 +172,8 @@ static inline const char *ccan_text(uint32_t code)
         "the number of turns is out of range", "no such node", "the number of groups is out of range",
         "too many frames", "an identifier or a length is out of range", "no such fault",
         "a sender is none of the other nodes, or sends twice", "no register begins at this offset",
-        "the register is of another port's interface", "no such layout" };
+        "the register is of another port's interface", "no such layout", "these bytes are no saved chip",
+        "no chip can be as these bytes say" };
     return code < sizeof texts / sizeof texts[0] ? texts[code] : "no code";
 }
 
@@ -220,6 +228,30 @@ CCAN_CODE ccan_end(ccan_chip *chip, ccan_final *out);
  * from all that was done on the three. For who has the whole chip in one thread and reads by one handle what was written by
  * another. It makes no step of the chip. CCAN_CLOSED where the chip isn't open; else CCAN_DONE. */
 CCAN_CODE ccan_meet(ccan_chip *chip);
+
+/* ---- saving and restoring */
+
+/* A chip as bytes, which may be kept in a file and read by another program: see docs/FORMATS.md, "A saved chip". Its first bytes
+ * say that it is one, and of which version of the format. */
+typedef struct { uint8_t bytes[1672]; } ccan_saved;
+CCAN_HOLDS(sizeof(ccan_saved) == 1672);
+
+/* Saves a chip: its records, all registers of the controller with what stands behind them (the groups that count on the way back
+ * from bus off, the status interrupts that are pending), the registers of IF1 and IF2, its layout, tries and number of other
+ * nodes. Not of the chip, and not saved: the error counters of the other nodes; and that a frame is loaded, since its object stays
+ * requested. The bus's port looks once at the controller and once at each object, and nothing is changed. CCAN_CLOSED where the
+ * chip isn't open; else CCAN_DONE. */
+CCAN_CODE ccan_save(ccan_chip *chip, ccan_saved *out);
+
+/* Opens a chip as the saved one was, all of it or nothing. The other nodes begin anew, error active, and no frame is loaded. The
+ * chip goes there by steps that every chip can make, and then it is looked at: CCAN_DONE says that the looks found what was saved,
+ * and the three ports have then seen it. Else:
+ *  - CCAN_NO_SAVED_CHIP: these bytes are none. It never comes of bytes that ccan_save gave.
+ *  - CCAN_NO_MEMORY: malloc refused.
+ *  - CCAN_NO_CHIP: no chip can be as they say. That it never comes of bytes that ccan_save gave is tested, not proved.
+ *  - CCAN_BUSY, CCAN_SPENT: nobody can bring them about, since nobody else has the new chip yet; that is not proved.
+ * A chip that was open ends, without its records, where it answers CCAN_DONE. */
+CCAN_CODE ccan_restore(ccan_chip *chip, const ccan_saved *saved);
 
 /* ---- registers by their offsets: each call answers CCAN_CLOSED first, where its handle is closed */
 
@@ -298,10 +330,11 @@ CCAN_CODE ccan_read16(ccan_host *host, uint32_t offset, uint16_t *out);
  * BRP Extension, Test and Command Request: nothing was changed, and the call may be made again; CCAN_SPENT, of Command Request. */
 CCAN_CODE ccan_write16(ccan_host *host, uint32_t offset, uint16_t value);
 
-/* Reads the word of 32 bits at an offset of the chip's layout, a multiple of 4: as ccan_read16 its lower half, at the offset, and
- * then, unless that is refused, its upper half, two bytes on. A half where no register begins reads 0. The halves are two reads:
- * between them steps of other ports may stand, so the flags of 32 objects are read at two moments. The first of
- * CCAN_OFFSET_RANGE (also where neither half is a register), CCAN_OTHER_INTERFACE and CCAN_BUSY that applies; else CCAN_DONE. */
+/* Reads the word of 32 bits at an offset of the chip's layout, a multiple of 4. Where both halves are registers of one flag, its 32
+ * objects are read at one moment. Else it is as ccan_read16 of its lower half, at the offset, and then, unless that is refused, of
+ * its upper half, two bytes on: between these two reads steps of other ports may stand. A half where no register begins reads 0.
+ * The first of CCAN_OFFSET_RANGE (also where neither half is a register), CCAN_OTHER_INTERFACE and CCAN_BUSY that applies; else
+ * CCAN_DONE. */
 CCAN_CODE ccan_read32(ccan_host *host, uint32_t offset, uint32_t *out);
 
 /* Writes the word of 32 bits at an offset of the chip's layout, a multiple of 4: as ccan_write16 its upper half, two bytes on,
@@ -311,7 +344,14 @@ CCAN_CODE ccan_read32(ccan_host *host, uint32_t offset, uint32_t *out);
  * half that was refused: where that is the lower one, the upper one is written, and after CCAN_BUSY the call may be made again. */
 CCAN_CODE ccan_write32(ccan_host *host, uint32_t offset, uint32_t value);
 
-/* Whether the part pulls its interrupt line: 1 where IE is 1 and the Interrupt register is not 0, else 0. */
+/* Whether the part pulls its interrupt line: 1 where IE is 1 and the Interrupt register is not 0, else 0.
+ *
+ * So that a simulator needn't ask after each call, these are the calls that may change the line, by what they do to IE, SIE, EIE,
+ * the pending status interrupts and IntPnd (read off their definitions, not proved):
+ *  - ccan_request, and a write of Command Request;
+ *  - a read of Status, and a write of Control; ccan_status and ccan_control;
+ *  - ccan_round and ccan_recessive.
+ * No other call on a handle changes it. */
 CCAN_CODE ccan_line(ccan_host *host, uint32_t *out);
 
 /* The same by the thread of the bus, whose handle has no registers of an interface: those of IF1 and IF2 are for their own handles

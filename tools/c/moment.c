@@ -1,7 +1,7 @@
 /* One host sets NewDat of object 1, then of object 32, and clears them again in the other order, so many times. Beside it the
- * other host and the bus read NewDat of all objects: no word may show object 32 without object 1, which no moment had. The
- * other host looks at the two objects one after the other, too; how often these two looks show what no moment had goes by the
- * schedule, and is printed. Usage: moment TURNS */
+ * other host and the bus read NewDat of all objects, the host also as the word of two registers: no word may show object 32 without
+ * object 1, which no moment had. The other host looks at the two objects one after the other, too; how often these two looks show
+ * what no moment had goes by the schedule, and is printed. Usage: moment TURNS */
 #include <ccan.h>
 #include <pthread.h>
 #include <stdatomic.h>
@@ -9,7 +9,7 @@
 #include <stdlib.h>
 
 static ccan_chip chip = CCAN_CHIP_CLOSED;
-static uint64_t turns, host_words, bus_words, torn_by_host, torn_by_bus, torn_looks;
+static uint64_t turns, host_words, bus_words, torn_by_host, torn_by_bus, torn_by_offset, torn_looks;
 static atomic_int working = 1;
 static atomic_ullong bad;
 
@@ -55,6 +55,9 @@ static void *reads(void *unused)
         expect(ccan_flags(&chip.if2, CCAN_NEWDAT, &word) == CCAN_DONE);
         torn_by_host += (uint64_t)is_torn(word & 1, word >> 31 & 1);
         host_words++;
+        uint32_t both;
+        expect(ccan_read32(&chip.if2, CCAN_OFFSET_NEW_DATA_1, &both) == CCAN_DONE);
+        torn_by_offset += (uint64_t)is_torn(both & 1, both >> 31);
         int first = shows_newdat(1);
         torn_looks += (uint64_t)is_torn(first, shows_newdat(32));
     }
@@ -90,7 +93,7 @@ int main(int argc, char **argv)
         pthread_join(threads[i], NULL);
     expect(ccan_end(&chip, &last) == CCAN_DONE);
     printf("%llu flag words of a host and %llu of the bus: %llu torn; of as many pairs of looks: %llu; %llu faults\n",
-        (unsigned long long)host_words, (unsigned long long)bus_words, (unsigned long long)(torn_by_host + torn_by_bus),
+        (unsigned long long)host_words, (unsigned long long)bus_words, (unsigned long long)(torn_by_host + torn_by_bus + torn_by_offset),
         (unsigned long long)torn_looks, (unsigned long long)atomic_load(&bad));
-    return torn_by_host != 0 || torn_by_bus != 0 || atomic_load(&bad) != 0 || host_words == 0;
+    return torn_by_host != 0 || torn_by_bus != 0 || torn_by_offset != 0 || atomic_load(&bad) != 0 || host_words == 0;
 }

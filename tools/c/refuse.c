@@ -1,4 +1,4 @@
-/* Each request for memory of ccan_open and of ccan_open_reset is refused in turn: it answers CCAN_NO_MEMORY, the chip stays as it
+/* Each request for memory of ccan_open, of ccan_open_reset and of ccan_restore is refused in turn: it answers CCAN_NO_MEMORY, the chip stays as it
  * was, closed or open, and nothing is lost. No other call asks for memory, and ccan_end gives all of it back. Link with
  * -Wl,--wrap=malloc,--wrap=realloc,--wrap=free. */
 #include <ccan.h>
@@ -51,7 +51,8 @@ static int all_calls(ccan_chip *chip)
     ccan_outcome outcome;
     ccan_offer none;
     ccan_record found;
-    return !ccan_set(&chip->if1, CCAN_CMASK, 0x0090) && !ccan_set(&chip->if1, CCAN_CTRL, 0x8000)
+    static ccan_saved saved;
+    return !ccan_save(chip, &saved) && !ccan_set(&chip->if1, CCAN_CMASK, 0x0090) && !ccan_set(&chip->if1, CCAN_CTRL, 0x8000)
         && !ccan_request(&chip->if1, 7) && !ccan_get(&chip->if1, CCAN_CTRL, &value)
         && !ccan_flags(&chip->if2, CCAN_NEWDAT, &word) && !ccan_interrupt(&chip->if2, &value)
         && !ccan_until(&chip->if2, 7, CCAN_NEWDAT, 3, &number) && !ccan_meet(chip)
@@ -68,14 +69,29 @@ static int all_calls(ccan_chip *chip)
         && !ccan_bus_flags(&chip->bus, CCAN_NEWDAT, &word) && !ccan_bus_interrupt(&chip->bus, &value);
 }
 
-/* Refuses each request of ccan_open or ccan_open_reset in turn, until none is refused: where one was, the chip is as it was before.
- * Gives how many there were, -1 where something is wrong. */
-static long open_refused(ccan_chip *chip, bool was_open, bool reset)
+enum how { PLAIN, RESET, RESTORED };
+
+/* Opens a chip, in one of three ways. */
+static uint32_t opened(ccan_chip *chip, enum how how, const ccan_saved *saved)
+{
+    switch (how) {
+    case RESET:
+        return ccan_open_reset(chip, 2, 8, 100, CCAN_LAYOUT_D_CAN);
+    case RESTORED:
+        return ccan_restore(chip, saved);
+    default:
+        return ccan_open(chip, 2, 8, 100);
+    }
+}
+
+/* Refuses each request of a call that opens in turn, until none is refused: where one was, the chip is as it was before. Gives how
+ * many there were, -1 where something is wrong. */
+static long open_refused(ccan_chip *chip, bool was_open, enum how how, const ccan_saved *saved)
 {
     long before = live;
     for (long number = 0; number < 1000; number++) {
         left = number;
-        uint32_t code = reset ? ccan_open_reset(chip, 2, 8, 100, CCAN_LAYOUT_D_CAN) : ccan_open(chip, 2, 8, 100);
+        uint32_t code = opened(chip, how, saved);
         left = -1;
         if (code == CCAN_DONE)
             return number;
@@ -95,9 +111,12 @@ int main(void)
     if (chip == NULL)
         return 2;
     ccan_chip_init(chip);
-    long number = open_refused(chip, false, false);
+    static ccan_saved saved;
+    long number = open_refused(chip, false, PLAIN, NULL);
     long blocks = live;
-    if (number <= 0 || open_refused(chip, true, true) != number || open_refused(chip, true, false) != number)
+    if (number <= 0 || open_refused(chip, true, RESET, NULL) != number || ccan_save(chip, &saved) != CCAN_DONE)
+        return 1;
+    if (open_refused(chip, true, RESTORED, &saved) != number || open_refused(chip, true, PLAIN, NULL) != number)
         return 1;
     if (live != blocks) {
         printf("an open chip that is opened again: %ld blocks instead of %ld\n", live, blocks);

@@ -8,18 +8,16 @@ use Rattle.ccan_ram.specs.declared.port.PortName.TheVariants.{Bus}
 use Rattle.ccan_ram.specs.Terms.{Terms}
 use Rattle.ccan_chip.specs.declared.chip_bus.ChipBus.{ChipBus}
 use Rattle.ccan_endless.specs.Chip.{ChipHistory}
-use Rattle.ccan_endless.specs.ChipPort.{ChipPass}
 use Rattle.ccan_map.specs.declared.map.Map.{Map}
 use Rattle.ccan_registers.specs.declared.interface_set.InterfaceSet.{InterfaceSet}
-use Rattle.ccan_registers.specs.ChipSteps.{ChipGoes, terms_at}
+use Rattle.ccan_registers.specs.ChipSteps.{terms_at}
 use Rattle.ccan_registers.proofs.Going.{rests, weaker}
 use Rattle.ccan_c.specs.declared.held.Held.{Held}
 use Rattle.ccan_c.specs.BusCall.{BusCall, BusCallDoes, BusCallMeans, BusRuns}
 use Rattle.ccan_c.specs.Call.{IsCall}
-use Rattle.ccan_c.specs.Held.{IsKept, IsOpenAs, WorksAsBefore, pass_of, port_of}
+use Rattle.ccan_c.specs.Held.{IsOpenAs, WorksAsBefore, pass_of, port_of}
 use Rattle.ccan_c.specs.Host.{flag_numbered, is_object}
 use Rattle.ccan_c.specs.HostCall.{HostCall, HostCallDoes, HostCallMeans, HostRuns, IsWaitRefused, until}
-use Rattle.ccan_c.specs.Port.{port_in}
 use Rattle.ccan_c.specs.Steps.{BusSteps, HostSteps, Steps}
 use Rattle.ccan_c.specs.Together.{IsNamed}
 
@@ -168,14 +166,6 @@ pub bus_refused : (call : BusCall) (o : Option Held) → is_some o ≡ true
     → BusCallDoes call o o
 bus_refused call None is h = absurd (let wrong : false ≡ true = is in cc)
 bus_refused call (Some held) is h = bus_rests call held (h held)
-
--- the port's steps, by what they say of the port that the call took
-pub steps_from : (old new : Held) (port : ChipPass) (what : Terms → ChipHistory → ChipHistory → Type 0) → Some port ≡ old.port
-    → IsKept old new → ChipGoes port (port_of new) what → Steps what old new
-steps_from old new port what is kept goes = record {
-  kept = kept;
-  goes = subst (λ (o : Option ChipPass). ChipGoes (port_in o) (port_of new) what) is goes;
-}
 
 -- a call that left the handle as it was
 pub host_rests_as : (call : HostCall) (held new : Held) → new ≡ held

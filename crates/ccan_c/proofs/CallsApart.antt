@@ -2,7 +2,7 @@
 -- history that is the message RAM's, of which that is known already; a step at the controller is the same under all terms of one
 -- port.
 use Rattle.std.proofs.Common.{◌≤◌, inl, inr, ℕ, Bool, true, false, List, ◌++◌, refl, Some, None, Ok, Err, ◌+◌, ◌/◌, ◌%◌, ◌^◌, ◌==◌}
-use Rattle.std.specs.Prelude.{MatchBool, MatchOption, length, nat_le}
+use Rattle.std.specs.Prelude.{◌⊎◌, MatchBool, MatchOption, length, nat_le}
 use Rattle.std.specs.declared.option.Option.{Option}
 use Rattle.std.specs.declared.result.Result.{Result}
 use Rattle.std.specs.List.{list_all}
@@ -56,7 +56,7 @@ use Rattle.ccan_registers.specs.ChipSteps.{AtController, OnObjects, Then}
 use Rattle.ccan_registers.specs.InterfaceSet.{Transferred}
 use Rattle.ccan_registers.specs.Objects.{ShowsFlags, ShowsInterrupt, ShowsObject, WaitsFor, transfer}
 use Rattle.ccan_registers.specs.Register as access
-use Rattle.ccan_registers.specs.Register.{InterruptValue, PullsLine, Reads, ReadsAt, ReadsWord, Writes, WritesAt, WritesRest, WritesWord, is_refused}
+use Rattle.ccan_registers.specs.Register.{InterruptValue, PullsLine, Reads, ReadsApart, ReadsAt, ReadsFlags, ReadsHalves, ReadsWord, Writes, WritesAt, WritesRest, WritesWord, is_refused}
 use Rattle.ccan_registers.specs.Register.{change_by, is_own}
 use Rattle.ccan_registers.specs.Rounds.{LoadsOnChip, RecoversOnChip, RoundOnChip}
 use Rattle.ccan_c.specs.declared.offer.Offer.{Offer}
@@ -318,23 +318,44 @@ module _ (terms : Terms) (tries : ℕ) (some : 1 ≤ tries) where
         ends = g (h.earlier ++ seen) h.later parts.0 h.ends;
       }
 
+  halves_apart : (layout : Map) (offset : ℕ) (own : InterfaceSet) (seen added : ChipHistory)
+      (told : Option (Result ℕ AccessError)) → ActsAlone terms.port added
+      → ReadsHalves terms tries layout offset own seen added told → ReadsHalves single tries layout offset own seen added told
+  halves_apart layout offset own seen added told alone (low, k) = (
+    low,
+    passed_or_not (is_refused low) _ _ _ _
+        (λ (x, is). (reads_at_apart layout offset own seen added low alone x, is))
+        (λ (high, x, is). (
+          high,
+          both_apart _ _ _ _ seen added alone
+              (λ s a only. reads_at_apart layout offset own s a low only)
+              (λ s a only. reads_at_apart layout (offset + 2) own s a high only) x,
+          is,
+        )) k,
+  )
+
+  word_apart : (layout : Map) (offset : ℕ) (own : InterfaceSet) (seen added : ChipHistory)
+      (told : Option (Result ℕ AccessError)) → ActsAlone terms.port added
+      → ReadsFlags terms layout offset seen added told ⊎ ReadsApart terms tries layout offset own seen added told
+      → ReadsFlags single layout offset seen added told ⊎ ReadsApart single tries layout offset own seen added told
+  word_apart layout offset own seen added told alone (inl h) =
+      inl (record {
+        flag = h.flag;
+        low = h.low;
+        high = h.high;
+        are = h.are;
+        word = h.word;
+        shows = shown_flags_apart h.flag seen added h.word alone h.shows;
+        told_is = h.told_is;
+      })
+  word_apart layout offset own seen added told alone (inr h) =
+      inr (record { other = h.other; halves = halves_apart layout offset own seen added told alone h.halves })
+
   reads_word_apart : (layout : Map) (offset : ℕ) (own : InterfaceSet) (seen added : ChipHistory)
       (told : Option (Result ℕ AccessError)) → ActsAlone terms.port added
       → ReadsWord terms tries layout offset own seen added told → ReadsWord single tries layout offset own seen added told
   reads_word_apart layout offset own seen added told alone h =
-      passed_or_not (offset % 4 == 0) _ _ _ _
-      (λ (low, k). (
-        low,
-        passed_or_not (is_refused low) _ _ _ _
-            (λ (x, is). (reads_at_apart layout offset own seen added low alone x, is))
-            (λ (high, x, is). (
-              high,
-              both_apart _ _ _ _ seen added alone
-                  (λ s a only. reads_at_apart layout offset own s a low only)
-                  (λ s a only. reads_at_apart layout (offset + 2) own s a high only) x,
-              is,
-            )) k,
-      )) same h
+      passed_or_not (offset % 4 == 0) _ _ _ _ (word_apart layout offset own seen added told alone) same h
 
   writes_word_apart : (layout : Map) (offset value : ℕ) (own left : InterfaceSet) (seen added : ChipHistory)
       (told : Option (Result (Unit {0}) AccessError)) → ActsAlone terms.port added

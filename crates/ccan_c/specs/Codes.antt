@@ -67,3 +67,9 @@ other_interface = 21
 
 abbrev pub map_range : ℕ
 map_range = 22
+
+abbrev pub no_saved_chip : ℕ
+no_saved_chip = 23
+
+abbrev pub no_chip : ℕ
+no_chip = 24

@@ -9,11 +9,11 @@ use Rattle.ccan_registers.specs.declared.interface_set.InterfaceSet.{InterfaceSe
 use Rattle.ccan_registers.specs.ChipSteps.{SeesChip}
 use Rattle.ccan_c.specs.declared.held.Held.{Held}
 use Rattle.ccan_c.specs.Opening.{Set}
-use Rattle.ccan_c.specs.Port.{port_in}
+use Rattle.ccan_registers.specs.PortHolder.{port_at}
 
 -- its port, with all that it has seen of the chip
 abbrev pub port_of : Held → ChipPass
-port_of held = port_in held.port
+port_of held = port_at held.port
 
 -- what its port has seen of the message RAM
 abbrev pub pass_of : Held → Pass

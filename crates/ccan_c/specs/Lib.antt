@@ -4,7 +4,6 @@ pub mod Settings
 pub mod Record
 pub mod Answer
 pub mod Seals
-pub mod Port
 pub mod Opening
 pub mod Held
 pub mod Begin
@@ -23,3 +22,4 @@ pub mod HostCall
 pub mod BusCall
 pub mod Threads
 pub mod OneThread
+pub mod Saving

@@ -40,12 +40,7 @@ impl Held {
             LoadsOnChip terms self.old.tries past seen added after result.0 result.1)
             self.old self.new }
     {
-        let Some(port) = self.port.take() else {
-            unreachable!();
-        };
-        let (found, loading, port) = load(&mut self.bus, &self.ram, port, self.tries);
-        self.port = Some(port);
-        (found, loading)
+        load(&mut self.bus, &self.ram, &mut self.port, self.tries)
     }
 
     /// Plays the round of a line.
@@ -55,12 +50,7 @@ impl Held {
             RoundOnChip terms line.now self.old.tries past seen added after result)
             self.old self.new }
     {
-        let Some(port) = self.port.take() else {
-            unreachable!();
-        };
-        let (report, port) = round(&mut self.bus, &self.ram, port, line, self.tries);
-        self.port = Some(port);
-        report
+        round(&mut self.bus, &self.ram, &mut self.port, line, self.tries)
     }
 
     /// Plays a round. None where a sender is none of the other nodes, or sends twice.
@@ -86,12 +76,7 @@ impl Held {
             RecoversOnChip terms groups self.old.tries past seen added after result)
             self.old self.new }
     {
-        let Some(mut port) = self.port.take() else {
-            unreachable!();
-        };
-        let told = recessive(&mut self.bus, &self.ram, &mut port, groups, self.tries);
-        self.port = Some(port);
-        told
+        recessive(&mut self.bus, &self.ram, &mut self.port, groups, self.tries)
     }
 
     /// Reads the Status register, as a C_CAN does it.
@@ -99,12 +84,7 @@ impl Held {
         ensures { Steps (λ terms seen added.
             ReadsStatus terms ReadStatus self.old.tries seen added result) self.old self.new }
     {
-        let Some(mut port) = self.port.take() else {
-            unreachable!();
-        };
-        let told = read_status(&self.ram, &mut port, Map::Narrow, self.tries);
-        self.port = Some(port);
-        told
+        read_status(&self.ram, &mut self.port, Map::Narrow, self.tries)
     }
 
     /// Changes the controller.
@@ -113,12 +93,7 @@ impl Held {
         ensures { Steps (λ terms seen added. Makes terms change.now self.old.tries seen added result)
             self.old self.new }
     {
-        let Some(mut port) = self.port.take() else {
-            unreachable!();
-        };
-        let told = write_controller(&self.ram, &mut port, change, self.tries);
-        self.port = Some(port);
-        told
+        write_controller(&self.ram, &mut self.port, change, self.tries)
     }
 
     /// The controller, by one look.
@@ -126,12 +101,7 @@ impl Held {
         ensures { Steps (λ terms seen added. AtController terms.port Look result seen added)
             self.old self.new }
     {
-        let Some(mut port) = self.port.take() else {
-            unreachable!();
-        };
-        let found = look(&self.ram, &mut port);
-        self.port = Some(port);
-        found
+        look(&self.ram, &mut self.port)
     }
 
     /// The error counters of another node.

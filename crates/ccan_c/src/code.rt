@@ -51,6 +51,10 @@ pub(crate) const OFFSET_RANGE: u32 = 20;
 pub(crate) const OTHER_INTERFACE: u32 = 21;
 /// There is no such layout.
 pub(crate) const MAP_RANGE: u32 = 22;
+/// These bytes are no saved chip, or one of a version that is not known.
+pub(crate) const NO_SAVED_CHIP: u32 = 23;
+/// No chip can be as the bytes say.
+pub(crate) const NO_CHIP: u32 = 24;
 
 /// Busy or spent where a step of the memory was, else done.
 pub(crate) fn code_of(answer: &LineAnswer) -> u32

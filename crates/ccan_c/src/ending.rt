@@ -33,11 +33,8 @@ fn ended(if1: Held, if2: Held, bus: Held) -> Option<FinalChip>
     } = bus;
     drop(second);
     drop(third);
-    let (Some(if1), Some(if2), Some(bus)) = (if1, if2, bus) else {
-        unreachable!();
-    };
     match Arc::try_unwrap(ram) {
-        Ok(ram) => Some(ram.close_chip(if1, if2, bus)),
+        Ok(ram) => Some(ram.close_chip(if1.into_port(), if2.into_port(), bus.into_port())),
         Err(_) => None,
     }
 }

@@ -16,6 +16,8 @@ use crate::host_handle::HostHandle;
 use crate::meeting::ccan_meet;
 use crate::offer::Offer;
 use crate::opening::{ccan_is_open, ccan_open, ccan_open_reset};
+use crate::saved_chip::SavedChip;
+use crate::saving::{ccan_restore, ccan_save};
 use crate::shown_counters::ShownCounters;
 use crate::shown_final::ShownFinal;
 use crate::shown_load::ShownLoad;
@@ -47,6 +49,14 @@ pub fn is_open(chip: &Chip) -> bool {
 
 pub fn meet(alloc: Global, chip: &mut Chip) -> u32 {
     ccan_meet(alloc, chip)
+}
+
+pub fn save(alloc: Global, chip: &mut Chip, saved: &mut SavedChip) -> u32 {
+    ccan_save(alloc, chip, saved)
+}
+
+pub fn restore(alloc: Global, chip: &mut Chip, saved: &SavedChip) -> u32 {
+    ccan_restore(alloc, chip, saved)
 }
 
 pub fn end(alloc: Global, chip: &mut Chip, last: &mut ShownFinal) -> u32 {

@@ -1,13 +1,13 @@
-ghost use Rattle.std.specs.Prelude.{◌≡◌, ◌≤◌, true, is_some};
+ghost use Rattle.std.specs.Prelude.{◌≡◌, ◌≤◌};
 ghost use Rattle.std.specs.Arc.{arc_value};
 ghost use Rattle.ccan_line.specs.Limits.{most_nodes};
-ghost use Rattle.ccan_c.specs.Port.{port_in};
+ghost use Rattle.ccan_registers.specs.PortHolder.{port_at};
 
 use ccan_chip::ChipBus;
-use ccan_endless::{EndlessRam, Port};
+use ccan_endless::EndlessRam;
 use ccan_map::Map;
 use ccan_ram::Tries;
-use ccan_registers::InterfaceSet;
+use ccan_registers::{InterfaceSet, PortHolder};
 use std::alloc::Global;
 use std::sync::Arc;
 
@@ -16,8 +16,8 @@ use std::sync::Arc;
 #[derive(Drop)]
 pub struct Held {
     pub ram: Arc<EndlessRam, Global>,
-    /// The port. A call that works at objects takes it out, and puts it back before it returns.
-    pub port: Option<Port>,
+    /// The port, in its place.
+    pub port: PortHolder,
     /// How often a call may try a change.
     pub tries: Tries,
     /// How the registers lie for the calls by offsets.
@@ -26,9 +26,8 @@ pub struct Held {
     /// How many other nodes the bus has.
     pub nodes: u8,
     pub bus: ChipBus,
-    ghost here: { is_some port ≡ true },
-    ghost belongs: { (port_in port).pass.memory ≡ (arc_value ram).words },
+    ghost belongs: { (port_at port).pass.memory ≡ (arc_value ram).words },
     ghost few: { nodes ≤ most_nodes },
     ghost known: { bus.bus.others ≡ nodes },
-    ghost same_profile: { bus.bus.profile ≡ (port_in port).pass.memory.profile },
+    ghost same_profile: { bus.bus.profile ≡ (port_at port).pass.memory.profile },
 }

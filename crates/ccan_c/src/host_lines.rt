@@ -27,12 +27,8 @@ impl Held {
             Transferred terms self.old.tries request self.old.own seen added result left)
             self.old self.new }
     {
-        let Some(port) = self.port.take() else {
-            unreachable!();
-        };
-        let (answer, port) = self.own.request(&self.ram, port, request, self.tries);
-        self.port = Some(port);
-        answer
+        self.own
+            .request(&self.ram, &mut self.port, request, self.tries)
     }
 
     /// The object of this number, where the chip has it.
@@ -54,12 +50,7 @@ impl Held {
         ensures { Steps (λ terms seen added. ShowsObject terms object seen added result)
             self.old self.new }
     {
-        let Some(port) = self.port.take() else {
-            unreachable!();
-        };
-        let (found, port) = peek(&self.ram, port, object);
-        self.port = Some(port);
-        found
+        peek(&self.ram, &mut self.port, object)
     }
 
     /// The record of an object, by one look. None where the chip has no such object.
@@ -81,12 +72,7 @@ impl Held {
         ensures { Steps (λ terms seen added. WaitsFor terms object flag turns seen added result)
             self.old self.new }
     {
-        let Some(port) = self.port.take() else {
-            unreachable!();
-        };
-        let (shown, port) = wait(&self.ram, port, object, flag, turns);
-        self.port = Some(port);
-        shown
+        wait(&self.ram, &mut self.port, object, flag, turns)
     }
 
     /// Looks at an object until it shows a flag, and tells the first of the numbers that is out of its range.

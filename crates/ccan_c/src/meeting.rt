@@ -15,7 +15,7 @@ use std::alloc::Global;
 use std::mem::replace;
 
 /// Shows each of three ports what the others have seen.
-fn meet_ports(ram: &EndlessRam, if1: &mut Port, if2: &mut Port, bus: &mut Port)
+pub(crate) fn meet_ports(ram: &EndlessRam, if1: &mut Port, if2: &mut Port, bus: &mut Port)
     requires first { if1.old.pass.memory ≡ ram.now.words }
     requires second { if1.old.pass.memory ≡ if2.old.pass.memory }
     requires third { if1.old.pass.memory ≡ bus.old.pass.memory }
@@ -36,17 +36,16 @@ fn meet_held(if1: &mut Held, if2: &mut Held, bus: &mut Held)
     ensures meet { MeetHeld if1.old if2.old bus.old if1.new if2.new bus.new }
     ensures three { AreThree if1.new if2.new bus.new }
 {
-    let (Some(mut first), Some(mut second), Some(mut third)) = (
-        if1.port.take(),
-        if2.port.take(),
-        bus.port.take(),
-    ) else {
+    let Some(first) = &mut if1.port.port else {
         unreachable!();
     };
-    meet_ports(&if1.ram, &mut first, &mut second, &mut third);
-    if1.port = Some(first);
-    if2.port = Some(second);
-    bus.port = Some(third);
+    let Some(second) = &mut if2.port.port else {
+        unreachable!();
+    };
+    let Some(third) = &mut bus.port.port else {
+        unreachable!();
+    };
+    meet_ports(&if1.ram, first, second, third);
 }
 
 /// Shows each port of a chip what the others have seen, so that a handle's next call goes on from all that was done. A

@@ -18,7 +18,7 @@ use ccan_chip::ChipBus;
 use ccan_endless::{EndlessRam, MOST, Port};
 use ccan_map::Map;
 use ccan_ram::SharedRam;
-use ccan_registers::InterfaceSet;
+use ccan_registers::{InterfaceSet, PortHolder};
 use std::alloc::Global;
 use std::sync::Arc;
 
@@ -34,7 +34,7 @@ fn hold(alloc: Global, ram: &Arc<EndlessRam, Global>, port: Port, begin: &Begin)
     port.sees_one_history();
     let held = Held {
         ram,
-        port: Some(port),
+        port: PortHolder::new(port),
         tries: begin.settings.tries,
         map: begin.map,
         own: begin.own,
@@ -47,14 +47,16 @@ fn hold(alloc: Global, ram: &Arc<EndlessRam, Global>, port: Port, begin: &Begin)
     }
 }
 
-/// The chip of a memory and its three ports. None where memory ran out.
-fn chip_of(
+/// The chip of a memory and its three ports, each with what its handle begins with. None where memory ran out.
+pub(crate) fn chip_of(
     alloc: Global,
     ram: EndlessRam,
     if1: Port,
     if2: Port,
     bus: Port,
-    begin: &Begin,
+    first: &Begin,
+    second: &Begin,
+    third: &Begin,
 ) -> Option<Chip>
     requires if1 { if1.pass.memory ≡ ram.words }
     requires if2 { if2.pass.memory ≡ ram.words }
@@ -62,16 +64,18 @@ fn chip_of(
     requires named_if1 { if1.pass.port ≡ If1 }
     requires named_if2 { if2.pass.port ≡ If2 }
     requires named_bus { bus.pass.port ≡ BusPort }
-    requires profile { ram.words.profile ≡ begin.now.settings.profile }
-    ensures { IfSome result (λ chip. AllOpen chip (λ h k l. Begins if1 begin.now h
-        × Begins if2 begin.now k × Begins bus begin.now l)) }
+    requires profile_if1 { ram.words.profile ≡ first.now.settings.profile }
+    requires profile_if2 { ram.words.profile ≡ second.now.settings.profile }
+    requires profile_bus { ram.words.profile ≡ third.now.settings.profile }
+    ensures { IfSome result (λ chip. AllOpen chip (λ h k l. Begins if1 first.now h
+        × Begins if2 second.now k × Begins bus third.now l)) }
 {
     let Ok(ram) = Arc::new(alloc, ram) else {
         return None;
     };
-    let if1 = hold(alloc, &ram, if1, begin)?;
-    let if2 = hold(alloc, &ram, if2, begin)?;
-    let bus = hold(alloc, &ram, bus, begin)?;
+    let if1 = hold(alloc, &ram, if1, first)?;
+    let if2 = hold(alloc, &ram, if2, second)?;
+    let bus = hold(alloc, &ram, bus, third)?;
     Some(Chip::of(if1, if2, bus))
 }
 
@@ -88,7 +92,7 @@ fn opened(alloc: Global, settings: &Settings) -> Option<Chip>
         map: Map::Narrow,
         own: InterfaceSet::new(),
     };
-    chip_of(alloc, ram, if1, if2, bus, &begin)
+    chip_of(alloc, ram, if1, if2, bus, &begin, &begin, &begin)
 }
 
 /// A chip as after a reset, with this layout of its registers. None where memory ran out.
@@ -108,7 +112,7 @@ fn opened_after_reset(alloc: Global, settings: &Settings, map: Map) -> Option<Ch
         map,
         own: InterfaceSet::reset(),
     };
-    chip_of(alloc, ram, if1, if2, bus, &begin)
+    chip_of(alloc, ram, if1, if2, bus, &begin, &begin, &begin)
 }
 
 /// Opens a chip, each port of which may make as many changes as the memory numbers. Its bus chooses what it sends at one

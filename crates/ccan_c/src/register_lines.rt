@@ -20,12 +20,14 @@ impl Held {
             ReadsAt terms self.old.tries self.old.map offset self.old.own seen added result)
             self.old self.new }
     {
-        let Some(port) = self.port.take() else {
-            unreachable!();
-        };
-        let (told, port) = read_at(&self.own, &self.ram, port, self.map, offset, self.tries);
-        self.port = Some(port);
-        told
+        read_at(
+            &self.own,
+            &self.ram,
+            &mut self.port,
+            self.map,
+            offset,
+            self.tries,
+        )
     }
 
     /// Writes the register at an offset.
@@ -35,20 +37,15 @@ impl Held {
             left) self.old self.new }
         ensures bus { (pass_of self.old).port ≡ Bus → self.new.own ≡ self.old.own }
     {
-        let Some(port) = self.port.take() else {
-            unreachable!();
-        };
-        let (told, port) = write_at(
+        write_at(
             &mut self.own,
             &self.ram,
-            port,
+            &mut self.port,
             self.map,
             offset,
             value,
             self.tries,
-        );
-        self.port = Some(port);
-        told
+        )
     }
 
     /// Reads the word of 32 bits at an offset.
@@ -57,12 +54,14 @@ impl Held {
             ReadsWord terms self.old.tries self.old.map offset self.old.own seen added result)
             self.old self.new }
     {
-        let Some(port) = self.port.take() else {
-            unreachable!();
-        };
-        let (told, port) = read_word(&self.own, &self.ram, port, self.map, offset, self.tries);
-        self.port = Some(port);
-        told
+        read_word(
+            &self.own,
+            &self.ram,
+            &mut self.port,
+            self.map,
+            offset,
+            self.tries,
+        )
     }
 
     /// Writes the word of 32 bits at an offset.
@@ -72,20 +71,15 @@ impl Held {
             left) self.old self.new }
         ensures bus { (pass_of self.old).port ≡ Bus → self.new.own ≡ self.old.own }
     {
-        let Some(port) = self.port.take() else {
-            unreachable!();
-        };
-        let (told, port) = write_word(
+        write_word(
             &mut self.own,
             &self.ram,
-            port,
+            &mut self.port,
             self.map,
             offset,
             value,
             self.tries,
-        );
-        self.port = Some(port);
-        told
+        )
     }
 
     /// Whether the chip pulls its interrupt line.
@@ -93,12 +87,7 @@ impl Held {
         ensures { Steps (λ terms seen added. PullsLine terms seen added result)
             self.old self.new }
     {
-        let Some(port) = self.port.take() else {
-            unreachable!();
-        };
-        let (pulls, port) = line(&self.ram, port);
-        self.port = Some(port);
-        pulls
+        line(&self.ram, &mut self.port)
     }
 
     /// The Interrupt register, with the controller that its look found.
@@ -106,12 +95,7 @@ impl Held {
         ensures { Steps (λ terms seen added. InterruptValue terms seen added result.0 result.1)
             self.old self.new }
     {
-        let Some(port) = self.port.take() else {
-            unreachable!();
-        };
-        let (found, value, port) = interrupt_value(&self.ram, port);
-        self.port = Some(port);
-        (found, value)
+        interrupt_value(&self.ram, &mut self.port)
     }
 
     /// The number of the first object with IntPnd in one moment, or 0.
@@ -119,12 +103,7 @@ impl Held {
         ensures { Steps (λ terms seen added. ShowsInterrupt terms false seen added result)
             self.old self.new }
     {
-        let Some(port) = self.port.take() else {
-            unreachable!();
-        };
-        let (value, port) = interrupt(&self.ram, port, false);
-        self.port = Some(port);
-        value
+        interrupt(&self.ram, &mut self.port, false)
     }
 
     /// A flag of all objects in one moment.
@@ -132,11 +111,6 @@ impl Held {
         ensures { Steps (λ terms seen added. ShowsFlags terms flag seen added result)
             self.old self.new }
     {
-        let Some(port) = self.port.take() else {
-            unreachable!();
-        };
-        let (word, port) = flags(&self.ram, port, flag);
-        self.port = Some(port);
-        word
+        flags(&self.ram, &mut self.port, flag)
     }
 }

@@ -7,6 +7,7 @@ use crate::expect::same;
 use crate::host_handle::HostHandle;
 use crate::numbers::{flag_numbered, register_numbered};
 use crate::offer::{Offer, fault_numbered};
+use crate::saved_chip::SavedChip;
 use crate::settings::map_numbered;
 use crate::shown_counters::{ShownCounters, state_number};
 use crate::shown_final::ShownFinal;
@@ -25,7 +26,7 @@ use std::mem::size_of;
 
 #[test]
 fn codes_of_opening(rt: HostRuntime) {
-    same(&rt, ccan_version(), 300); // CCAN_VERSION
+    same(&rt, ccan_version(), 400); // CCAN_VERSION
     same(&rt, code::DONE, 0); // CCAN_DONE
     same(&rt, code::CLOSED, 1); // CCAN_CLOSED
     same(&rt, code::BUSY, 2); // CCAN_BUSY
@@ -56,6 +57,8 @@ fn codes_of_registers(rt: HostRuntime) {
     same(&rt, code::OFFSET_RANGE, 20); // CCAN_OFFSET_RANGE
     same(&rt, code::OTHER_INTERFACE, 21); // CCAN_OTHER_INTERFACE
     same(&rt, code::MAP_RANGE, 22); // CCAN_LAYOUT_RANGE
+    same(&rt, code::NO_SAVED_CHIP, 23); // CCAN_NO_SAVED_CHIP
+    same(&rt, code::NO_CHIP, 24); // CCAN_NO_CHIP
 }
 
 /// The number of a layout, 77 where it has none.
@@ -302,5 +305,6 @@ fn sizes(rt: HostRuntime) {
     same(&rt, size_of::<Offer>(), 16); // sizeof(ccan_offer)
     same(&rt, size_of::<ShownFrame>(), 16); // sizeof(ccan_frame)
     same(&rt, size_of::<ShownOutcome>(), 80); // sizeof(ccan_outcome)
+    same(&rt, size_of::<SavedChip>(), 1672); // sizeof(ccan_saved)
     same(&rt, size_of::<ShownCounters>(), 12); // sizeof(ccan_counts)
 }

@@ -5,12 +5,13 @@ use crate::expect::{holds, same};
 use crate::from_c::{
     bus_flags, bus_interrupt, bus_line, bus_read16, bus_read32, bus_write16, bus_write32, control,
     counters, end, flags, init, interrupt, is_open, load, loop_back, meet, open, open_reset,
-    opened, peek, pulls, read16, read32, reads, recessive, request, reset, round, set, set_all,
-    shown, status, until, write_all, write16, write32,
+    opened, peek, pulls, read16, read32, reads, recessive, request, reset, restore, round, save,
+    set, set_all, shown, status, until, write_all, write16, write32,
 };
 use crate::host::{ccan_request, ccan_set};
 use crate::host_handle::HostHandle;
 use crate::offer::Offer;
+use crate::saved_chip::SavedChip;
 use crate::shown_counters::ShownCounters;
 use crate::shown_final::ShownFinal;
 use crate::shown_frame::ShownFrame;
@@ -625,9 +626,33 @@ fn going_off_sets_init(rt: HostRuntime) {
     same(&rt, after_groups(&rt, &mut chip.bus), 0);
 }
 
+/// A chip is saved and opened again from its bytes. Others are refused, and leave the place as it is.
+#[test]
+fn a_saved_chip_opens_again(rt: HostRuntime) {
+    let alloc = rt.alloc();
+    let mut chip = opened(&rt, alloc, 1, 1);
+    let mut text = SavedChip { bytes: [7; 1672] };
+    let mut other = Chip::closed(alloc);
+    same(&rt, save(alloc, &mut other, &mut text), 1);
+    same(&rt, restore(alloc, &mut other, &text), 23);
+    same(&rt, ccan_set(&mut chip.if1, 0, 0x00f3), 0);
+    same(&rt, ccan_set(&mut chip.if1, 4, 0xa400), 0);
+    same(&rt, ccan_set(&mut chip.if1, 5, 0x0981), 0);
+    same(&rt, ccan_request(&mut chip.if1, 2), 0);
+    same(&rt, save(alloc, &mut chip, &mut text), 0);
+    let mut later = text;
+    later.bytes[8] = 2;
+    same(&rt, restore(alloc, &mut other, &later), 23);
+    holds(&rt, !is_open(&other));
+    same(&rt, restore(alloc, &mut other, &text), 0);
+    same(&rt, shown(&rt, &mut other.if1, 4), 0xa400);
+    same(&rt, loads(&rt, &mut other.bus), 2);
+    same(&rt, played(&rt, &mut other.bus, &[], 0).kind, 1);
+}
+
 #[test]
 fn the_version_is_that_of_the_header(rt: HostRuntime) {
-    same(&rt, ccan_version(), 300);
+    same(&rt, ccan_version(), 400);
 }
 
 #[test]

@@ -63,10 +63,10 @@ one_after own old new (Ok made) adds none = adds.to
 one_after own old new (Err busy) adds none = none.2.to
 
 -- so the round's event ends
-pub notes_some : (own : BusEvent × StatusEvent) (tries : ℕ) (old new new' : ChipPass)
+pub notes_some : (own : BusEvent × StatusEvent) (tries most : ℕ) (old new new' : ChipPass)
     (outcome : Result ControllerChanged ControllerBusy) (any : Option (BusEvent × StatusEvent))
-    (told : Option (Result ControllerChanged ControllerBusy)) → any ≡ Some own → new' ≡ new → told ≡ Some outcome
-    → IsNoted own tries old new outcome → Notes any tries old new' told
-notes_some own tries old new new' outcome any told is port is_told noted =
-    subst (λ (u : Option (BusEvent × StatusEvent) × ChipPass × Option (Result ControllerChanged ControllerBusy)).
-    Notes u.0 tries old u.1 u.2) (λ i. (sym is i, sym port i, sym is_told i)) noted
+    (told : Option (Result ControllerChanged ControllerBusy)) → tries ≡ most → any ≡ Some own → new' ≡ new → told ≡ Some outcome
+    → IsNoted own tries old new outcome → Notes any most old new' told
+notes_some own tries most old new new' outcome any told same is port is_told noted =
+    subst (λ (u : Option (BusEvent × StatusEvent) × ℕ × ChipPass × Option (Result ControllerChanged ControllerBusy)).
+    Notes u.0 u.1 old u.2 u.3) (λ i. (sym is i, same i, sym port i, sym is_told i)) noted

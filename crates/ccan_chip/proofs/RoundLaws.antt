@@ -8,6 +8,7 @@ use Rattle.ccan_confine.specs.declared.status_event.StatusEvent.{StatusEvent}
 use Rattle.ccan_ram.specs.declared.port.PortName.{PortName}
 use Rattle.ccan_ram.specs.declared.port.PortName.TheVariants.{Bus}
 use Rattle.ccan_ram.specs.Port.{same_port}
+use Rattle.ccan_ram.specs.Tries.{most_tries}
 use Rattle.ccan_endless.specs.declared.chip.ChipEvent.TheVariants.{OfController, OfRam}
 use Rattle.ccan_endless.specs.declared.chip.ControllerEvent.{ControllerEvent}
 use Rattle.ccan_endless.specs.declared.chip.ControllerStep.{ControllerStep}
@@ -78,5 +79,5 @@ made_of (Some own) tries old new (Some (Err busy)) made h is = absurd cc
 
 pub rounds_find : RoundsFindTheirCounters
 rounds_find terms line tries old new past after told made port round is =
-    let m = made_of told.own tries round.between new told.noted made round.notes is in
+    let m = made_of told.own most_tries round.between new told.noted made round.notes is in
     found_again old round.looked round.between new told.found _ made.before port round.looks round.rests m.1

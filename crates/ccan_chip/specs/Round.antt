@@ -5,6 +5,7 @@ use Rattle.std.specs.Prelude.{ℕ, ◌≡◌, ◌==◌, Bool, false, ◌&&◌, n
 use Rattle.ccan_ram.specs.declared.event.Event.{Event}
 use Rattle.ccan_ram.specs.SharedRam.{CanSee}
 use Rattle.ccan_ram.specs.Terms.{Terms}
+use Rattle.ccan_ram.specs.Tries.{most_tries}
 use Rattle.ccan_confine.specs.declared.bus_event.BusEvent.{BusEvent}
 use Rattle.ccan_confine.specs.declared.bus_event.BusEvent.TheVariants as event
 use Rattle.ccan_confine.specs.declared.controller.Controller.{Controller}
@@ -92,6 +93,7 @@ Notes (Some own) tries old new (Some outcome) = IsNoted own tries old new outcom
 
 -- A round: a look at the controller; then a load, a decision and the memory steps that are due, as the bus is with that
 -- controller; and last what all this was to the controller, as one change of it. Between, its port makes no other step there.
+-- What was on the bus can't be played again, so this change has as many tries as one may have, however few the steps have.
 pub record ChipRound (terms : Terms) (line : RoundLine) (tries : ℕ) (old new : ChipPass) (past after : BusPast)
     (told : ChipReport) : Type 0 where
   pub looked : ChipPass
@@ -105,7 +107,7 @@ pub record ChipRound (terms : Terms) (line : RoundLine) (tries : ℕ) (old new :
   pub runs : RunsSteps terms line tries looked.pass.seen added (as_found told.found (events_in looked.whole) past) after
       told.report
   pub own : WasTo told.own (as_found told.found (events_in looked.whole) past) after
-  pub notes : Notes told.own tries between new told.noted
+  pub notes : Notes told.own most_tries between new told.noted
 
 -- groups of recessive bits: one change of the controller, and every other node has them
 pub record IsRecessive (groups : ℕ) (old new : ChipPass) (before after : Bus) (made : ControllerChanged) : Type 0 where

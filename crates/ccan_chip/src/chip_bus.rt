@@ -2,6 +2,7 @@ ghost use Rattle.std.specs.Prelude.{◌≡◌, ◌≤◌, true, false, List, Non
 ghost use Rattle.ccan_ram.specs.declared.port.PortName.{PortName};
 ghost use Rattle.ccan_ram.specs.declared.port.PortName.TheVariants.{Bus as BusPort};
 ghost use Rattle.ccan_ram.specs.SharedRam.{CanSee, passes_of, terms_of};
+ghost use Rattle.ccan_ram.specs.Tries.{most_tries};
 ghost use Rattle.ccan_confine.specs.Counters.{AreAfter, NodeEvent};
 ghost use Rattle.ccan_bus.specs.Bus.{GoesOnWith, IsSameBus, LedTo};
 ghost use Rattle.ccan_bus.specs.Load.{Loads};
@@ -41,6 +42,20 @@ fn loops_back(controller: &Controller) -> bool
     ensures { result ≡ loops_back controller.now }
 {
     controller.control.test && controller.test.lback
+}
+
+/// How often the event of a round is tried at the controller: as often as a change may be, since the round is over, and can't be
+/// played again.
+const EVENT_TRIES: u16 = 1000;
+
+/// The tries of a round's event.
+fn event_tries() -> Tries
+    ensures { result ≡ most_tries }
+{
+    match Tries::new(EVENT_TRIES) {
+        Some(tries) => tries,
+        None => unreachable!(),
+    }
 }
 
 /// The steps of a round that are made at the objects.
@@ -166,7 +181,8 @@ impl ChipBus {
     }
 
     /// A round. The controller takes part as its registers are at the first look; what the round was to it is made there last,
-    /// so that whoever is woken by it finds the object done, unless the step that is due there was refused.
+    /// so that whoever is woken by it finds the object done, unless the step that is due there was refused. It is tried 1,000
+    /// times, however few tries the other steps have.
     pub fn round(
         &mut self,
         ram: &EndlessRam,
@@ -196,7 +212,7 @@ impl ChipBus {
             None => None,
             Some((event, status)) => {
                 let change = ControllerChange::Frame(event, status);
-                Some(ram.change_controller(&mut port, &change, tries))
+                Some(ram.change_controller(&mut port, &change, event_tries()))
             }
         };
         (

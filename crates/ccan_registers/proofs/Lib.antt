@@ -4,3 +4,4 @@ pub mod Lines
 pub mod Rounding
 pub mod Accesses
 pub mod Halves
+pub mod Holders

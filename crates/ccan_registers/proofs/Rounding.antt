@@ -7,6 +7,7 @@ use Rattle.ccan_ram.specs.declared.port.PortName.TheVariants.{Bus}
 use Rattle.ccan_ram.specs.History.{events_of}
 use Rattle.ccan_ram.specs.SharedRam.{CanSee, terms_of}
 use Rattle.ccan_ram.specs.Terms.{Terms}
+use Rattle.ccan_ram.specs.Tries.{most_tries}
 use Rattle.ccan_confine.specs.declared.bus_event.BusEvent.{BusEvent}
 use Rattle.ccan_confine.specs.declared.controller.Controller.{Controller}
 use Rattle.ccan_confine.specs.declared.controller_change.ControllerChange.TheVariants.{Frame, Recessive}
@@ -112,7 +113,7 @@ round_on_chip old new line tries past after told bus h =
     let looked = h.looked in
     let between = h.between in
     let look = at_controller old looked Look told.found h.looks h.quiet in
-    let notes = notes_event between new tries told.own told.noted h.notes in
+    let notes = notes_event between new most_tries told.own told.noted h.notes in
     let what : Terms → ChipHistory → List Event → List Event → Type 0 = λ t w s a.
     RunsSteps t line tries s a (as_found told.found (events_in w) past) after told.report in
     let b = objects_after looked between (what (terms_of same_object old.pass.memory Bus) looked.whole) h.rests h.added h.adds
@@ -144,7 +145,7 @@ round_on_chip old new line tries past after told bus h =
               own =
                   subst (λ (w : ChipHistory). WasTo told.own (as_found told.found (events_in w) past) after) x.2 h.own;
               notes =
-                  subst (λ (u : PortName × ChipHistory). NotesEvent u.0 tries told.own told.noted u.1 z.0)
+                  subst (λ (u : PortName × ChipHistory). NotesEvent u.0 most_tries told.own told.noted u.1 z.0)
                   (λ i. (port i, found i)) z.3;
             },
           );

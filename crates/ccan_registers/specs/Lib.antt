@@ -1,4 +1,5 @@
 pub mod ChipSteps
+pub mod PortHolder
 pub mod Objects
 pub mod InterfaceSet
 pub mod Register

@@ -1,7 +1,7 @@
 -- What a read and a write of a register of the chip come to. Source: C_CAN User's Manual 1.2, section 3 (Programmer's Model);
 -- that a read of the Status register of a D_CAN clears it: Texas Instruments AM335x Technical Reference Manual, "Error and
 -- Status Register"; what a port may do there that is not the owner of an interface is this project's own.
-use Rattle.std.specs.Prelude.{ℕ, ◌≡◌, ◌+◌, ◌*◌, ◌/◌, ◌%◌, ◌^◌, ◌==◌, Bool, true, false, not, ◌&&◌, [], Option, Some, None, Result, Ok, Err, MatchBool, MatchOption}
+use Rattle.std.specs.Prelude.{ℕ, ◌≡◌, ◌+◌, ◌*◌, ◌/◌, ◌%◌, ◌^◌, ◌==◌, ◌⊎◌, Bool, true, false, not, ◌&&◌, [], Option, Some, None, Result, Ok, Err, MatchBool, MatchOption}
 use Rattle.ccan_object.specs.declared.register.Reg.{Reg}
 use Rattle.ccan_object.specs.Interface.{set_register, shown}
 use Rattle.ccan_object.specs.Bits.{part}
@@ -11,6 +11,7 @@ use Rattle.ccan_confine.specs.declared.controller_change.ControllerChange.{Contr
 use Rattle.ccan_confine.specs.declared.controller_change.ControllerChange.TheVariants as change
 use Rattle.ccan_confine.specs.RegisterWords.{control_in, control_word, error_counter_word, flags_in, test_in, test_word}
 use Rattle.ccan_confine.specs.Controller.{shows_interrupt, status_word}
+use Rattle.ccan_ram.specs.declared.flag.Flag.{Flag}
 use Rattle.ccan_ram.specs.declared.port.PortName.{PortName}
 use Rattle.ccan_ram.specs.declared.port.PortName.TheVariants.{If1, If2}
 use Rattle.ccan_ram.specs.Port.{same_port}
@@ -21,6 +22,7 @@ use Rattle.ccan_endless.specs.declared.chip.ControllerStep.TheVariants.{Look}
 use Rattle.ccan_endless.specs.declared.controller_changed.ControllerBusy.{ControllerBusy}
 use Rattle.ccan_endless.specs.declared.controller_changed.ControllerChanged.{ControllerChanged}
 use Rattle.ccan_endless.specs.Chip.{ChipHistory}
+use Rattle.ccan_map.specs.declared.flag_part.FlagPart.{FlagPart}
 use Rattle.ccan_map.specs.declared.interface.Interface.{Interface}
 use Rattle.ccan_map.specs.declared.interface.Interface.TheVariants.{One, Two}
 use Rattle.ccan_map.specs.declared.map.Map.{Map}
@@ -225,8 +227,7 @@ joined (Some (Ok low)) (Some (Ok high)) = Some (Ok (high * 2 ^ 16 + low))
 joined (Some (Ok low)) (Some (Err why)) = Some (Err why)
 joined (Some (Err why)) high = Some (Err why)
 
--- A read of the word at an offset: of its lower half, and then, unless that was refused, of its upper one. An offset that is not
--- a multiple of 4 is none of a word.
+-- A read of the halves of a word: of its lower one, and then, unless that was refused, of its upper one.
 abbrev pub ReadsHalves : Terms → ℕ → Map → ℕ → InterfaceSet → ChipHistory → ChipHistory → Option (Result ℕ AccessError) → Type 0
 ReadsHalves terms tries map offset own seen added told =
     (low : Option (Result ℕ AccessError)) × MatchBool (is_refused low)
@@ -234,9 +235,33 @@ ReadsHalves terms tries map offset own seen added told =
     ((high : Option (Result ℕ AccessError)) × Then (λ s a. ReadsAt terms tries map offset own s a low)
     (λ s a. ReadsAt terms tries map (offset + 2) own s a high) seen added × (told ≡ joined low high))
 
+-- both halves of the word at an offset are registers of this flag, of these objects
+pub record AreFlags (map : Map) (profile : Profile) (offset : ℕ) (flag : Flag) (low high : FlagPart) : Type 0 where
+  pub lower : IsAt map profile offset (register.Flags flag low)
+  pub upper : IsAt map profile (offset + 2) (register.Flags flag high)
+
+-- two registers of a flag, of which a word is read: all their objects at one moment
+pub record ReadsFlags (terms : Terms) (map : Map) (offset : ℕ) (seen added : ChipHistory) (told : Option (Result ℕ AccessError)) : Type 0 where
+  pub flag : Flag
+  pub low : FlagPart
+  pub high : FlagPart
+  pub are : AreFlags map terms.profile offset flag low high
+  pub word : ℕ
+  pub shows : ShowsFlags terms flag seen added word
+  pub told_is : told ≡ Some (Ok (part word (16 * index_of high) 16 * 2 ^ 16 + part word (16 * index_of low) 16))
+
+-- any other word: its halves, one after the other
+pub record ReadsApart (terms : Terms) (tries : ℕ) (map : Map) (offset : ℕ) (own : InterfaceSet) (seen added : ChipHistory)
+    (told : Option (Result ℕ AccessError)) : Type 0 where
+  pub other : (flag : Flag) (low high : FlagPart) → AreFlags map terms.profile offset flag low high → ⊥
+  pub halves : ReadsHalves terms tries map offset own seen added told
+
+-- A read of the word at an offset. One that is not a multiple of 4 is none of a word.
 abbrev pub ReadsWord : Terms → ℕ → Map → ℕ → InterfaceSet → ChipHistory → ChipHistory → Option (Result ℕ AccessError) → Type 0
 ReadsWord terms tries map offset own seen added told =
-    MatchBool (offset % 4 == 0) (ReadsHalves terms tries map offset own seen added told) ((added ≡ []) × (told ≡ None))
+    MatchBool (offset % 4 == 0)
+    (ReadsFlags terms map offset seen added told ⊎ ReadsApart terms tries map offset own seen added told)
+    ((added ≡ []) × (told ≡ None))
 
 -- how both halves were written, the upper one, which was not refused, before the lower one
 abbrev pub both_written : Option (Result (Unit {0}) AccessError) → Option (Result (Unit {0}) AccessError)

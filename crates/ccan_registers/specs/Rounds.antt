@@ -4,6 +4,7 @@ use Rattle.std.specs.Prelude.{ℕ, ◌≡◌, [], ◌++◌, Option, Some, None, 
 use Rattle.ccan_ram.specs.declared.port.PortName.{PortName}
 use Rattle.ccan_ram.specs.History.{events_of}
 use Rattle.ccan_ram.specs.Terms.{Terms}
+use Rattle.ccan_ram.specs.Tries.{most_tries}
 use Rattle.ccan_confine.specs.declared.bus_event.BusEvent.{BusEvent}
 use Rattle.ccan_confine.specs.declared.controller.Controller.{Controller}
 use Rattle.ccan_confine.specs.declared.controller_change.ControllerChange.TheVariants.{Frame, Recessive}
@@ -45,7 +46,7 @@ NotesEvent port tries (Some own) None seen added = ⊥
 NotesEvent port tries (Some own) (Some outcome) seen added = Changes port (Frame own.0 own.1) tries seen added outcome
 
 -- A round: a look at the controller; the load, the decision and the steps at objects that are due, as the bus is with that
--- controller; and last what all this was to the controller.
+-- controller; and last what all this was to the controller, which has as many tries as a change may have.
 pub record RoundOnChip (terms : Terms) (line : RoundLine) (tries : ℕ) (past : BusPast) (seen added : ChipHistory)
     (after : BusPast) (told : ChipReport) : Type 0 where
   pub looked : ChipHistory
@@ -57,7 +58,7 @@ pub record RoundOnChip (terms : Terms) (line : RoundLine) (tries : ℕ) (past : 
       (λ s a. RunsSteps terms line tries s a (as_found told.found (events_in (looked ++ seen)) past) after told.report)
       (looked ++ seen) steps
   pub own : WasTo told.own (as_found told.found (events_in (looked ++ seen)) past) after
-  pub notes : NotesEvent terms.port tries told.own told.noted (steps ++ (looked ++ seen)) last
+  pub notes : NotesEvent terms.port most_tries told.own told.noted (steps ++ (looked ++ seen)) last
 
 -- groups of recessive bits: the controller has them by one change, and every other node; or the change was given up, and no node
 -- has seen any

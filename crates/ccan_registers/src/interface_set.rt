@@ -1,7 +1,8 @@
 ghost use Rattle.std.specs.Prelude.{◌≡◌};
 
 use crate::objects::transfer;
-use ccan_endless::{EndlessRam, Port};
+use crate::port_holder::PortHolder;
+use ccan_endless::EndlessRam;
 use ccan_line::LineAnswer;
 use ccan_object::{Iface, ObjectNo, Reg};
 use ccan_ram::{SharedRam, Tries};
@@ -18,6 +19,7 @@ pub struct InterfaceSet {
 
 impl InterfaceSet {
     ghost use Rattle.ccan_registers.specs.ChipSteps.{ChipGoes};
+    ghost use Rattle.ccan_registers.specs.PortHolder.{port_at};
     ghost use Rattle.ccan_registers.specs.InterfaceSet.{Transferred, reset_set, zero_set};
 
     /// Registers that read 0, but for the Command Request register, which names object 1.
@@ -45,15 +47,15 @@ impl InterfaceSet {
     pub fn request(
         &mut self,
         ram: &EndlessRam,
-        port: Port,
+        holder: &mut PortHolder,
         request: u16,
         tries: Tries,
-    ) -> (LineAnswer, Port)
-        requires { port.pass.memory ≡ ram.now.words }
-        ensures { ChipGoes port result.1 (λ terms seen added.
-            Transferred terms tries request self.old seen added result.0 self.new) }
+    ) -> LineAnswer
+        requires { (port_at holder.old).pass.memory ≡ ram.now.words }
+        ensures { ChipGoes (port_at holder.old) (port_at holder.new) (λ terms seen added.
+            Transferred terms tries request self.old seen added result self.new) }
     {
         self.asked = u16::from(ObjectNo::from_request(ram.profile(), request).get());
-        transfer(&mut self.registers, ram, port, request, tries)
+        transfer(&mut self.registers, ram, holder, request, tries)
     }
 }

@@ -24,6 +24,7 @@ mod access_error;
 mod controller;
 mod interface_set;
 mod objects;
+mod port_holder;
 mod registers;
 mod rounds;
 mod words;
@@ -32,6 +33,7 @@ pub use access_error::AccessError;
 pub use controller::{change, look};
 pub use interface_set::InterfaceSet;
 pub use objects::{flags, interrupt, peek, transfer, wait};
+pub use port_holder::PortHolder;
 pub use registers::{
     interrupt_value, line, read, read_at, read_status, write, write_at, write_controller,
 };

@@ -1,4 +1,5 @@
-//! Steps of a port at objects, as they stand in the history of the chip. Each call takes the port and gives it back.
+//! Steps of a port at objects, as they stand in the history of the chip. Each call takes the port out of its place, since the
+//! accesses to objects own it while they work, and puts it back.
 ghost use Rattle.std.specs.Prelude.{◌≡◌};
 ghost use Rattle.ccan_object.specs.Profile.{Holds};
 ghost use Rattle.ccan_ram.specs.Access.{AddsLook, Goes};
@@ -10,8 +11,10 @@ ghost use Rattle.ccan_endless.specs.ChipPort.{AddsNone};
 ghost use Rattle.ccan_endless.specs.Layout.{same_object};
 ghost use Rattle.ccan_registers.specs.ChipSteps.{ChipGoes};
 ghost use Rattle.ccan_registers.specs.Objects as objects;
+ghost use Rattle.ccan_registers.specs.PortHolder.{port_at};
 ghost use Rattle.ccan_registers.specs.Objects.{ShowsFlags, ShowsInterrupt, ShowsObject, Transfers, WaitsFor};
 
+use crate::port_holder::PortHolder;
 use ccan_chip::{Earlier, Objects};
 use ccan_endless::{EndlessRam, Port};
 use ccan_handler::{flags_at_once, interrupt_at_once, until};
@@ -108,57 +111,88 @@ fn looked<E: Earlier>(ram: &EndlessRam, port: Port, object: ObjectNo) -> (Record
 pub fn transfer(
     registers: &mut Iface,
     ram: &EndlessRam,
-    port: Port,
+    holder: &mut PortHolder,
     request: u16,
     tries: Tries,
-) -> (LineAnswer, Port)
-    requires memory { port.pass.memory ≡ ram.now.words }
-    ensures { ChipGoes port result.1 (λ terms seen added.
-        Transfers terms tries request registers.old seen added result.0 registers.new) }
+) -> LineAnswer
+    requires memory { (port_at holder.old).pass.memory ≡ ram.now.words }
+    ensures { ChipGoes (port_at holder.old) (port_at holder.new) (λ terms seen added.
+        Transfers terms tries request registers.old seen added result registers.new) }
 {
+    let Some(port) = holder.port.take() else {
+        unreachable!();
+    };
     port.sees_one_history();
-    transferred::<Brand>(registers, ram, port, request, tries)
+    let (answer, port) = transferred::<Brand>(registers, ram, port, request, tries);
+    holder.port = Some(port);
+    answer
 }
 
 /// Looks at an object until it shows the flag, at most so many times. Whether it did.
-pub fn wait(ram: &EndlessRam, port: Port, object: ObjectNo, flag: Flag, turns: u32) -> (bool, Port)
-    requires memory { port.pass.memory ≡ ram.now.words }
+pub fn wait(
+    ram: &EndlessRam,
+    holder: &mut PortHolder,
+    object: ObjectNo,
+    flag: Flag,
+    turns: u32,
+) -> bool
+    requires memory { (port_at holder.old).pass.memory ≡ ram.now.words }
     requires held { Holds ram.now.words.profile object }
-    ensures { ChipGoes port result.1 (λ terms seen added.
-        WaitsFor terms object flag turns seen added result.0) }
+    ensures { ChipGoes (port_at holder.old) (port_at holder.new) (λ terms seen added.
+        WaitsFor terms object flag turns seen added result) }
 {
+    let Some(port) = holder.port.take() else {
+        unreachable!();
+    };
     port.sees_one_history();
-    waited::<Brand>(ram, port, object, flag, turns)
+    let (shown, port) = waited::<Brand>(ram, port, object, flag, turns);
+    holder.port = Some(port);
+    shown
 }
 
 /// A flag of all objects in one moment: that of object k in bit k - 1.
-pub fn flags(ram: &EndlessRam, port: Port, flag: Flag) -> (u64, Port)
-    requires memory { port.pass.memory ≡ ram.now.words }
-    ensures { ChipGoes port result.1 (λ terms seen added.
-        ShowsFlags terms flag seen added result.0) }
+pub fn flags(ram: &EndlessRam, holder: &mut PortHolder, flag: Flag) -> u64
+    requires memory { (port_at holder.old).pass.memory ≡ ram.now.words }
+    ensures { ChipGoes (port_at holder.old) (port_at holder.new) (λ terms seen added.
+        ShowsFlags terms flag seen added result) }
 {
+    let Some(port) = holder.port.take() else {
+        unreachable!();
+    };
     port.sees_one_history();
-    flags_shown::<Brand>(ram, port, flag)
+    let (word, port) = flags_shown::<Brand>(ram, port, flag);
+    holder.port = Some(port);
+    word
 }
 
 /// The interrupt value of one moment: 0x8000 where the status interrupt is pending; else the number of the first object with
 /// IntPnd, or 0.
-pub fn interrupt(ram: &EndlessRam, port: Port, pending: bool) -> (u16, Port)
-    requires memory { port.pass.memory ≡ ram.now.words }
-    ensures { ChipGoes port result.1 (λ terms seen added.
-        ShowsInterrupt terms pending seen added result.0) }
+pub fn interrupt(ram: &EndlessRam, holder: &mut PortHolder, pending: bool) -> u16
+    requires memory { (port_at holder.old).pass.memory ≡ ram.now.words }
+    ensures { ChipGoes (port_at holder.old) (port_at holder.new) (λ terms seen added.
+        ShowsInterrupt terms pending seen added result) }
 {
+    let Some(port) = holder.port.take() else {
+        unreachable!();
+    };
     port.sees_one_history();
-    interrupt_shown::<Brand>(ram, port, pending)
+    let (value, port) = interrupt_shown::<Brand>(ram, port, pending);
+    holder.port = Some(port);
+    value
 }
 
 /// One look at an object.
-pub fn peek(ram: &EndlessRam, port: Port, object: ObjectNo) -> (Record, Port)
-    requires memory { port.pass.memory ≡ ram.now.words }
+pub fn peek(ram: &EndlessRam, holder: &mut PortHolder, object: ObjectNo) -> Record
+    requires memory { (port_at holder.old).pass.memory ≡ ram.now.words }
     requires held { Holds ram.now.words.profile object }
-    ensures { ChipGoes port result.1 (λ terms seen added.
-        ShowsObject terms object seen added result.0) }
+    ensures { ChipGoes (port_at holder.old) (port_at holder.new) (λ terms seen added.
+        ShowsObject terms object seen added result) }
 {
+    let Some(port) = holder.port.take() else {
+        unreachable!();
+    };
     port.sees_one_history();
-    looked::<Brand>(ram, port, object)
+    let (found, port) = looked::<Brand>(ram, port, object);
+    holder.port = Some(port);
+    found
 }

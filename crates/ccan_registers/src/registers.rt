@@ -4,6 +4,7 @@ ghost use Rattle.ccan_object.specs.Interface.{set_register};
 ghost use Rattle.ccan_ram.specs.declared.port.PortName.TheVariants.{Bus as BusPort};
 ghost use Rattle.ccan_endless.specs.Chip.{MayMake};
 ghost use Rattle.ccan_registers.specs.ChipSteps.{ChipGoes};
+ghost use Rattle.ccan_registers.specs.PortHolder.{port_at};
 ghost use Rattle.ccan_registers.specs.Register as says;
 ghost use Rattle.ccan_registers.specs.Register.{InterruptValue, Makes, PullsLine, Reads, ReadsAt};
 ghost use Rattle.ccan_registers.specs.Register.{ReadsStatus, Requests, Writes, WritesAt};
@@ -13,8 +14,9 @@ use crate::access_error::AccessError;
 use crate::controller::{change, look};
 use crate::interface_set::InterfaceSet;
 use crate::objects::{flags, interrupt};
+use crate::port_holder::PortHolder;
 use ccan_confine::{ControlRegister, Controller, ControllerChange, StatusFlags, TestRegister};
-use ccan_endless::{EndlessRam, Port};
+use ccan_endless::EndlessRam;
 use ccan_line::LineAnswer;
 use ccan_map::{Interface, Map, Register};
 use ccan_object::Reg;
@@ -49,15 +51,15 @@ fn read_of(map: Map) -> ControllerChange
 /// Reads the Status register.
 pub fn read_status(
     ram: &EndlessRam,
-    port: &mut Port,
+    holder: &mut PortHolder,
     map: Map,
     tries: Tries,
 ) -> Result<u16, AccessError>
-    requires memory { port.old.pass.memory ≡ ram.now.words }
-    ensures { ChipGoes port.old port.new (λ terms seen added.
+    requires memory { (port_at holder.old).pass.memory ≡ ram.now.words }
+    ensures { ChipGoes (port_at holder.old) (port_at holder.new) (λ terms seen added.
         ReadsStatus terms (says.read_of map) tries seen added result) }
 {
-    match change(ram, port, &read_of(map), tries) {
+    match change(ram, holder, &read_of(map), tries) {
         Ok(made) => Ok(made.before.status_word()),
         Err(_) => Err(AccessError::Busy),
     }
@@ -66,16 +68,16 @@ pub fn read_status(
 /// Writes a register of the controller.
 pub fn write_controller(
     ram: &EndlessRam,
-    port: &mut Port,
+    holder: &mut PortHolder,
     made: &ControllerChange,
     tries: Tries,
 ) -> Result<(), AccessError>
-    requires memory { port.old.pass.memory ≡ ram.now.words }
-    requires may { MayMake port.old.pass.port made.now }
-    ensures { ChipGoes port.old port.new (λ terms seen added.
+    requires memory { (port_at holder.old).pass.memory ≡ ram.now.words }
+    requires may { MayMake (port_at holder.old).pass.port made.now }
+    ensures { ChipGoes (port_at holder.old) (port_at holder.new) (λ terms seen added.
         Makes terms made.now tries seen added result) }
 {
-    match change(ram, port, made, tries) {
+    match change(ram, holder, made, tries) {
         Ok(_) => Ok(()),
         Err(_) => Err(AccessError::Busy),
     }
@@ -83,23 +85,23 @@ pub fn write_controller(
 
 /// The Interrupt register: 0x8000 for the status interrupt, else the number of the first object with IntPnd, or 0. With the
 /// controller that its look found.
-pub fn interrupt_value(ram: &EndlessRam, mut port: Port) -> (Controller, u16, Port)
-    requires memory { port.pass.memory ≡ ram.now.words }
-    ensures { ChipGoes port result.2 (λ terms seen added.
+pub fn interrupt_value(ram: &EndlessRam, holder: &mut PortHolder) -> (Controller, u16)
+    requires memory { (port_at holder.old).pass.memory ≡ ram.now.words }
+    ensures { ChipGoes (port_at holder.old) (port_at holder.new) (λ terms seen added.
         InterruptValue terms seen added result.0 result.1) }
 {
-    let found = look(ram, &mut port);
-    let (value, port) = interrupt(ram, port, found.shows_status_interrupt());
-    (found, value, port)
+    let found = look(ram, holder);
+    let value = interrupt(ram, holder, found.shows_status_interrupt());
+    (found, value)
 }
 
 /// Whether the chip pulls its interrupt line: IE is 1, and the Interrupt register is not 0.
-pub fn line(ram: &EndlessRam, port: Port) -> (bool, Port)
-    requires memory { port.pass.memory ≡ ram.now.words }
-    ensures { ChipGoes port result.1 (λ terms seen added. PullsLine terms seen added result.0) }
+pub fn line(ram: &EndlessRam, holder: &mut PortHolder) -> bool
+    requires memory { (port_at holder.old).pass.memory ≡ ram.now.words }
+    ensures { ChipGoes (port_at holder.old) (port_at holder.new) (λ terms seen added. PullsLine terms seen added result) }
 {
-    let (found, value, port) = interrupt_value(ram, port);
-    (found.control.ie && value != 0, port)
+    let (found, value) = interrupt_value(ram, holder);
+    found.control.ie && value != 0
 }
 
 // ---- reads
@@ -120,53 +122,29 @@ fn read_own(port: PortName, interface: Interface, value: u16) -> Result<u16, Acc
 pub fn read(
     own: &InterfaceSet,
     ram: &EndlessRam,
-    mut port: Port,
+    holder: &mut PortHolder,
     map: Map,
     register: Register,
     tries: Tries,
-) -> (Result<u16, AccessError>, Port)
-    requires memory { port.pass.memory ≡ ram.now.words }
-    ensures { ChipGoes port result.1 (λ terms seen added.
-        Reads terms tries map register own.now seen added result.0) }
+) -> Result<u16, AccessError>
+    requires memory { (port_at holder.old).pass.memory ≡ ram.now.words }
+    ensures { ChipGoes (port_at holder.old) (port_at holder.new) (λ terms seen added.
+        Reads terms tries map register own.now seen added result) }
 {
     match register {
-        Register::Control => {
-            let found = look(ram, &mut port);
-            (Ok(found.control.word()), port)
-        }
-        Register::Status => {
-            let told = read_status(ram, &mut port, map, tries);
-            (told, port)
-        }
-        Register::ErrorCounter => {
-            let found = look(ram, &mut port);
-            (Ok(found.error_counter_word()), port)
-        }
-        Register::BitTiming => {
-            let found = look(ram, &mut port);
-            (Ok(found.timing.register()), port)
-        }
-        Register::Interrupt => {
-            let (_, value, port) = interrupt_value(ram, port);
-            (Ok(value), port)
-        }
-        Register::Test => {
-            let found = look(ram, &mut port);
-            (Ok(found.test.word()), port)
-        }
-        Register::Extension => {
-            let found = look(ram, &mut port);
-            (Ok(found.timing.extension()), port)
-        }
-        Register::Request(interface) => (read_own(port.name(), interface, own.asked), port),
+        Register::Control => Ok(look(ram, holder).control.word()),
+        Register::Status => read_status(ram, holder, map, tries),
+        Register::ErrorCounter => Ok(look(ram, holder).error_counter_word()),
+        Register::BitTiming => Ok(look(ram, holder).timing.register()),
+        Register::Interrupt => Ok(interrupt_value(ram, holder).1),
+        Register::Test => Ok(look(ram, holder).test.word()),
+        Register::Extension => Ok(look(ram, holder).timing.extension()),
+        Register::Request(interface) => read_own(holder.name(), interface, own.asked),
         Register::Buffer(interface, reg) => {
             let value = own.registers.get(reg);
-            (read_own(port.name(), interface, value), port)
+            read_own(holder.name(), interface, value)
         }
-        Register::Flags(flag, part) => {
-            let (word, port) = flags(ram, port, flag);
-            (Ok(part.of(word)), port)
-        }
+        Register::Flags(flag, part) => Ok(part.of(flags(ram, holder, flag))),
     }
 }
 
@@ -174,21 +152,18 @@ pub fn read(
 pub fn read_at(
     own: &InterfaceSet,
     ram: &EndlessRam,
-    port: Port,
+    holder: &mut PortHolder,
     map: Map,
     offset: u32,
     tries: Tries,
-) -> (Option<Result<u16, AccessError>>, Port)
-    requires memory { port.pass.memory ≡ ram.now.words }
-    ensures { ChipGoes port result.1 (λ terms seen added.
-        ReadsAt terms tries map offset own.now seen added result.0) }
+) -> Option<Result<u16, AccessError>>
+    requires memory { (port_at holder.old).pass.memory ≡ ram.now.words }
+    ensures { ChipGoes (port_at holder.old) (port_at holder.new) (λ terms seen added.
+        ReadsAt terms tries map offset own.now seen added result) }
 {
     match map.register_at(ram.profile(), offset) {
-        Some(register) => {
-            let (told, port) = read(own, ram, port, map, register, tries);
-            (Some(told), port)
-        }
-        None => (None, port),
+        Some(register) => Some(read(own, ram, holder, map, register, tries)),
+        None => None,
     }
 }
 
@@ -209,16 +184,16 @@ fn transfer_told(reply: &LineAnswer) -> Result<(), AccessError>
 fn write_request(
     own: &mut InterfaceSet,
     ram: &EndlessRam,
-    port: Port,
+    holder: &mut PortHolder,
     value: u16,
     tries: Tries,
-) -> (Result<(), AccessError>, Port)
-    requires memory { port.pass.memory ≡ ram.now.words }
-    ensures { ChipGoes port result.1 (λ terms seen added.
-        Requests terms tries value own.old seen added result.0 own.new) }
+) -> Result<(), AccessError>
+    requires memory { (port_at holder.old).pass.memory ≡ ram.now.words }
+    ensures { ChipGoes (port_at holder.old) (port_at holder.new) (λ terms seen added.
+        Requests terms tries value own.old seen added result own.new) }
 {
-    let (reply, port) = own.request(ram, port, value, tries);
-    (transfer_told(&reply), port)
+    let reply = own.request(ram, holder, value, tries);
+    transfer_told(&reply)
 }
 
 /// Writes a register of the message buffer or the Command Mask register, where the interface is the port's.
@@ -259,29 +234,26 @@ fn change_by(register: Register, value: u16) -> Option<ControllerChange>
 pub fn write(
     own: &mut InterfaceSet,
     ram: &EndlessRam,
-    mut port: Port,
+    holder: &mut PortHolder,
     register: Register,
     value: u16,
     tries: Tries,
-) -> (Result<(), AccessError>, Port)
-    requires memory { port.pass.memory ≡ ram.now.words }
-    ensures goes { ChipGoes port result.1 (λ terms seen added.
-        Writes terms tries register value own.old seen added result.0 own.new) }
-    ensures bus { port.pass.port ≡ BusPort → own.new ≡ own.old }
+) -> Result<(), AccessError>
+    requires memory { (port_at holder.old).pass.memory ≡ ram.now.words }
+    ensures goes { ChipGoes (port_at holder.old) (port_at holder.new) (λ terms seen added.
+        Writes terms tries register value own.old seen added result own.new) }
+    ensures bus { (port_at holder.old).pass.port ≡ BusPort → own.new ≡ own.old }
 {
     if let Some(change) = change_by(register, value) {
-        let told = write_controller(ram, &mut port, &change, tries);
-        return (told, port);
+        return write_controller(ram, holder, &change, tries);
     }
     match register {
-        Register::Request(interface) if is_own(port.name(), interface) => {
-            write_request(own, ram, port, value, tries)
+        Register::Request(interface) if is_own(holder.name(), interface) => {
+            write_request(own, ram, holder, value, tries)
         }
-        Register::Request(_) => (Err(AccessError::OtherInterface), port),
-        Register::Buffer(interface, reg) => {
-            (write_own(own, port.name(), interface, reg, value), port)
-        }
-        _ => (Ok(()), port),
+        Register::Request(_) => Err(AccessError::OtherInterface),
+        Register::Buffer(interface, reg) => write_own(own, holder.name(), interface, reg, value),
+        _ => Ok(()),
     }
 }
 
@@ -289,22 +261,19 @@ pub fn write(
 pub fn write_at(
     own: &mut InterfaceSet,
     ram: &EndlessRam,
-    port: Port,
+    holder: &mut PortHolder,
     map: Map,
     offset: u32,
     value: u16,
     tries: Tries,
-) -> (Option<Result<(), AccessError>>, Port)
-    requires memory { port.pass.memory ≡ ram.now.words }
-    ensures goes { ChipGoes port result.1 (λ terms seen added.
-        WritesAt terms tries map offset value own.old seen added result.0 own.new) }
-    ensures bus { port.pass.port ≡ BusPort → own.new ≡ own.old }
+) -> Option<Result<(), AccessError>>
+    requires memory { (port_at holder.old).pass.memory ≡ ram.now.words }
+    ensures goes { ChipGoes (port_at holder.old) (port_at holder.new) (λ terms seen added.
+        WritesAt terms tries map offset value own.old seen added result own.new) }
+    ensures bus { (port_at holder.old).pass.port ≡ BusPort → own.new ≡ own.old }
 {
     match map.register_at(ram.profile(), offset) {
-        Some(register) => {
-            let (told, port) = write(own, ram, port, register, value, tries);
-            (Some(told), port)
-        }
-        None => (None, port),
+        Some(register) => Some(write(own, ram, holder, register, value, tries)),
+        None => None,
     }
 }

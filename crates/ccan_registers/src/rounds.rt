@@ -4,12 +4,14 @@ ghost use Rattle.ccan_bus.specs.Bus.{IsSameBus, LedTo};
 ghost use Rattle.ccan_bus.specs.Past.{BusPast};
 ghost use Rattle.ccan_ram.specs.declared.port.PortName.TheVariants.{Bus};
 ghost use Rattle.ccan_registers.specs.ChipSteps.{ChipGoes};
+ghost use Rattle.ccan_registers.specs.PortHolder.{port_at};
 ghost use Rattle.ccan_registers.specs.Rounds.{LoadsOnChip, RecoversOnChip, RoundOnChip};
 
+use crate::port_holder::PortHolder;
 use ccan_bus::{LoadAnswer, RoundLine};
 use ccan_chip::{ChipBus, ChipReport};
 use ccan_confine::Controller;
-use ccan_endless::{ControllerBusy, ControllerChanged, EndlessRam, Port};
+use ccan_endless::{ControllerBusy, ControllerChanged, EndlessRam};
 use ccan_ram::Tries;
 
 /// Chooses an object to send, and starts it, where the controller takes part and has none. With the controller that its look
@@ -17,43 +19,53 @@ use ccan_ram::Tries;
 pub fn load(
     bus: &mut ChipBus,
     ram: &EndlessRam,
-    port: Port,
+    holder: &mut PortHolder,
     tries: Tries,
-) -> (Controller, LoadAnswer, Port)
-    requires memory { port.pass.memory ≡ ram.now.words }
-    requires bus { port.pass.port ≡ Bus }
-    requires profile { port.pass.memory.profile ≡ bus.old.bus.profile }
+) -> (Controller, LoadAnswer)
+    requires memory { (port_at holder.old).pass.memory ≡ ram.now.words }
+    requires bus { (port_at holder.old).pass.port ≡ Bus }
+    requires profile { (port_at holder.old).pass.memory.profile ≡ bus.old.bus.profile }
     ensures same { IsSameBus bus.old.bus bus.new.bus }
     ensures goes { (past : BusPast) → LedTo past bus.old.bus
         → (after : BusPast) × LedTo after bus.new.bus
-        × ChipGoes port result.2 (λ terms seen added.
+        × ChipGoes (port_at holder.old) (port_at holder.new) (λ terms seen added.
         LoadsOnChip terms tries past seen added after result.0 result.1) }
-    ensures stays { result.2.pass.memory ≡ port.pass.memory }
-    ensures port { result.2.pass.port ≡ port.pass.port }
+    ensures stays { (port_at holder.new).pass.memory ≡ (port_at holder.old).pass.memory }
+    ensures port { (port_at holder.new).pass.port ≡ (port_at holder.old).pass.port }
 {
-    bus.load(ram, port, tries)
+    let Some(port) = holder.port.take() else {
+        unreachable!();
+    };
+    let (found, loading, port) = bus.load(ram, port, tries);
+    holder.port = Some(port);
+    (found, loading)
 }
 
 /// Plays a round.
 pub fn round(
     bus: &mut ChipBus,
     ram: &EndlessRam,
-    port: Port,
+    holder: &mut PortHolder,
     line: &RoundLine,
     tries: Tries,
-) -> (ChipReport, Port)
-    requires memory { port.pass.memory ≡ ram.now.words }
-    requires bus { port.pass.port ≡ Bus }
-    requires profile { port.pass.memory.profile ≡ bus.old.bus.profile }
+) -> ChipReport
+    requires memory { (port_at holder.old).pass.memory ≡ ram.now.words }
+    requires bus { (port_at holder.old).pass.port ≡ Bus }
+    requires profile { (port_at holder.old).pass.memory.profile ≡ bus.old.bus.profile }
     ensures same { IsSameBus bus.old.bus bus.new.bus }
     ensures goes { (past : BusPast) → LedTo past bus.old.bus
         → (after : BusPast) × LedTo after bus.new.bus
-        × ChipGoes port result.1 (λ terms seen added.
-        RoundOnChip terms line.now tries past seen added after result.0) }
-    ensures stays { result.1.pass.memory ≡ port.pass.memory }
-    ensures port { result.1.pass.port ≡ port.pass.port }
+        × ChipGoes (port_at holder.old) (port_at holder.new) (λ terms seen added.
+        RoundOnChip terms line.now tries past seen added after result) }
+    ensures stays { (port_at holder.new).pass.memory ≡ (port_at holder.old).pass.memory }
+    ensures port { (port_at holder.new).pass.port ≡ (port_at holder.old).pass.port }
 {
-    bus.round(ram, port, line, tries)
+    let Some(port) = holder.port.take() else {
+        unreachable!();
+    };
+    let (report, port) = bus.round(ram, port, line, tries);
+    holder.port = Some(port);
+    report
 }
 
 /// Lets so many groups of eleven recessive bits pass. Where each try at the controller was lost to a change of another port, no
@@ -61,19 +73,22 @@ pub fn round(
 pub fn recessive(
     bus: &mut ChipBus,
     ram: &EndlessRam,
-    port: &mut Port,
+    holder: &mut PortHolder,
     groups: u16,
     tries: Tries,
 ) -> Result<ControllerChanged, ControllerBusy>
-    requires memory { port.old.pass.memory ≡ ram.now.words }
-    requires bus { port.old.pass.port ≡ Bus }
+    requires memory { (port_at holder.old).pass.memory ≡ ram.now.words }
+    requires bus { (port_at holder.old).pass.port ≡ Bus }
     ensures same { IsSameBus bus.old.bus bus.new.bus }
     ensures goes { (past : BusPast) → LedTo past bus.old.bus
         → (after : BusPast) × LedTo after bus.new.bus
-        × ChipGoes port.old port.new (λ terms seen added.
+        × ChipGoes (port_at holder.old) (port_at holder.new) (λ terms seen added.
         RecoversOnChip terms groups tries past seen added after result) }
-    ensures stays { port.new.pass.memory ≡ port.old.pass.memory }
-    ensures port { port.new.pass.port ≡ port.old.pass.port }
+    ensures stays { (port_at holder.new).pass.memory ≡ (port_at holder.old).pass.memory }
+    ensures port { (port_at holder.new).pass.port ≡ (port_at holder.old).pass.port }
 {
+    let Some(port) = &mut holder.port else {
+        unreachable!();
+    };
     bus.recessive(ram, port, groups, tries)
 }

@@ -1,16 +1,22 @@
 //! Reads and writes of two registers that make up a word of 32 bits.
-ghost use Rattle.std.specs.Prelude.{◌≡◌, ◌+◌, ◌<◌, ◌^◌};
+ghost use Rattle.std.specs.Prelude.{◌≡◌, ◌+◌, ◌<◌, ◌^◌, ◌⊎◌, IfNone, IfSome};
+ghost use Rattle.ccan_map.specs.declared.flag_part.FlagPart.{FlagPart};
+ghost use Rattle.ccan_ram.specs.declared.flag.Flag.{Flag};
 ghost use Rattle.ccan_ram.specs.declared.port.PortName.TheVariants.{Bus as BusPort};
 ghost use Rattle.ccan_registers.specs.ChipSteps.{ChipGoes};
+ghost use Rattle.ccan_registers.specs.PortHolder.{port_at};
 ghost use Rattle.ccan_registers.specs.Register as says;
-ghost use Rattle.ccan_registers.specs.Register.{ReadsHalves, ReadsWord, WritesHalves, WritesWord};
+ghost use Rattle.ccan_registers.specs.Register.{AreFlags, ReadsApart, ReadsFlags, ReadsHalves, ReadsWord, WritesHalves, WritesWord};
 
 use crate::access_error::AccessError;
 use crate::interface_set::InterfaceSet;
+use crate::objects::flags;
+use crate::port_holder::PortHolder;
 use crate::registers::{read_at, write_at};
-use ccan_endless::{EndlessRam, Port};
-use ccan_map::Map;
-use ccan_ram::Tries;
+use ccan_endless::EndlessRam;
+use ccan_map::{FlagPart, Map, Register};
+use ccan_object::Profile;
+use ccan_ram::{Flag, SharedRam, Tries};
 
 /// What comes of a read of a register, if there is one.
 type Read = Option<Result<u16, AccessError>>;
@@ -53,68 +59,110 @@ fn both_written(high: Written, low: Written) -> Written
 fn read_halves(
     own: &InterfaceSet,
     ram: &EndlessRam,
-    port: Port,
+    holder: &mut PortHolder,
     map: Map,
     offset: u32,
     tries: Tries,
-) -> (Option<Result<u32, AccessError>>, Port)
-    requires memory { port.pass.memory ≡ ram.now.words }
+) -> Option<Result<u32, AccessError>>
+    requires memory { (port_at holder.old).pass.memory ≡ ram.now.words }
     requires small { offset + 2 < 2 ^ 32 }
-    ensures { ChipGoes port result.1 (λ terms seen added.
-        ReadsHalves terms tries map offset own.now seen added result.0) }
+    ensures { ChipGoes (port_at holder.old) (port_at holder.new) (λ terms seen added.
+        ReadsHalves terms tries map offset own.now seen added result) }
 {
-    let (low, port) = read_at(own, ram, port, map, offset, tries);
+    let low = read_at(own, ram, holder, map, offset, tries);
     if is_refused(&low) {
-        return (joined(low, None), port);
+        return joined(low, None);
     }
-    let (high, port) = read_at(own, ram, port, map, offset + 2, tries);
-    (joined(low, high), port)
+    let high = read_at(own, ram, holder, map, offset + 2, tries);
+    joined(low, high)
 }
 
-/// Reads the word of 32 bits at an offset, in bytes from where the chip begins: its lower half, and then its upper one. A half
-/// without a register reads 0. None where the offset is no multiple of 4, or neither half has a register.
+/// The flag of which both halves of the word at an offset are registers, with the objects that the lower and the upper half show.
+fn flags_at(map: Map, profile: Profile, offset: u32) -> Option<(Flag, FlagPart, FlagPart)>
+    requires small { offset + 2 < 2 ^ 32 }
+    ensures some { IfSome result (λ r. AreFlags map profile offset r.0 r.1 r.2) }
+    ensures none { IfNone result ((flag : Flag) (low high : FlagPart)
+        → AreFlags map profile offset flag low high → ⊥) }
+{
+    let lower = map.register_at(profile, offset);
+    let upper = map.register_at(profile, offset + 2);
+    match (lower, upper) {
+        (Some(Register::Flags(flag, low)), Some(Register::Flags(other, high))) if flag == other => {
+            Some((flag, low, high))
+        }
+        _ => None,
+    }
+}
+
+/// Reads the word of 32 bits at an offset that is a multiple of 4.
+fn read_aligned(
+    own: &InterfaceSet,
+    ram: &EndlessRam,
+    holder: &mut PortHolder,
+    map: Map,
+    offset: u32,
+    tries: Tries,
+) -> Option<Result<u32, AccessError>>
+    requires memory { (port_at holder.old).pass.memory ≡ ram.now.words }
+    requires small { offset + 2 < 2 ^ 32 }
+    ensures { ChipGoes (port_at holder.old) (port_at holder.new) (λ terms seen added.
+        ReadsFlags terms map offset seen added result
+        ⊎ ReadsApart terms tries map offset own.now seen added result) }
+{
+    match flags_at(map, ram.profile(), offset) {
+        Some((flag, low, high)) => {
+            let word = flags(ram, holder, flag);
+            Some(Ok((u32::from(high.of(word)) << 16) + u32::from(low.of(word))))
+        }
+        None => read_halves(own, ram, holder, map, offset, tries),
+    }
+}
+
+/// Reads the word of 32 bits at an offset, in bytes from where the chip begins. Where both halves are registers of one flag, it
+/// is of one moment; else its lower half is read, and then its upper one. A half without a register reads 0. None where the
+/// offset is no multiple of 4, or neither half has a register.
 pub fn read_word(
     own: &InterfaceSet,
     ram: &EndlessRam,
-    port: Port,
+    holder: &mut PortHolder,
     map: Map,
     offset: u32,
     tries: Tries,
-) -> (Option<Result<u32, AccessError>>, Port)
-    requires { port.pass.memory ≡ ram.now.words }
-    ensures { ChipGoes port result.1 (λ terms seen added.
-        ReadsWord terms tries map offset own.now seen added result.0) }
+) -> Option<Result<u32, AccessError>>
+    requires { (port_at holder.old).pass.memory ≡ ram.now.words }
+    ensures { ChipGoes (port_at holder.old) (port_at holder.new) (λ terms seen added.
+        ReadsWord terms tries map offset own.now seen added result) }
 {
     if offset % 4 != 0 {
-        return (None, port);
+        return None;
     }
-    read_halves(own, ram, port, map, offset, tries)
+    read_aligned(own, ram, holder, map, offset, tries)
 }
 
 /// Writes the two halves of a word.
 fn write_halves(
     own: &mut InterfaceSet,
     ram: &EndlessRam,
-    port: Port,
+    holder: &mut PortHolder,
     map: Map,
     offset: u32,
     value: u32,
     tries: Tries,
-) -> (Written, Port)
-    requires memory { port.pass.memory ≡ ram.now.words }
+) -> Written
+    requires memory { (port_at holder.old).pass.memory ≡ ram.now.words }
     requires small { offset + 2 < 2 ^ 32 }
-    ensures goes { ChipGoes port result.1 (λ terms seen added.
-        WritesHalves terms tries map offset value own.old seen added result.0 own.new) }
-    ensures bus { port.pass.port ≡ BusPort → own.new ≡ own.old }
+    ensures goes { ChipGoes (port_at holder.old) (port_at holder.new) (λ terms seen added.
+        WritesHalves terms tries map offset value own.old seen added result own.new) }
+    ensures bus { (port_at holder.old).pass.port ≡ BusPort → own.new ≡ own.old }
 {
     let upper = (value >> 16) as u16;
     let lower = (value % (1 << 16)) as u16;
-    let (high, port) = write_at(own, ram, port, map, offset + 2, upper, tries);
+    let high = write_at(own, ram, holder, map, offset + 2, upper, tries);
     if is_refused(&high) {
-        return (high, port);
+        return high;
     }
-    let (low, port) = write_at(own, ram, port, map, offset, lower, tries);
-    (both_written(high, low), port)
+    let low = write_at(own, ram, holder, map, offset, lower, tries);
+    both_written(high, low)
 }
 
 /// Writes the word of 32 bits at an offset, in bytes from where the chip begins: its upper half, and then its lower one, so that
@@ -123,19 +171,19 @@ fn write_halves(
 pub fn write_word(
     own: &mut InterfaceSet,
     ram: &EndlessRam,
-    port: Port,
+    holder: &mut PortHolder,
     map: Map,
     offset: u32,
     value: u32,
     tries: Tries,
-) -> (Written, Port)
-    requires { port.pass.memory ≡ ram.now.words }
-    ensures goes { ChipGoes port result.1 (λ terms seen added.
-        WritesWord terms tries map offset value own.old seen added result.0 own.new) }
-    ensures bus { port.pass.port ≡ BusPort → own.new ≡ own.old }
+) -> Written
+    requires { (port_at holder.old).pass.memory ≡ ram.now.words }
+    ensures goes { ChipGoes (port_at holder.old) (port_at holder.new) (λ terms seen added.
+        WritesWord terms tries map offset value own.old seen added result own.new) }
+    ensures bus { (port_at holder.old).pass.port ≡ BusPort → own.new ≡ own.old }
 {
     if offset % 4 != 0 {
-        return (None, port);
+        return None;
     }
-    write_halves(own, ram, port, map, offset, value, tries)
+    write_halves(own, ram, holder, map, offset, value, tries)
 }

@@ -56,6 +56,30 @@ pub fn changed(
     }
 }
 
+/// How often a change is begun anew that lost each of its tries.
+const PATIENCE: u32 = 1000;
+
+/// A change of the controller that is begun anew where each of its tries was lost. Nothing says that one comes through where others
+/// change the controller all the time, and on a busy machine a thousand tries may be lost in a row.
+fn insisted(
+    ram: &EndlessRam,
+    port: &mut Port,
+    change: &ControllerChange,
+    tries: Tries,
+) -> Option<ControllerChanged>
+    requires memory { port.old.pass.memory ≡ ram.now.words }
+    requires may { MayMake port.old.pass.port change.now }
+    ensures memory { port.new.pass.memory ≡ port.old.pass.memory }
+    ensures port { port.new.pass.port ≡ port.old.pass.port }
+{
+    for turn in 0..PATIENCE {
+        if let Some(made) = changed(ram, port, change, tries) {
+            return Some(made);
+        }
+    }
+    None
+}
+
 /// A look at the controller, likewise.
 pub fn looked(ram: &EndlessRam, port: &mut Port) -> Controller
     requires memory { port.old.pass.memory ≡ ram.now.words }
@@ -97,7 +121,7 @@ pub fn write_control(ram: &EndlessRam, mut port: Port, turns: u32, tries: Tries)
     let mut last = ControlRegister::default();
     for turn in 0..turns {
         let change = control(turn % 2 == 0, turn % 3 == 0);
-        match changed(ram, &mut port, &change, tries) {
+        match insisted(ram, &mut port, &change, tries) {
             Some(made) => {
                 counted = counted.with(made.before.control == last, false);
                 last = made.after.control;
@@ -116,7 +140,7 @@ pub fn read_status(ram: &EndlessRam, mut port: Port, turns: u32, tries: Tries) -
 {
     let mut counted = Counted::none();
     for turn in 0..turns {
-        match changed(ram, &mut port, &ControllerChange::ReadStatus, tries) {
+        match insisted(ram, &mut port, &ControllerChange::ReadStatus, tries) {
             Some(made) => {
                 counted = counted.with(!made.after.transfer_pending, made.before.transfer_pending)
             }
@@ -137,7 +161,7 @@ pub fn receive_frames(ram: &EndlessRam, mut port: Port, turns: u32, tries: Tries
     let mut last = 0u8;
     for turn in 0..turns {
         let change = frame(turn % 2 == 0);
-        match changed(ram, &mut port, &change, tries) {
+        match insisted(ram, &mut port, &change, tries) {
             Some(ControllerChanged { before, after }) => {
                 let in_turn = before.counters.rec() == last;
                 counted = counted.with(in_turn, !before.transfer_pending);

@@ -4,6 +4,6 @@ use Rattle.ccan_c.proofs.opening.chip_of.Goals as goal
 
 pub returns : goal.returns
 returns c =
-    let begin = c.args.begin.now in
-    all_open c.of.result _ _ _ (Begins c.args.if1 begin) (Begins c.args.if2 begin) (Begins c.args.bus begin)
+    let a = c.args in
+    all_open c.of.result _ _ _ (Begins a.if1 a.first.now) (Begins a.if2 a.second.now) (Begins a.bus a.third.now)
     c.of.ensures.if1 c.of.ensures.if2 c.of.ensures.bus c.in_ok-if1.ensures c.in_ok-if2.ensures c.in_ok-bus.ensures

@@ -1,6 +1,7 @@
-use Rattle.std.proofs.Common.{ap, sym, subst}
+use Rattle.std.proofs.Common.{ap, sym, subst, ◌∙◌}
 use Rattle.ccan_bus.specs.Bus.{LedTo}
 use Rattle.ccan_bus.specs.Past.{opened_at_once}
+use Rattle.ccan_endless.specs.ChipPort.{ChipPass}
 use Rattle.ccan_registers.specs.ChipSteps.{SeesChip}
 use Rattle.ccan_c.specs.declared.held.Held.{Held}
 use Rattle.ccan_c.specs.Held.{port_of}
@@ -12,15 +13,16 @@ returns-in-Ok-new c =
       c.in-Ok-new.held.value,
       c.open.ensures,
       record {
-        port_is = ap (λ (h : Held). port_of h) same;
+        port_is = ap (λ (h : Held). port_of h) same ∙ c.new.ensures;
         sees =
             subst (λ (h : Held). SeesChip (port_of h)) (sym same)
-            (record { one = c.sees_one_history.ensures.one; sees = c.sees_one_history.ensures.sees });
+            (subst (λ (port : ChipPass). SeesChip port) (sym c.new.ensures)
+            (record { one = c.sees_one_history.ensures.one; sees = c.sees_one_history.ensures.sees }));
         tries_are = ap (λ (h : Held). h.tries) same;
         nodes_are = ap (λ (h : Held). h.nodes) same;
         map_is = ap (λ (h : Held). h.map) same;
         own_is = ap (λ (h : Held). h.own) same;
         bus_is = subst (λ (h : Held). LedTo (opened_at_once c.args.begin.now.settings.nodes) h.bus.bus) (sym same)
-            c.new.ensures.opened;
+            c.new-2.ensures.opened;
       },
     )

@@ -3,6 +3,7 @@
 use Rattle.std.proofs.Common.{refl, sym, subst, ◌∙◌}
 use Rattle.ccan_ram.specs.declared.port.PortName.{PortName}
 use Rattle.ccan_ram.specs.SharedRam.{Memory, terms_of}
+use Rattle.ccan_ram.specs.Tries.{most_tries}
 use Rattle.ccan_confine.specs.declared.bus_event.BusEvent.{BusEvent}
 use Rattle.ccan_confine.specs.declared.status_event.StatusEvent.{StatusEvent}
 use Rattle.ccan_bus.specs.Controller.{WasTo}
@@ -76,8 +77,8 @@ returns-clause-round c past led =
               let e = w.change_controller.ensures in
               let own : BusEvent × StatusEvent = (w.in-Some.event, w.in-Some.status) in
               let new = w.change_controller.new.port in
-              notes_some own c.args.tries between new _ w.change_controller.result _ _ w.in-Some.is w.port-is w.noted-is
-              (noted_of own c.args.tries between new w.change_controller.result e.made e.after e.busy e.lost
+              notes_some own w.event_tries.result most_tries between new _ w.change_controller.result _ _ w.event_tries.ensures w.in-Some.is w.port-is w.noted-is
+              (noted_of own w.event_tries.result between new w.change_controller.result e.made e.after e.busy e.lost
               e.objects)
         ];
       },

@@ -1,10 +1,10 @@
--- The port of an open handle. A call takes it out of the handle while it works at objects, and puts it back. Source: this
--- project's own.
+-- The place of a port. A call that works at objects takes the port out of it, and puts it back. Source: this project's own.
 use Rattle.std.specs.Prelude.{[], Option, Some, None}
 use Rattle.ccan_object.specs.declared.profile.Profile.TheVariants.{One}
 use Rattle.ccan_ram.specs.declared.port.PortName.TheVariants.{Bus}
 use Rattle.ccan_ram.specs.SharedRam.{opened}
 use Rattle.ccan_endless.specs.ChipPort.{ChipPass}
+use Rattle.ccan_registers.specs.declared.port_holder.PortHolder.{PortHolder}
 
 -- a port of a memory without a name, which stands for none
 abbrev pub nowhere : ChipPass
@@ -13,3 +13,7 @@ nowhere = record { pass = opened (record { profile = One; quota = 0; name = [] }
 abbrev pub port_in : Option ChipPass → ChipPass
 port_in None = nowhere
 port_in (Some port) = port
+
+-- the port that is there
+abbrev pub port_at : PortHolder → ChipPass
+port_at holder = port_in holder.port

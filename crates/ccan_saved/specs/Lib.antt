@@ -1,0 +1,4 @@
+pub mod Format
+pub mod FormatError
+pub mod Looks
+pub mod PutBack

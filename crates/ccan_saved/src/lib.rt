@@ -1,0 +1,44 @@
+//! A chip saved to bytes and put back from them, so that a simulator can take a snapshot of it.
+//!
+//! What is saved is what a driver could ever see of the chip: its registers, with what stands behind them, and the records of
+//! its objects. Two things are not of the chip, and are not saved: the error counters of the other nodes, which begin anew; and
+//! that a frame is loaded for sending, since its object stays requested and is loaded anew.
+//!
+//! ```text
+//!   chip --- look_at_all ---> Saved --- to_bytes ---> 1672 bytes
+//!    ^                          |  ^                       |
+//!    |                          |  |                       |
+//!    '---- put_back <-----------'  '----- from_bytes <-----'
+//! ```
+//!
+//! No call allocates. No event of a chip says "restored": `put_back` brings a chip after its reset, by steps that every chip can
+//! make, to where the saved one stood, and then looks whether it is there. So each law about chips holds of it.
+//!
+//! # Calling
+//!
+//! To save, read `look_at_all` by any port while no other call runs, and fill a `Saved`. A look at the controller and one at each
+//! object are not one moment: where other ports change the chip meanwhile, what is saved may be a chip that never was. To put
+//! back, open a chip with `EndlessRam::open_reset`, hand `put_back` the bus's port before any other port is used, and where it
+//! fails close the chip. `from_bytes` refuses what no `Saved` is written as; that no chip can be like it shows in `put_back`.
+#![tactic(auto)]
+
+mod bytes;
+mod field;
+mod fields;
+mod follow;
+mod format_error;
+mod look;
+mod not_restored;
+mod objects;
+mod plan;
+mod restoring;
+mod saved;
+mod words;
+
+pub use bytes::{LENGTH, from_bytes, to_bytes};
+pub use field::Field;
+pub use format_error::FormatError;
+pub use look::look_at_all;
+pub use not_restored::NotRestored;
+pub use restoring::put_back;
+pub use saved::Saved;
