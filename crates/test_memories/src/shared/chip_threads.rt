@@ -6,8 +6,8 @@ ghost use Rattle.ccan_ram.specs.declared.port.PortName.TheVariants.{If1, If2, Bu
 use crate::shared::chips::{changed, control};
 use ccan_bus::RoundLine;
 use ccan_chip::ChipBus;
-use ccan_confine::{ControllerChange, Counters};
-use ccan_endless::{EndlessRam, FinalChip, Port};
+use ccan_confine::{BusEvent, ControllerChange, Counters};
+use ccan_endless::{ControllerChanged, EndlessRam, FinalChip, Port};
 use ccan_object::Profile;
 use ccan_ram::Tries;
 use std::thread::{Threads, join};
@@ -15,16 +15,32 @@ use std::thread::{Threads, join};
 /// What came of it.
 #[derive(Clone, Copy, PartialEq, Eq, Debug)]
 pub struct AtWork {
-    /// The counters that the rounds' events make of a new controller's.
+    /// The counters that the events which were made at the controller make of a new controller's.
     pub counters: Counters,
-    /// Each event was made at the controller, and found the counters that those before it had left.
+    /// Each event was made at the controller, where it found the counters that those before it had left, or told as given up.
     pub all_noted: bool,
+    /// How many events were made at the controller. The others lost each of their tries to the host, of which there is no end.
+    pub made: u32,
     /// In how many rounds the controller took part.
     pub parts: u32,
     /// How many events raised the status interrupt of transfers and errors.
     pub raised: u32,
     /// How many reads of the host cleared it.
     pub read: u32,
+}
+
+impl AtWork {
+    /// With an event that was made at the controller.
+    fn with(self, event: BusEvent, made: &ControllerChanged) -> AtWork {
+        let raised = !made.before.transfer_pending;
+        AtWork {
+            counters: self.counters.after(event),
+            all_noted: self.all_noted && made.before.counters == self.counters,
+            made: self.made.saturating_add(1),
+            raised: self.raised.saturating_add(u32::from(raised)),
+            ..self
+        }
+    }
 }
 
 /// So many rounds, of two lines by turns.
@@ -45,6 +61,7 @@ pub fn play(
     let mut at_work = AtWork {
         counters: Counters::new(true),
         all_noted: true,
+        made: 0,
         parts: 0,
         raised: 0,
         read: 0,
@@ -56,15 +73,10 @@ pub fn play(
         if let Some((event, _)) = told.own {
             at_work.parts = at_work.parts.saturating_add(1);
             match told.noted {
-                Some(Ok(made)) => {
-                    let in_turn = made.before.counters == at_work.counters;
-                    at_work.all_noted = at_work.all_noted && in_turn;
-                    let raised = !made.before.transfer_pending;
-                    at_work.raised = at_work.raised.saturating_add(u32::from(raised));
-                }
-                Some(Err(_)) | None => at_work.all_noted = false,
+                Some(Ok(made)) => at_work = at_work.with(event, &made),
+                Some(Err(_)) => {}
+                None => at_work.all_noted = false,
             }
-            at_work.counters = at_work.counters.after(event);
         }
     }
     (at_work, port)
