@@ -13,8 +13,9 @@
  *    place there. How many places that is:
  *      one     at the objects: ccan_request where it is done, and a write of Command Request; ccan_flags, ccan_interrupt,
  *              ccan_peek, ccan_bus_flags, and a read of a register of a flag. At the controller: ccan_status, ccan_control,
- *              ccan_init, ccan_recessive and ccan_counters of node 0 where they are done; a read or a write of Control, Status,
- *              Bit Timing, Test and BRP Extension, and a read of Error Counter; ccan_loop_back, to switch it off.
+ *              ccan_init, ccan_reset, ccan_recessive and ccan_counters of node 0 where they are done; a read or a write of
+ *              Control, Status, Bit Timing, Test and BRP Extension, and a read of Error Counter; ccan_loop_back, to switch it
+ *              off.
  *      two     ccan_bus_interrupt, ccan_line, ccan_bus_line and a read of Interrupt: a look at the controller, and then, where
  *              no status interrupt is shown, all objects in one moment. ccan_loop_back, to switch it on.
  *      more    ccan_until: its looks. ccan_load: a look at the controller, then the choice of what is sent, and its start.
@@ -26,8 +27,8 @@
  *    Between two of a call's places steps of other ports may stand. What ccan_load and ccan_round choose to send is chosen at one
  *    place, as on the part: the first object that is ready there, or, where its start finds it ready no more, the next one that
  *    was. ccan_end gives the records that the whole history leaves. This one history is proved of a chip from ccan_open or
- *    ccan_open_reset on, as long as ccan_save is not called. What ccan_save and ccan_restore do in the chip's history is proved
- *    of each call by itself.
+ *    ccan_open_reset on, as long as neither ccan_save nor ccan_reset is called. What these and ccan_restore do in the chip's
+ *    history is proved of each call by itself.
  *  - ccan_round takes part as the controller is at its look, and its event is made of the controller as it is then; the error
  *    counters are still those of the look. The event is tried 1000 times, however few tries the chip was opened with. It also
  *    tells what came of its steps: whether it loaded an object itself, whose frame was on the bus and which one, and which step
@@ -56,8 +57,8 @@
  *  1. A ccan_chip begins as CCAN_CHIP_CLOSED, or by ccan_chip_init. C neither reads nor writes the insides of a chip or a
  *     handle, and neither copies nor moves them. Only handles of such a chip are passed to a call.
  *  2. A handle is in one call at a time. Different handles of one chip may be in calls at the same time.
- *  3. ccan_open, ccan_open_reset, ccan_restore, ccan_save, ccan_end, ccan_meet and ccan_is_open take the whole chip: while one of
- *     them runs, no other of them does on that chip, and no call on one of its handles.
+ *  3. ccan_open, ccan_open_reset, ccan_restore, ccan_reset, ccan_save, ccan_end, ccan_meet and ccan_is_open take the whole chip:
+ *     while one of them runs, no other of them does on that chip, and no call on one of its handles.
  *  4. Where calls on one handle, or on the whole chip, are made by different threads, C orders them: by the start or the join
  *     of a thread, a mutex, a condition variable or a barrier, or an atomic that is stored and then loaded as seq_cst. So
  *     the opening comes before the first call of a thread that is started after it. A call orders no memory of C's own: what one
@@ -229,7 +230,7 @@ CCAN_CODE ccan_end(ccan_chip *chip, ccan_final *out);
  * another. It makes no step of the chip. CCAN_CLOSED where the chip isn't open; else CCAN_DONE. */
 CCAN_CODE ccan_meet(ccan_chip *chip);
 
-/* ---- saving and restoring */
+/* ---- saving, restoring and resetting */
 
 /* A chip as bytes, which may be kept in a file and read by another program: see docs/FORMATS.md, "A saved chip". Its first bytes
  * say that it is one, and of which version of the format. */
@@ -252,6 +253,15 @@ CCAN_CODE ccan_save(ccan_chip *chip, ccan_saved *out);
  *  - CCAN_BUSY, CCAN_SPENT: nobody can bring them about, since nobody else has the new chip yet; that is not proved.
  * A chip that was open ends, without its records, where it answers CCAN_DONE. */
 CCAN_CODE ccan_restore(ccan_chip *chip, const ccan_saved *saved);
+
+/* Resets an open chip in its place, without memory, as the reset of a part does: the controller's registers, its error counters
+ * among them, and those of IF1 and IF2 have their reset values, Init 1, and the message objects stay as they are. So a driver that
+ * forgets to make its unused objects invalid meets the old ones. A frame that is loaded is dropped by the next load or round, and
+ * its object stays requested. The layout and the tries stay, and the other nodes with their error counters. It is one change of
+ * the controller by the bus's port, and then the three ports meet. For a chip as after power-on: ccan_open_reset.
+ * CCAN_CLOSED where the chip isn't open. CCAN_BUSY, after which nothing has happened: another call changed the controller
+ * meanwhile, which promise 3 rules out; that is not proved. Else CCAN_DONE. */
+CCAN_CODE ccan_reset(ccan_chip *chip);
 
 /* ---- registers by their offsets: each call answers CCAN_CLOSED first, where its handle is closed */
 

@@ -66,7 +66,8 @@ static int all_calls(ccan_chip *chip)
         && !ccan_bus_write16(&chip->bus, CCAN_OFFSET_TEST, 0) && !ccan_bus_read16(&chip->bus, CCAN_OFFSET_NEW_DATA_1, &value)
         && !ccan_bus_line(&chip->bus, &number)
         && !ccan_counters(&chip->bus, 0, &counts)
-        && !ccan_bus_flags(&chip->bus, CCAN_NEWDAT, &word) && !ccan_bus_interrupt(&chip->bus, &value);
+        && !ccan_bus_flags(&chip->bus, CCAN_NEWDAT, &word) && !ccan_bus_interrupt(&chip->bus, &value)
+        && !ccan_reset(chip);
 }
 
 enum how { PLAIN, RESET, RESTORED };

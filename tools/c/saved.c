@@ -1,6 +1,7 @@
 /* Saves chips and opens them again. A chip that is saved and opened again on the way answers each later call as its twin that never
  * was, and is saved as the same bytes. Of bytes with one bit turned over those that open a chip are just what it is saved as, and
- * the others are refused and leave the place as it was. Prints what it did; a difference ends it with status 1. */
+ * the others are refused and leave the place as it was. A chip that is reset in its place is as one that was just opened, but for
+ * its message objects, which stay. Prints what it did; a difference ends it with status 1. */
 #include <ccan.h>
 #include <stdio.h>
 #include <stdlib.h>
@@ -89,6 +90,22 @@ static void swap_chip(void)
     saves++;
 }
 
+static int resets;
+
+/* Both are reset: all but the records is as in a chip that was just opened, and the records are as they were. */
+static void reset_both(uint32_t profile, uint32_t layout)
+{
+    ccan_saved before, after, fresh;
+    const size_t records = 136;
+    EXPECT(ccan_save(&chip, &before) == CCAN_DONE);
+    EXPECT(ccan_reset(&chip) == CCAN_DONE && ccan_reset(&twin) == CCAN_DONE);
+    EXPECT(ccan_save(&chip, &after) == CCAN_DONE);
+    EXPECT(ccan_open_reset(&third, profile, 2, 100, layout) == CCAN_DONE && ccan_save(&third, &fresh) == CCAN_DONE);
+    EXPECT(memcmp(after.bytes, fresh.bytes, records) == 0);
+    EXPECT(memcmp(after.bytes + records, before.bytes + records, sizeof after.bytes - records) == 0);
+    resets++;
+}
+
 static void run(uint32_t profile, uint32_t layout)
 {
     uint32_t groups, as_groups;
@@ -107,6 +124,8 @@ static void run(uint32_t profile, uint32_t layout)
             play_out();
             swap_chip();
         }
+        if (number(40) == 0)
+            reset_both(profile, layout);
     }
 }
 
@@ -143,6 +162,7 @@ int main(void)
         run(1 + seeds % 2, seeds % 3);
     spoil();
     EXPECT(ccan_end(&chip, &last) == CCAN_DONE && ccan_end(&twin, &last) == CCAN_DONE && ccan_end(&third, &last) == CCAN_DONE);
-    printf("%d chips were saved and opened again, and went on as their twins\n", saves);
+    EXPECT(resets > 100);
+    printf("%d chips were saved and opened again, and went on as their twins; %d were reset in their place\n", saves, resets);
     return 0;
 }

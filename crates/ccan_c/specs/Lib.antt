@@ -23,3 +23,4 @@ pub mod BusCall
 pub mod Threads
 pub mod OneThread
 pub mod Saving
+pub mod Resetting

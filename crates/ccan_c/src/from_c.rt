@@ -16,6 +16,7 @@ use crate::host_handle::HostHandle;
 use crate::meeting::ccan_meet;
 use crate::offer::Offer;
 use crate::opening::{ccan_is_open, ccan_open, ccan_open_reset};
+use crate::resetting::ccan_reset;
 use crate::saved_chip::SavedChip;
 use crate::saving::{ccan_restore, ccan_save};
 use crate::shown_counters::ShownCounters;
@@ -57,6 +58,10 @@ pub fn save(alloc: Global, chip: &mut Chip, saved: &mut SavedChip) -> u32 {
 
 pub fn restore(alloc: Global, chip: &mut Chip, saved: &SavedChip) -> u32 {
     ccan_restore(alloc, chip, saved)
+}
+
+pub fn reset_in_place(alloc: Global, chip: &mut Chip) -> u32 {
+    ccan_reset(alloc, chip)
 }
 
 pub fn end(alloc: Global, chip: &mut Chip, last: &mut ShownFinal) -> u32 {

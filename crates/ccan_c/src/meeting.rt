@@ -31,7 +31,7 @@ pub(crate) fn meet_ports(ram: &EndlessRam, if1: &mut Port, if2: &mut Port, bus: 
 }
 
 /// The ports of three handles meet.
-fn meet_held(if1: &mut Held, if2: &mut Held, bus: &mut Held)
+pub(crate) fn meet_held(if1: &mut Held, if2: &mut Held, bus: &mut Held)
     requires { AreThree if1.old if2.old bus.old }
     ensures meet { MeetHeld if1.old if2.old bus.old if1.new if2.new bus.new }
     ensures three { AreThree if1.new if2.new bus.new }

@@ -5,8 +5,8 @@ use crate::expect::{holds, same};
 use crate::from_c::{
     bus_flags, bus_interrupt, bus_line, bus_read16, bus_read32, bus_write16, bus_write32, control,
     counters, end, flags, init, interrupt, is_open, load, loop_back, meet, open, open_reset,
-    opened, peek, pulls, read16, read32, reads, recessive, request, reset, restore, round, save,
-    set, set_all, shown, status, until, write_all, write16, write32,
+    opened, peek, pulls, read16, read32, reads, recessive, request, reset,
+    reset_in_place, restore, round, save, set, set_all, shown, status, until, write_all, write16, write32,
 };
 use crate::host::{ccan_request, ccan_set};
 use crate::host_handle::HostHandle;
@@ -648,6 +648,25 @@ fn a_saved_chip_opens_again(rt: HostRuntime) {
     same(&rt, shown(&rt, &mut other.if1, 4), 0xa400);
     same(&rt, loads(&rt, &mut other.bus), 2);
     same(&rt, played(&rt, &mut other.bus, &[], 0).kind, 1);
+}
+
+/// The registers have the values of a reset, and object 2 is still as it was written.
+#[test]
+fn a_reset_leaves_the_message_ram(rt: HostRuntime) {
+    let alloc = rt.alloc();
+    let mut chip = Chip::closed(alloc);
+    same(&rt, reset_in_place(alloc, &mut chip), 1);
+    chip = opened(&rt, alloc, 1, 1);
+    same(&rt, ccan_set(&mut chip.if1, 0, 0x00f3), 0);
+    same(&rt, ccan_set(&mut chip.if1, 4, 0xa400), 0);
+    same(&rt, ccan_request(&mut chip.if1, 2), 0);
+    same(&rt, reset_in_place(alloc, &mut chip), 0);
+    same(&rt, shown(&rt, &mut chip.if1, 4), 0);
+    same(&rt, reads(&rt, &mut chip.if1, 0x00), 0x0001);
+    same(&rt, reads(&rt, &mut chip.if2, 0x44), 0xffff);
+    let mut seen = no_record();
+    same(&rt, peek(&mut chip.if2, 2, &mut seen), 0);
+    same(&rt, seen.arbitration, 0xa4000000);
 }
 
 #[test]
