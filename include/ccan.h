@@ -20,15 +20,15 @@
  *              no status interrupt is shown, all objects in one moment. ccan_loop_back, to switch it on.
  *      more    ccan_until: its looks. ccan_load: a look at the controller, then the choice of what is sent, and its start.
  *              ccan_round: these three, then the finish, the store or both, and last the round's event at the controller.
+ *              ccan_save: a look at the controller and one at each object.
  *      none    ccan_set, ccan_get, ccan_meet, ccan_counters of another node; reads and writes of the other registers of an
  *              interface, and writes of registers that can only be read.
  *      A word of 32 bits: one, where a read is of two registers of a flag; else those of its two halves, in the order in which
  *      they are read or written.
  *    Between two of a call's places steps of other ports may stand. What ccan_load and ccan_round choose to send is chosen at one
  *    place, as on the part: the first object that is ready there, or, where its start finds it ready no more, the next one that
- *    was. ccan_end gives the records that the whole history leaves. This one history is proved of a chip from ccan_open or
- *    ccan_open_reset on, as long as neither ccan_save nor ccan_reset is called. What these and ccan_restore do in the chip's
- *    history is proved of each call by itself.
+ *    was. ccan_end gives the records that the whole history leaves. All this holds however the chip was opened: ccan_restore begins
+ *    as ccan_open_reset does, and the steps by which it puts the chip back are the bus's.
  *  - ccan_round takes part as the controller is at its look, and its event is made of the controller as it is then; the error
  *    counters are still those of the look. The event is tried 1000 times, however few tries the chip was opened with. It also
  *    tells what came of its steps: whether it loaded an object itself, whose frame was on the bus and which one, and which step

@@ -1,37 +1,52 @@
 -- A chip from its opening to its end: the history with which it ends is one that the calls on its handles fit.
-use Rattle.std.proofs.Common.{◌≡◌, List, [], ◌∷◌, ◌++◌, Some, map, refl, sym, ap, subst, ◌∙◌}
+use Rattle.std.proofs.Common.{◌≡◌, ℕ, List, [], ◌∷◌, ◌++◌, Some, map, refl, sym, ap, ap₂, subst, ◌∙◌, arith}
+use Rattle.std.specs.Prelude.{Result, Ok, Err}
 use Rattle.std.specs.declared.option.Option.{Option}
 use Rattle.ccan_object.specs.declared.profile.Profile.{Profile}
 use Rattle.ccan_object.specs.Profile.{objects_in}
+use Rattle.ccan_confine.specs.declared.controller_change.ControllerChange.TheVariants.{Reset}
 use Rattle.ccan_ram.specs.declared.port.PortName.{PortName}
 use Rattle.ccan_ram.specs.declared.port.PortName.TheVariants.{If1, If2, Bus}
 use Rattle.ccan_ram.specs.Ending.{final_records}
 use Rattle.ccan_ram.specs.History.{IsLegal, events_of}
-use Rattle.ccan_ram.specs.SharedRam.{Memory, IsMemoryOf, terms_of}
+use Rattle.ccan_ram.specs.SharedRam.{IsSamePort, Memory, IsMemoryOf, terms_of}
 use Rattle.ccan_ram.specs.Terms.{Terms}
+use Rattle.ccan_endless.specs.declared.final_chip.FinalChip.{FinalChip}
 use Rattle.ccan_endless.specs.Chip.{ChipHistory, ram_of, steps_of}
 use Rattle.ccan_endless.specs.ChipEnding.{ChipEnds, IsChipPart}
-use Rattle.ccan_endless.specs.ChipPort.{ChipPass}
+use Rattle.ccan_endless.specs.ChipPort.{ChipPass, reset_history}
 use Rattle.ccan_endless.specs.Layout.{most, same_object}
 use Rattle.ccan_bus.specs.Bus.{LedTo}
 use Rattle.ccan_bus.specs.Past.{BusPast, opened_at_once}
 use Rattle.ccan_chip.specs.declared.chip_bus.ChipBus.{ChipBus}
+use Rattle.ccan_registers.specs.declared.access_error.AccessError.{AccessError}
 use Rattle.ccan_registers.specs.declared.interface_set.InterfaceSet.{InterfaceSet}
+use Rattle.ccan_registers.specs.ChipSteps.{SeesChip, terms_at}
+use Rattle.ccan_registers.specs.InterfaceSet.{reset_set}
+use Rattle.ccan_registers.specs.Register.{Makes}
+use Rattle.ccan_saved.specs.declared.saved.Saved.{Saved}
+use Rattle.ccan_saved.specs.Format.{text_of}
+use Rattle.ccan_saved.specs.Looks.{LooksAtAll}
 use Rattle.ccan_registers.proofs.Histories.{no_events, no_steps}
 use Rattle.ccan_c.specs.declared.chip.Chip.{Chip}
 use Rattle.ccan_c.specs.declared.held.Held.{Held}
 use Rattle.ccan_c.specs.declared.shown_final.ShownFinal.{ShownFinal}
 use Rattle.ccan_c.specs.Bus.{held_on}
 use Rattle.ccan_c.specs.BusCall.{BusCall, BusCallDoes, BusCallMeans}
-use Rattle.ccan_c.specs.Chip.{EndsWith}
-use Rattle.ccan_c.specs.Held.{IsKept, IsOpening, pass_of, port_of}
+use Rattle.ccan_c.specs.Chip.{AllOpen, EndsWith, Opens}
+use Rattle.ccan_c.specs.Held.{IsHolding, WorksAsBefore, pass_of, port_of}
 use Rattle.ccan_c.specs.Host.{held_by}
-use Rattle.ccan_c.specs.HostCall.{HostCall, HostCallDoes, HostCallMeans}
-use Rattle.ccan_c.specs.Meeting.{HasMet, MeetHeld}
-use Rattle.ccan_c.specs.Opening.{Set, begins_as}
-use Rattle.ccan_c.specs.Record.{c_record}
+use Rattle.ccan_c.specs.HostCall.{HostCall, HostCallDoes, HostCallMeans, code_of_access}
+use Rattle.ccan_c.specs.Meeting.{HasMet, HaveMet, MeetHeld}
+use Rattle.ccan_c.specs.Opening.{Set, after_reset, begins_as}
+use Rattle.ccan_c.specs.Record.{IsFinal, c_record}
+use Rattle.ccan_c.specs.Resetting.{IsReset, ResetsHeld}
+use Rattle.ccan_c.specs.Saving.{IsSavedOf, RestoresAs}
 use Rattle.ccan_c.specs.Step.{Place, CallsMean, Leads, own_of}
-use Rattle.ccan_c.specs.Threads.{Part, at_once, meeting, PartDoes, PartsDo, Places, opening, PartMeans, PartsMean, MeetsAll}
+use Rattle.ccan_c.specs.Steps.{Steps}
+use Rattle.ccan_c.specs.Threads.{Beginning, opened_with, restored_as, set_of, Begins, BeginsAt, BeginsRestored}
+use Rattle.ccan_c.specs.Threads.{Part, at_once, meeting, saving, resetting, PartDoes, PartsDo, Places, opening, PartMeans, PartsMean}
+use Rattle.ccan_c.specs.Threads.{bus_adds, hosts_have, MeetsAll, HaveMetAll, ResetsAll, SavesAll}
 use Rattle.ccan_c.specs.Threads.{IsPartOf, FitOneHistory, CallsFitOneHistory}
 use Rattle.ccan_c.proofs.OwnEvents.{none_own, own_of-append}
 use Rattle.ccan_c.proofs.Steps.{IsAt, HasPast, HasSet, bus_step, host_step, reached}
@@ -50,17 +65,59 @@ bus_place past held = record { state = past; seen = (port_of held).whole }
 abbrev pub all_places : Held → Held → Held → BusPast → Places
 all_places first second third past = record { if1 = place first; if2 = place second; bus = bus_place past third }
 
--- ports that have just been opened are such ports
-at_opening : (memory : Memory) (port : PortName) (set : Set) (held : Held)
-    → IsOpening (begins_as memory port set.opening) set held
+-- where they stand by what their ports have seen
+abbrev pub places_of : InterfaceSet → InterfaceSet → BusPast → ChipPass → ChipPass → ChipPass → Places
+places_of first second past a b d =
+    record {
+      if1 = record { state = first; seen = a.whole };
+      if2 = record { state = second; seen = b.whole };
+      bus = record { state = past; seen = d.whole };
+    }
+
+-- the code of a change that was made or not
+abbrev code_told : Result (Unit {0}) AccessError → ℕ
+code_told told = code_of_access (Some told)
+
+same_itself : (port : ChipPass) → IsSamePort port.pass port.pass
+same_itself port = record { memory = refl; port = refl }
+
+-- a handle that holds a port of this memory with what the chip was opened with
+at_holding : (memory : Memory) (port : PortName) (set : Set) (from : ChipPass) (own : InterfaceSet) (held : Held)
+    → from.pass.memory ≡ memory → from.pass.port ≡ port → IsHolding from set.nodes set.tries set.map own held
     → IsAt memory port set held
-at_opening memory port set held h = record {
-  memory_is = ap (λ (p : ChipPass). p.pass.memory) h.port_is;
-  port_is = ap (λ (p : ChipPass). p.pass.port) h.port_is;
+at_holding memory port set from own held same name h = record {
+  memory_is = ap (λ (p : ChipPass). p.pass.memory) h.port_is ∙ same;
+  port_is = ap (λ (p : ChipPass). p.pass.port) h.port_is ∙ name;
   nodes_are = h.nodes_are;
   tries_are = h.tries_are;
   map_is = h.map_is;
   sees = h.sees;
+}
+
+-- the first event of a chip that opens as after a reset is legal
+sees_reset : (memory : Memory) → SeesChip (begins_as memory Bus after_reset)
+sees_reset memory = record {
+  one = record {
+    ram = refl;
+    legal = (
+      record {
+        before = refl;
+        after = refl;
+        stands = record { can = tt; own = λ h. refl };
+        is = record {
+          host = refl;
+          tec = omega arith;
+          rec = omega arith;
+          groups = omega arith;
+          lec = omega arith;
+          register = omega arith;
+          extension = omega arith;
+        };
+      },
+      tt,
+    );
+  };
+  sees = record { legal = tt; within = λ port. omega arith };
 }
 
 module _ (memory : Memory) (set : Set) where
@@ -83,6 +140,17 @@ module _ (memory : Memory) (set : Set) where
 
   abbrev pub places : {chip : Chip} → ChipAt chip → Places
   places c = all_places c.first c.second c.third c.past
+
+  -- an open handle stands for one thing
+  all_open_are : (what : Held → Held → Held → Type 0) (chip : Chip) (c : ChipAt chip) → AllOpen chip what
+      → what c.first c.second c.third
+  all_open_are what chip c (h, k, l, e, f, g, w) =
+      subst (λ (x : Held). what x c.second c.third) (same_open _ _ _ e c.if1_open)
+      (subst (λ (x : Held). what h x c.third) (same_open _ _ _ f c.if2_open)
+      (subst (λ (x : Held). what h k x) (same_open _ _ _ g c.bus_open) w))
+
+  terms_are : (port : PortName) (held : Held) → IsAt memory port set held → terms_at (port_of held) ≡ terms port
+  terms_are port held at = ap₂ (λ (m : Memory) (p : PortName). terms_of same_object m p) at.memory_is at.port_is
 
   -- ---- calls
 
@@ -112,28 +180,40 @@ module _ (memory : Memory) (set : Set) where
 
   -- ---- meetings
 
-  at_meeting : (port : PortName) (a b d : ChipPass) (old new : Held) → IsAt memory port set old → IsKept old new
-      → HasMet a b d (port_of old) (port_of new) → IsAt memory port set new
-  at_meeting port a b d old new at keeps met = record {
-    memory_is = met.same.memory ∙ at.memory_is;
-    port_is = met.same.port ∙ at.port_is;
-    nodes_are = keeps.works.nodes ∙ at.nodes_are;
-    tries_are = keeps.works.tries ∙ at.tries_are;
-    map_is = keeps.works.map ∙ at.map_is;
+  -- a handle whose port, as it is now, meets the others
+  at_meeting : (port : PortName) (a b d from : ChipPass) (old new : Held) → IsAt memory port set old
+      → IsSamePort (pass_of old) from.pass → WorksAsBefore old new → HasMet a b d from (port_of new)
+      → IsAt memory port set new
+  at_meeting port a b d from old new at same works met = record {
+    memory_is = met.same.memory ∙ (same.memory ∙ at.memory_is);
+    port_is = met.same.port ∙ (same.port ∙ at.port_is);
+    nodes_are = works.nodes ∙ at.nodes_are;
+    tries_are = works.tries ∙ at.tries_are;
+    map_is = works.map ∙ at.map_is;
     sees = met.sees;
   }
 
-  meets : {State : Type 0} (port : PortName) (h k l old new : Held) (past : BusPast) (before after : State)
-      → IsAt memory port set old → after ≡ before
-      → HasMet (port_of h) (port_of k) (port_of l) (port_of old) (port_of new)
-      → MeetsAll port (all_places h k l past)
-      (record { state = before; seen = (port_of old).whole }) (record { state = after; seen = (port_of new).whole })
-  meets port h k l old new past before after at keeps met = record {
+  meets : {State : Type 0} (port : PortName) (first second : InterfaceSet) (past : BusPast) (a b d from to : ChipPass)
+      (before after : State) → from.pass.port ≡ port → after ≡ before → HasMet a b d from to
+      → MeetsAll port (places_of first second past a b d)
+      (record { state = before; seen = from.whole }) (record { state = after; seen = to.whole })
+  meets port first second past a b d from to before after name keeps met = record {
     keeps = keeps;
     begins_if1 = met.begins_if1;
     begins_if2 = met.begins_if2;
     begins_bus = met.begins_bus;
-    own = subst (λ (p : PortName). own_of p (port_of new).whole ≡ own_of p (port_of old).whole) at.port_is met.own;
+    own = subst (λ (p : PortName). own_of p to.whole ≡ own_of p from.whole) name met.own;
+  }
+
+  -- the ports of the three handles have met, whatever the handles' registers were before
+  have_met_all : (first second : InterfaceSet) (past : BusPast) (a b d : ChipPass) (h k l : Held)
+      → a.pass.port ≡ If1 → b.pass.port ≡ If2 → d.pass.port ≡ Bus → h.own ≡ first → k.own ≡ second
+      → HaveMet a b d (port_of h) (port_of k) (port_of l)
+      → HaveMetAll (places_of first second past a b d) (all_places h k l past)
+  have_met_all first second past a b d h k l if1 if2 bus own own' met = record {
+    if1_meets = meets If1 first second past a b d a (port_of h) first h.own if1 own met.if1_met;
+    if2_meets = meets If2 first second past a b d b (port_of k) second k.own if2 own' met.if2_met;
+    bus_meets = meets Bus first second past a b d d (port_of l) past past bus refl met.bus_met;
   }
 
   -- ---- parts
@@ -141,7 +221,172 @@ module _ (memory : Memory) (set : Set) where
   abbrev Done : Part → {old : Chip} → ChipAt old → Chip → Type 0
   Done part c new = (d : ChipAt new) × PartMeans terms set part (places c) (places d)
 
-  -- calls lead each handle on by itself; a meeting is of the handles that stand here, since an open handle stands for one thing
+  -- the three handles have met
+  met_done : (old new : Chip) (c : ChipAt old)
+      → AllOpen new (λ h k l. MeetHeld c.first c.second c.third h k l) → Done meeting c new
+  met_done old new c (h, k, l, e, f, g, meet) =
+      let ports = meet.ports in
+      let same = λ (held : Held). same_itself (port_of held) in (
+        record {
+          first = h;
+          second = k;
+          third = l;
+          if1_open = e;
+          if2_open = f;
+          bus_open = g;
+          if1_at = at_meeting If1 _ _ _ (port_of c.first) c.first h c.if1_at (same c.first) meet.keeps_if1.works ports.if1_met;
+          if2_at = at_meeting If2 _ _ _ (port_of c.second) c.second k c.if2_at (same c.second) meet.keeps_if2.works
+              ports.if2_met;
+          bus_at = at_meeting Bus _ _ _ (port_of c.third) c.third l c.bus_at (same c.third) meet.keeps_bus.works ports.bus_met;
+          past = c.past;
+          led = subst (λ (b : ChipBus). LedTo c.past b.bus) (sym meet.keeps_bus.bus) c.led;
+        },
+        have_met_all c.first.own c.second.own c.past (port_of c.first) (port_of c.second) (port_of c.third) h k l
+            c.if1_at.port_is c.if2_at.port_is c.bus_at.port_is meet.keeps_if1.own meet.keeps_if2.own ports,
+      )
+
+  -- the bus's port has made steps, and all else stays
+  module _ (what : Terms → ChipHistory → ChipHistory → Type 0) (old new : Held) (at : IsAt memory Bus set old)
+      (steps : Steps what old new) where
+    stepped_at : IsAt memory Bus set new
+    stepped_at = record {
+      memory_is = steps.goes.same.memory ∙ at.memory_is;
+      port_is = steps.goes.same.port ∙ at.port_is;
+      nodes_are = steps.kept.works.nodes ∙ at.nodes_are;
+      tries_are = steps.kept.works.tries ∙ at.tries_are;
+      map_is = steps.kept.works.map ∙ at.map_is;
+      sees = (steps.goes.each at.sees).1;
+    }
+
+    steps_mean : (added : ChipHistory) × ((port_of new).whole ≡ added ++ (port_of old).whole)
+        × what (terms Bus) (port_of old).whole added
+    steps_mean =
+        let g = steps.goes.each at.sees in
+        (g.0, g.2, subst (λ (t : Terms). what t (port_of old).whole g.0) (terms_are Bus old at) g.3)
+
+  -- a saving: the bus's port looks
+  module _ (text : List ℕ) (old new : Chip) (c : ChipAt old) (saved : Saved) (bus : Held)
+      (is : IsSavedOf c.first c.second c.third bus saved) (text_is : text ≡ text_of saved)
+      (if1 : held_by new.if1 ≡ Some c.first) (if2 : held_by new.if2 ≡ Some c.second) (on : held_on new.bus ≡ Some bus) where
+    abbrev looking : Terms → ChipHistory → ChipHistory → Type 0
+    looking t seen added = LooksAtAll t saved.controller saved.records seen added
+
+    saved_done : Done (saving text) c new
+    saved_done =
+        let m = steps_mean looking c.third bus c.bus_at is.looks in (
+          record {
+            first = c.first;
+            second = c.second;
+            third = bus;
+            if1_open = if1;
+            if2_open = if2;
+            bus_open = on;
+            if1_at = c.if1_at;
+            if2_at = c.if2_at;
+            bus_at = stepped_at looking c.third bus c.bus_at is.looks;
+            past = c.past;
+            led = subst (λ (b : ChipBus). LedTo c.past b.bus) (sym is.looks.kept.bus) c.led;
+          },
+          record {
+            saved = saved;
+            text_is = text_is;
+            profile = is.profile ∙ ap (λ (m : Memory). m.profile) c.bus_at.memory_is;
+            map = is.map ∙ c.bus_at.map_is;
+            tries = is.tries ∙ c.bus_at.tries_are;
+            others = is.others ∙ c.bus_at.nodes_are;
+            if1 = is.own_if1;
+            if2 = is.own_if2;
+            added = m.0;
+            looks = m.2;
+            leaves = λ i. record {
+              if1 = place c.first;
+              if2 = place c.second;
+              bus = record { state = c.past; seen = m.1 i };
+            };
+          },
+        )
+
+  -- a reset: the bus's port makes a change, and then the three meet; or it made none
+  module _ (code : ℕ) (old new : Chip) (c : ChipAt old) (h k l : Held)
+      (if1 : held_by new.if1 ≡ Some h) (if2 : held_by new.if2 ≡ Some k) (on : held_on new.bus ≡ Some l) where
+    abbrev making : Result (Unit {0}) AccessError → Terms → ChipHistory → ChipHistory → Type 0
+    making told t seen added = Makes t Reset c.third.tries seen added told
+
+    by_tries : (told : Result (Unit {0}) AccessError) (seen added : ChipHistory) → making told (terms Bus) seen added
+        → Makes (terms Bus) Reset set.tries seen added told
+    by_tries told seen added m = subst (λ n. Makes (terms Bus) Reset n seen added told) c.bus_at.tries_are m
+
+    reset_done : code ≡ code_told (Ok tt) → IsReset c.first c.second c.third h k l → Done (resetting code) c new
+    reset_done code_is r =
+        let g = r.goes.each c.bus_at.sees in
+        let mean = subst (λ (t : Terms). making (Ok tt) t (port_of c.third).whole g.0) (terms_are Bus c.third c.bus_at) g.3 in
+        let met = have_met_all reset_set reset_set c.past (port_of c.first) (port_of c.second) r.put h k l
+        c.if1_at.port_is c.if2_at.port_is (r.goes.same.port ∙ c.bus_at.port_is) r.if1.own r.if2.own r.met in (
+          record {
+            first = h;
+            second = k;
+            third = l;
+            if1_open = if1;
+            if2_open = if2;
+            bus_open = on;
+            if1_at = at_meeting If1 _ _ _ (port_of c.first) c.first h c.if1_at (same_itself (port_of c.first)) r.if1.works
+                r.met.if1_met;
+            if2_at = at_meeting If2 _ _ _ (port_of c.second) c.second k c.if2_at (same_itself (port_of c.second)) r.if2.works
+                r.met.if2_met;
+            bus_at = at_meeting Bus _ _ _ r.put c.third l c.bus_at r.goes.same r.bus.works r.met.bus_met;
+            past = c.past;
+            led = subst (λ (b : ChipBus). LedTo c.past b.bus) (sym r.bus.bus) c.led;
+          },
+          record {
+            told = Ok tt;
+            code_is = code_is;
+            added = g.0;
+            makes = by_tries (Ok tt) (port_of c.third).whole g.0 mean;
+            leaves =
+                subst (λ (seen : ChipHistory). HaveMetAll (record {
+                  if1 = record { state = reset_set; seen = (port_of c.first).whole };
+                  if2 = record { state = reset_set; seen = (port_of c.second).whole };
+                  bus = record { state = c.past; seen = seen };
+                }) (all_places h k l c.past)) g.2 met;
+          },
+        )
+
+    not_reset : (why : AccessError) → code ≡ code_told (Err why) → h ≡ c.first → k ≡ c.second
+        → Steps (making (Err why)) c.third l → Done (resetting code) c new
+    not_reset why code_is first second steps =
+        let m = steps_mean (making (Err why)) c.third l c.bus_at steps in (
+          record {
+            first = h;
+            second = k;
+            third = l;
+            if1_open = if1;
+            if2_open = if2;
+            bus_open = on;
+            if1_at = subst (λ (x : Held). IsAt memory If1 set x) (sym first) c.if1_at;
+            if2_at = subst (λ (x : Held). IsAt memory If2 set x) (sym second) c.if2_at;
+            bus_at = stepped_at (making (Err why)) c.third l c.bus_at steps;
+            past = c.past;
+            led = subst (λ (b : ChipBus). LedTo c.past b.bus) (sym steps.kept.bus) c.led;
+          },
+          record {
+            told = Err why;
+            code_is = code_is;
+            added = m.0;
+            makes = by_tries (Err why) (port_of c.third).whole m.0 m.2;
+            leaves = λ i. record {
+              if1 = place (first i);
+              if2 = place (second i);
+              bus = record { state = c.past; seen = m.1 i };
+            };
+          },
+        )
+
+    reset_as_told : (told : Result (Unit {0}) AccessError) → code ≡ code_told told
+        → ResetsHeld c.first c.second c.third h k l told → Done (resetting code) c new
+    reset_as_told (Ok done) code_is r = reset_done code_is r
+    reset_as_told (Err why) code_is (first, second, steps) = not_reset why code_is first second steps
+
+  -- calls lead each handle on by itself; a call that takes the whole chip is of the handles that stand here
   part_done : (part : Part) (old new : Chip) (c : ChipAt old) → PartDoes part old new → Done part c new
   part_done (at_once if1 if2 bus) old new c h =
       let a = host_calls If1 if1 c.first (held_by old.if1) (held_by new.if1) c.if1_at c.if1_open h.if1_leads in
@@ -162,31 +407,18 @@ module _ (memory : Memory) (set : Set) where
         },
         record { if1_means = a.3; if2_means = b.3; bus_means = d.5 },
       )
-  part_done meeting old new c (h, k, l, e, f, g, (h', k', l', e', f', g', meet)) =
-      let here : MeetHeld c.first c.second c.third h' k' l' =
-      subst (λ (x : Held). MeetHeld x c.second c.third h' k' l') (same_open _ _ _ e c.if1_open)
-      (subst (λ (x : Held). MeetHeld h x c.third h' k' l') (same_open _ _ _ f c.if2_open)
-      (subst (λ (x : Held). MeetHeld h k x h' k' l') (same_open _ _ _ g c.bus_open) meet)) in
-      let ports = here.ports in (
-        record {
-          first = h';
-          second = k';
-          third = l';
-          if1_open = e';
-          if2_open = f';
-          bus_open = g';
-          if1_at = at_meeting If1 _ _ _ c.first h' c.if1_at here.keeps_if1 ports.if1_met;
-          if2_at = at_meeting If2 _ _ _ c.second k' c.if2_at here.keeps_if2 ports.if2_met;
-          bus_at = at_meeting Bus _ _ _ c.third l' c.bus_at here.keeps_bus ports.bus_met;
-          past = c.past;
-          led = subst (λ (b : ChipBus). LedTo c.past b.bus) (sym here.keeps_bus.bus) c.led;
-        },
-        record {
-          if1_meets = meets If1 c.first c.second c.third c.first h' c.past _ _ c.if1_at here.keeps_if1.own ports.if1_met;
-          if2_meets = meets If2 c.first c.second c.third c.second k' c.past _ _ c.if2_at here.keeps_if2.own ports.if2_met;
-          bus_meets = meets Bus c.first c.second c.third c.third l' c.past c.past c.past c.bus_at refl ports.bus_met;
-        },
-      )
+  part_done meeting old new c does =
+      met_done old new c (all_open_are (λ h k l. AllOpen new (λ h' k' l'. MeetHeld h k l h' k' l')) old c does)
+  part_done (saving text) old new c does =
+      let (saved, bus, is, text_is, if1, if2, on) = all_open_are
+      (λ h k l. (saved : Saved) × (bus : Held) × IsSavedOf h k l bus saved × (text ≡ text_of saved)
+      × (held_by new.if1 ≡ Some h) × (held_by new.if2 ≡ Some k) × (held_on new.bus ≡ Some bus)) old c does in
+      saved_done text old new c saved bus is text_is if1 if2 on
+  part_done (resetting code) old new c does =
+      let (h, k, l, e, f, g, (told, code_is, r)) = all_open_are
+      (λ h k l. AllOpen new (λ h' k' l'. (told : Result (Unit {0}) AccessError) × (code ≡ code_told told)
+      × ResetsHeld h k l h' k' l' told)) old c does in
+      reset_as_told code old new c h k l e f g told code_is r
 
   parts_done : (parts : List Part) (old new : Chip) (c : ChipAt old) → PartsDo parts old new
       → (d : ChipAt new) × PartsMean terms set parts (places c) (places d)
@@ -221,19 +453,20 @@ module _ (memory : Memory) (set : Set) where
       }
 
   -- a chip that C ends where its handles stand here fits the history with which it ends
-  fits_at_end : (profile : Profile) (parts : List Part) (chip : Chip) (out : ShownFinal) (c : ChipAt chip)
-      → IsMemoryOf profile most memory → PartsMean terms set parts (opening set) (places c) → EndsWith chip out
-      → FitOneHistory profile set parts out
-  fits_at_end profile parts chip out c is means (h, k, l, e, f, g, (final, ended, shown)) =
-      let ends : ChipEnds (port_of c.first) (port_of c.second) (port_of c.third) final =
-      subst (λ (x : Held). ChipEnds (port_of x) (port_of c.second) (port_of c.third) final) (same_open _ _ _ e c.if1_open)
-      (subst (λ (x : Held). ChipEnds (port_of h) (port_of x) (port_of c.third) final) (same_open _ _ _ f c.if2_open)
-      (subst (λ (x : Held). ChipEnds (port_of h) (port_of k) (port_of x) final) (same_open _ _ _ g c.bus_open) ended)) in
+  fits_at_end : (profile : Profile) (beginning : Beginning) (parts : List Part) (chip : Chip) (out : ShownFinal) (first : Places)
+      (c : ChipAt chip) → IsMemoryOf profile most memory → BeginsAt terms beginning first
+      → PartsMean terms (set_of beginning) parts first (places c) → EndsWith chip out
+      → FitOneHistory profile beginning parts out
+  fits_at_end profile beginning parts chip out first c is begins means does =
+      let (final, ends, shown) = all_open_are (λ h k l. (final : FinalChip)
+      × ChipEnds (port_of h) (port_of k) (port_of l) final × IsFinal final.memory out) chip c does in
       let same : final.memory.profile ≡ profile =
       ends.profile_is ∙ ap (λ (m : Memory). m.profile) c.if1_at.memory_is ∙ is.profile_is in
       record {
         memory = memory;
         memory_is = is;
+        first = first;
+        begins = begins;
         last = places c;
         means = means;
         history = ends.history;
@@ -250,32 +483,97 @@ module _ (memory : Memory) (set : Set) where
         };
       }
 
-pub fit_one_history : CallsFitOneHistory
-fit_one_history profile set parts chip last out opens does ended =
+-- ---- how a chip begins
+
+-- where the handles stand at first
+record First (profile : Profile) (beginning : Beginning) (chip : Chip) : Type 0 where
+  memory : Memory
+  memory_is : IsMemoryOf profile most memory
+  at : ChipAt memory (set_of beginning) chip
+  begins : BeginsAt (terms_of same_object memory) beginning (places memory (set_of beginning) at)
+
+first_opened : (profile : Profile) (set : Set) (chip : Chip) → Opens profile set chip → First profile (opened_with set) chip
+first_opened profile set chip opens =
     let memory = opens.memory in
-    let all = opens.handles in
-    let first = all.6.0 in
-    let second = all.6.1 in
-    let third = all.6.2 in
-    let c : ChipAt memory set chip = record {
-      first = all.0;
-      second = all.1;
-      third = all.2;
-      if1_open = all.3;
-      if2_open = all.4;
-      bus_open = all.5;
-      if1_at = at_opening memory If1 set all.0 first;
-      if2_at = at_opening memory If2 set all.1 second;
-      bus_at = at_opening memory Bus set all.2 third;
-      past = opened_at_once set.nodes;
-      led = third.bus_is;
-    } in
-    let from : places memory set c ≡ opening set = λ i. record {
-      if1 = record { state = first.own_is i; seen = (first.port_is i).whole };
-      if2 = record { state = second.own_is i; seen = (second.port_is i).whole };
-      bus = record { state = opened_at_once set.nodes; seen = (third.port_is i).whole };
-    } in
-    let done = parts_done memory set parts chip last c does in
-    let to = places memory set done.0 in
-    let means = subst (λ (p : Places). PartsMean (terms memory set) set parts p to) from done.1 in
-    fits_at_end memory set profile parts last out done.0 opens.memory_is means ended
+    let (h, k, l, e, f, g, (first, second, third)) = opens.handles in
+    record {
+      memory = memory;
+      memory_is = opens.memory_is;
+      at = record {
+        first = h;
+        second = k;
+        third = l;
+        if1_open = e;
+        if2_open = f;
+        bus_open = g;
+        if1_at = at_holding memory If1 set (begins_as memory If1 set.opening) set.opening.own h refl refl first;
+        if2_at = at_holding memory If2 set (begins_as memory If2 set.opening) set.opening.own k refl refl second;
+        bus_at = at_holding memory Bus set (begins_as memory Bus set.opening) set.opening.own l refl refl third;
+        past = opened_at_once set.nodes;
+        led = third.bus_is;
+      };
+      begins = λ i. record {
+        if1 = record { state = first.own_is i; seen = (first.port_is i).whole };
+        if2 = record { state = second.own_is i; seen = (second.port_is i).whole };
+        bus = record { state = opened_at_once set.nodes; seen = (third.port_is i).whole };
+      };
+    }
+
+-- the handles of a chip that was saved: their ports are those that have met
+first_restored : (saved : Saved) (chip : Chip) → RestoresAs saved chip → First saved.profile (restored_as saved) chip
+first_restored saved chip r =
+    let memory = r.memory in
+    let set = set_of (restored_as saved) in
+    let past = opened_at_once saved.others in
+    let (h, k, l, e, f, g, (first, second, third)) = r.handles in
+    let started = begins_as memory Bus after_reset in
+    let goes = r.goes.each (sees_reset memory) in
+    let first_port = begins_as memory If1 after_reset in
+    let second_port = begins_as memory If2 after_reset in
+    let ports : HaveMet first_port second_port r.put (port_of h) (port_of k) (port_of l) =
+    subst (λ (u : ChipPass × ChipPass × ChipPass). HaveMet first_port second_port r.put u.0 u.1 u.2)
+    (λ i. (sym first.port_is i, sym second.port_is i, sym third.port_is i)) r.met in
+    let met = have_met_all memory set saved.if1 saved.if2 past first_port second_port r.put h k l refl refl r.goes.same.port
+    first.own_is second.own_is ports in
+    record {
+      memory = memory;
+      memory_is = r.memory_is;
+      at = record {
+        first = h;
+        second = k;
+        third = l;
+        if1_open = e;
+        if2_open = f;
+        bus_open = g;
+        if1_at = at_holding memory If1 set r.if1 saved.if1 h r.met.if1_met.same.memory r.met.if1_met.same.port first;
+        if2_at = at_holding memory If2 set r.if2 saved.if2 k r.met.if2_met.same.memory r.met.if2_met.same.port second;
+        bus_at = at_holding memory Bus set r.bus reset_set l (r.met.bus_met.same.memory ∙ r.goes.same.memory)
+            (r.met.bus_met.same.port ∙ r.goes.same.port) third;
+        past = past;
+        led = third.bus_is;
+      };
+      begins = record {
+        added = goes.0;
+        puts = goes.3;
+        met =
+            subst (λ (seen : ChipHistory). HaveMetAll (record {
+              if1 = record { state = saved.if1; seen = reset_history };
+              if2 = record { state = saved.if2; seen = reset_history };
+              bus = record { state = past; seen = seen };
+            }) (all_places h k l past)) goes.2 met;
+      };
+    }
+
+first_of : (profile : Profile) (beginning : Beginning) (chip : Chip) → Begins profile beginning chip → First profile beginning chip
+first_of profile (opened_with set) chip opens = first_opened profile set chip opens
+first_of profile (restored_as saved) chip (same, restores) =
+    subst (λ (p : Profile). First p (restored_as saved) chip) same (first_restored saved chip restores)
+
+pub fit_one_history : CallsFitOneHistory
+fit_one_history profile beginning parts chip last out begins does ended =
+    let first = first_of profile beginning chip begins in
+    let memory = first.memory in
+    let set = set_of beginning in
+    let done = parts_done memory set parts chip last first.at does in
+    fits_at_end memory set profile beginning parts last out (places memory set first.at) done.0 first.memory_is first.begins
+    done.1 ended

@@ -21,7 +21,7 @@ use Rattle.ccan_c.specs.OneThread.{PortCall, of_if1, of_if2, of_bus, PortCallMea
 use Rattle.ccan_c.specs.OneThread.{RunInOrder, TurnsRunInOrder}
 use Rattle.ccan_c.specs.Opening.{Set}
 use Rattle.ccan_c.specs.Step.{Place, CallsMean, own_of}
-use Rattle.ccan_c.specs.Threads.{Places, opening, PartMeans, PartsMean, MeetsAll, HaveMetAll, FitOneHistory}
+use Rattle.ccan_c.specs.Threads.{Places, opened_with, opening, PartMeans, PartsMean, MeetsAll, HaveMetAll, FitOneHistory}
 use Rattle.ccan_c.proofs.CallsApart.{host_call_apart, bus_call_apart}
 use Rattle.ccan_c.proofs.OwnEvents.{ActsAlone, alone_in_parts, both_empty, no_others, none_of_all, own_of-append}
 use Rattle.ccan_c.proofs.ThreadsFit.{fit_one_history}
@@ -344,11 +344,13 @@ module _ (profile : Profile) (set : Set) where
 
   -- ---- the end
 
-  in_order : (turns : List Turn) (out : ShownFinal) → 1 ≤ set.tries → FitOneHistory profile set (in_turns turns) out
+  in_order : (turns : List Turn) (out : ShownFinal) → 1 ≤ set.tries → FitOneHistory profile (opened_with set) (in_turns turns) out
       → RunInOrder profile set (calls_of turns) out
   in_order turns out some fit =
       let s = all_turned fit.memory fit.memory_is some turns (opening set) fit.last [] so_far_none
-      (first_met fit.memory fit.memory_is some turns fit.last fit.means) in
+      (first_met fit.memory fit.memory_is some turns fit.last
+      (subst (λ (p : Places). PartsMean (terms_of same_object fit.memory) set (in_turns turns) p fit.last) fit.begins
+      fit.means)) in
       let theirs : IsTheirs (seen_in fit.last) fit.history
       = elim [ If1 ↦ fit.if1.own | If2 ↦ fit.if2.own | Bus ↦ fit.bus.own ] in
       let begins : (name : PortName) → GoesFrom fit.history (seen_in fit.last name)
@@ -374,4 +376,4 @@ module _ (profile : Profile) (set : Set) where
 pub turns_in_order : TurnsRunInOrder
 turns_in_order profile set turns chip last out some opens does ends =
     in_order profile set turns out some
-    (fit_one_history profile set (in_turns turns) chip last out opens does ends)
+    (fit_one_history profile (opened_with set) (in_turns turns) chip last out opens does ends)

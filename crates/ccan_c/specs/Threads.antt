@@ -1,8 +1,9 @@
--- The calls of three threads on an open chip, each with a handle of its own, and meetings of the three between them. Source:
--- this project's own.
-use Rattle.std.specs.Prelude.{◌≡◌, List, [], ◌∷◌, map}
+-- The calls of three threads on an open chip, each with a handle of its own, and between them calls that take the whole chip: the
+-- three meet, the chip is saved, or it is reset. Source: this project's own.
+use Rattle.std.specs.Prelude.{ℕ, ◌≡◌, List, [], ◌∷◌, ◌++◌, map, Result, Ok, Err, Some}
 use Rattle.ccan_object.specs.declared.profile.Profile.{Profile}
 use Rattle.ccan_object.specs.Profile.{objects_in}
+use Rattle.ccan_confine.specs.declared.controller_change.ControllerChange.TheVariants.{Reset}
 use Rattle.ccan_ram.specs.declared.port.PortName.{PortName}
 use Rattle.ccan_ram.specs.declared.port.PortName.TheVariants.{If1, If2, Bus}
 use Rattle.ccan_ram.specs.Ending.{final_records}
@@ -10,30 +11,57 @@ use Rattle.ccan_ram.specs.History.{IsLegal}
 use Rattle.ccan_ram.specs.SharedRam.{Memory, IsMemoryOf, terms_of}
 use Rattle.ccan_ram.specs.Terms.{Terms}
 use Rattle.ccan_endless.specs.Chip.{ChipHistory, GoesFrom, IsControllerLegal, ram_of}
+use Rattle.ccan_endless.specs.ChipPort.{reset_history}
 use Rattle.ccan_endless.specs.Layout.{most, same_object}
 use Rattle.ccan_bus.specs.Past.{BusPast, opened_at_once}
+use Rattle.ccan_registers.specs.declared.access_error.AccessError.{AccessError}
 use Rattle.ccan_registers.specs.declared.interface_set.InterfaceSet.{InterfaceSet}
+use Rattle.ccan_registers.specs.InterfaceSet.{reset_set}
+use Rattle.ccan_registers.specs.Register.{Makes}
+use Rattle.ccan_saved.specs.declared.saved.Saved.{Saved}
+use Rattle.ccan_saved.specs.Format.{text_of}
+use Rattle.ccan_saved.specs.Looks.{LooksAtAll}
+use Rattle.ccan_saved.specs.PutBack.{PutsBack}
 use Rattle.ccan_c.specs.declared.chip.Chip.{Chip}
 use Rattle.ccan_c.specs.declared.shown_final.ShownFinal.{ShownFinal}
 use Rattle.ccan_c.specs.Bus.{held_on}
 use Rattle.ccan_c.specs.BusCall.{BusCall, BusCallDoes, BusCallMeans}
 use Rattle.ccan_c.specs.Chip.{Opens, EndsWith}
 use Rattle.ccan_c.specs.Host.{held_by}
-use Rattle.ccan_c.specs.HostCall.{HostCall, HostCallDoes, HostCallMeans}
+use Rattle.ccan_c.specs.HostCall.{HostCall, HostCallDoes, HostCallMeans, code_of_access}
 use Rattle.ccan_c.specs.Meeting.{Meet}
-use Rattle.ccan_c.specs.Opening.{Set}
+use Rattle.ccan_c.specs.Opening.{Set, after_reset}
 use Rattle.ccan_c.specs.Record.{c_record}
+use Rattle.ccan_c.specs.Resetting.{Resets}
+use Rattle.ccan_c.specs.Saving.{RestoresAs, Saves}
 use Rattle.ccan_c.specs.Step.{Place, CallsMean, Leads, own_of}
 
 -- ---- what C does
 
+-- how a chip begins: it is opened with this, or it is opened as one that was saved
+pub data Beginning : Type 0 where
+  opened_with : Set → Beginning
+  restored_as : Saved → Beginning
+
+-- what a chip that was saved opens with
+abbrev pub set_of : Beginning → Set
+set_of (opened_with set) = set
+set_of (restored_as saved) = record { nodes = saved.others; tries = saved.tries; map = saved.map; opening = after_reset }
+
+abbrev pub Begins : Profile → Beginning → Chip → Type 0
+Begins profile (opened_with set) chip = Opens profile set chip
+Begins profile (restored_as saved) chip = (saved.profile ≡ profile) × RestoresAs saved chip
+
 -- calls on the three handles, those of one handle in their order and in whatever way they fall together with those of the
--- others; or a meeting of the three
+-- others; or a call that takes the whole chip: a meeting of the three; a saving, which gives C this text; or a reset in its place,
+-- which answers this code
 pub data Part : Type 0 where
   at_once : List HostCall → List HostCall → List BusCall → Part
   meeting : Part
+  saving : List ℕ → Part
+  resetting : ℕ → Part
 
--- each call and each meeting has its contract, and so they lead from the one chip to the other
+-- each call has its contract, and so they lead from the one chip to the other
 pub record LeadAtOnce (if1 if2 : List HostCall) (bus : List BusCall) (old new : Chip) : Type 0 where
   pub if1_leads : Leads HostCallDoes if1 (held_by old.if1) (held_by new.if1)
   pub if2_leads : Leads HostCallDoes if2 (held_by old.if2) (held_by new.if2)
@@ -42,6 +70,8 @@ pub record LeadAtOnce (if1 if2 : List HostCall) (bus : List BusCall) (old new : 
 abbrev pub PartDoes : Part → Chip → Chip → Type 0
 PartDoes (at_once if1 if2 bus) old new = LeadAtOnce if1 if2 bus old new
 PartDoes meeting old new = Meet old new
+PartDoes (saving text) old new = Saves old new text
+PartDoes (resetting code) old new = Resets old new code
 
 abbrev pub PartsDo : List Part → Chip → Chip → Type 0
 PartsDo [] old new = new ≡ old
@@ -65,6 +95,20 @@ opening set =
       bus = record { state = opened_at_once set.nodes; seen = set.opening.begun };
     }
 
+-- the bus's port has added events to what it had seen
+abbrev pub bus_adds : ChipHistory → Places → Places
+bus_adds added all =
+    record { if1 = all.if1; if2 = all.if2; bus = record { state = all.bus.state; seen = added ++ all.bus.seen } }
+
+-- the hosts have these interface registers
+abbrev pub hosts_have : InterfaceSet → InterfaceSet → Places → Places
+hosts_have first second all =
+    record {
+      if1 = record { state = first; seen = all.if1.seen };
+      if2 = record { state = second; seen = all.if2.seen };
+      bus = all.bus;
+    }
+
 -- the calls of each handle stand for events of its port's history
 pub record MeanAtOnce (terms : PortName → Terms) (set : Set) (if1 if2 : List HostCall) (bus : List BusCall)
     (old new : Places) : Type 0 where
@@ -85,14 +129,56 @@ pub record HaveMetAll (old new : Places) : Type 0 where
   pub if2_meets : MeetsAll If2 old old.if2 new.if2
   pub bus_meets : MeetsAll Bus old old.bus new.bus
 
+-- C gets the text of what the handles work with, and of what the bus's port finds by one look at the controller and one at each
+-- object
+pub record SavesAll (terms : PortName → Terms) (set : Set) (text : List ℕ) (old new : Places) : Type 0 where
+  pub saved : Saved
+  pub text_is : text ≡ text_of saved
+  pub profile : saved.profile ≡ (terms Bus).profile
+  pub map : saved.map ≡ set.map
+  pub tries : saved.tries ≡ set.tries
+  pub others : saved.others ≡ set.nodes
+  pub if1 : saved.if1 ≡ old.if1.state
+  pub if2 : saved.if2 ≡ old.if2.state
+  pub added : ChipHistory
+  pub looks : LooksAtAll (terms Bus) saved.controller saved.records old.bus.seen added
+  pub leaves : new ≡ bus_adds added old
+
+-- after a reset the hosts have the registers of one, and the three have met; a reset that lost its tries leaves all as it is
+abbrev pub LeavesReset : Result (Unit {0}) AccessError → Places → Places → Type 0
+LeavesReset (Ok done) old new = HaveMetAll (hosts_have reset_set reset_set old) new
+LeavesReset (Err why) old new = new ≡ old
+
+-- the reset is one change of the controller by the bus's port
+pub record ResetsAll (terms : PortName → Terms) (set : Set) (code : ℕ) (old new : Places) : Type 0 where
+  pub told : Result (Unit {0}) AccessError
+  pub code_is : code ≡ code_of_access (Some told)
+  pub added : ChipHistory
+  pub makes : Makes (terms Bus) Reset set.tries old.bus.seen added told
+  pub leaves : LeavesReset told (bus_adds added old) new
+
 abbrev pub PartMeans : (PortName → Terms) → Set → Part → Places → Places → Type 0
 PartMeans terms set (at_once if1 if2 bus) old new = MeanAtOnce terms set if1 if2 bus old new
 PartMeans terms set meeting old new = HaveMetAll old new
+PartMeans terms set (saving text) old new = SavesAll terms set text old new
+PartMeans terms set (resetting code) old new = ResetsAll terms set code old new
 
 abbrev pub PartsMean : (PortName → Terms) → Set → List Part → Places → Places → Type 0
 PartsMean terms set [] old new = new ≡ old
 PartsMean terms set (part ∷ parts) old new =
     (between : Places) × PartMeans terms set part old between × PartsMean terms set parts between new
+
+-- A chip that was saved begins as one after its reset, with the saved registers of its hosts. The bus's port makes steps until its
+-- looks find what was saved, and then the three meet.
+pub record BeginsRestored (terms : PortName → Terms) (saved : Saved) (first : Places) : Type 0 where
+  pub added : ChipHistory
+  pub puts : PutsBack (terms Bus) saved reset_history added (Ok tt)
+  pub met : HaveMetAll (bus_adds added (hosts_have saved.if1 saved.if2 (opening (set_of (restored_as saved))))) first
+
+-- where the three handles stand at first
+abbrev pub BeginsAt : (PortName → Terms) → Beginning → Places → Type 0
+BeginsAt terms (opened_with set) first = first ≡ opening set
+BeginsAt terms (restored_as saved) first = BeginsRestored terms saved first
 
 -- all that a port had seen is a part of the history, which has no other events of the port
 pub record IsPartOf (port : PortName) (seen history : ChipHistory) : Type 0 where
@@ -107,11 +193,13 @@ pub record Shows (profile : Profile) (history : ChipHistory) (out : ShownFinal) 
 -- one legal history of a chip holds all that the calls on each handle did, at objects and at the controller, in the order of that
 -- handle's calls: each call answers what its place in the history makes it, and C gets the records that the history leaves. Every
 -- event is one of the three ports', so it has no others than theirs
-pub record FitOneHistory (profile : Profile) (set : Set) (parts : List Part) (out : ShownFinal) : Type 0 where
+pub record FitOneHistory (profile : Profile) (beginning : Beginning) (parts : List Part) (out : ShownFinal) : Type 0 where
   pub memory : Memory
   pub memory_is : IsMemoryOf profile most memory
+  pub first : Places
+  pub begins : BeginsAt (terms_of same_object memory) beginning first
   pub last : Places
-  pub means : PartsMean (terms_of same_object memory) set parts (opening set) last
+  pub means : PartsMean (terms_of same_object memory) (set_of beginning) parts first last
   pub history : ChipHistory
   pub legal : IsLegal profile (ram_of history)
   pub steps_legal : IsControllerLegal history
@@ -123,6 +211,6 @@ pub record FitOneHistory (profile : Profile) (set : Set) (parts : List Part) (ou
 -- whatever C does with a chip from its opening to its end
 abbrev pub CallsFitOneHistory : Type 0
 CallsFitOneHistory =
-    (profile : Profile) (set : Set) (parts : List Part) (chip last : Chip) (out : ShownFinal)
-    → Opens profile set chip → PartsDo parts chip last → EndsWith last out
-    → FitOneHistory profile set parts out
+    (profile : Profile) (beginning : Beginning) (parts : List Part) (chip last : Chip) (out : ShownFinal)
+    → Begins profile beginning chip → PartsDo parts chip last → EndsWith last out
+    → FitOneHistory profile beginning parts out

@@ -8,10 +8,10 @@ pub fn calls_keep_the_choice()
     ensures { CallsKeepTheChoice }
 {}
 
-/// Whatever three threads do with a chip from `ccan_open` to a `ccan_end` that answers 0, each on a handle of its own and
-/// with meetings of the three between, stands in one legal history of the chip: its objects and its controller. The events of
-/// each handle's calls are in it in the order of these calls, each call answers what its place in the history makes it, and C
-/// gets the records that the history leaves.
+/// Whatever three threads do with a chip from its opening, by `ccan_open`, `ccan_open_reset` or `ccan_restore`, to a
+/// `ccan_end` that answers 0, each on a handle of its own and with `ccan_meet`, `ccan_save` and `ccan_reset` between, stands in
+/// one legal history of the chip: its objects and its controller. The events of each handle's calls are in it in the order of
+/// these calls, each call answers what its place in the history makes it, and C gets the records that the history leaves.
 pub fn calls_fit_one_history()
     ensures { CallsFitOneHistory }
 {}

@@ -5,8 +5,8 @@ use crate::expect::{holds, same};
 use crate::from_c::{
     bus_flags, bus_interrupt, bus_line, bus_read16, bus_read32, bus_write16, bus_write32, control,
     counters, end, flags, init, interrupt, is_open, load, loop_back, meet, open, open_reset,
-    opened, peek, pulls, read16, read32, reads, recessive, request, reset,
-    reset_in_place, restore, round, save, set, set_all, shown, status, until, write_all, write16, write32,
+    opened, peek, pulls, read16, read32, reads, recessive, request, reset, reset_in_place, restore,
+    round, save, set, set_all, shown, status, until, write_all, write16, write32,
 };
 use crate::host::{ccan_request, ccan_set};
 use crate::host_handle::HostHandle;
