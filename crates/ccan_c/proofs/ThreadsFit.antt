@@ -1,5 +1,6 @@
 -- A chip from its opening to its end: the history with which it ends is one that the calls on its handles fit.
-use Rattle.std.proofs.Common.{◌≡◌, ℕ, List, [], ◌∷◌, ◌++◌, Some, map, refl, sym, ap, ap₂, subst, ◌∙◌, arith}
+use Rattle.std.proofs.Common.{◌≡◌, ℕ, List, [], ◌∷◌, ◌++◌, Some, map, refl, sym, ap, ap₂, subst, ◌∙◌}
+use Rattle.std.proofs.Common.{arith}
 use Rattle.std.specs.Prelude.{Result, Ok, Err}
 use Rattle.std.specs.declared.option.Option.{Option}
 use Rattle.ccan_object.specs.declared.profile.Profile.{Profile}
@@ -44,9 +45,9 @@ use Rattle.ccan_c.specs.Resetting.{IsReset, ResetsHeld}
 use Rattle.ccan_c.specs.Saving.{IsSavedOf, RestoresAs}
 use Rattle.ccan_c.specs.Step.{Place, CallsMean, Leads, own_of}
 use Rattle.ccan_c.specs.Steps.{Steps}
-use Rattle.ccan_c.specs.Threads.{Beginning, opened_with, restored_as, set_of, Begins, BeginsAt, BeginsRestored}
-use Rattle.ccan_c.specs.Threads.{Part, at_once, meeting, saving, resetting, PartDoes, PartsDo, Places, opening, PartMeans, PartsMean}
-use Rattle.ccan_c.specs.Threads.{bus_adds, hosts_have, MeetsAll, HaveMetAll, ResetsAll, SavesAll}
+use Rattle.ccan_c.specs.Threads.{Beginning, opened_with, restored_as, set_of, Begins, BeginsAt}
+use Rattle.ccan_c.specs.Threads.{Part, at_once, meeting, saving, resetting, PartDoes, PartsDo, Places, PartMeans, PartsMean}
+use Rattle.ccan_c.specs.Threads.{MeetsAll, HaveMetAll}
 use Rattle.ccan_c.specs.Threads.{IsPartOf, FitOneHistory, CallsFitOneHistory}
 use Rattle.ccan_c.proofs.OwnEvents.{none_own, own_of-append}
 use Rattle.ccan_c.proofs.Steps.{IsAt, HasPast, HasSet, bus_step, host_step, reached}
@@ -453,8 +454,8 @@ module _ (memory : Memory) (set : Set) where
       }
 
   -- a chip that C ends where its handles stand here fits the history with which it ends
-  fits_at_end : (profile : Profile) (beginning : Beginning) (parts : List Part) (chip : Chip) (out : ShownFinal) (first : Places)
-      (c : ChipAt chip) → IsMemoryOf profile most memory → BeginsAt terms beginning first
+  fits_at_end : (profile : Profile) (beginning : Beginning) (parts : List Part) (chip : Chip) (out : ShownFinal)
+      (first : Places) (c : ChipAt chip) → IsMemoryOf profile most memory → BeginsAt terms beginning first
       → PartsMean terms (set_of beginning) parts first (places c) → EndsWith chip out
       → FitOneHistory profile beginning parts out
   fits_at_end profile beginning parts chip out first c is begins means does =
@@ -564,7 +565,8 @@ first_restored saved chip r =
       };
     }
 
-first_of : (profile : Profile) (beginning : Beginning) (chip : Chip) → Begins profile beginning chip → First profile beginning chip
+first_of : (profile : Profile) (beginning : Beginning) (chip : Chip) → Begins profile beginning chip
+    → First profile beginning chip
 first_of profile (opened_with set) chip opens = first_opened profile set chip opens
 first_of profile (restored_as saved) chip (same, restores) =
     subst (λ (p : Profile). First p (restored_as saved) chip) same (first_restored saved chip restores)
