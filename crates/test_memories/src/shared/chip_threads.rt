@@ -19,8 +19,6 @@ pub struct AtWork {
     pub counters: Counters,
     /// Each event was made at the controller, where it found the counters that those before it had left, or told as given up.
     pub all_noted: bool,
-    /// How many events were made at the controller. The others lost each of their tries to the host, of which there is no end.
-    pub made: u32,
     /// In how many rounds the controller took part.
     pub parts: u32,
     /// How many events raised the status interrupt of transfers and errors.
@@ -36,7 +34,6 @@ impl AtWork {
         AtWork {
             counters: self.counters.after(event),
             all_noted: self.all_noted && made.before.counters == self.counters,
-            made: self.made.saturating_add(1),
             raised: self.raised.saturating_add(u32::from(raised)),
             ..self
         }
@@ -61,7 +58,6 @@ pub fn play(
     let mut at_work = AtWork {
         counters: Counters::new(true),
         all_noted: true,
-        made: 0,
         parts: 0,
         raised: 0,
         read: 0,

@@ -1,0 +1,106 @@
+//! The bytes of a saved chip, written by hand after the table of their format, and what is told of bytes that are none.
+ghost use Rattle.std.specs.Prelude.{◌≤◌, ◌+◌};
+
+use crate::expect::holds;
+use ccan_registers::AccessError;
+use ccan_saved::{Field, FormatError, LENGTH, NotRestored, from_bytes, to_bytes};
+use std::process::Abort;
+use std::test::Fail;
+
+/// Puts a word at a place.
+fn put(bytes: &mut [u8; LENGTH], place: usize, word: u64)
+    requires { place + 8 ≤ 1672 }
+{
+    bytes[place..place + 8].copy_from_slice(&word.to_le_bytes());
+}
+
+/// A C_CAN with 32 objects, one try and no other node, on which nothing was done: each interface names object 1.
+fn plain() -> [u8; LENGTH] {
+    let mut bytes = [0u8; LENGTH];
+    bytes[..8].copy_from_slice(b"ccansave");
+    put(&mut bytes, 8, 1);
+    put(&mut bytes, 16, 32);
+    put(&mut bytes, 32, 1);
+    put(&mut bytes, 56, 1);
+    put(&mut bytes, 96, 1);
+    bytes
+}
+
+/// What is told of these bytes, where they are no saved chip.
+fn told(bytes: &[u8]) -> Option<FormatError> {
+    from_bytes(bytes).err()
+}
+
+/// The plain chip with another word at a place is refused for this.
+fn refuses(rt: &impl Abort, place: usize, word: u64, why: FormatError)
+    requires { place + 8 ≤ 1672 }
+{
+    let mut bytes = plain();
+    put(&mut bytes, place, word);
+    holds(rt, told(&bytes) == Some(why));
+}
+
+/// Whether the plain chip is read, and written as it was.
+fn is_read_back() -> bool {
+    let bytes = plain();
+    match from_bytes(&bytes) {
+        Ok(saved) => to_bytes(&saved) == bytes,
+        Err(_) => false,
+    }
+}
+
+#[test]
+fn bytes_are_read_by_their_table(rt: HostRuntime) {
+    holds(&rt, is_read_back());
+    holds(
+        &rt,
+        told(&plain()[..1671]) == Some(FormatError::Length(1671)),
+    );
+    holds(&rt, told(&plain()[..15]) == Some(FormatError::Length(15)));
+    refuses(&rt, 0, 0x6576_6173_6e61_6364, FormatError::Name);
+    refuses(&rt, 8, 2, FormatError::Version(2));
+    refuses(&rt, 16, 33, FormatError::Range(Field::Objects));
+    refuses(&rt, 24, 3, FormatError::Range(Field::Map));
+    refuses(&rt, 32, 1001, FormatError::Range(Field::Tries));
+    refuses(&rt, 40, 9, FormatError::Range(Field::Others));
+    refuses(&rt, 48, 1 << 61, FormatError::Range(Field::Controller));
+    refuses(&rt, 56, 33, FormatError::Range(Field::If1));
+    refuses(&rt, 64, 256, FormatError::Range(Field::If1));
+    refuses(&rt, 96, 0, FormatError::Range(Field::If2));
+    refuses(&rt, 232, 1 << 61, FormatError::Range(Field::Object(5)));
+    refuses(&rt, 904, 1, FormatError::Range(Field::Unused));
+}
+
+#[test]
+fn errors_have_texts(rt: HostRuntime) -> Result<(), Fail> {
+    let length = format!(in rt.alloc(); "{}", FormatError::Length(3))?;
+    holds(
+        &rt,
+        length.as_str() == "a saved chip has 1672 bytes, and these are 3",
+    );
+    let object = format!(in rt.alloc(); "{}", FormatError::Range(Field::Object(64)))?;
+    holds(&rt, object.as_str() == "object 64 is out of its range");
+    let version = format!(in rt.alloc(); "{}", FormatError::Version(2))?;
+    holds(
+        &rt,
+        version.as_str() == "version 2 of a saved chip is not known",
+    );
+    let no_chip = format!(in rt.alloc(); "{}", NotRestored::NotAChip)?;
+    holds(&rt, no_chip.as_str() == "no chip can be like this");
+    let other = format!(in rt.alloc(); "{}", AccessError::OtherInterface)?;
+    holds(
+        &rt,
+        other.as_str() == "the register is of another port's interface",
+    );
+    let busy = format!(in rt.alloc(); "{}", AccessError::Busy)?;
+    holds(
+        &rt,
+        busy.as_str() == "each try was lost to a change of another port",
+    );
+    let spent = format!(in rt.alloc(); "{}", AccessError::Spent)?;
+    holds(
+        &rt,
+        spent.as_str() == "the port has made all the changes that it can",
+    );
+    Ok(())
+}
