@@ -240,8 +240,8 @@ CCAN_HOLDS(sizeof(ccan_saved) == 1672);
 /* Saves a chip: its records, all registers of the controller with what stands behind them (the groups that count on the way back
  * from bus off, the status interrupts that are pending), the registers of IF1 and IF2, its layout, tries and number of other
  * nodes. Not of the chip, and not saved: the error counters of the other nodes; and that a frame is loaded, since its object stays
- * requested. The bus's port looks once at the controller and once at each object, and nothing is changed. CCAN_CLOSED where the
- * chip isn't open; else CCAN_DONE. */
+ * requested. The three ports meet, so that what is saved is behind all that was done on the three handles; and then the bus's looks
+ * once at the controller and once at each object. Nothing is changed. CCAN_CLOSED where the chip isn't open; else CCAN_DONE. */
 CCAN_CODE ccan_save(ccan_chip *chip, ccan_saved *out);
 
 /* Opens a chip as the saved one was, all of it or nothing. The other nodes begin anew, error active, and no frame is loaded. The
@@ -257,10 +257,11 @@ CCAN_CODE ccan_restore(ccan_chip *chip, const ccan_saved *saved);
 /* Resets an open chip in its place, without memory, as the reset of a part does: the controller's registers, its error counters
  * among them, and those of IF1 and IF2 have their reset values, Init 1, and the message objects stay as they are. So a driver that
  * forgets to make its unused objects invalid meets the old ones. A frame that is loaded is dropped by the next load or round, and
- * its object stays requested. The layout and the tries stay, and the other nodes with their error counters. It is one change of
- * the controller by the bus's port, and then the three ports meet. For a chip as after power-on: ccan_open_reset.
- * CCAN_CLOSED where the chip isn't open. CCAN_BUSY, after which nothing has happened: another call changed the controller
- * meanwhile, which promise 3 rules out; that is not proved. Else CCAN_DONE. */
+ * its object stays requested. The layout and the tries stay, and the other nodes with their error counters. The three ports meet,
+ * the bus's makes one change of the controller, and they meet again: so it is behind all that was done on the three handles, and
+ * before all that comes. For a chip as after power-on: ccan_open_reset.
+ * CCAN_CLOSED where the chip isn't open. CCAN_BUSY, after which the ports have met and nothing else has happened: another call
+ * changed the controller meanwhile, which promise 3 rules out; that is not proved. Else CCAN_DONE. */
 CCAN_CODE ccan_reset(ccan_chip *chip);
 
 /* ---- registers by their offsets: each call answers CCAN_CLOSED first, where its handle is closed */

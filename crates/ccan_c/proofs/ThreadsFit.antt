@@ -41,13 +41,13 @@ use Rattle.ccan_c.specs.HostCall.{HostCall, HostCallDoes, HostCallMeans, code_of
 use Rattle.ccan_c.specs.Meeting.{HasMet, HaveMet, MeetHeld}
 use Rattle.ccan_c.specs.Opening.{Set, after_reset, begins_as}
 use Rattle.ccan_c.specs.Record.{IsFinal, c_record}
-use Rattle.ccan_c.specs.Resetting.{IsReset, ResetsHeld}
-use Rattle.ccan_c.specs.Saving.{IsSavedOf, RestoresAs}
+use Rattle.ccan_c.specs.Resetting.{IsReset, ResetsHeld, ResetsMet}
+use Rattle.ccan_c.specs.Saving.{IsSavedOf, RestoresAs, SavesHeld}
 use Rattle.ccan_c.specs.Step.{Place, CallsMean, Leads, own_of}
 use Rattle.ccan_c.specs.Steps.{Steps}
 use Rattle.ccan_c.specs.Threads.{Beginning, opened_with, restored_as, set_of, Begins, BeginsAt}
 use Rattle.ccan_c.specs.Threads.{Part, at_once, meeting, saving, resetting, PartDoes, PartsDo, Places, PartMeans, PartsMean}
-use Rattle.ccan_c.specs.Threads.{MeetsAll, HaveMetAll}
+use Rattle.ccan_c.specs.Threads.{MeetsAll, HaveMetAll, ResetsAll, SavesAll}
 use Rattle.ccan_c.specs.Threads.{IsPartOf, FitOneHistory, CallsFitOneHistory}
 use Rattle.ccan_c.proofs.OwnEvents.{none_own, own_of-append}
 use Rattle.ccan_c.proofs.Steps.{IsAt, HasPast, HasSet, bus_step, host_step, reached}
@@ -217,33 +217,28 @@ module _ (memory : Memory) (set : Set) where
     bus_meets = meets Bus first second past a b d d (port_of l) past past bus refl met.bus_met;
   }
 
-  -- ---- parts
+  -- ---- calls that take the whole chip
 
-  abbrev Done : Part → {old : Chip} → ChipAt old → Chip → Type 0
-  Done part c new = (d : ChipAt new) × PartMeans terms set part (places c) (places d)
+  -- three handles, each in its place
+  record ThreeAt (first second third : Held) (past : BusPast) : Type 0 where
+    if1_at : IsAt memory If1 set first
+    if2_at : IsAt memory If2 set second
+    bus_at : IsAt memory Bus set third
+    led : LedTo past third.bus.bus
 
-  -- the three handles have met
-  met_done : (old new : Chip) (c : ChipAt old)
-      → AllOpen new (λ h k l. MeetHeld c.first c.second c.third h k l) → Done meeting c new
-  met_done old new c (h, k, l, e, f, g, meet) =
-      let ports = meet.ports in
-      let same = λ (held : Held). same_itself (port_of held) in (
+  -- the three have met
+  met_at : (h k l h' k' l' : Held) (past : BusPast) → ThreeAt h k l past → MeetHeld h k l h' k' l'
+      → ThreeAt h' k' l' past × HaveMetAll (all_places h k l past) (all_places h' k' l' past)
+  met_at h k l h' k' l' past t meet =
+      let ports = meet.ports in (
         record {
-          first = h;
-          second = k;
-          third = l;
-          if1_open = e;
-          if2_open = f;
-          bus_open = g;
-          if1_at = at_meeting If1 _ _ _ (port_of c.first) c.first h c.if1_at (same c.first) meet.keeps_if1.works ports.if1_met;
-          if2_at = at_meeting If2 _ _ _ (port_of c.second) c.second k c.if2_at (same c.second) meet.keeps_if2.works
-              ports.if2_met;
-          bus_at = at_meeting Bus _ _ _ (port_of c.third) c.third l c.bus_at (same c.third) meet.keeps_bus.works ports.bus_met;
-          past = c.past;
-          led = subst (λ (b : ChipBus). LedTo c.past b.bus) (sym meet.keeps_bus.bus) c.led;
+          if1_at = at_meeting If1 _ _ _ (port_of h) h h' t.if1_at (same_itself (port_of h)) meet.keeps_if1.works ports.if1_met;
+          if2_at = at_meeting If2 _ _ _ (port_of k) k k' t.if2_at (same_itself (port_of k)) meet.keeps_if2.works ports.if2_met;
+          bus_at = at_meeting Bus _ _ _ (port_of l) l l' t.bus_at (same_itself (port_of l)) meet.keeps_bus.works ports.bus_met;
+          led = subst (λ (b : ChipBus). LedTo past b.bus) (sym meet.keeps_bus.bus) t.led;
         },
-        have_met_all c.first.own c.second.own c.past (port_of c.first) (port_of c.second) (port_of c.third) h k l
-            c.if1_at.port_is c.if2_at.port_is c.bus_at.port_is meet.keeps_if1.own meet.keeps_if2.own ports,
+        have_met_all h.own k.own past (port_of h) (port_of k) (port_of l) h' k' l' t.if1_at.port_is t.if2_at.port_is
+            t.bus_at.port_is meet.keeps_if1.own meet.keeps_if2.own ports,
       )
 
   -- the bus's port has made steps, and all else stays
@@ -265,127 +260,126 @@ module _ (memory : Memory) (set : Set) where
         let g = steps.goes.each at.sees in
         (g.0, g.2, subst (λ (t : Terms). what t (port_of old).whole g.0) (terms_are Bus old at) g.3)
 
-  -- a saving: the bus's port looks
-  module _ (text : List ℕ) (old new : Chip) (c : ChipAt old) (saved : Saved) (bus : Held)
-      (is : IsSavedOf c.first c.second c.third bus saved) (text_is : text ≡ text_of saved)
-      (if1 : held_by new.if1 ≡ Some c.first) (if2 : held_by new.if2 ≡ Some c.second) (on : held_on new.bus ≡ Some bus) where
-    abbrev looking : Terms → ChipHistory → ChipHistory → Type 0
-    looking t seen added = LooksAtAll t saved.controller saved.records seen added
-
-    saved_done : Done (saving text) c new
-    saved_done =
-        let m = steps_mean looking c.third bus c.bus_at is.looks in (
+  module _ (h k l : Held) (past : BusPast) (t : ThreeAt h k l past) where
+    -- a saving: the bus's port looks
+    saved_at : (text : List ℕ) (bus : Held) (saved : Saved) → text ≡ text_of saved → IsSavedOf h k l bus saved
+        → ThreeAt h k bus past × SavesAll terms set text (all_places h k l past) (all_places h k bus past)
+    saved_at text bus saved text_is is =
+        let looking : Terms → ChipHistory → ChipHistory → Type 0
+        = λ u seen added. LooksAtAll u saved.controller saved.records seen added in
+        let m = steps_mean looking l bus t.bus_at is.looks in (
           record {
-            first = c.first;
-            second = c.second;
-            third = bus;
-            if1_open = if1;
-            if2_open = if2;
-            bus_open = on;
-            if1_at = c.if1_at;
-            if2_at = c.if2_at;
-            bus_at = stepped_at looking c.third bus c.bus_at is.looks;
-            past = c.past;
-            led = subst (λ (b : ChipBus). LedTo c.past b.bus) (sym is.looks.kept.bus) c.led;
+            if1_at = t.if1_at;
+            if2_at = t.if2_at;
+            bus_at = stepped_at looking l bus t.bus_at is.looks;
+            led = subst (λ (b : ChipBus). LedTo past b.bus) (sym is.looks.kept.bus) t.led;
           },
           record {
             saved = saved;
             text_is = text_is;
-            profile = is.profile ∙ ap (λ (m : Memory). m.profile) c.bus_at.memory_is;
-            map = is.map ∙ c.bus_at.map_is;
-            tries = is.tries ∙ c.bus_at.tries_are;
-            others = is.others ∙ c.bus_at.nodes_are;
+            profile = is.profile ∙ ap (λ (m : Memory). m.profile) t.bus_at.memory_is;
+            map = is.map ∙ t.bus_at.map_is;
+            tries = is.tries ∙ t.bus_at.tries_are;
+            others = is.others ∙ t.bus_at.nodes_are;
             if1 = is.own_if1;
             if2 = is.own_if2;
             added = m.0;
             looks = m.2;
-            leaves = λ i. record {
-              if1 = place c.first;
-              if2 = place c.second;
-              bus = record { state = c.past; seen = m.1 i };
-            };
+            leaves = λ i. record { if1 = place h; if2 = place k; bus = record { state = past; seen = m.1 i } };
           },
         )
 
-  -- a reset: the bus's port makes a change, and then the three meet; or it made none
-  module _ (code : ℕ) (old new : Chip) (c : ChipAt old) (h k l : Held)
-      (if1 : held_by new.if1 ≡ Some h) (if2 : held_by new.if2 ≡ Some k) (on : held_on new.bus ≡ Some l) where
     abbrev making : Result (Unit {0}) AccessError → Terms → ChipHistory → ChipHistory → Type 0
-    making told t seen added = Makes t Reset c.third.tries seen added told
+    making told u seen added = Makes u Reset l.tries seen added told
 
     by_tries : (told : Result (Unit {0}) AccessError) (seen added : ChipHistory) → making told (terms Bus) seen added
         → Makes (terms Bus) Reset set.tries seen added told
-    by_tries told seen added m = subst (λ n. Makes (terms Bus) Reset n seen added told) c.bus_at.tries_are m
+    by_tries told seen added m = subst (λ n. Makes (terms Bus) Reset n seen added told) t.bus_at.tries_are m
 
-    reset_done : code ≡ code_told (Ok tt) → IsReset c.first c.second c.third h k l → Done (resetting code) c new
-    reset_done code_is r =
-        let g = r.goes.each c.bus_at.sees in
-        let mean = subst (λ (t : Terms). making (Ok tt) t (port_of c.third).whole g.0) (terms_are Bus c.third c.bus_at) g.3 in
-        let met = have_met_all reset_set reset_set c.past (port_of c.first) (port_of c.second) r.put h k l
-        c.if1_at.port_is c.if2_at.port_is (r.goes.same.port ∙ c.bus_at.port_is) r.if1.own r.if2.own r.met in (
+    abbrev LeftReset : ℕ → Held → Held → Held → Type 0
+    LeftReset code h' k' l' =
+        ThreeAt h' k' l' past × ResetsAll terms set code (all_places h k l past) (all_places h' k' l' past)
+
+    -- a reset: the bus's port makes a change, and then the three meet
+    reset_at : (code : ℕ) (h' k' l' : Held) → code ≡ code_told (Ok tt) → IsReset h k l h' k' l' → LeftReset code h' k' l'
+    reset_at code h' k' l' code_is r =
+        let g = r.goes.each t.bus_at.sees in
+        let mean = subst (λ (u : Terms). making (Ok tt) u (port_of l).whole g.0) (terms_are Bus l t.bus_at) g.3 in
+        let met = have_met_all reset_set reset_set past (port_of h) (port_of k) r.put h' k' l'
+        t.if1_at.port_is t.if2_at.port_is (r.goes.same.port ∙ t.bus_at.port_is) r.if1.own r.if2.own r.met in (
           record {
-            first = h;
-            second = k;
-            third = l;
-            if1_open = if1;
-            if2_open = if2;
-            bus_open = on;
-            if1_at = at_meeting If1 _ _ _ (port_of c.first) c.first h c.if1_at (same_itself (port_of c.first)) r.if1.works
-                r.met.if1_met;
-            if2_at = at_meeting If2 _ _ _ (port_of c.second) c.second k c.if2_at (same_itself (port_of c.second)) r.if2.works
-                r.met.if2_met;
-            bus_at = at_meeting Bus _ _ _ r.put c.third l c.bus_at r.goes.same r.bus.works r.met.bus_met;
-            past = c.past;
-            led = subst (λ (b : ChipBus). LedTo c.past b.bus) (sym r.bus.bus) c.led;
+            if1_at = at_meeting If1 _ _ _ (port_of h) h h' t.if1_at (same_itself (port_of h)) r.if1.works r.met.if1_met;
+            if2_at = at_meeting If2 _ _ _ (port_of k) k k' t.if2_at (same_itself (port_of k)) r.if2.works r.met.if2_met;
+            bus_at = at_meeting Bus _ _ _ r.put l l' t.bus_at r.goes.same r.bus.works r.met.bus_met;
+            led = subst (λ (b : ChipBus). LedTo past b.bus) (sym r.bus.bus) t.led;
           },
           record {
             told = Ok tt;
             code_is = code_is;
             added = g.0;
-            makes = by_tries (Ok tt) (port_of c.third).whole g.0 mean;
+            makes = by_tries (Ok tt) (port_of l).whole g.0 mean;
             leaves =
                 subst (λ (seen : ChipHistory). HaveMetAll (record {
-                  if1 = record { state = reset_set; seen = (port_of c.first).whole };
-                  if2 = record { state = reset_set; seen = (port_of c.second).whole };
-                  bus = record { state = c.past; seen = seen };
-                }) (all_places h k l c.past)) g.2 met;
+                  if1 = record { state = reset_set; seen = (port_of h).whole };
+                  if2 = record { state = reset_set; seen = (port_of k).whole };
+                  bus = record { state = past; seen = seen };
+                }) (all_places h' k' l' past)) g.2 met;
           },
         )
 
-    not_reset : (why : AccessError) → code ≡ code_told (Err why) → h ≡ c.first → k ≡ c.second
-        → Steps (making (Err why)) c.third l → Done (resetting code) c new
-    not_reset why code_is first second steps =
-        let m = steps_mean (making (Err why)) c.third l c.bus_at steps in (
+    -- or it made none
+    not_reset : (code : ℕ) (why : AccessError) (h' k' l' : Held) → code ≡ code_told (Err why) → h' ≡ h → k' ≡ k
+        → Steps (making (Err why)) l l' → LeftReset code h' k' l'
+    not_reset code why h' k' l' code_is first second steps =
+        let m = steps_mean (making (Err why)) l l' t.bus_at steps in (
           record {
-            first = h;
-            second = k;
-            third = l;
-            if1_open = if1;
-            if2_open = if2;
-            bus_open = on;
-            if1_at = subst (λ (x : Held). IsAt memory If1 set x) (sym first) c.if1_at;
-            if2_at = subst (λ (x : Held). IsAt memory If2 set x) (sym second) c.if2_at;
-            bus_at = stepped_at (making (Err why)) c.third l c.bus_at steps;
-            past = c.past;
-            led = subst (λ (b : ChipBus). LedTo c.past b.bus) (sym steps.kept.bus) c.led;
+            if1_at = subst (λ (x : Held). IsAt memory If1 set x) (sym first) t.if1_at;
+            if2_at = subst (λ (x : Held). IsAt memory If2 set x) (sym second) t.if2_at;
+            bus_at = stepped_at (making (Err why)) l l' t.bus_at steps;
+            led = subst (λ (b : ChipBus). LedTo past b.bus) (sym steps.kept.bus) t.led;
           },
           record {
             told = Err why;
             code_is = code_is;
             added = m.0;
-            makes = by_tries (Err why) (port_of c.third).whole m.0 m.2;
+            makes = by_tries (Err why) (port_of l).whole m.0 m.2;
             leaves = λ i. record {
               if1 = place (first i);
               if2 = place (second i);
-              bus = record { state = c.past; seen = m.1 i };
+              bus = record { state = past; seen = m.1 i };
             };
           },
         )
 
-    reset_as_told : (told : Result (Unit {0}) AccessError) → code ≡ code_told told
-        → ResetsHeld c.first c.second c.third h k l told → Done (resetting code) c new
-    reset_as_told (Ok done) code_is r = reset_done code_is r
-    reset_as_told (Err why) code_is (first, second, steps) = not_reset why code_is first second steps
+    reset_as_told : (told : Result (Unit {0}) AccessError) (code : ℕ) (h' k' l' : Held) → code ≡ code_told told
+        → ResetsMet h k l h' k' l' told → LeftReset code h' k' l'
+    reset_as_told (Ok done) code h' k' l' code_is r = reset_at code h' k' l' code_is r
+    reset_as_told (Err why) code h' k' l' code_is (first, second, steps) =
+        not_reset code why h' k' l' code_is first second steps
+
+  -- ---- parts
+
+  abbrev Done : Part → {old : Chip} → ChipAt old → Chip → Type 0
+  Done part c new = (d : ChipAt new) × PartMeans terms set part (places c) (places d)
+
+  three_of : (chip : Chip) (c : ChipAt chip) → ThreeAt c.first c.second c.third c.past
+  three_of chip c = record { if1_at = c.if1_at; if2_at = c.if2_at; bus_at = c.bus_at; led = c.led }
+
+  abbrev chip_of : (chip : Chip) (h k l : Held) (past : BusPast) → held_by chip.if1 ≡ Some h → held_by chip.if2 ≡ Some k
+      → held_on chip.bus ≡ Some l → ThreeAt h k l past → ChipAt chip
+  chip_of chip h k l past e f g t = record {
+    first = h;
+    second = k;
+    third = l;
+    if1_open = e;
+    if2_open = f;
+    bus_open = g;
+    if1_at = t.if1_at;
+    if2_at = t.if2_at;
+    bus_at = t.bus_at;
+    past = past;
+    led = t.led;
+  }
 
   -- calls lead each handle on by itself; a call that takes the whole chip is of the handles that stand here
   part_done : (part : Part) (old new : Chip) (c : ChipAt old) → PartDoes part old new → Done part c new
@@ -409,17 +403,23 @@ module _ (memory : Memory) (set : Set) where
         record { if1_means = a.3; if2_means = b.3; bus_means = d.5 },
       )
   part_done meeting old new c does =
-      met_done old new c (all_open_are (λ h k l. AllOpen new (λ h' k' l'. MeetHeld h k l h' k' l')) old c does)
+      let (h, k, l, e, f, g, meet) = all_open_are
+      (λ h k l. AllOpen new (λ h' k' l'. MeetHeld h k l h' k' l')) old c does in
+      let m = met_at c.first c.second c.third h k l c.past (three_of old c) meet in
+      (chip_of new h k l c.past e f g m.0, m.1)
   part_done (saving text) old new c does =
-      let (saved, bus, is, text_is, if1, if2, on) = all_open_are
-      (λ h k l. (saved : Saved) × (bus : Held) × IsSavedOf h k l bus saved × (text ≡ text_of saved)
-      × (held_by new.if1 ≡ Some h) × (held_by new.if2 ≡ Some k) × (held_on new.bus ≡ Some bus)) old c does in
-      saved_done text old new c saved bus is text_is if1 if2 on
+      let (h, k, l, e, f, g, (saved, text_is, s)) = all_open_are
+      (λ h k l. AllOpen new (λ h' k' l'. (saved : Saved) × (text ≡ text_of saved) × SavesHeld h k l h' k' l' saved)) old c does in
+      let m = met_at c.first c.second c.third h k s.between c.past (three_of old c) s.meet in
+      let d = saved_at h k s.between c.past m.0 text l saved text_is s.saves in
+      (chip_of new h k l c.past e f g d.0, (all_places h k s.between c.past, m.1, d.1))
   part_done (resetting code) old new c does =
       let (h, k, l, e, f, g, (told, code_is, r)) = all_open_are
       (λ h k l. AllOpen new (λ h' k' l'. (told : Result (Unit {0}) AccessError) × (code ≡ code_told told)
       × ResetsHeld h k l h' k' l' told)) old c does in
-      reset_as_told code old new c h k l e f g told code_is r
+      let m = met_at c.first c.second c.third r.if1 r.if2 r.bus c.past (three_of old c) r.meet in
+      let d = reset_as_told r.if1 r.if2 r.bus c.past m.0 told code h k l code_is r.resets in
+      (chip_of new h k l c.past e f g d.0, (all_places r.if1 r.if2 r.bus c.past, m.1, d.1))
 
   parts_done : (parts : List Part) (old new : Chip) (c : ChipAt old) → PartsDo parts old new
       → (d : ChipAt new) × PartsMean terms set parts (places c) (places d)

@@ -1,5 +1,5 @@
--- A chip that is reset in its place. Source: C_CAN User's Manual 1.2, "Hardware Reset Description": the registers have their reset
--- values, and the message RAM is as it was. That the nodes beside the chip go on is this project's own.
+-- A chip that is reset in its place. Source: C_CAN User's Manual 1.2, "Hardware Reset Description": the registers have their
+-- reset values, and the message RAM is as it was. That the nodes beside the chip go on is this project's own.
 use Rattle.std.specs.Prelude.{ℕ, ◌≡◌, Result, Ok, Err, Some}
 use Rattle.ccan_confine.specs.declared.controller_change.ControllerChange.TheVariants.{Reset}
 use Rattle.ccan_endless.specs.ChipPort.{ChipPass}
@@ -12,7 +12,7 @@ use Rattle.ccan_c.specs.declared.held.Held.{Held}
 use Rattle.ccan_c.specs.Chip.{AllOpen}
 use Rattle.ccan_c.specs.Held.{IsKept, WorksAsBefore, port_of}
 use Rattle.ccan_c.specs.HostCall.{code_of_access}
-use Rattle.ccan_c.specs.Meeting.{HaveMet}
+use Rattle.ccan_c.specs.Meeting.{HaveMet, MeetHeld}
 use Rattle.ccan_c.specs.Steps.{Steps}
 
 -- a host's handle, whose interface registers are those of a reset
@@ -30,11 +30,19 @@ pub record IsReset (h k l h' k' l' : Held) : Type 0 where
   pub if2 : HasResetInterface k k'
   pub bus : IsKept l l'
 
--- a reset as it ends: where each of its tries was lost, nothing else happens
-abbrev pub ResetsHeld : Held → Held → Held → Held → Held → Held → Result (Unit {0}) AccessError → Type 0
-ResetsHeld h k l h' k' l' (Ok done) = IsReset h k l h' k' l'
-ResetsHeld h k l h' k' l' (Err why) =
+-- a reset of three handles that have met, as it ends: where each of its tries was lost, nothing else happens
+abbrev pub ResetsMet : Held → Held → Held → Held → Held → Held → Result (Unit {0}) AccessError → Type 0
+ResetsMet h k l h' k' l' (Ok done) = IsReset h k l h' k' l'
+ResetsMet h k l h' k' l' (Err why) =
     (h' ≡ h) × (k' ≡ k) × Steps (λ terms seen added. Makes terms Reset l.tries seen added (Err why)) l l'
+
+-- first the three ports meet, so that all that was done before is behind the reset
+pub record ResetsHeld (h k l h' k' l' : Held) (told : Result (Unit {0}) AccessError) : Type 0 where
+  pub if1 : Held
+  pub if2 : Held
+  pub bus : Held
+  pub meet : MeetHeld h k l if1 if2 bus
+  pub resets : ResetsMet if1 if2 bus h' k' l' told
 
 -- the same for the handles of a chip, with the code that C gets
 abbrev pub Resets : Chip → Chip → ℕ → Type 0

@@ -1,5 +1,5 @@
 -- A chip that is saved, and one that is opened from what was saved. Source: this project's own.
-use Rattle.std.specs.Prelude.{ℕ, ◌≡◌, List, Some, Ok}
+use Rattle.std.specs.Prelude.{ℕ, ◌≡◌, List, Ok}
 use Rattle.ccan_ram.specs.declared.port.PortName.TheVariants.{Bus, If1, If2}
 use Rattle.ccan_ram.specs.SharedRam.{IsMemoryOf, Memory}
 use Rattle.ccan_endless.specs.ChipPort.{ChipPass}
@@ -13,16 +13,14 @@ use Rattle.ccan_saved.specs.Looks.{LooksAtAll}
 use Rattle.ccan_saved.specs.PutBack.{PutsBack}
 use Rattle.ccan_c.specs.declared.chip.Chip.{Chip}
 use Rattle.ccan_c.specs.declared.held.Held.{Held}
-use Rattle.ccan_c.specs.Bus.{held_on}
 use Rattle.ccan_c.specs.Chip.{AllOpen}
 use Rattle.ccan_c.specs.Held.{IsHolding, pass_of}
-use Rattle.ccan_c.specs.Host.{held_by}
-use Rattle.ccan_c.specs.Meeting.{HaveMet}
+use Rattle.ccan_c.specs.Meeting.{HaveMet, MeetHeld}
 use Rattle.ccan_c.specs.Opening.{after_reset, begins_as}
 use Rattle.ccan_c.specs.Steps.{Steps}
 
--- what is saved of three handles: what they work with, and what the bus's port finds by one look at the controller and one at each
--- object
+-- what is saved of three handles: what they work with, and what the bus's port finds by one look at the controller and one at
+-- each object
 pub record IsSavedOf (if1 if2 old new : Held) (saved : Saved) : Type 0 where
   pub profile : saved.profile ≡ (pass_of old).memory.profile
   pub map : saved.map ≡ old.map
@@ -32,11 +30,16 @@ pub record IsSavedOf (if1 if2 old new : Held) (saved : Saved) : Type 0 where
   pub own_if2 : saved.if2 ≡ if2.own
   pub looks : Steps (λ terms seen added. LooksAtAll terms saved.controller saved.records seen added) old new
 
--- C gets the text of what is saved of its chip; the handles of the hosts stay
+-- the three ports meet, and then this is saved of their handles
+pub record SavesHeld (h k l h' k' l' : Held) (saved : Saved) : Type 0 where
+  pub between : Held
+  pub meet : MeetHeld h k l h' k' between
+  pub saves : IsSavedOf h' k' between l' saved
+
+-- C gets the text of what is saved of its chip
 abbrev pub Saves : Chip → Chip → List ℕ → Type 0
 Saves old new text =
-    AllOpen old (λ h k l. (saved : Saved) × (bus : Held) × IsSavedOf h k l bus saved × (text ≡ text_of saved)
-    × (held_by new.if1 ≡ Some h) × (held_by new.if2 ≡ Some k) × (held_on new.bus ≡ Some bus))
+    AllOpen old (λ h k l. AllOpen new (λ h' k' l'. (saved : Saved) × (text ≡ text_of saved) × SavesHeld h k l h' k' l' saved))
 
 -- a handle as it opens from what was saved
 abbrev pub IsRestored : ChipPass → Saved → InterfaceSet → Held → Type 0

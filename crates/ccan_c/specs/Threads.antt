@@ -53,8 +53,8 @@ Begins profile (opened_with set) chip = Opens profile set chip
 Begins profile (restored_as saved) chip = (saved.profile ≡ profile) × RestoresAs saved chip
 
 -- calls on the three handles, those of one handle in their order and in whatever way they fall together with those of the
--- others; or a call that takes the whole chip: a meeting of the three; a saving, which gives C this text; or a reset in its place,
--- which answers this code
+-- others; or a call that takes the whole chip: a meeting of the three; a saving, which gives C this text; or a reset in its
+-- place, which answers this code
 pub data Part : Type 0 where
   at_once : List HostCall → List HostCall → List BusCall → Part
   meeting : Part
@@ -130,7 +130,7 @@ pub record HaveMetAll (old new : Places) : Type 0 where
   pub bus_meets : MeetsAll Bus old old.bus new.bus
 
 -- C gets the text of what the handles work with, and of what the bus's port finds by one look at the controller and one at each
--- object
+-- object. Before it, as before a reset, the three have met
 pub record SavesAll (terms : PortName → Terms) (set : Set) (text : List ℕ) (old new : Places) : Type 0 where
   pub saved : Saved
   pub text_is : text ≡ text_of saved
@@ -160,16 +160,16 @@ pub record ResetsAll (terms : PortName → Terms) (set : Set) (code : ℕ) (old 
 abbrev pub PartMeans : (PortName → Terms) → Set → Part → Places → Places → Type 0
 PartMeans terms set (at_once if1 if2 bus) old new = MeanAtOnce terms set if1 if2 bus old new
 PartMeans terms set meeting old new = HaveMetAll old new
-PartMeans terms set (saving text) old new = SavesAll terms set text old new
-PartMeans terms set (resetting code) old new = ResetsAll terms set code old new
+PartMeans terms set (saving text) old new = (met : Places) × HaveMetAll old met × SavesAll terms set text met new
+PartMeans terms set (resetting code) old new = (met : Places) × HaveMetAll old met × ResetsAll terms set code met new
 
 abbrev pub PartsMean : (PortName → Terms) → Set → List Part → Places → Places → Type 0
 PartsMean terms set [] old new = new ≡ old
 PartsMean terms set (part ∷ parts) old new =
     (between : Places) × PartMeans terms set part old between × PartsMean terms set parts between new
 
--- A chip that was saved begins as one after its reset, with the saved registers of its hosts. The bus's port makes steps until its
--- looks find what was saved, and then the three meet.
+-- A chip that was saved begins as one after its reset, with the saved registers of its hosts. The bus's port makes steps until
+-- its looks find what was saved, and then the three meet.
 pub record BeginsRestored (terms : PortName → Terms) (saved : Saved) (first : Places) : Type 0 where
   pub added : ChipHistory
   pub puts : PutsBack (terms Bus) saved reset_history added (Ok tt)

@@ -3,7 +3,7 @@ ghost use Rattle.std.specs.Prelude.{◌≡◌, ◌≢◌, true, false, Some};
 ghost use Rattle.ccan_c.specs.Chip.{are_open};
 ghost use Rattle.ccan_c.specs.Codes.{closed};
 ghost use Rattle.ccan_c.specs.Meeting.{AreThree};
-ghost use Rattle.ccan_c.specs.Resetting.{Resets, ResetsHeld};
+ghost use Rattle.ccan_c.specs.Resetting.{Resets, ResetsHeld, ResetsMet};
 
 use crate::access_code::code_of_access;
 use crate::chip::Chip;
@@ -16,10 +16,10 @@ use ccan_registers::{AccessError, InterfaceSet};
 use std::alloc::Global;
 use std::mem::replace;
 
-/// The bus's port resets the controller, each interface has its reset values, and the ports meet.
-fn reset_held(if1: &mut Held, if2: &mut Held, bus: &mut Held) -> Result<(), AccessError>
+/// The bus's port of three that have met resets the controller, each interface has its reset values, and the ports meet again.
+fn reset_met(if1: &mut Held, if2: &mut Held, bus: &mut Held) -> Result<(), AccessError>
     requires { AreThree if1.old if2.old bus.old }
-    ensures reset { ResetsHeld if1.old if2.old bus.old if1.new if2.new bus.new result }
+    ensures reset { ResetsMet if1.old if2.old bus.old if1.new if2.new bus.new result }
     ensures three { AreThree if1.new if2.new bus.new }
 {
     if let Err(busy) = bus.change(&ControllerChange::Reset) {
@@ -29,6 +29,16 @@ fn reset_held(if1: &mut Held, if2: &mut Held, bus: &mut Held) -> Result<(), Acce
     if2.own = InterfaceSet::reset();
     meet_held(if1, if2, bus);
     Ok(())
+}
+
+/// The ports meet, so that all that was done is behind the reset; and then it is made.
+fn reset_held(if1: &mut Held, if2: &mut Held, bus: &mut Held) -> Result<(), AccessError>
+    requires { AreThree if1.old if2.old bus.old }
+    ensures reset { ResetsHeld if1.old if2.old bus.old if1.new if2.new bus.new result }
+    ensures three { AreThree if1.new if2.new bus.new }
+{
+    meet_held(if1, if2, bus);
+    reset_met(if1, if2, bus)
 }
 
 /// Resets a chip in its place, as the reset of a part does (User's Manual, "Hardware Reset Description"): the registers of the

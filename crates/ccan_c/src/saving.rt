@@ -5,14 +5,15 @@ ghost use Rattle.ccan_saved.specs.declared.saved.Saved.{Saved};
 ghost use Rattle.ccan_saved.specs.Format.{AreWords, IsSaved, text_of, words_of};
 ghost use Rattle.ccan_c.specs.Chip.{are_open};
 ghost use Rattle.ccan_c.specs.Codes.{closed, done, no_saved_chip};
-ghost use Rattle.ccan_c.specs.Saving.{IsSavedOf, Restores, RestoresAs, Saves};
+ghost use Rattle.ccan_c.specs.Meeting.{AreThree};
+ghost use Rattle.ccan_c.specs.Saving.{IsSavedOf, Restores, RestoresAs, Saves, SavesHeld};
 
 use crate::begin::Begin;
 use crate::chip::Chip;
 use crate::code::{BUSY, CLOSED, DONE, NO_CHIP, NO_MEMORY, NO_SAVED_CHIP, SPENT};
 use crate::handle::Handle;
 use crate::held::Held;
-use crate::meeting::meet_ports;
+use crate::meeting::{meet_held, meet_ports};
 use crate::opening::chip_of;
 use crate::saved_chip::SavedChip;
 use crate::settings::Settings;
@@ -43,8 +44,18 @@ fn saved_of(if1: &Held, if2: &Held, bus: &mut Held) -> Saved
     }
 }
 
-/// Saves a chip: its registers and its objects, as one look at each by the bus's port finds them. A chip that is not open stays as
-/// it is.
+/// The ports of three handles meet, so that the bus's has seen all that was done; and then they are saved.
+fn save_held(if1: &mut Held, if2: &mut Held, bus: &mut Held) -> Saved
+    requires { AreThree if1.old if2.old bus.old }
+    ensures saves { SavesHeld if1.old if2.old bus.old if1.new if2.new bus.new result }
+    ensures three { AreThree if1.new if2.new bus.new }
+{
+    meet_held(if1, if2, bus);
+    saved_of(if1, if2, bus)
+}
+
+/// Saves a chip: its registers and its objects, as one look at each by the bus's port finds them, after the three ports have
+/// met. A chip that is not open stays as it is.
 #[unsafe(no_mangle)]
 pub extern "C" fn ccan_save(alloc: Global, chip: &mut Chip, out: &mut SavedChip) -> u32
     ensures done { result ≡ done → Saves chip.old chip.new out.new.bytes }
@@ -57,14 +68,14 @@ pub extern "C" fn ccan_save(alloc: Global, chip: &mut Chip, out: &mut SavedChip)
         return CLOSED;
     }
     let Chip { if1, if2, bus, .. } = replace(chip, Chip::closed(alloc));
-    let (Some(if1), Some(if2), Some(mut bus)) = (
+    let (Some(mut if1), Some(mut if2), Some(mut bus)) = (
         if1.handle.into_held(),
         if2.handle.into_held(),
         bus.handle.into_held(),
     ) else {
         unreachable!();
     };
-    let saved = saved_of(&if1, &if2, &mut bus);
+    let saved = save_held(&mut if1, &mut if2, &mut bus);
     *chip = Chip::of(Handle::open(if1), Handle::open(if2), Handle::open(bus));
     out.bytes = to_bytes(&saved);
     DONE
