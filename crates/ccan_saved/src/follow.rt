@@ -6,8 +6,8 @@ ghost use Rattle.ccan_endless.specs.Chip.{MayMake};
 ghost use Rattle.ccan_saved.specs.Looks.{GoesOn};
 
 use crate::look::object_at;
-use crate::not_restored::NotRestored;
 use crate::plan::Step;
+use crate::refusal::Refusal;
 use ccan_confine::ControllerChange;
 use ccan_endless::{EndlessRam, Port};
 use ccan_object::{CommandMask, MOST_OBJECTS, ObjectNo, Record};
@@ -22,19 +22,19 @@ fn make(
     port: &mut Port,
     change: &ControllerChange,
     tries: Tries,
-) -> Result<(), NotRestored>
+) -> Result<(), Refusal>
     requires memory { port.old.pass.memory ≡ ram.now.words }
     requires may { MayMake port.old.pass.port change.now }
     ensures { GoesOn port.old port.new }
 {
     match ram.change_controller(port, change, tries) {
         Ok(_) => Ok(()),
-        Err(_) => Err(NotRestored::Busy),
+        Err(_) => Err(Refusal::Busy),
     }
 }
 
 /// Makes a change of the controller so many times.
-fn repeat(ram: &EndlessRam, port: &mut Port, step: &Step, tries: Tries) -> Result<(), NotRestored>
+fn repeat(ram: &EndlessRam, port: &mut Port, step: &Step, tries: Tries) -> Result<(), Refusal>
     requires memory { port.old.pass.memory ≡ ram.now.words }
     requires may { MayMake port.old.pass.port step.now.change }
     ensures { GoesOn port.old port.new }
@@ -51,7 +51,7 @@ pub(crate) fn follow(
     port: &mut Port,
     steps: &[Step],
     tries: Tries,
-) -> Result<(), NotRestored>
+) -> Result<(), Refusal>
     requires memory { port.old.pass.memory ≡ ram.now.words }
     requires bus { port.old.pass.port ≡ Bus }
     requires may { All (λ step. MayMake Bus step.change) steps.now }
@@ -70,7 +70,7 @@ fn write(
     object: ObjectNo,
     record: &Record,
     tries: Tries,
-) -> Result<(), NotRestored>
+) -> Result<(), Refusal>
     requires memory { port.old.pass.memory ≡ ram.now.words }
     requires held { Holds ram.now.words.profile object }
     ensures { GoesOn port.old port.new }
@@ -78,8 +78,8 @@ fn write(
     let change = Change::Write(CommandMask::of(WRITE_ALL), *record);
     match ram.change(port, object, &change, tries) {
         Ok(_) => Ok(()),
-        Err(Refused::Busy { .. }) => Err(NotRestored::Busy),
-        Err(Refused::Spent) => Err(NotRestored::Spent),
+        Err(Refused::Busy { .. }) => Err(Refusal::Busy),
+        Err(Refused::Spent) => Err(Refusal::Spent),
     }
 }
 
@@ -89,7 +89,7 @@ pub(crate) fn write_all(
     port: &mut Port,
     records: &[Record; MOST_OBJECTS],
     tries: Tries,
-) -> Result<(), NotRestored>
+) -> Result<(), Refusal>
     requires memory { port.old.pass.memory ≡ ram.now.words }
     ensures { GoesOn port.old port.new }
 {

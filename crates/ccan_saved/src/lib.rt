@@ -31,6 +31,7 @@ mod look;
 mod not_restored;
 mod objects;
 mod plan;
+mod refusal;
 mod restoring;
 mod saved;
 mod words;

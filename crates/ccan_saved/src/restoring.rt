@@ -11,6 +11,7 @@ use crate::look::look_at_all;
 use crate::not_restored::NotRestored;
 use crate::objects::is_same;
 use crate::plan::plan;
+use crate::refusal::Refusal;
 use crate::saved::Saved;
 use ccan_confine::Controller;
 use ccan_endless::{EndlessRam, Port};
@@ -26,12 +27,13 @@ pub fn put_back(ram: &EndlessRam, port: &mut Port, saved: &Saved) -> Result<(), 
     ensures goes { ChipGoes port.old port.new (λ terms seen added.
         PutsBack terms saved.now seen added result) }
     ensures other { saved.now.profile ≢ ram.now.words.profile → result ≡ Err OtherProfile }
+    ensures same { saved.now.profile ≡ ram.now.words.profile → result ≢ Err OtherProfile }
 {
     if ram.profile() != saved.profile {
         return Err(NotRestored::OtherProfile);
     }
     if let Err(why) = lead(ram, port, saved) {
-        return Err(why);
+        return Err(why.of_chip());
     }
     let (controller, records) = look_at_all(ram, port);
     if is_as_saved(&controller, &records, saved) {
@@ -42,7 +44,7 @@ pub fn put_back(ram: &EndlessRam, port: &mut Port, saved: &Saved) -> Result<(), 
 }
 
 /// Leads the chip to where the saved one stood.
-fn lead(ram: &EndlessRam, port: &mut Port, saved: &Saved) -> Result<(), NotRestored>
+fn lead(ram: &EndlessRam, port: &mut Port, saved: &Saved) -> Result<(), Refusal>
     requires memory { port.old.pass.memory ≡ ram.now.words }
     requires bus { port.old.pass.port ≡ Bus }
     ensures { GoesOn port.old port.new }
