@@ -1,6 +1,6 @@
-/* Each request for memory of ccan_open, of ccan_open_reset and of ccan_restore is refused in turn: it answers CCAN_NO_MEMORY, the chip stays as it
- * was, closed or open, and nothing is lost. No other call asks for memory, and ccan_end gives all of it back. Link with
- * -Wl,--wrap=malloc,--wrap=realloc,--wrap=free. */
+/* Each request for memory of ccan_open, of ccan_open_reset and of ccan_restore is refused in turn: it answers CCAN_NO_MEMORY, the
+ * chip stays as it was, closed or open, and nothing is lost. No other call asks for memory, and ccan_end gives all of it back.
+ * Link with -Wl,--wrap=malloc,--wrap=realloc,--wrap=free. */
 #include <ccan.h>
 #include <stdio.h>
 #include <stdlib.h>
