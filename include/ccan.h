@@ -362,7 +362,7 @@ CCAN_CODE ccan_write32(ccan_host *host, uint32_t offset, uint32_t value);
  *  - ccan_request, and a write of Command Request;
  *  - a read of Status, and a write of Control; ccan_status and ccan_control;
  *  - ccan_round and ccan_recessive.
- * No other call on a handle changes it. */
+ * No other call on a handle changes it. Of those on the whole chip ccan_reset may, and those that open one. */
 CCAN_CODE ccan_line(ccan_host *host, uint32_t *out);
 
 /* The same by the thread of the bus, whose handle has no registers of an interface: those of IF1 and IF2 are for their own handles
