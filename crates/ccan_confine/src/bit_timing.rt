@@ -37,6 +37,7 @@ impl Model for BitTiming {
 
 impl BitTiming {
     /// These two words, without their reserved bits.
+    #[inline(always)]
     pub fn new(register: u16, extension: u16) -> BitTiming
         ensures { result ≡ timing_of register extension }
     {
@@ -47,6 +48,7 @@ impl BitTiming {
     }
 
     /// The word of the Bit Timing register.
+    #[inline(always)]
     pub fn register(self) -> u16
         ensures value { result ≡ self.register }
         ensures in_range { result < 2 ^ register_bits }
@@ -55,6 +57,7 @@ impl BitTiming {
     }
 
     /// The word of the BRP Extension register.
+    #[inline(always)]
     pub fn extension(self) -> u16
         ensures value { result ≡ self.extension }
         ensures in_range { result < 2 ^ extension_bits }
@@ -64,6 +67,7 @@ impl BitTiming {
 
     /// With this word of the Bit Timing register, without its reserved bit.
     #[must_use]
+    #[inline(always)]
     pub fn with_register(self, register: u16) -> BitTiming
         ensures { result ≡ timing_of register self.extension }
     {
@@ -72,6 +76,7 @@ impl BitTiming {
 
     /// With this word of the BRP Extension register, without its reserved bits.
     #[must_use]
+    #[inline(always)]
     pub fn with_extension(self, extension: u16) -> BitTiming
         ensures { result ≡ timing_of self.register extension }
     {

@@ -2,6 +2,7 @@ ghost use Rattle.std.specs.Prelude.{◌≡◌, ◌≤◌, ◌<◌, ◌+◌, ◌^
 ghost use Rattle.ccan_confine.specs.Bits.{at, bit, flag, part};
 
 /// Whether the bit of a word at a place is 1.
+#[inline(always)]
 pub fn bit(word: u64, place: u32) -> bool
     requires { place < 64 }
     ensures { result ≡ bit word place }
@@ -10,6 +11,7 @@ pub fn bit(word: u64, place: u32) -> bool
 }
 
 /// The number in so many places of a word, from a lowest one on.
+#[inline(always)]
 pub fn part(word: u64, lowest: u32, width: u32) -> u64
     requires { lowest + width < 64 }
     ensures value { result ≡ part word lowest width }
@@ -19,6 +21,7 @@ pub fn part(word: u64, lowest: u32, width: u32) -> u64
 }
 
 /// A flag at its place.
+#[inline(always)]
 pub fn flag(on: bool, place: u32) -> u64
     requires { place < 64 }
     ensures value { result ≡ at place (flag on) }

@@ -24,6 +24,7 @@ pub struct ControlRegister {
 
 impl ControlRegister {
     /// The word of the register, by the places of its bits; the others are 0.
+    #[inline(always)]
     pub fn word(&self) -> u16
         ensures word { result ≡ control_word self.now }
         ensures in_range { result < 256 }
@@ -38,6 +39,7 @@ impl ControlRegister {
     }
 
     /// The register that a host writes by this word. Its reserved bits are dropped.
+    #[inline(always)]
     pub fn of_word(word: u16) -> ControlRegister
         ensures { result ≡ control_in word }
     {
@@ -54,6 +56,7 @@ impl ControlRegister {
     }
 
     // The bits that are 1 in `which` as they are in `to`, and the others as they are.
+    #[inline(always)]
     pub(crate) fn with(self, which: ControlRegister, to: ControlRegister) -> ControlRegister
         ensures { result ≡ control_with which to self }
     {

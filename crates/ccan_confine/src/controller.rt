@@ -90,6 +90,7 @@ impl Controller {
 
     /// The controller after a change. The code of a `Fault` in it has to be 1 to 6.
     #[must_use]
+    #[inline(always)]
     pub fn after(self, change: &ControllerChange) -> Controller
         requires { CanMake change.now }
         ensures changed { result ≡ controller_after change.now self }
@@ -106,6 +107,7 @@ impl Controller {
 
     /// Whether the Interrupt register shows the status interrupt, 0x8000. What was raised while SIE or EIE was 0 is
     /// shown once the bit is 1, where no read came between. The interrupt line needs IE besides.
+    #[inline(always)]
     pub fn shows_status_interrupt(&self) -> bool
         ensures { result ≡ shows_interrupt self.now }
     {
@@ -113,6 +115,7 @@ impl Controller {
     }
 
     /// The word of the Status register: BOff 7, EWarn 6, EPass 5, RxOk 4, TxOk 3, LEC 2 to 0.
+    #[inline(always)]
     pub fn status_word(&self) -> u16
         ensures word { result ≡ status_word self.now }
         ensures in_range { result < 256 }
@@ -127,6 +130,7 @@ impl Controller {
 
     /// The word of the Error Counter register: RP 15 (REC is at least 128), the low seven bits of REC 14 to 8, TEC 7 to 0, where
     /// a TEC above 255 shows as 255 (C_CAN User's Manual 1.2, "Error Counter").
+    #[inline(always)]
     pub fn error_counter_word(&self) -> u16
         ensures { result ≡ error_counter_word self.now }
     {
@@ -135,6 +139,7 @@ impl Controller {
     }
 
     /// The registers in one word, below 2^61.
+    #[inline(always)]
     pub fn pack(&self) -> u64
         ensures word { result ≡ packed self.now }
         ensures small { result < 2 ^ 61 }
@@ -143,12 +148,14 @@ impl Controller {
     }
 
     /// The controller that packs to this word; some controller where none does.
+    #[inline(always)]
     pub fn unpack(word: u64) -> Controller
         ensures { (c : Controller) → IsController c → packed c ≡ word → result ≡ c }
     {
         Controller::unpacked(word)
     }
 
+    #[inline(always)]
     fn pack_flags(&self) -> u64
         ensures word { result ≡ packed_flags self.now }
         ensures small { result < 2 ^ 15 }
@@ -170,6 +177,7 @@ impl Controller {
             + flag(self.status.tx_ok(), 0)
     }
 
+    #[inline(always)]
     fn pack_numbers(&self) -> u64
         ensures word { result ≡ packed_numbers self.now }
         ensures small { result < 2 ^ 27 }
@@ -178,6 +186,7 @@ impl Controller {
         (u64::from(self.status.lec()) << 24) + (groups << 17) + (tec << 8) + rec
     }
 
+    #[inline(always)]
     fn pack_timing(&self) -> u64
         ensures word { result ≡ packed_timing self.now }
         ensures small { result < 2 ^ 19 }
@@ -185,6 +194,7 @@ impl Controller {
         (u64::from(self.timing.extension()) << 15) + u64::from(self.timing.register())
     }
 
+    #[inline(always)]
     fn unpacked(word: u64) -> Controller
         ensures { result ≡ unpacked word }
     {
@@ -221,6 +231,7 @@ impl Controller {
         }
     }
 
+    #[inline(always)]
     fn changed(self, change: &ControllerChange) -> Controller
         requires { CanMake change.now }
         ensures { result ≡ controller_after change.now self }
@@ -247,6 +258,7 @@ impl Controller {
     }
 
     // The controller with these counters, after this event of the Status register.
+    #[inline(always)]
     fn counted(self, event: StatusEvent, counters: Counters) -> Controller
         requires { HasFaultCode event }
         ensures { result ≡ counted event counters self }
@@ -266,6 +278,7 @@ impl Controller {
     }
 
     // After groups of recessive bits.
+    #[inline(always)]
     fn grouped(self, groups: u16) -> Controller
         ensures { result ≡ controller_after (ControllerChange.Recessive groups) self }
     {
@@ -274,6 +287,7 @@ impl Controller {
     }
 
     // After a read of the Status register that leaves these flags.
+    #[inline(always)]
     fn read(self, status: StatusFlags) -> Controller
         ensures { result ≡ record self { status = status; transfer_pending = false; level_pending = false } }
     {
@@ -286,6 +300,7 @@ impl Controller {
     }
 
     // After a write of the Control register.
+    #[inline(always)]
     fn controlled(self, control: ControlRegister) -> Controller
         ensures { result ≡ controlled control self }
     {
@@ -302,6 +317,7 @@ impl Controller {
     }
 
     // After a write of the bit timing.
+    #[inline(always)]
     fn timed(self, timing: BitTiming) -> Controller
         ensures { result ≡ timed timing self }
     {
@@ -314,6 +330,7 @@ impl Controller {
 }
 
 // What groups of recessive bits are to the Status register.
+#[inline(always)]
 fn recovery_of(groups: u16, counters: Counters) -> StatusEvent
     ensures value { result ≡ recovery_of groups counters }
     ensures known { HasFaultCode result }
@@ -326,6 +343,7 @@ fn recovery_of(groups: u16, counters: Counters) -> StatusEvent
 }
 
 // Whether BOff or EWarn changes.
+#[inline(always)]
 fn changes_level(before: Counters, after: Counters) -> bool
     ensures { result ≡ changes_level before.levels after.levels }
 {

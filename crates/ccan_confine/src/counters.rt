@@ -89,6 +89,7 @@ impl Counters {
     }
 
     /// The transmit error counter (TEC), 0 to 263; from 256 on the node is bus off.
+    #[inline(always)]
     pub fn tec(self) -> u16
         ensures value { result ≡ self.levels.tec }
         ensures listed { (host : Bool) (events : List NodeEvent)
@@ -98,6 +99,7 @@ impl Counters {
     }
 
     /// The receive error counter (REC), 0 to 255.
+    #[inline(always)]
     pub fn rec(self) -> u8
         ensures value { result ≡ self.levels.rec }
         ensures listed { (host : Bool) (events : List NodeEvent)
@@ -218,6 +220,7 @@ impl Counters {
     }
 
     // TEC, REC and the groups that count so far, each in its range.
+    #[inline(always)]
     pub(crate) fn numbers(self) -> (u64, u64, u64)
         ensures tec { (result.0 ≡ self.levels.tec) × (result.0 < off_limit + send_fault_step) }
         ensures rec { (result.1 ≡ self.levels.rec) × (result.1 ≤ most_rec) }
@@ -231,6 +234,7 @@ impl Counters {
     }
 
     // Whether a counter is at least the limit.
+    #[inline(always)]
     pub(crate) fn reaches(self, limit: u16) -> bool
         ensures { result ≡ reaches limit self.levels }
     {
@@ -238,6 +242,7 @@ impl Counters {
     }
 
     // Whether the node is bus off.
+    #[inline(always)]
     pub(crate) fn is_off(self) -> bool
         ensures { result ≡ is_off self.levels }
     {

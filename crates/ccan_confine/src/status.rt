@@ -169,6 +169,7 @@ impl Status {
 
 // The word of the register. The flags stand at places of their own and above LEC, so that their sum is their union; a sum
 // is what the prover reads best.
+#[inline(always)]
 pub(crate) fn register_word(tx_ok: bool, rx_ok: bool, lec: u8, counters: &Counters) -> u16
     requires { lec ≤ 7 }
     ensures word { result ≡ word_of tx_ok rx_ok lec counters.now.levels }

@@ -33,6 +33,7 @@ impl Model for StatusFlags {
 
 impl StatusFlags {
     /// These flags and this last error code.
+    #[inline(always)]
     pub fn new(tx_ok: bool, rx_ok: bool, lec: u8) -> StatusFlags
         requires { lec ≤ highest_code }
         ensures { result ≡ record { tx_ok = tx_ok; rx_ok = rx_ok; lec = lec } }
@@ -41,6 +42,7 @@ impl StatusFlags {
     }
 
     /// What a host writes into the Status register by this word: RxOk 4, TxOk 3, LEC 2 to 0. Its other bits are dropped.
+    #[inline(always)]
     pub fn of_word(word: u16) -> StatusFlags
         ensures { result ≡ flags_in word }
     {
@@ -49,6 +51,7 @@ impl StatusFlags {
     }
 
     /// TxOk: a frame was sent.
+    #[inline(always)]
     pub fn tx_ok(self) -> bool
         ensures { result ≡ self.tx_ok }
     {
@@ -56,6 +59,7 @@ impl StatusFlags {
     }
 
     /// RxOk: a frame was received.
+    #[inline(always)]
     pub fn rx_ok(self) -> bool
         ensures { result ≡ self.rx_ok }
     {
@@ -63,6 +67,7 @@ impl StatusFlags {
     }
 
     /// LEC: the last error code.
+    #[inline(always)]
     pub fn lec(self) -> u8
         ensures value { result ≡ self.lec }
         ensures in_range { result ≤ highest_code }

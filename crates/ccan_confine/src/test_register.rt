@@ -17,6 +17,7 @@ pub struct TestRegister {
 
 impl TestRegister {
     /// The word of the register, by the places of its bits; the others are 0.
+    #[inline(always)]
     pub fn word(&self) -> u16
         ensures word { result ≡ test_word self.now }
         ensures in_range { result < 32 }
@@ -25,6 +26,7 @@ impl TestRegister {
     }
 
     /// What a host writes into the register by this word. The bits of the pins and the reserved ones are dropped.
+    #[inline(always)]
     pub fn of_word(word: u16) -> TestRegister
         ensures { result ≡ test_in word }
     {

@@ -17,6 +17,7 @@ pub enum FlagPart {
 
 impl FlagPart {
     /// Those 16 bits of a flag word, in which object k has bit k - 1.
+    #[inline(always)]
     pub fn of(self, word: u64) -> u16
         ensures { result ≡ part word (16 * index_of self) 16 }
     {
@@ -24,6 +25,7 @@ impl FlagPart {
     }
 
     /// The bit of a flag word in which the first of them stands.
+    #[inline(always)]
     fn lowest_bit(self) -> u32
         ensures { result ≡ 16 * index_of self }
     {

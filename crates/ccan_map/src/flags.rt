@@ -10,6 +10,7 @@ use ccan_object::Profile;
 use ccan_ram::flag::Flag;
 
 /// The objects whose flags stand at a place, in bytes from where the flag's registers begin.
+#[inline(always)]
 pub fn part_at(profile: Profile, place: u32) -> Option<FlagPart>
     ensures some { IfSome result (IsPlaceOf profile place) }
     ensures each { (part : FlagPart) → IsPlaceOf profile place part → result ≡ Some part }
@@ -24,6 +25,7 @@ pub fn part_at(profile: Profile, place: u32) -> Option<FlagPart>
 }
 
 /// The register of a flag at a place, in bytes from where the flag's registers begin.
+#[inline(always)]
 pub fn register_at(profile: Profile, flag: Flag, place: u32) -> Option<Register>
     ensures some { IfSome result (IsAtFlag profile flag place) }
     ensures each { (r : Register) → IsAtFlag profile flag place r → result ≡ Some r }

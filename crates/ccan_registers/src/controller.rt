@@ -12,6 +12,7 @@ use ccan_endless::{ControllerBusy, ControllerChanged, EndlessRam};
 use ccan_ram::Tries;
 
 /// The controller's registers, by one look.
+#[inline(always)]
 pub fn look(ram: &EndlessRam, holder: &mut PortHolder) -> Controller
     requires memory { (port_at holder.old).pass.memory ≡ ram.now.words }
     ensures goes { ChipGoes (port_at holder.old) (port_at holder.new) (λ terms seen added.
@@ -25,6 +26,7 @@ pub fn look(ram: &EndlessRam, holder: &mut PortHolder) -> Controller
 }
 
 /// Changes the controller, in at most so many tries: each is lost where another port's change of it came first.
+#[inline(always)]
 pub fn change(
     ram: &EndlessRam,
     holder: &mut PortHolder,

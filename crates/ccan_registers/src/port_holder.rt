@@ -22,6 +22,7 @@ impl PortHolder {
     }
 
     /// Which port it is.
+    #[inline(always)]
     pub fn name(&self) -> PortName
         ensures { result ≡ (port_at self.now).pass.port }
     {

@@ -25,6 +25,7 @@ use ccan_ram::{PortName, SharedRam, Tries};
 // ---- whose a register is
 
 /// Whether the interface is the port's.
+#[inline(always)]
 fn is_own(port: PortName, interface: Interface) -> bool
     ensures { result ≡ says.is_own port interface }
 {
@@ -38,6 +39,7 @@ fn is_own(port: PortName, interface: Interface) -> bool
 // ---- registers of the controller
 
 /// What a read of the Status register is to the controller.
+#[inline(always)]
 fn read_of(map: Map) -> ControllerChange
     ensures { result ≡ says.read_of map }
 {
@@ -49,6 +51,7 @@ fn read_of(map: Map) -> ControllerChange
 }
 
 /// Reads the Status register.
+#[inline(always)]
 pub fn read_status(
     ram: &EndlessRam,
     holder: &mut PortHolder,
@@ -85,6 +88,7 @@ pub fn write_controller(
 
 /// The Interrupt register: 0x8000 for the status interrupt, else the number of the first object with IntPnd, or 0. With the
 /// controller that its look found.
+#[inline(always)]
 pub fn interrupt_value(ram: &EndlessRam, holder: &mut PortHolder) -> (Controller, u16)
     requires memory { (port_at holder.old).pass.memory ≡ ram.now.words }
     ensures { ChipGoes (port_at holder.old) (port_at holder.new) (λ terms seen added.
@@ -96,6 +100,7 @@ pub fn interrupt_value(ram: &EndlessRam, holder: &mut PortHolder) -> (Controller
 }
 
 /// Whether the chip pulls its interrupt line: IE is 1, and the Interrupt register is not 0.
+#[inline(always)]
 pub fn line(ram: &EndlessRam, holder: &mut PortHolder) -> bool
     requires memory { (port_at holder.old).pass.memory ≡ ram.now.words }
     ensures { ChipGoes (port_at holder.old) (port_at holder.new) (λ terms seen added. PullsLine terms seen added result) }
@@ -107,6 +112,7 @@ pub fn line(ram: &EndlessRam, holder: &mut PortHolder) -> bool
 // ---- reads
 
 /// What a register of an interface reads, where the interface is the port's.
+#[inline(always)]
 fn read_own(port: PortName, interface: Interface, value: u16) -> Result<u16, AccessError>
     ensures own { says.is_own port interface ≡ true → result ≡ Ok value }
     ensures other { says.is_own port interface ≡ false → result ≡ Err OtherInterface }
@@ -119,6 +125,7 @@ fn read_own(port: PortName, interface: Interface, value: u16) -> Result<u16, Acc
 }
 
 /// Reads a register.
+#[inline(always)]
 pub fn read(
     own: &InterfaceSet,
     ram: &EndlessRam,
@@ -197,6 +204,7 @@ fn write_request(
 }
 
 /// Writes a register of the message buffer or the Command Mask register, where the interface is the port's.
+#[inline(always)]
 fn write_own(
     own: &mut InterfaceSet,
     port: PortName,
@@ -217,6 +225,7 @@ fn write_own(
 }
 
 /// What a write of this word is to the controller, where the register is one that it has and that can be written.
+#[inline(always)]
 fn change_by(register: Register, value: u16) -> Option<ControllerChange>
     ensures { result ≡ says.change_by register value }
 {
