@@ -33,7 +33,8 @@ module _ (counters : Counts) (loops : Bool) (old new : Bus) (takes : Takes count
   by_node node within false is =
       let there : counters_at new node ≡ counters_at old node =
       ap (λ nodes. get_or nodes node (new_counts false)) takes.nodes
-      ∙ get_or-set_other old.nodes 0 node counters (new_counts false) (λ zero_is. absurd (let e = ap is_controller zero_is in cc)) in
+      ∙ get_or-set_other old.nodes 0 node counters (new_counts false)
+      (λ zero_is. absurd (let e = ap is_controller zero_is in cc)) in
       let before : AreAfter (is_controller node) (past.events node) (counters_at old node) = led.counters node within in
       rw is (subst (AreAfter false (past.events node)) (sym there) (rw is at before))
 

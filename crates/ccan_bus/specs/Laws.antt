@@ -226,7 +226,8 @@ pub record OffControllersHoldNothing : Type 0 where
   pub opened : (choice : Choice) (others : ℕ) → RestsOff (opened_with choice others)
   pub loads : (terms : Terms) (tries : ℕ) (seen added : List Event) (past after : BusPast) (told : LoadAnswer)
       → Loads terms tries seen added past after told → RestsOff past → RestsOff after
-  pub rounds : (terms : Terms) (line : RoundLine) (tries : ℕ) (seen added : List Event) (past after : BusPast) (reply : RoundAnswer)
+  pub rounds : (terms : Terms) (line : RoundLine) (tries : ℕ) (seen added : List Event) (past after : BusPast)
+      (reply : RoundAnswer)
       → Round terms line tries seen added past after reply → RestsOff past → RestsOff after
   pub decides : (line : RoundLine) (past after : BusPast) (decided : Decision)
       → Decides (hears_itself past) line past after decided → RestsOff past → RestsOff after

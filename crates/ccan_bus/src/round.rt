@@ -37,7 +37,8 @@ impl Bus {
         requires { (A.passes access.old).terms.profile ≡ self.old.profile }
         ensures same { IsSameBus self.old self.new }
         ensures goes_on { GoesOnWith (A.passes access.old) (A.passes access.new) self.old self.new
-            (λ terms seen added past after. Round terms line.now tries seen added past after result) }
+            (λ terms seen added past after.
+            Round terms line.now tries seen added past after result) }
     {
         self.report_round(access, line, tries).end.answer
     }
@@ -53,7 +54,8 @@ impl Bus {
         requires { (A.passes access.old).terms.profile ≡ self.old.profile }
         ensures same { IsSameBus self.old self.new }
         ensures goes_on { GoesOnWith (A.passes access.old) (A.passes access.new) self.old self.new
-            (λ terms seen added past after. RunsSteps terms line.now tries seen added past after result) }
+            (λ terms seen added past after.
+            RunsSteps terms line.now tries seen added past after result) }
     {
         let loading = self.load(access, tries);
         match refusal_of_round(&loading) {

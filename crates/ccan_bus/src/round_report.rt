@@ -20,7 +20,8 @@ pub struct RoundReport {
 impl RoundReport {
     /// A round whose load was refused.
     pub(crate) fn of_refused_load(loading: LoadAnswer, answer: RoundAnswer) -> RoundReport
-        ensures { result ≡ record { loading = loading; decision = None; end = refused_start answer } }
+        ensures { result
+            ≡ record { loading = loading; decision = None; end = refused_start answer } }
     {
         RoundReport {
             loading,

@@ -1,5 +1,5 @@
--- Three ports of a chip that meet, two at a time: IF1 meets IF2 and then the bus, and IF2 meets IF1 again. Two that meet have then
--- seen one and the same, so at the end each has seen what any of the three had.
+-- Three ports of a chip that meet, two at a time: IF1 meets IF2 and then the bus, and IF2 meets IF1 again. Two that meet have
+-- then seen one and the same, so at the end each has seen what any of the three had.
 use Rattle.std.proofs.Common.{◌≡◌, List, ◌++◌, sym, ap, subst, ◌∙◌, arith}
 use Rattle.ccan_ram.specs.declared.event.Event.{Event}
 use Rattle.ccan_ram.specs.declared.port.PortName.{PortName}
@@ -51,7 +51,8 @@ own_as p q newer older same own = subst (λ (r : PortName). own_of r newer ≡ o
 begins_other : (b new_a new_b : ChipPass) → AddsNone b new_b → new_b.whole ≡ new_a.whole → GoesFrom new_a.whole b.whole
 begins_other b new_a new_b none one = (none.part.0, sym one ∙ none.part.1)
 
-module _ (a b d a1 b1 a2 d2 b3 a3 : ChipPass) (second_is : a.pass.memory ≡ b.pass.memory) (third_is : a.pass.memory ≡ d.pass.memory)
+module _ (a b d a1 b1 a2 d2 b3 a3 : ChipPass) (second_is : a.pass.memory ≡ b.pass.memory)
+    (third_is : a.pass.memory ≡ d.pass.memory)
     (first : Meets a.pass b.pass a1.pass b1.pass) (second : Meets a1.pass d.pass a2.pass d2.pass)
     (third : Meets b1.pass a2.pass b3.pass a3.pass) (first_chip : ChipMeets a b a1 b1) (second_chip : ChipMeets a1 d a2 d2)
     (third_chip : ChipMeets b1 a2 b3 a3) where

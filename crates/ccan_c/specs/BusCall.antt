@@ -91,7 +91,8 @@ MakesChange terms z tries seen added result =
 abbrev pub SetsLoopBack : Terms → ℕ → ChipHistory → ChipHistory → ℕ → Type 0
 SetsLoopBack terms tries seen added result =
     (((result ≡ busy) × MakesChange terms (testing true) tries seen added busy)
-    ⊎ Then (λ s a. MakesChange terms (testing true) tries s a done) (λ s a. MakesChange terms looping tries s a result) seen added)
+    ⊎ Then (λ s a. MakesChange terms (testing true) tries s a done)
+    (λ s a. MakesChange terms looping tries s a result) seen added)
 
 -- loop back mode is set, or test mode is left
 abbrev pub LoopsBack : Terms → ℕ → Bool → ChipHistory → ChipHistory → ℕ → Type 0
@@ -112,7 +113,8 @@ TellsState (Err lost) result out = result ≡ busy
 -- the error counters of the controller, by one look at it; those of another node, which the bus has
 abbrev pub CountsController : Terms → ChipHistory → ChipHistory → ℕ → ShownCounters → Type 0
 CountsController terms seen added result out =
-    (found : Controller) × AtController terms.port Look found seen added × (result ≡ done) × (out ≡ c_counters found.counters.levels)
+    (found : Controller) × AtController terms.port Look found seen added × (result ≡ done)
+    × (out ≡ c_counters found.counters.levels)
 
 abbrev pub CountsNode : ℕ → BusPast → ChipHistory → BusPast → ℕ → ShownCounters → Type 0
 CountsNode node past added after result out =

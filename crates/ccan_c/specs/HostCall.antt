@@ -114,7 +114,8 @@ Peeks terms object own seen added result out left =
 -- looks until the flag is shown
 abbrev pub Waits : Terms → ℕ → Flag → ℕ → InterfaceSet → ChipHistory → ChipHistory → ℕ → ℕ → InterfaceSet → Type 0
 Waits terms object flag turns own seen added result out left =
-    (result ≡ done) × ((shown : Bool) × (out ≡ number_of shown) × WaitsFor terms object flag turns seen added shown) × (left ≡ own)
+    (result ≡ done) × ((shown : Bool) × (out ≡ number_of shown) × WaitsFor terms object flag turns seen added shown)
+    × (left ≡ own)
 
 -- the first of the numbers of a wait that is out of its range
 abbrev pub IsWaitRefused : Profile → ℕ → ℕ → ℕ → ℕ → Type 0

@@ -90,8 +90,8 @@ impl Held {
     /// Changes the controller.
     pub(crate) fn change(&mut self, change: &ControllerChange) -> Result<(), AccessError>
         requires { MayMake (pass_of self.old).port change.now }
-        ensures { Steps (λ terms seen added. Makes terms change.now self.old.tries seen added result)
-            self.old self.new }
+        ensures { Steps (λ terms seen added.
+            Makes terms change.now self.old.tries seen added result) self.old self.new }
     {
         write_controller(&self.ram, &mut self.port, change, self.tries)
     }

@@ -77,7 +77,8 @@ impl Held {
 
     /// Looks at an object until it shows a flag, and tells the first of the numbers that is out of its range.
     pub(crate) fn wait(&mut self, object: u32, flag: u32, turns: u32) -> Result<bool, u32>
-        ensures waits { IfOk result (λ shown. (known : Flag) × (numbers.flag_numbered flag ≡ Some known)
+        ensures waits { IfOk result (λ shown.
+            (known : Flag) × (numbers.flag_numbered flag ≡ Some known)
             × (is_object (pass_of self.old).memory.profile object ≡ true)
             × (is_from_one_to most_turns turns ≡ true)
             × Steps (λ terms seen added. WaitsFor terms object known turns seen added shown)

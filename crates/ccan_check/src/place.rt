@@ -43,7 +43,8 @@ fn last_line_length(bytes: &[u8]) -> usize
 impl Place {
     /// The place of the byte that has so many bytes before it, or of the end of the text.
     pub fn of(text: &[u8], offset: usize) -> Place
-        ensures { result ≡ record { line = line_of text.now offset; column = column_of text.now offset } }
+        ensures { result
+            ≡ record { line = line_of text.now offset; column = column_of text.now offset } }
     {
         let before = bytes_before(text, offset);
         Place {

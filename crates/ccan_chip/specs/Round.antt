@@ -79,7 +79,8 @@ own_in takes (Some decided) lec = if takes then own_of decided lec else None
 -- an object
 abbrev pub IsNoted : (BusEvent × StatusEvent) → ℕ → ChipPass → ChipPass → Result ControllerChanged ControllerBusy → Type 0
 IsNoted own tries old new (Ok made) =
-    AddsController old new (Make (Frame own.0 own.1)) made.before × (made.after ≡ controller_after (Frame own.0 own.1) made.before)
+    AddsController old new (Make (Frame own.0 own.1)) made.before
+    × (made.after ≡ controller_after (Frame own.0 own.1) made.before)
     × AddsNoEvent old new
 IsNoted own tries old new (Err busy) =
     AddsNone old new × HasChanges tries old.whole new.whole × (busy.tries ≡ tries) × AddsNoEvent old new

@@ -289,7 +289,8 @@ impl Controller {
     // After a read of the Status register that leaves these flags.
     #[inline(always)]
     fn read(self, status: StatusFlags) -> Controller
-        ensures { result ≡ record self { status = status; transfer_pending = false; level_pending = false } }
+        ensures { result
+            ≡ record self { status = status; transfer_pending = false; level_pending = false } }
     {
         Controller {
             status,

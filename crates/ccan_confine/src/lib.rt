@@ -33,10 +33,11 @@
 //! 1.2, "Status Register" and "CAN Control Register").
 //!
 //! [`Controller`] has all registers of a controller in one value, which packs into one word: Control, Status, the error
-//! counters, Bit Timing, BRP Extension and Test. A [`ControllerChange`] is what one step makes of it, of a host or of the message handler.
+//! counters, Bit Timing, BRP Extension and Test. A [`ControllerChange`] is what one step makes of it, of a host or of the
+//! message handler.
 //!
-//! Neither counters nor Status register store what happened. Their contracts do: whatever list of events led to a value, the value after a call is
-//! that of the list with one event more. [`laws`] says what follows over whole lists.
+//! Neither counters nor Status register store what happened. Their contracts do: whatever list of events led to a value, the
+//! value after a call is that of the list with one event more. [`laws`] says what follows over whole lists.
 #![tactic(auto)]
 
 pub mod bit_timing;

@@ -34,7 +34,8 @@ fn run_host<A: Access, G: Gate>(
     requires empty { log.old.items ≡ [] }
     requires room { length lines.now ≤ vec_capacity log.old }
     ensures runs { Goes (A.passes access.old) (A.passes access.new) (λ terms seen added.
-        Run (HostLineMeans terms tries) zero_registers (ran result lines.now) seen added log.new.items) }
+        Run (HostLineMeans terms tries) zero_registers (ran result lines.now)
+        seen added log.new.items) }
     ensures stopped { IfSome result (IsHeldAt (length lines.now) log.new.items) }
     ensures asked { Asks G.enters port log.new.items result gate.old gate.new }
 {
@@ -56,7 +57,8 @@ fn run_bus<A: Access, G: Gate>(
     requires empty { log.old.items ≡ [] }
     requires room { length lines.now ≤ vec_capacity log.old }
     ensures runs { Goes (A.passes access.old) (A.passes access.new) (λ terms seen added.
-        Run (BusLineMeans terms tries) (opened nodes) (ran result lines.now) seen added log.new.items) }
+        Run (BusLineMeans terms tries) (opened nodes) (ran result lines.now)
+        seen added log.new.items) }
     ensures stopped { IfSome result (IsHeldAt (length lines.now) log.new.items) }
     ensures asked { Asks G.enters PortName.Bus log.new.items result gate.old gate.new }
 {

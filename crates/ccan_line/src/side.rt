@@ -74,7 +74,8 @@ pub fn run_lines<S: Side, A: Access, G: Gate>(
     requires room { length lines.now ≤ vec_capacity log.old }
     ensures runs { Goes (A.passes access.old) (A.passes access.new) (λ terms seen added.
         GoesOn S.led_to side.old side.new (λ state left.
-        LinesMean (S.means terms tries) (ran result lines.now) state seen added log.new.items left)) }
+        LinesMean (S.means terms tries) (ran result lines.now)
+        state seen added log.new.items left)) }
     ensures stopped { IfSome result (IsHeldAt (length lines.now) log.new.items) }
     ensures asked { Asks G.enters port log.new.items result gate.old gate.new }
 {

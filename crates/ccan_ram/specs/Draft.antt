@@ -30,7 +30,8 @@ pub record IsDrawnAt (terms : Terms) (draft : Draft) (seen later earlier : List 
 -- the draft was made for this port
 abbrev pub IsDrawn : (ℕ → ℕ → Bool) → Draft → Pass → Type 0
 IsDrawn contends draft pass =
-    (later : List Event) × (earlier : List Event) × IsDrawnAt (terms_of contends pass.memory pass.port) draft pass.seen later earlier
+    (later : List Event) × (earlier : List Event)
+    × IsDrawnAt (terms_of contends pass.memory pass.port) draft pass.seen later earlier
 
 -- a change was made, of the draft's record and after all that was seen
 pub record CommitsDone (terms : Terms) (draft : Draft) (change : Change) (seen added : List Event) (before after : Record)
@@ -43,7 +44,8 @@ pub record CommitsDone (terms : Terms) (draft : Draft) (change : Change) (seen a
   pub numbered : number ≡ next_number terms.port seen
 
 -- the draft's record does not fit, and nothing is added
-pub record CommitsNotNow (terms : Terms) (draft : Draft) (change : Change) (seen added : List Event) (shown : Record) : Type 0 where
+pub record CommitsNotNow (terms : Terms) (draft : Draft) (change : Change) (seen added : List Event)
+    (shown : Record) : Type 0 where
   pub room : HasRoom terms seen
   pub unfit : fits change draft.held ≡ false
   pub found : shown ≡ draft.held

@@ -81,7 +81,8 @@ loads_on_chip old new tries past after found loading bus sees h =
     let look = at_controller old looked Look found h.looks h.quiet in
     let what : Terms → ChipHistory → List Event → List Event → Type 0 = λ t w s a.
     Loads t tries s a (as_found found (events_in w) past) after loading in
-    let b = objects_after looked new (what (terms_of same_object old.pass.memory Bus) looked.whole) h.rests h.added h.adds h.loads in
+    let b = objects_after looked new (what (terms_of same_object old.pass.memory Bus) looked.whole)
+    h.rests h.added h.adds h.loads in
     record {
       same =
           record {

@@ -53,7 +53,8 @@ pub record IsLost (port : PortName) (tries : ℕ) (seen added : ChipHistory) : T
   pub changes : HasChanges tries seen (added ++ seen)
 
 -- a change of the controller, in at most so many tries, as it ends
-abbrev pub Changes : PortName → ControllerChange → ℕ → ChipHistory → ChipHistory → Result ControllerChanged ControllerBusy → Type 0
+abbrev pub Changes : PortName → ControllerChange → ℕ → ChipHistory → ChipHistory → Result ControllerChanged ControllerBusy
+    → Type 0
 Changes port change tries seen added (Ok made) =
     AtController port (Make change) made.before seen added × (made.after ≡ controller_after change made.before)
 Changes port change tries seen added (Err busy) = IsLost port tries seen added

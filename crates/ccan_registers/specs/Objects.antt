@@ -38,4 +38,5 @@ ShowsObject terms object seen added found = OnObjects terms.port (λ s a. IsLook
 
 -- looks at an object until it shows a flag
 abbrev pub WaitsFor : Terms → ℕ → Flag → ℕ → ChipHistory → ChipHistory → Bool → Type 0
-WaitsFor terms object flag turns seen added shown = OnObjects terms.port (λ s a. Watches terms object flag turns a shown) seen added
+WaitsFor terms object flag turns seen added shown =
+    OnObjects terms.port (λ s a. Watches terms object flag turns a shown) seen added

@@ -51,7 +51,8 @@ abbrev pub is_own : PortName → Interface → Bool
 is_own port interface = same_port port (port_of interface)
 
 -- the register is of another port's interface, and nothing happens; the port's own registers are as they were
-pub record IsOthers {Value : Type 0} (own left : InterfaceSet) (added : ChipHistory) (told : Result Value AccessError) : Type 0 where
+pub record IsOthers {Value : Type 0} (own left : InterfaceSet) (added : ChipHistory)
+    (told : Result Value AccessError) : Type 0 where
   pub quiet : added ≡ []
   pub left_is : left ≡ own
   pub told_is : told ≡ Err OtherInterface
@@ -157,7 +158,8 @@ pub record WritesController (terms : Terms) (z : ControllerChange) (tries : ℕ)
   pub left_is : left ≡ own
 
 -- a register that can only be read
-pub record IsReadOnly (own : InterfaceSet) (added : ChipHistory) (told : Result (Unit {0}) AccessError) (left : InterfaceSet) : Type 0 where
+pub record IsReadOnly (own : InterfaceSet) (added : ChipHistory) (told : Result (Unit {0}) AccessError)
+    (left : InterfaceSet) : Type 0 where
   pub done : IsQuiet added told tt
   pub left_is : left ≡ own
 
@@ -241,7 +243,8 @@ pub record AreFlags (map : Map) (profile : Profile) (offset : ℕ) (flag : Flag)
   pub upper : IsAt map profile (offset + 2) (register.Flags flag high)
 
 -- two registers of a flag, of which a word is read: all their objects at one moment
-pub record ReadsFlags (terms : Terms) (map : Map) (offset : ℕ) (seen added : ChipHistory) (told : Option (Result ℕ AccessError)) : Type 0 where
+pub record ReadsFlags (terms : Terms) (map : Map) (offset : ℕ) (seen added : ChipHistory)
+    (told : Option (Result ℕ AccessError)) : Type 0 where
   pub flag : Flag
   pub low : FlagPart
   pub high : FlagPart

@@ -62,8 +62,8 @@ pub record RoundOnChip (terms : Terms) (line : RoundLine) (tries : ℕ) (past : 
 
 -- groups of recessive bits: the controller has them by one change, and every other node; or the change was given up, and no node
 -- has seen any
-abbrev pub RecoversOnChip : Terms → ℕ → ℕ → BusPast → ChipHistory → ChipHistory → BusPast → Result ControllerChanged ControllerBusy
-    → Type 0
+abbrev pub RecoversOnChip : Terms → ℕ → ℕ → BusPast → ChipHistory → ChipHistory → BusPast
+    → Result ControllerChanged ControllerBusy → Type 0
 RecoversOnChip terms groups tries past seen added after (Ok made) =
     Changes terms.port (Recessive groups) tries seen added (Ok made) × (after ≡ recovers groups past)
 RecoversOnChip terms groups tries past seen added after (Err busy) =

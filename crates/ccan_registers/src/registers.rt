@@ -103,7 +103,8 @@ pub fn interrupt_value(ram: &EndlessRam, holder: &mut PortHolder) -> (Controller
 #[inline(always)]
 pub fn line(ram: &EndlessRam, holder: &mut PortHolder) -> bool
     requires memory { (port_at holder.old).pass.memory ≡ ram.now.words }
-    ensures { ChipGoes (port_at holder.old) (port_at holder.new) (λ terms seen added. PullsLine terms seen added result) }
+    ensures { ChipGoes (port_at holder.old) (port_at holder.new) (λ terms seen added.
+        PullsLine terms seen added result) }
 {
     let (found, value) = interrupt_value(ram, holder);
     found.control.ie && value != 0

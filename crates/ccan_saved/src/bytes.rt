@@ -75,7 +75,8 @@ fn words_in(bytes: &[u8]) -> [u64; WORDS]
 
 /// Whether a text begins as a saved chip's does, and is as long.
 fn check_head(bytes: &[u8]) -> Result<(), FormatError>
-    ensures ok { OnOk result (HasHead bytes.now format_version × (length bytes.now ≡ format_length)) }
+    ensures ok { OnOk result
+        (HasHead bytes.now format_version × (length bytes.now ≡ format_length)) }
     ensures why { IfErr result (Tells bytes.now) }
     ensures only { HasHead bytes.now format_version → length bytes.now ≡ format_length
         → result ≡ Ok tt }

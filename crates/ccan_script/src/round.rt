@@ -42,7 +42,8 @@ fn read_frames(values: &[Value], nodes: u8) -> Result<Sends, LineFault>
     requires nodes { nodes ≤ most_nodes }
     requires few { length values.now ≤ most_frames }
     ensures reads { let frames = map view values.now in
-        ReadsLine (frames_fault nodes frames) (λ sends. sends.items ≡ map sending_of frames) result }
+        ReadsLine (frames_fault nodes frames)
+        (λ sends. sends.items ≡ map sending_of frames) result }
     ensures senders { IfOk result (λ sends.
         All (λ sending. (1 ≤ sending.0) × (sending.0 ≤ nodes)) sends.items) }
 {

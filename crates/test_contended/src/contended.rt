@@ -79,7 +79,8 @@ impl<'a> Access for Contended<'a> {
             (⟦<Contended<'a> as Access>⟧.passes self.new) object change.now tries result }
         ensures tells { Tells change.now tries result }
         ensures few { FewTries self.old.quota tries result }
-        ensures course { let theirs = host self.old.profile self.old.quota self.old.theirs.now self.old.made in
+        ensures course { let theirs = host self.old.profile self.old.quota
+            self.old.theirs.now self.old.made in
             AddsCourse (⟦<Contended<'a> as Access>⟧.passes self.old)
             (⟦<Contended<'a> as Access>⟧.passes self.new)
             theirs object change.now tries result self.new.made }
@@ -154,7 +155,8 @@ impl<'a> Contended<'a> {
             AddsOthers before (⟦<Contended<'a> as Access>⟧.passes self.new) }
         ensures told { IsTrue result
             ↔ HasNext (host self.old.profile self.old.quota self.old.theirs.now self.old.made) }
-        ensures acts { let theirs = host self.old.profile self.old.quota self.old.theirs.now self.old.made in
+        ensures acts { let theirs = host self.old.profile self.old.quota
+            self.old.theirs.now self.old.made in
             AddsNext (⟦<Contended<'a> as Access>⟧.passes self.old)
             (⟦<Contended<'a> as Access>⟧.passes self.new) theirs result }
         ensures list { self.new.theirs.now ≡ self.old.theirs.now }
@@ -174,7 +176,8 @@ impl<'a> Contended<'a> {
     fn next(&self) -> Option<Transfer>
         ensures known { IsSome result
             ↔ HasNext (host self.now.profile self.now.quota self.now.theirs.now self.now.made) }
-        ensures next { let theirs = host self.now.profile self.now.quota self.now.theirs.now self.now.made in
+        ensures next { let theirs = host self.now.profile self.now.quota
+            self.now.theirs.now self.now.made in
             IfSome result (IsNext theirs) }
     {
         let theirs = *self.theirs.get(self.made)?;

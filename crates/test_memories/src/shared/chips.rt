@@ -59,8 +59,8 @@ pub fn changed(
 /// How often a change is begun anew that lost each of its tries.
 const PATIENCE: u32 = 1000;
 
-/// A change of the controller that is begun anew where each of its tries was lost. Nothing says that one comes through where others
-/// change the controller all the time, and on a busy machine a thousand tries may be lost in a row.
+/// A change of the controller that is begun anew where each of its tries was lost. Nothing says that one comes through where
+/// others change the controller all the time, and on a busy machine a thousand tries may be lost in a row.
 fn insisted(
     ram: &EndlessRam,
     port: &mut Port,

@@ -81,14 +81,20 @@ pub fn run_gated_by_callers<R: SharedRam + Sync, G: Gate + Send + Drop, T: Threa
     requires if1 { R.pass all.1 ≡ opened (R.memory all.0) PortName.If1 }
     requires if2 { R.pass all.2 ≡ opened (R.memory all.0) PortName.If2 }
     requires bus { R.pass all.3 ≡ opened (R.memory all.0) PortName.Bus }
-    requires if1_room { HasRoom (fields_of script.now) PortName.If1 logs.0.items (vec_capacity logs.0) }
-    requires if2_room { HasRoom (fields_of script.now) PortName.If2 logs.1.items (vec_capacity logs.1) }
-    requires bus_room { HasRoom (fields_of script.now) PortName.Bus logs.2.items (vec_capacity logs.2) }
+    requires if1_room { HasRoom (fields_of script.now) PortName.If1
+        logs.0.items (vec_capacity logs.0) }
+    requires if2_room { HasRoom (fields_of script.now) PortName.If2
+        logs.1.items (vec_capacity logs.1) }
+    requires bus_room { HasRoom (fields_of script.now) PortName.Bus
+        logs.2.items (vec_capacity logs.2) }
     ensures up_to { RunsUpTo R.contends (fields_of script.now)
         result.if1.0 result.if2.0 result.bus.0 result.outcome }
-    ensures if1 { Asks G.enters PortName.If1 result.outcome.if1.items result.if1.0 gates.0 result.if1.1 }
-    ensures if2 { Asks G.enters PortName.If2 result.outcome.if2.items result.if2.0 gates.1 result.if2.1 }
-    ensures bus { Asks G.enters PortName.Bus result.outcome.bus.items result.bus.0 gates.2 result.bus.1 }
+    ensures if1 { Asks G.enters PortName.If1 result.outcome.if1.items
+        result.if1.0 gates.0 result.if1.1 }
+    ensures if2 { Asks G.enters PortName.If2 result.outcome.if2.items
+        result.if2.0 gates.1 result.if2.1 }
+    ensures bus { Asks G.enters PortName.Bus result.outcome.bus.items
+        result.bus.0 gates.2 result.bus.1 }
 {
     let (ram, if1, if2, bus) = all;
     let (if1_gate, if2_gate, bus_gate) = gates;
@@ -174,9 +180,12 @@ pub fn run_by_callers<R: SharedRam + Sync, T: Threads + Sync>(
     requires if1 { R.pass all.1 ≡ opened (R.memory all.0) PortName.If1 }
     requires if2 { R.pass all.2 ≡ opened (R.memory all.0) PortName.If2 }
     requires bus { R.pass all.3 ≡ opened (R.memory all.0) PortName.Bus }
-    requires if1_room { HasRoom (fields_of script.now) PortName.If1 logs.0.items (vec_capacity logs.0) }
-    requires if2_room { HasRoom (fields_of script.now) PortName.If2 logs.1.items (vec_capacity logs.1) }
-    requires bus_room { HasRoom (fields_of script.now) PortName.Bus logs.2.items (vec_capacity logs.2) }
+    requires if1_room { HasRoom (fields_of script.now) PortName.If1
+        logs.0.items (vec_capacity logs.0) }
+    requires if2_room { HasRoom (fields_of script.now) PortName.If2
+        logs.1.items (vec_capacity logs.1) }
+    requires bus_room { HasRoom (fields_of script.now) PortName.Bus
+        logs.2.items (vec_capacity logs.2) }
     ensures { RunsAtOnce R.contends (fields_of script.now) result }
 {
     let gates = (FreeGate, FreeGate, FreeGate);

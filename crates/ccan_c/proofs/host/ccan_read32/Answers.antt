@@ -7,5 +7,6 @@ pub returns-clause-call : goal.returns-clause-call
 returns-clause-call c =
     let run = c.read_word-told in
     on_open _ _ _ _ _ c.as_mut.ensures.value
-    (host_looked (host_call.read32 c.args.offset c.read_word_out.result c.read_word_out.new.out) c.as_mut.result.now run.new.self _
-    run.ensures (λ seen added h. ((run.result, h, c.read_word_out.ensures.code, c.read_word_out.ensures.read), refl)))
+    (host_looked (host_call.read32 c.args.offset c.read_word_out.result c.read_word_out.new.out) c.as_mut.result.now
+    run.new.self _ run.ensures
+    (λ seen added h. ((run.result, h, c.read_word_out.ensures.code, c.read_word_out.ensures.read), refl)))

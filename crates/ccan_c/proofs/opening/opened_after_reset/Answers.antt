@@ -6,7 +6,8 @@ pub returns : goal.returns
 returns c =
     let opens = c.in-Ok.ensures in
     let settings = c.args.settings.now in
-    opens_as c.chip_of.result settings.profile after_reset (record { settings = settings; map = c.args.map; own = c.reset.result })
+    opens_as c.chip_of.result settings.profile after_reset
+    (record { settings = settings; map = c.args.map; own = c.reset.result })
     c.in-Ok.ram.words c.in-Ok.if1 c.in-Ok.if2 c.in-Ok.bus opens.memory c.reset.ensures
     (λ i. record { pass = opens.if1 i; whole = opens.chip.0 i }) (λ i. record { pass = opens.if2 i; whole = opens.chip.1 i })
     (λ i. record { pass = opens.bus i; whole = opens.chip.2 i }) c.chip_of.ensures

@@ -9,5 +9,6 @@ flags_shown-word-requires-clause-none c = none_yet c.in-Some.port c.sees_one_his
 pub returns : goal.returns
 returns c =
     from_place c.args.holder.now.port c.in-Some.port c.flags_shown-word.result.1 _ c.in-Some.ensures.value
-    (on_objects c.in-Some.port c.flags_shown-word.result.1 (λ terms s a. FlagsAtOnce terms c.args.flag s a c.flags_shown-word.result.0)
+    (on_objects c.in-Some.port c.flags_shown-word.result.1
+    (λ terms s a. FlagsAtOnce terms c.args.flag s a c.flags_shown-word.result.0)
     c.flags_shown-word.ensures.none c.flags_shown-word.ensures.goes)

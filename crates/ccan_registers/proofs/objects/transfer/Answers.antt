@@ -12,4 +12,5 @@ returns c =
     from_place c.args.holder.now.port c.in-Some.port c.transferred-answer.result.1 _ c.in-Some.ensures.value
     (on_objects c.in-Some.port c.transferred-answer.result.1
     (λ terms s a. HostLineMeans terms c.args.tries (objects.transfer c.args.request) c.args.registers.now s a
-    c.transferred-answer.result.0 c.transferred-answer.new.registers) c.transferred-answer.ensures.none c.transferred-answer.ensures.goes)
+    c.transferred-answer.result.0 c.transferred-answer.new.registers) c.transferred-answer.ensures.none
+    c.transferred-answer.ensures.goes)

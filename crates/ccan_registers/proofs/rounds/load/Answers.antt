@@ -14,5 +14,6 @@ returns-clause-goes c past led =
       there.1,
       from_place c.args.holder.now.port c.in-Some.port run.result.2 _ c.in-Some.ensures.value
           (loads_on_chip c.in-Some.port run.result.2 c.args.tries past there.0 run.result.0 run.result.1
-          (ap (λ (o : Option ChipPass). (port_in o).pass.port) c.in-Some.ensures.value ∙ c.requires.bus) run.ensures.sees there.2),
+          (ap (λ (o : Option ChipPass). (port_in o).pass.port) c.in-Some.ensures.value ∙ c.requires.bus)
+          run.ensures.sees there.2),
     )

@@ -24,6 +24,6 @@ returns c =
     let second : Terms → ChipHistory → ChipHistory → Type 0 = λ terms s a.
     ReadsAt terms c.args.tries c.args.map (c.args.offset + 2) c.args.own.now s a high in
     weaker (port_at c.args.holder.now) (port_at c.read_at-high.new.holder) _ _
-    (goes_then (port_at c.args.holder.now) (port_at c.read_at-low.new.holder) (port_at c.read_at-high.new.holder) first second c.read_at-low.ensures
-    c.read_at-high.ensures)
+    (goes_then (port_at c.args.holder.now) (port_at c.read_at-low.new.holder) (port_at c.read_at-high.new.holder)
+    first second c.read_at-low.ensures c.read_at-high.ensures)
     (λ seen added h. (low, on_false _ _ _ (sym c.is_refused.ensures ∙ c.if-is_refused.false) (high, h, c.joined-2.ensures)))

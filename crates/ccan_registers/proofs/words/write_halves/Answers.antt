@@ -24,8 +24,8 @@ returns-clause-goes c =
     let second : Terms → ChipHistory → ChipHistory → Type 0 = λ terms s a.
     WritesAt terms c.args.tries c.args.map c.args.offset (value % 2 ^ 16) between s a low c.write_at-low.new.own in
     weaker (port_at c.args.holder.now) (port_at c.write_at-low.new.holder) _ _
-    (goes_then (port_at c.args.holder.now) (port_at c.write_at-high.new.holder) (port_at c.write_at-low.new.holder) first second c.write_at-high.ensures.goes
-    c.write_at-low.ensures.goes)
+    (goes_then (port_at c.args.holder.now) (port_at c.write_at-high.new.holder) (port_at c.write_at-low.new.holder)
+    first second c.write_at-high.ensures.goes c.write_at-low.ensures.goes)
     (λ seen added h. (
       high,
       on_false _ _ _ (sym c.is_refused.ensures ∙ c.if-is_refused.false)

@@ -13,8 +13,8 @@ returns-in-Ok c =
     let old = c.args.self.now in
     let mid = c.change-2.new.self in
     let new = c.change-in-Ok.new.self in
-    let first = subst (λ (z : ControllerChange). Steps (λ terms seen added. Makes terms z old.tries seen added (Ok c.in-Ok.field-0))
-    old mid) c.testing-2.ensures c.in-Ok.ensures in
+    let first = subst (λ (z : ControllerChange). Steps (λ terms seen added. Makes terms z old.tries seen added
+    (Ok c.in-Ok.field-0)) old mid) c.testing-2.ensures c.in-Ok.ensures in
     let second = subst (λ (z : ControllerChange). Steps (λ terms seen added. Makes terms z mid.tries seen added
     c.change-in-Ok.result) mid new) c.looping.ensures c.change-in-Ok.ensures in
     subst (λ (on : Bool). Steps (λ terms seen added. LoopsBack terms old.tries on seen added

@@ -77,7 +77,8 @@ returns-clause-round c past led =
               let e = w.change_controller.ensures in
               let own : BusEvent × StatusEvent = (w.in-Some.event, w.in-Some.status) in
               let new = w.change_controller.new.port in
-              notes_some own w.event_tries.result most_tries between new _ w.change_controller.result _ _ w.event_tries.ensures w.in-Some.is w.port-is w.noted-is
+              notes_some own w.event_tries.result most_tries between new _ w.change_controller.result _ _
+              w.event_tries.ensures w.in-Some.is w.port-is w.noted-is
               (noted_of own w.event_tries.result between new w.change_controller.result e.made e.after e.busy e.lost
               e.objects)
         ];
