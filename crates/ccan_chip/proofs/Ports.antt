@@ -52,7 +52,7 @@ pub noted_of : (own : BusEvent × StatusEvent) (tries : ℕ) (old new : ChipPass
     → IfErr outcome (λ busy. (busy.tries ≡ tries) × HasChanges tries old.whole new.whole) → AddsNoEvent old new
     → IsNoted own tries old new outcome
 noted_of own tries old new (Ok made) adds after busy lost quiet = (adds, after, quiet)
-noted_of own tries old new (Err busy) adds after none lost quiet = (none.2, lost.1, lost.0, quiet)
+noted_of own tries old new (Err busy) adds after none lost quiet = (none.2, lost.1, lost.0, none.0, quiet)
 
 -- and the port goes on in one history then
 pub one_after : (own : BusEvent × StatusEvent) (old new : ChipPass) (outcome : Result ControllerChanged ControllerBusy)

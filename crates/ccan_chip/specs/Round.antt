@@ -26,7 +26,7 @@ use Rattle.ccan_bus.specs.RoundReport.{RunsSteps}
 use Rattle.ccan_endless.specs.declared.chip.ControllerStep.TheVariants.{Look, Make}
 use Rattle.ccan_endless.specs.declared.controller_changed.ControllerChanged.{ControllerChanged}
 use Rattle.ccan_endless.specs.declared.controller_changed.ControllerBusy.{ControllerBusy}
-use Rattle.ccan_endless.specs.Chip.{ChipHistory}
+use Rattle.ccan_endless.specs.Chip.{ChipHistory, controller_at}
 use Rattle.ccan_endless.specs.ChipLaws.{changes_in}
 use Rattle.ccan_endless.specs.ChipPort.{AddsController, AddsNoEvent, AddsNone, ChipPass, HasChanges}
 use Rattle.ccan_chip.specs.declared.chip_report.ChipReport.{ChipReport}
@@ -83,7 +83,8 @@ IsNoted own tries old new (Ok made) =
     × (made.after ≡ controller_after (Frame own.0 own.1) made.before)
     × AddsNoEvent old new
 IsNoted own tries old new (Err busy) =
-    AddsNone old new × HasChanges tries old.whole new.whole × (busy.tries ≡ tries) × AddsNoEvent old new
+    AddsNone old new × HasChanges tries old.whole new.whole × (busy.tries ≡ tries)
+    × (busy.controller ≡ controller_at new.whole) × AddsNoEvent old new
 
 -- the end of a round at the controller: its event, if it has one
 abbrev pub Notes : Option (BusEvent × StatusEvent) → ℕ → ChipPass → ChipPass → Option (Result ControllerChanged ControllerBusy)
@@ -123,3 +124,4 @@ pub record IsRecessiveLost (tries : ℕ) (old new : ChipPass) (busy : Controller
   pub lost : HasChanges tries old.whole new.whole
   pub quiet : AddsNoEvent old new
   pub all : busy.tries ≡ tries
+  pub found : busy.controller ≡ controller_at new.whole

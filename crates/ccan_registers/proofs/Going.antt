@@ -99,9 +99,10 @@ at_controller old new step before adds quiet = record {
 }
 
 -- a change that was given up
-pub lost : (old new : ChipPass) (tries : ℕ) → AddsNone old new → AddsNoEvent old new → HasChanges tries old.whole new.whole
-    → ChipGoes old new (λ terms seen added. IsLost terms.port tries seen added)
-lost old new tries none quiet changes = record {
+pub lost : (old new : ChipPass) (tries : ℕ) (busy : ControllerBusy) → AddsNone old new → AddsNoEvent old new
+    → (busy.tries ≡ tries) × HasChanges tries old.whole new.whole → busy.controller ≡ controller_at new.whole
+    → ChipGoes old new (λ terms seen added. IsLost terms.port tries busy seen added)
+lost old new tries busy none quiet changes found = record {
   same = none.same;
   each = λ s.
       let port = old.pass.port in
@@ -118,7 +119,9 @@ lost old new tries none quiet changes = record {
           quiet =
               no_events port more old.whole
               (ap (events_of port) (sym ram) ∙ (quiet.own ∙ ap (events_of port) none.from.ram));
-          changes = subst (HasChanges tries old.whole) is changes;
+          changes = subst (HasChanges tries old.whole) is changes.1;
+          tries_are = changes.0;
+          found = found ∙ ap controller_at is;
         },
       );
 }
@@ -141,7 +144,8 @@ pub changes_of : (old new : ChipPass) (change : ControllerChange) (tries : ℕ) 
     → ChipGoes old new (λ terms seen added. Changes terms.port change tries seen added outcome)
 changes_of old new change tries (Ok made) adds after busy none quiet =
     weaker old new _ _ (at_controller old new (Make change) made.before adds quiet) (λ seen added h. (h, after))
-changes_of old new change tries (Err busy) adds after none changes quiet = lost old new tries none.2 quiet changes.1
+changes_of old new change tries (Err busy) adds after none changes quiet =
+    lost old new tries busy none.2 quiet changes none.0
 
 pub same_terms : (old new : ChipPass) → IsSamePort old.pass new.pass → terms_at new ≡ terms_at old
 same_terms old new same = ap₂ (λ (m : Memory) (p : PortName). terms_of same_object m p) same.memory same.port

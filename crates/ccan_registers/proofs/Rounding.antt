@@ -66,7 +66,8 @@ notes_event old new tries None noted (none, is, quiet) = weaker old new _ _ (sti
 notes_event old new tries (Some own) None h = absurd h
 notes_event old new tries (Some own) (Some (Ok made)) (adds, after, quiet) =
     weaker old new _ _ (at_controller old new (Make (Frame own.0 own.1)) made.before adds quiet) (λ seen added h. (h, after))
-notes_event old new tries (Some own) (Some (Err busy)) (none, changes, all, quiet) = lost old new tries none quiet changes
+notes_event old new tries (Some own) (Some (Err busy)) (none, changes, all, found, quiet) =
+    lost old new tries busy none quiet (all, changes) found
 
 -- what the bus's port works under, by the name of the port
 by_name : (port : ChipPass) → port.pass.port ≡ Bus → terms_of same_object port.pass.memory Bus ≡ terms_at port
@@ -170,5 +171,5 @@ recovers_on_chip old new groups tries before after (Ok made) h lost_by past led 
 recovers_on_chip old new groups tries before after (Err busy) made (h, same) past led = (
   past,
   subst (λ (b : ChipBus). LedTo past b.bus) (sym same) led,
-  weaker old new _ _ (lost old new tries h.none h.quiet h.lost) (λ seen added g. (g, refl)),
+  weaker old new _ _ (lost old new tries busy h.none h.quiet (h.all, h.lost) h.found) (λ seen added g. (g, refl)),
 )

@@ -14,7 +14,7 @@ use Rattle.ccan_endless.specs.declared.chip.ControllerStep.{ControllerStep}
 use Rattle.ccan_endless.specs.declared.chip.ControllerStep.TheVariants.{Make}
 use Rattle.ccan_endless.specs.declared.controller_changed.ControllerBusy.{ControllerBusy}
 use Rattle.ccan_endless.specs.declared.controller_changed.ControllerChanged.{ControllerChanged}
-use Rattle.ccan_endless.specs.Chip.{ChipHistory, IsControllerStep, ram_of, step_at, steps_of}
+use Rattle.ccan_endless.specs.Chip.{ChipHistory, IsControllerStep, controller_at, ram_of, step_at, steps_of}
 use Rattle.ccan_endless.specs.ChipPort.{ChipPass, HasChanges, SeesOne}
 use Rattle.ccan_endless.specs.Layout.{same_object}
 
@@ -46,18 +46,21 @@ pub record AtController (port : PortName) (step : ControllerStep) (before : Cont
   pub quiet : events_of port (ram_of others) ≡ []
   pub stands : IsControllerStep (step_at port step before) (others ++ seen)
 
--- a change of the controller that was given up: so many changes of other ports came between, and the port made no step
-pub record IsLost (port : PortName) (tries : ℕ) (seen added : ChipHistory) : Type 0 where
+-- a change of the controller that was given up: so many changes of other ports came between, and the port made no step. Told are
+-- the tries, and the controller that was found last
+pub record IsLost (port : PortName) (tries : ℕ) (busy : ControllerBusy) (seen added : ChipHistory) : Type 0 where
   pub none : steps_of port added ≡ []
   pub quiet : events_of port (ram_of added) ≡ []
   pub changes : HasChanges tries seen (added ++ seen)
+  pub tries_are : busy.tries ≡ tries
+  pub found : busy.controller ≡ controller_at (added ++ seen)
 
 -- a change of the controller, in at most so many tries, as it ends
 abbrev pub Changes : PortName → ControllerChange → ℕ → ChipHistory → ChipHistory → Result ControllerChanged ControllerBusy
     → Type 0
 Changes port change tries seen added (Ok made) =
     AtController port (Make change) made.before seen added × (made.after ≡ controller_after change made.before)
-Changes port change tries seen added (Err busy) = IsLost port tries seen added
+Changes port change tries seen added (Err busy) = IsLost port tries busy seen added
 
 -- the one, and then the other
 pub record Then (first second : ChipHistory → ChipHistory → Type 0) (seen added : ChipHistory) : Type 0 where
