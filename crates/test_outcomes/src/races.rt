@@ -2,8 +2,9 @@
 //! that prints them.
 use ccan_object::ObjectNo;
 use ccan_outcomes::{
-    HistoryKind, all_outcomes, history_of, line_process_laws, machine_laws, place_laws,
-    process_laws, quiet_laws, same, seat_laws, way_to,
+    HistoryKind, Watch, all_outcomes, history_of, line_process_laws, machine_laws,
+    observed_history, observed_outcomes, place_laws, process_laws, quiet_laws, same, seat_laws,
+    way_to,
 };
 use ccan_run::read_input;
 use std::test::Fail;
@@ -54,6 +55,46 @@ fn answers_a_way_to_each_outcome(rt: HostRuntime) -> Result<(), Fail> {
         if let Some(last) = history.as_slice().last() {
             assert!(rt; last.kind == HistoryKind::Writes);
         }
+    }
+    Ok(())
+}
+
+#[test]
+fn tells_apart_what_is_looked_at(rt: HostRuntime) -> Result<(), Fail> {
+    // The two reads show what stood before the write, what it left, or one of each: three outcomes, whose objects are the same
+    // at the end. By the second read alone there are two, and by no answer one.
+    let write = r#"{"op":"transfer","request":"0001","set":{"cmask":"0082","dataa1":"1111"}}"#;
+    let read = r#"{"op":"transfer","request":"0001","set":{"cmask":"0002"}}"#;
+    let text = format!(in rt.alloc(); "{{\"if1\":[{write}],\"if2\":[{read},{read}]}}")?;
+    let script = read_input(rt.alloc(), &mut text.as_bytes())?;
+    let Some(all) = all_outcomes(rt.alloc(), &script, 1000)? else {
+        return Err(Fail::new("more states than that"));
+    };
+    assert_eq!(rt; all.listing.endings.len(), 3);
+    let nothing = Watch {
+        if1: Vec::new(rt.alloc()),
+        if2: Vec::new(rt.alloc()),
+        bus: Vec::new(rt.alloc()),
+    };
+    let Some(one) = observed_outcomes(rt.alloc(), &script, &nothing, 1000)? else {
+        return Err(Fail::new("more states than that"));
+    };
+    assert_eq!(rt; one.listing.endings.len(), 1);
+    assert!(rt; one.reached.states.len() < all.reached.states.len());
+    assert!(rt; observed_outcomes(rt.alloc(), &script, &nothing, 3)?.is_none());
+    let second = Watch {
+        if1: Vec::new(rt.alloc()),
+        if2: Vec::from_slice(rt.alloc(), &[false, true])?,
+        bus: Vec::new(rt.alloc()),
+    };
+    let Some(two) = observed_outcomes(rt.alloc(), &script, &second, 1000)? else {
+        return Err(Fail::new("more states than that"));
+    };
+    assert_eq!(rt; two.listing.endings.len(), 2);
+    for place in 0..2 {
+        let history = observed_history(rt.alloc(), &script, &second, &two, place)?;
+        // A look and the write, and a look for each read.
+        assert_eq!(rt; history.len(), 4);
     }
     Ok(())
 }
