@@ -3,7 +3,7 @@ use Rattle.std.specs.Prelude.{ℕ, ◌≡◌, ◌++◌, List, Bool, true, false,
 use Rattle.ccan_line.specs.Script.{ScriptFields}
 use Rattle.ccan_outcomes.specs.declared.ending.Ending.{Ending}
 use Rattle.ccan_lab.specs.declared.asked.Asked.{Asked}
-use Rattle.ccan_lab.specs.declared.asked.Asked.TheVariants.{Summary, All, Can, Never, Observed}
+use Rattle.ccan_lab.specs.declared.asked.Asked.TheVariants.{Summary, All, Can, Never, Observed, AllObserved}
 use Rattle.ccan_lab.specs.Observed.{IsObservedListing, names_in}
 use Rattle.ccan_lab.specs.Report.{IsListing, IsOutcomeText, different_lines, heading_text}
 use Rattle.ccan_lab.specs.Rows.{has_line, rows_of}
@@ -30,7 +30,16 @@ abbrev pub IsSearchText : ScriptFields → List Ending → ℕ → List ℕ → 
 IsSearchText script endings states begin None text = text ≡ none_text (length endings) begin
 IsSearchText script endings states begin (Some number) text = IsFoundText script endings states number text
 
--- the text answers what is asked
+-- what is asked is asked of the list of all outcomes
+abbrev pub IsOfAll : Asked → Type 0
+IsOfAll Summary = Unit {0}
+IsOfAll All = Unit {0}
+IsOfAll (Can begin) = Unit {0}
+IsOfAll (Never begin) = Unit {0}
+IsOfAll (AllObserved names) = Unit {0}
+IsOfAll (Observed names) = ⊥
+
+-- the text answers what is asked of the list of all outcomes
 abbrev pub Answers : ScriptFields → List Ending → ℕ → Asked → List ℕ → Type 0
 Answers script endings states Summary text = text ≡ summary_text endings states
 Answers script endings states All text = IsListing script endings states text
@@ -38,7 +47,8 @@ Answers script endings states (Can begin) text =
     IsSearchText script endings states begin.now (first_with begin.now endings) text
 Answers script endings states (Never begin) text =
     IsSearchText script endings states begin.now (first_with begin.now endings) text
-Answers script endings states (Observed names) text = IsObservedListing (names_in names.now) script endings states text
+Answers script endings states (AllObserved names) text = IsObservedListing (names_in names.now) script endings states text
+Answers script endings states (Observed names) text = ⊥
 
 -- what is asked for holds: a list is complete, an outcome has the line, or none has it
 abbrev pub is_so : Option ℕ → Bool
@@ -54,4 +64,5 @@ holds_of endings Summary = true
 holds_of endings All = true
 holds_of endings (Can begin) = is_so (first_with begin.now endings)
 holds_of endings (Never begin) = is_none_so (first_with begin.now endings)
+holds_of endings (AllObserved names) = true
 holds_of endings (Observed names) = true

@@ -7,6 +7,7 @@ pub mod Place
 pub mod Replay
 pub mod Report
 pub mod Rows
+pub mod Seen
 pub mod Summary
 pub mod Answer
 pub mod Question

@@ -45,8 +45,8 @@ abbrev pub observed_lines : List Bool → List (List ℕ) → List ℕ
 observed_lines marks rows = each (length rows) (observed_line marks rows)
 
 -- those of each outcome
-abbrev pub observed_texts : List (List ℕ) → ScriptFields → List Ending → List (List ℕ)
-observed_texts names script endings = map (λ ending. observed_lines (marks_of names script) (rows_of ending)) endings
+abbrev pub observed_texts : List Bool → List Ending → List (List ℕ)
+observed_texts marks endings = map (λ ending. observed_lines marks (rows_of ending)) endings
 
 -- ---- the list
 
@@ -67,25 +67,26 @@ observed_heading outcomes states apart =
     counted_text outcomes (codes "outcome") ++ (codes " in " ++ (counted_text states (codes "state") ++ (codes ", "
     ++ (decimal apart ++ codes " as observed\n"))))
 
--- nothing for an outcome that shows what one before it does, else the outcome with what is looked at
-abbrev pub IsFirstText : Bool → ScriptFields → List Ending → List ℕ → ℕ → List ℕ → Type 0
-IsFirstText true script endings lines number text = text ≡ []
-IsFirstText false script endings lines number text = IsOutcomeText script endings lines number text
+-- nothing for an outcome that shows what one before it does, else its text with what is looked at
+abbrev pub IsFirstText : (List ℕ → ℕ → List ℕ → Type 0) → Bool → List ℕ → ℕ → List ℕ → Type 0
+IsFirstText IsText true lines number text = text ≡ []
+IsFirstText IsText false lines number text = IsText lines number text
 
 -- the text is that of the outcomes before this number, in turn
-abbrev pub AreFirstTexts : ScriptFields → List Ending → List (List ℕ) → ℕ → List ℕ → Type 0
-AreFirstTexts script endings texts zero text = text ≡ []
-AreFirstTexts script endings texts (suc number) text =
-    (before : List ℕ) × (last : List ℕ) × (text ≡ before ++ last) × AreFirstTexts script endings texts number before
-    × IsFirstText (is_repeat texts number) script endings (text_at texts number) number last
+abbrev pub AreFirstTexts : (List ℕ → ℕ → List ℕ → Type 0) → List (List ℕ) → ℕ → List ℕ → Type 0
+AreFirstTexts IsText texts zero text = text ≡ []
+AreFirstTexts IsText texts (suc number) text =
+    (before : List ℕ) × (last : List ℕ) × (text ≡ before ++ last) × AreFirstTexts IsText texts number before
+    × IsFirstText IsText (is_repeat texts number) (text_at texts number) number last
 
 -- the first line, and of each kind of outcome that can be told apart the first, with a history
 pub record IsObservedListing (names : List (List ℕ)) (script : ScriptFields) (endings : List Ending) (states : ℕ)
     (text : List ℕ)
     : Type 0 where
   pub outcomes : List ℕ
-  pub are : AreFirstTexts script endings (observed_texts names script endings) (length endings) outcomes
-  pub text_is : text ≡ observed_heading (length endings) states (first_count (observed_texts names script endings)
+  pub are : AreFirstTexts (IsOutcomeText script endings) (observed_texts (marks_of names script) endings) (length endings)
+      outcomes
+  pub text_is : text ≡ observed_heading (length endings) states (first_count (observed_texts (marks_of names script) endings)
       (length endings)) ++ outcomes
 
 -- ---- names of nothing

@@ -3,7 +3,7 @@ use Rattle.std.specs.Prelude.{ℕ, ◌≡◌, List, Option, Some, None, map, not
 use Rattle.ccan_line.specs.Script.{ScriptFields}
 use Rattle.ccan_lab.specs.Observed.{is_known, names_in}
 use Rattle.ccan_lab.specs.declared.asked.Asked.{Asked}
-use Rattle.ccan_lab.specs.declared.asked.Asked.TheVariants.{Summary, All, Can, Never, Observed}
+use Rattle.ccan_lab.specs.declared.asked.Asked.TheVariants.{Summary, All, Can, Never, Observed, AllObserved}
 
 -- it is asked whether an outcome can have this line
 abbrev pub IsCan : List ℕ → Asked → Type 0
@@ -12,6 +12,7 @@ IsCan line Summary = ⊥
 IsCan line All = ⊥
 IsCan line (Never begin) = ⊥
 IsCan line (Observed names) = ⊥
+IsCan line (AllObserved names) = ⊥
 
 -- it is asked whether no outcome has this line
 abbrev pub IsNever : List ℕ → Asked → Type 0
@@ -20,22 +21,43 @@ IsNever line Summary = ⊥
 IsNever line All = ⊥
 IsNever line (Can begin) = ⊥
 IsNever line (Observed names) = ⊥
+IsNever line (AllObserved names) = ⊥
 
--- it is asked what outcomes show in these places
+-- it is asked what of the outcomes can be told apart in these places
 abbrev pub IsObserving : List ℕ → Asked → Type 0
 IsObserving list (Observed names) = names.now ≡ list
 IsObserving list Summary = ⊥
 IsObserving list All = ⊥
 IsObserving list (Can begin) = ⊥
 IsObserving list (Never begin) = ⊥
+IsObserving list (AllObserved names) = ⊥
 
--- each name of what is to be looked at is that of lines or objects of the script
+-- the same is asked of the list of all outcomes
+abbrev pub IsObservingAll : List ℕ → Asked → Type 0
+IsObservingAll list (AllObserved names) = names.now ≡ list
+IsObservingAll list Summary = ⊥
+IsObservingAll list All = ⊥
+IsObservingAll list (Can begin) = ⊥
+IsObservingAll list (Never begin) = ⊥
+IsObservingAll list (Observed names) = ⊥
+
+-- each name in a list is that of lines or objects of the script
+abbrev pub AreKnownNames : ScriptFields → List ℕ → Type 0
+AreKnownNames script list = position not (map (is_known script) (names_in list)) ≡ None
+
+-- so is each name of what is to be looked at
 abbrev pub AreKnown : ScriptFields → Asked → Type 0
-AreKnown script (Observed names) = position not (map (is_known script) (names_in names.now)) ≡ None
+AreKnown script (Observed names) = AreKnownNames script names.now
+AreKnown script (AllObserved names) = AreKnownNames script names.now
 AreKnown script Summary = Unit {0}
 AreKnown script All = Unit {0}
 AreKnown script (Can begin) = Unit {0}
 AreKnown script (Never begin) = Unit {0}
+
+-- what is asked with --all, by the names of --observe
+abbrev pub AsksAllBy : Option (List ℕ) → Asked → Type 0
+AsksAllBy (Some names) asked = IsObservingAll names asked
+AsksAllBy None asked = asked ≡ All
 
 -- what is asked without --all, by the line of --can, that of --never, and the names of --observe
 abbrev pub AsksBy : Option (List ℕ) → Option (List ℕ) → Option (List ℕ) → Asked → Type 0

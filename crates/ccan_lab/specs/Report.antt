@@ -85,14 +85,19 @@ abbrev pub outcome_text : List ℕ → ℕ → List HistoryStep → Option (List
 outcome_text lines number steps order =
     codes "outcome " ++ (decimal (number + 1) ++ (codes "\n" ++ (lines ++ (history_text steps ++ order_text order))))
 
--- the text is that of the outcome of this number, with these lines, with a history of it, and with no order, or one in which
--- whole lines give it
+-- the text is that of the outcome in this place, under this number and with these lines, with a history of it, and with no order,
+-- or one that leads to it
+abbrev pub IsTextWith : (Ending → List HistoryStep → Type 0) → (Ending → List PortName → Type 0) → List Ending → ℕ → List ℕ → ℕ
+    → List ℕ → Type 0
+IsTextWith IsHistory LeadsTo endings place lines number text =
+    (steps : List HistoryStep) × (order : Option (List PortName))
+    × ((ending : Ending) → slice_get endings place ≡ Some ending → IsHistory ending steps × IfSome order (LeadsTo ending))
+    × (text ≡ outcome_text lines number steps order)
+
+-- the text is that of the outcome of this number, and an order is one in which whole lines give it
 abbrev pub IsOutcomeText : ScriptFields → List Ending → List ℕ → ℕ → List ℕ → Type 0
 IsOutcomeText script endings lines number text =
-    (steps : List HistoryStep) × (order : Option (List PortName))
-    × ((ending : Ending) → slice_get endings number ≡ Some ending
-    → IsHistoryOf script ending steps × IfSome order (Replays script ending))
-    × (text ≡ outcome_text lines number steps order)
+    IsTextWith (IsHistoryOf script) (Replays script) endings number lines number text
 
 -- the text is that of the outcomes before this number, in turn
 abbrev pub AreOutcomeTexts : ScriptFields → List Ending → ℕ → List ℕ → Type 0

@@ -1,7 +1,7 @@
 ghost use Rattle.std.specs.Prelude.{◌≡◌, ◌++◌, IfOk, OnOk, length, map, position, string_bytes};
 ghost use Rattle.ccan_line.specs.Script.{fields_of};
 ghost use Rattle.ccan_outcomes.specs.Outcomes.{AreFound};
-ghost use Rattle.ccan_lab.specs.Answer.{Answers, IsSearchText, first_with, holds_of, none_text};
+ghost use Rattle.ccan_lab.specs.Answer.{Answers, IsOfAll, IsSearchText, first_with, holds_of, none_text};
 ghost use Rattle.ccan_lab.specs.Rows.{has_line, rows_of};
 
 use crate::asked::Asked;
@@ -70,14 +70,15 @@ fn search_text(
     Ok(text)
 }
 
-/// What is answered to a question about the outcomes of a script.
+/// What is answered to a question about the list of all outcomes of a script.
 pub fn answer_of(
     alloc: Global,
     script: &Script,
     outcomes: &Outcomes,
     asked: Asked<'_>,
 ) -> Result<Answer, AllocError>
-    requires { AreFound (fields_of script.now) outcomes.now }
+    requires found { AreFound (fields_of script.now) outcomes.now }
+    requires of_all { IsOfAll asked.entry }
     ensures text { IfOk result (λ answer. Answers (fields_of script.now)
         outcomes.now.listing.endings.keys (length outcomes.now.reached.states.keys) asked.entry
         (string_bytes answer.text)) }
@@ -109,9 +110,10 @@ pub fn answer_of(
                 holds: found.is_none(),
             })
         }
-        Asked::Observed(names) => Ok(Answer {
+        Asked::AllObserved(names) => Ok(Answer {
             text: observed_listing(alloc, script, outcomes, all, names)?,
             holds: true,
         }),
+        Asked::Observed(_) => unreachable!(),
     }
 }

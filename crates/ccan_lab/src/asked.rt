@@ -9,6 +9,8 @@ pub enum Asked<'a> {
     Can(&'a str),
     /// Whether no outcome has a line that begins so.
     Never(&'a str),
-    /// The outcomes that can be told apart by the lines and objects of these names, which have commas between them.
+    /// What of the outcomes can be told apart by the lines and objects of these names, which have commas between them.
     Observed(&'a str),
+    /// The same, of the list of all outcomes: each with its number there.
+    AllObserved(&'a str),
 }

@@ -34,6 +34,7 @@ pub mod question;
 pub mod replay;
 pub mod report;
 pub mod rows;
+pub mod seen;
 pub mod summary;
 pub mod wording;
 

@@ -6,7 +6,8 @@ ghost use Rattle.std.specs.Str.{bytes_eq};
 ghost use Rattle.ccan_line.specs.Script.{fields_of};
 ghost use Rattle.ccan_outcomes.specs.Outcomes.{AreFound};
 ghost use Rattle.ccan_lab.specs.Observed.{AreFirstTexts, IsFirstText, IsObservedListing, first_count, is_kind, is_known};
-ghost use Rattle.ccan_lab.specs.Observed.{is_observed, is_place, is_repeat, names_in, text_at};
+ghost use Rattle.ccan_lab.specs.Report.{IsOutcomeText};
+ghost use Rattle.ccan_lab.specs.Observed.{is_observed, is_place, is_repeat, marks_of, names_in, text_at};
 ghost use Rattle.ccan_lab.specs.Observed.{observed_heading, observed_line, observed_lines, places_of};
 ghost use Rattle.ccan_lab.specs.Rows.{rows_of};
 
@@ -89,6 +90,20 @@ fn marks_up_to(
     Ok(marks)
 }
 
+/// For each place of a script whether the names in a list with commas between them have it looked at.
+pub fn marks_of(alloc: Global, script: &Script, list: &str) -> Result<Vec<bool>, AllocError>
+    ensures { IfOk result (λ marks. marks.items
+        ≡ marks_of (names_in list.now) (fields_of script.now)) }
+{
+    let names = names_in(alloc, list)?;
+    marks_up_to(
+        alloc,
+        names.as_slice(),
+        &counts_of(script),
+        places_of(script),
+    )
+}
+
 /// Adds the line in a place, where it is looked at.
 #[tactic(auto, unfolding(crate::specs::Observed::observed_line))]
 fn add_observed_line(
@@ -128,7 +143,11 @@ fn observed_lines(alloc: Global, marks: &[bool], rows: &Rows) -> Result<String, 
 }
 
 /// The lines of each outcome that are looked at.
-fn observed_texts(alloc: Global, marks: &[bool], all: &[Rows]) -> Result<Vec<String>, AllocError>
+pub fn observed_texts(
+    alloc: Global,
+    marks: &[bool],
+    all: &[Rows],
+) -> Result<Vec<String>, AllocError>
     ensures { IfOk result (λ texts. map string_bytes texts.items
         ≡ map (observed_lines marks.now) all.now) }
 {
@@ -147,7 +166,7 @@ fn is_among(texts: &[String], shown: &str) -> bool
 }
 
 /// Whether an outcome before that of this number shows the same.
-fn is_repeat(texts: &[String], number: usize) -> bool
+pub fn is_repeat(texts: &[String], number: usize) -> bool
     requires { number < length texts.now }
     ensures { result ≡ is_repeat (map string_bytes texts.now) number }
 {
@@ -170,9 +189,9 @@ fn add_if_first(
         ≡ not (is_repeat (map string_bytes texts.now) number)) }
     ensures text { OnOk result ((added : List ℕ)
         × (string_bytes text.new ≡ string_bytes text.old ++ added)
-        × IsFirstText (is_repeat (map string_bytes texts.now) number) (fields_of script.now)
-        outcomes.now.listing.endings.keys (text_at (map string_bytes texts.now) number) number
-        added) }
+        × IsFirstText (IsOutcomeText (fields_of script.now) outcomes.now.listing.endings.keys)
+        (is_repeat (map string_bytes texts.now) number)
+        (text_at (map string_bytes texts.now) number) number added) }
 {
     if is_repeat(texts, number) {
         return Ok(false);
@@ -202,7 +221,7 @@ fn add_firsts(
         ≡ first_count (map string_bytes texts.now) (length outcomes.now.listing.endings.keys)) }
     ensures text { OnOk result ((added : List ℕ)
         × (string_bytes text.new ≡ string_bytes text.old ++ added)
-        × AreFirstTexts (fields_of script.now) outcomes.now.listing.endings.keys
+        × AreFirstTexts (IsOutcomeText (fields_of script.now) outcomes.now.listing.endings.keys)
         (map string_bytes texts.now) (length outcomes.now.listing.endings.keys) added) }
 {
     let mut count = 0;
@@ -250,13 +269,7 @@ pub fn observed_listing(
         outcomes.now.listing.endings.keys (length outcomes.now.reached.states.keys)
         (string_bytes text)) }
 {
-    let names = names_in(alloc, list)?;
-    let marks = marks_up_to(
-        alloc,
-        names.as_slice(),
-        &counts_of(script),
-        places_of(script),
-    )?;
+    let marks = marks_of(alloc, script, list)?;
     let texts = observed_texts(alloc, marks.as_slice(), all)?;
     let mut firsts = String::new(alloc);
     let apart = add_firsts(alloc, &mut firsts, script, outcomes, texts.as_slice())?;

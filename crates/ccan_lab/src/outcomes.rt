@@ -3,13 +3,15 @@
 ghost use Rattle.std.specs.Prelude.{◌≡◌, IfOk, codes, option_map};
 ghost use Rattle.clap.specs.Words.{first_value, found_of, one_text};
 ghost use Rattle.ccan_line.specs.Script.{fields_of};
-ghost use Rattle.ccan_lab.specs.Question.{AreKnown, AsksBy};
+ghost use Rattle.ccan_lab.specs.Answer.{IsOfAll};
+ghost use Rattle.ccan_lab.specs.Question.{AreKnown, AreKnownNames, AsksAllBy, AsksBy};
 
-use crate::answer::answer_of;
+use crate::answer::{Answer, answer_of};
 use crate::asked::Asked;
 use crate::input::script_asked;
 use crate::lab_error::LabError;
 use crate::observed::first_unknown;
+use crate::seen::seen_text;
 use ccan_outcomes::all_outcomes;
 use ccan_script::Script;
 use clap::{Arg, ArgAction, ArgMatches, Command, value_parser};
@@ -50,8 +52,7 @@ fn all_flag<'a>(alloc: Global) -> Result<Arg<'a>, AllocError> {
         .action(ArgAction::SetTrue)
         .help("Show each outcome, with a history that leads to it")
         .conflicts_with("can")?
-        .conflicts_with("never")?
-        .conflicts_with("observe")
+        .conflicts_with("never")
 }
 
 /// The option that asks for the outcomes that can be told apart by some lines.
@@ -102,17 +103,27 @@ pub fn outcomes_command<'a>(alloc: Global) -> Result<Command<'a>, AllocError> {
         .arg(file)
 }
 
+/// What the words of that command ask of the whole list.
+fn all_asked<'a>(words: &ArgMatches<'a>) -> Asked<'a>
+    ensures { AsksAllBy (first_value (found_of words.entry.now) (codes "observe")) result }
+{
+    match words.get_str("observe") {
+        Some(names) => Asked::AllObserved(names),
+        None => Asked::All,
+    }
+}
+
 /// What the words of that command ask.
 fn asked_of<'a>(words: &ArgMatches<'a>) -> Asked<'a>
     ensures all { one_text (found_of words.entry.now) (codes "all") ≡ Some (codes "true")
-        → result ≡ Asked.All }
+        → AsksAllBy (first_value (found_of words.entry.now) (codes "observe")) result }
     ensures line { one_text (found_of words.entry.now) (codes "all") ≡ Some (codes "false")
         → AsksBy (first_value (found_of words.entry.now) (codes "can"))
         (first_value (found_of words.entry.now) (codes "never"))
         (first_value (found_of words.entry.now) (codes "observe")) result }
 {
     if words.get_flag("all") {
-        return Asked::All;
+        return all_asked(words);
     }
     if let Some(begin) = words.get_str("can") {
         return Asked::Can(begin);
@@ -131,7 +142,7 @@ pub fn outcomes_question<'a>(words: &ArgMatches<'a>) -> OutcomesQuestion<'a>
     ensures file { option_map (λ path. path.now) result.file
         ≡ first_value (found_of words.entry.now) (codes "file") }
     ensures all { one_text (found_of words.entry.now) (codes "all") ≡ Some (codes "true")
-        → result.asked ≡ Asked.All }
+        → AsksAllBy (first_value (found_of words.entry.now) (codes "observe")) result.asked }
     ensures line { one_text (found_of words.entry.now) (codes "all") ≡ Some (codes "false")
         → AsksBy (first_value (found_of words.entry.now) (codes "can"))
         (first_value (found_of words.entry.now) (codes "never"))
@@ -144,18 +155,54 @@ pub fn outcomes_question<'a>(words: &ArgMatches<'a>) -> OutcomesQuestion<'a>
     }
 }
 
-/// Refuses names to be observed that are those of no line and no object of the script.
+/// Refuses names of which one is that of no line and no object of the script.
 #[tactic(auto, using(crate::proofs::Apart::none_found))]
-fn refuse_unknown(alloc: Global, script: &Script, asked: Asked<'_>) -> Result<(), LabError>
-    ensures { IfOk result (λ done. AreKnown (fields_of script.now) asked.entry) }
+fn refuse_names(alloc: Global, script: &Script, names: &str) -> Result<(), LabError>
+    ensures { IfOk result (λ done. AreKnownNames (fields_of script.now) names.now) }
 {
-    let Asked::Observed(names) = asked else {
-        return Ok(());
-    };
     match first_unknown(alloc, script, names)? {
         Some(number) => Err(LabError::NoPlace(number)),
         None => Ok(()),
     }
+}
+
+/// Refuses names to be observed of which one is that of no line and no object of the script.
+fn refuse_unknown(alloc: Global, script: &Script, asked: Asked<'_>) -> Result<(), LabError>
+    ensures { IfOk result (λ done. AreKnown (fields_of script.now) asked.entry) }
+{
+    match asked {
+        Asked::Observed(names) | Asked::AllObserved(names) => refuse_names(alloc, script, names),
+        _ => Ok(()),
+    }
+}
+
+/// What is answered to a question about the list of all outcomes of a script.
+fn answer_of_all(
+    alloc: Global,
+    script: &Script,
+    asked: Asked<'_>,
+    most: usize,
+) -> Result<Answer, LabError>
+    requires { IsOfAll asked.entry }
+{
+    let Some(outcomes) = all_outcomes(alloc, script, most)? else {
+        return Err(LabError::More(most));
+    };
+    Ok(answer_of(alloc, script, &outcomes, asked)?)
+}
+
+/// What is answered to the question what of the outcomes of a script can be told apart by the lines and objects of these
+/// names.
+fn answer_of_observed(
+    alloc: Global,
+    script: &Script,
+    names: &str,
+    most: usize,
+) -> Result<Answer, LabError> {
+    let Some(text) = seen_text(alloc, script, names, most)? else {
+        return Err(LabError::More(most));
+    };
+    Ok(Answer { text, holds: true })
 }
 
 /// Lists the outcomes of the script, prints what is answered, and says whether it is as asked.
@@ -165,10 +212,12 @@ pub fn answer_outcomes<T: AllocGlobal + Input + Files + Print>(
 ) -> Result<bool, LabError> {
     let script = script_asked(rt, question.file)?;
     refuse_unknown(rt.alloc(), &script, question.asked)?;
-    let Some(outcomes) = all_outcomes(rt.alloc(), &script, question.most)? else {
-        return Err(LabError::More(question.most));
+    let answer = match question.asked {
+        Asked::Observed(names) => {
+            answer_of_observed(rt.alloc(), &script, names, question.most)?
+        }
+        asked => answer_of_all(rt.alloc(), &script, asked, question.most)?,
     };
-    let answer = answer_of(rt.alloc(), &script, &outcomes, question.asked)?;
     match io::writer(rt).write_all(answer.text.as_bytes()) {
         Ok(()) => Ok(answer.holds),
         Err(_) => Err(LabError::Write),

@@ -142,7 +142,9 @@ fn add_order(text: &mut String, order: &Option<Vec<PortName>>) -> Result<(), All
 }
 
 /// Adds an outcome with this history: its head, these lines of it, the steps, and the order, if there is one.
-fn add_told_outcome(
+///
+/// The number is from 0.
+pub fn add_told_outcome(
     text: &mut String,
     lines: &str,
     number: usize,
