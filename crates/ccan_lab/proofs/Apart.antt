@@ -1,10 +1,8 @@
 -- Lists and counts that grow place by place, and outcome by outcome.
 use Rattle.std.proofs.Common.{◌≡◌, Option, Some, None, option_map, ◌+◌, ◌++◌, ℕ, List, [], ◌∷◌, Bool, true, false, map, filter, take, length, get_or, zero, suc, ◌<◌, refl, ap, sym, ◌∙◌, arith, ◌||◌, not, cond, append-nil, length-append, if◌then◌else◌, string_bytes, Global, String, Bor}
-use Rattle.ccan_line.specs.Script.{ScriptFields}
 use Rattle.ccan_outcomes.specs.declared.ending.Ending.{Ending}
-use Rattle.ccan_lab.specs.Observed.{IsFirstText, first_count, is_named, is_observed, is_place, is_repeat, marks_of, observed_lines, observed_texts, text_at}
+use Rattle.ccan_lab.specs.Observed.{IsFirstText, first_count, is_named, is_observed, is_place, is_repeat, observed_lines, observed_texts, text_at}
 use Rattle.ccan_lab.specs.Place.{place_name}
-use Rattle.ccan_lab.specs.Report.{IsOutcomeText}
 use Rattle.ccan_lab.specs.Rows.{rows_of}
 use Rattle.std.specs.List.{list_any, range_with_len}
 use Rattle.std.proofs.lemmas.List.Folds.{list_any-append}
@@ -53,9 +51,9 @@ unfolding first_count
 count_none texts = refl
 
 -- what the outcomes show, by their lines
-pub texts_by_rows : (list : List (List ℕ)) (script : ScriptFields) (endings : List Ending)
-    → map (observed_lines (marks_of list script)) (map rows_of endings) ≡ observed_texts list script endings
-texts_by_rows list script endings = map-map (observed_lines (marks_of list script)) rows_of endings
+pub texts_by_rows : (marks : List Bool) (endings : List Ending)
+    → map (observed_lines marks) (map rows_of endings) ≡ observed_texts marks endings
+texts_by_rows marks endings = map-map (observed_lines marks) rows_of endings
 
 -- the text in a place of a list of them
 pub text_in : (texts : List (String Global)) (number : ℕ) (d : String Global) → number < length texts
@@ -77,10 +75,10 @@ repeat_by texts number d within =
     (sym (text_in texts number d within))
 
 -- a first outcome's text
-pub first_text : (repeat : Bool) (script : ScriptFields) (endings : List Ending) (lines : List ℕ) (number : ℕ) (added : List ℕ)
-    → repeat ≡ false → IsOutcomeText script endings lines number added → IsFirstText repeat script endings lines number added
-first_text true script endings lines number added is text = absurd (false≢true (sym is))
-first_text false script endings lines number added is text = text
+pub first_text : (IsText : List ℕ → ℕ → List ℕ → Type 0) (repeat : Bool) (lines : List ℕ) (number : ℕ) (added : List ℕ)
+    → repeat ≡ false → IsText lines number added → IsFirstText IsText repeat lines number added
+first_text IsText true lines number added is text = absurd (false≢true (sym is))
+first_text IsText false lines number added is text = text
 
 turned : (b : Bool) (count : ℕ) → (if not b then count + 1 else count) ≡ (if b then count else count + 1)
 turned true count = refl

@@ -1,3 +1,4 @@
 pub mod Apart
 pub mod Differ
 pub mod Texts
+pub mod Told

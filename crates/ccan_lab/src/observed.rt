@@ -96,12 +96,13 @@ pub fn marks_of(alloc: Global, script: &Script, list: &str) -> Result<Vec<bool>,
         ≡ marks_of (names_in list.now) (fields_of script.now)) }
 {
     let names = names_in(alloc, list)?;
-    marks_up_to(
+    let marks = marks_up_to(
         alloc,
         names.as_slice(),
         &counts_of(script),
         places_of(script),
-    )
+    )?;
+    Ok(marks)
 }
 
 /// Adds the line in a place, where it is looked at.

@@ -134,6 +134,7 @@ fn ending_in(
 }
 
 /// Whether the lines, run whole one after another in this order, have the outcome.
+#[tactic(auto, using(crate::proofs::Told::replays_equal))]
 fn leads_to(
     alloc: Global,
     script: &Script,
@@ -150,6 +151,7 @@ fn leads_to(
 }
 
 /// Whether the lines, run whole one after another in this order, have an outcome of which this ending is kept.
+#[tactic(auto, using(crate::proofs::Told::replays_kept))]
 fn leads_to_kept(
     alloc: Global,
     script: &Script,

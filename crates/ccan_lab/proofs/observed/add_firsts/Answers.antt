@@ -1,6 +1,7 @@
 use Rattle.std.proofs.Common.{◌≡◌, ◌≤◌, ◌+◌, ◌++◌, ℕ, Bool, [], ap, ◌∙◌, if◌then◌else◌, map, string_bytes, sym, refl, le_refl, append-nil, add-one, subst, rules}
 use Rattle.ccan_line.specs.Script.{fields_of}
 use Rattle.ccan_lab.specs.Observed.{AreFirstTexts}
+use Rattle.ccan_lab.specs.Report.{IsOutcomeText}
 use Rattle.ccan_lab.proofs.Apart.{count_by, count_none}
 use Rattle.ccan_lab.proofs.Texts.{part_more}
 use Rattle.ccan_lab.proofs.observed.add_firsts.Goals as goal
@@ -36,7 +37,7 @@ loop-number-preserved c =
         so_far.0 ++ last,
         part_more (string_bytes c.loop-number.text) (string_bytes c.add_if_first.new.text) (string_bytes c.args.text.now)
             so_far.0 last so_far.1 c.in_ok-add_if_first.ensures.text.1,
-        subst (λ (n : ℕ). AreFirstTexts script keys texts n (so_far.0 ++ last)) (sym (add-one number))
+        subst (λ (n : ℕ). AreFirstTexts (IsOutcomeText script keys) texts n (so_far.0 ++ last)) (sym (add-one number))
             (so_far.0, last, refl, so_far.2, c.in_ok-add_if_first.ensures.text.2),
       ),
     )

@@ -21,4 +21,4 @@ returns-clause-text c =
     c.as_str.ensures.value ∙ ap string_bytes c.index-texts-number.is ∙ sym (text_in texts number shown within) in
     let told : IsOutcomeText script keys lines number added =
     subst (λ (l : List ℕ). IsOutcomeText script keys l number added) lines_are c.in_ok-add_outcome.ensures.2 in
-    (added, c.in_ok-add_outcome.ensures.1, first_text repeat script keys lines number added first told)
+    (added, c.in_ok-add_outcome.ensures.1, first_text (IsOutcomeText script keys) repeat lines number added first told)

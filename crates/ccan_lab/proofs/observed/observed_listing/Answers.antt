@@ -1,7 +1,7 @@
 use Rattle.std.proofs.Common.{◌≡◌, ◌++◌, ℕ, List, length, map, ap, ◌∙◌, subst, string_bytes, rules}
-use Rattle.std.specs.List.{range_with_len}
 use Rattle.ccan_line.specs.Script.{fields_of}
-use Rattle.ccan_lab.specs.Observed.{AreFirstTexts, first_count, is_observed, marks_of, names_in, observed_heading, observed_lines, observed_texts}
+use Rattle.ccan_lab.specs.Observed.{AreFirstTexts, first_count, marks_of, names_in, observed_heading, observed_lines, observed_texts}
+use Rattle.ccan_lab.specs.Report.{IsOutcomeText}
 use Rattle.ccan_lab.proofs.Apart.{texts_by_rows}
 use Rattle.ccan_lab.proofs.observed.observed_listing.Goals as goal
 
@@ -12,28 +12,16 @@ returns c =
     let names = names_in c.args.list.now in
     let count = length keys in
     let texts = map string_bytes c.in_ok-texts.texts.items in
-    let k = c.counts_of.result in
-    let p = c.places_of.result in
-    let if1 = length script.if1 in
-    let if2 = length script.if2 in
-    let bus = length script.bus in
-    let names_are : map (λ name. name.now) c.as_slice.result.now ≡ names =
-    ap (map (λ name. name.now)) c.as_slice.ensures.value ∙ c.in_ok-names.ensures in
-    let marks_are : c.in_ok-marks.marks.items ≡ marks_of names script =
-    c.in_ok-marks.ensures
-    ∙ ap (λ (all : List (List ℕ)). map (is_observed all k.if1 k.if2 k.bus) (range_with_len 0 p)) names_are
-    ∙ ap (λ (n : ℕ). map (is_observed names n k.if2 k.bus) (range_with_len 0 p)) c.counts_of.ensures.if1
-    ∙ ap (λ (n : ℕ). map (is_observed names if1 n k.bus) (range_with_len 0 p)) c.counts_of.ensures.if2
-    ∙ ap (λ (n : ℕ). map (is_observed names if1 if2 n) (range_with_len 0 p)) c.counts_of.ensures.bus
-    ∙ ap (λ (n : ℕ). map (is_observed names if1 if2 bus) (range_with_len 0 n)) c.places_of.ensures in
+    let is_text = IsOutcomeText script keys in
+    let marks_are : c.in_ok-marks.marks.items ≡ marks_of names script = c.in_ok-marks.ensures in
     let by_marks : texts ≡ map (observed_lines c.in_ok-marks.marks.items) c.args.all.now = search rules in
-    let texts_are : texts ≡ observed_texts names script keys =
+    let texts_are : texts ≡ observed_texts (marks_of names script) keys =
     by_marks ∙ ap (λ marks. map (observed_lines marks) c.args.all.now) marks_are
-    ∙ ap (map (observed_lines (marks_of names script))) c.requires.rows ∙ texts_by_rows names script keys in
+    ∙ ap (map (observed_lines (marks_of names script))) c.requires.rows ∙ texts_by_rows (marks_of names script) keys in
     let added = c.in_ok-apart.ensures.text.0 in
-    let sliced = ap (map string_bytes) c.as_slice-3.ensures.value in
-    let are : AreFirstTexts script keys texts count added =
-    subst (λ told. AreFirstTexts script keys told count added) sliced c.in_ok-apart.ensures.text.2 in
+    let sliced = ap (map string_bytes) c.as_slice-2.ensures.value in
+    let are : AreFirstTexts is_text texts count added =
+    subst (λ told. AreFirstTexts is_text told count added) sliced c.in_ok-apart.ensures.text.2 in
     let apart : c.in_ok-apart.apart ≡ first_count texts count =
     c.in_ok-apart.ensures.count ∙ ap (λ told. first_count told count) sliced in
     let firsts : c.as_str.result.now ≡ added = search rules in
@@ -46,7 +34,7 @@ returns c =
     ∙ ap (λ (n : ℕ). observed_heading count (length c.args.outcomes.now.reached.states.keys) n ++ added) apart in
     record {
       outcomes = added;
-      are = subst (λ told. AreFirstTexts script keys told count added) texts_are are;
+      are = subst (λ told. AreFirstTexts is_text told count added) texts_are are;
       text_is = subst (λ told. string_bytes c.push_str.new.self ≡ observed_heading count
           (length c.args.outcomes.now.reached.states.keys) (first_count told count) ++ added) texts_are text_is;
     }

@@ -1,22 +1,12 @@
-use Rattle.std.proofs.Common.{◌≡◌, ◌++◌, List, Option, None, Some, Vec, Global, IfSome, get_or, slice_get, ap, subst, refl, ◌∙◌, string_bytes}
+use Rattle.std.proofs.Common.{◌≡◌, ◌++◌, List, Some, IfSome, get_or, slice_get, ap, subst, refl, ◌∙◌, string_bytes}
 use Rattle.std.proofs.lemmas.Option.{get_or_from_slice_get}
-use Rattle.std.specs.Option.{option_map}
-use Rattle.ccan_ram.specs.declared.port.PortName.{PortName}
-use Rattle.ccan_line.specs.Script.{ScriptFields, fields_of}
+use Rattle.ccan_line.specs.Script.{fields_of}
 use Rattle.ccan_outcomes.specs.declared.ending.Ending.{Ending}
 use Rattle.ccan_outcomes.specs.declared.history_step.HistoryStep.{HistoryStep}
 use Rattle.ccan_lab.specs.Replay.{Replays}
 use Rattle.ccan_lab.specs.Report.{outcome_text}
+use Rattle.ccan_lab.proofs.Told.{names_in, names_lead}
 use Rattle.ccan_lab.proofs.report.add_outcome.Goals as goal
-
--- the names in an order that was found
-abbrev names_in : Option (Vec PortName Global) → Option (List PortName)
-names_in found = option_map (λ order. order.items) found
-
-replays : (script : ScriptFields) (ending : Ending) (found : Option (Vec PortName Global))
-    → IfSome found (λ order. Replays script ending order.items) → IfSome (names_in found) (Replays script ending)
-replays script ending None h = h
-replays script ending (Some order) h = h
 
 pub returns : goal.returns
 returns c =
@@ -27,7 +17,7 @@ returns c =
     let steps = c.in_ok-history.history.items in
     let order = names_in c.in_ok-order.order in
     let shown = c.index-as_slice-number.result in
-    let found : IfSome order (Replays script shown) = replays script shown c.in_ok-order.order c.in_ok-order.ensures in
+    let found : IfSome order (Replays script shown) = names_lead (Replays script shown) c.in_ok-order.order c.in_ok-order.ensures in
     let it_is : (ending : Ending) → slice_get keys number ≡ Some ending → shown ≡ ending =
     λ ending is. c.index-as_slice-number.is ∙ ap (λ (es : List Ending). get_or es number shown) c.as_slice.ensures.keys
     ∙ get_or_from_slice_get keys number ending shown is in

@@ -1,14 +1,13 @@
--- What the order leads to is what is shown of its run, and it is equal to the outcome where the program finds it so.
-use Rattle.std.proofs.Common.{◌≡◌, List, length, refl, sym, ◌∙◌}
+-- What the order leads to is what is shown of its run.
+use Rattle.std.proofs.Common.{◌≡◌, List, length, refl}
 use Rattle.ccan_ram.specs.declared.port.PortName.{PortName}
 use Rattle.ccan_ram.specs.declared.port.PortName.TheVariants.{If1, If2, Bus}
 use Rattle.ccan_line.specs.declared.script.Script.{Script}
 use Rattle.ccan_line.specs.Order.{times}
 use Rattle.ccan_line.specs.Script.{fields_of}
 use Rattle.ccan_explain.specs.Told.{IsOrderOf, answers_of}
-use Rattle.ccan_outcomes.specs.Equal.{same_ending}
 use Rattle.ccan_lab.specs.Replay.{ending_after}
-use Rattle.ccan_lab.proofs.replay.leads_to.Goals as goal
+use Rattle.ccan_lab.proofs.replay.ending_in.Goals as goal
 
 order_of : (script : Script) (order : List PortName) → times If1 order ≡ length script.if1.items
     → times If2 order ≡ length script.if2.items → times Bus order ≡ length script.bus.items → IsOrderOf (fields_of script) order
@@ -23,7 +22,6 @@ tell_in-requires c =
 
 pub returns : goal.returns
 returns c =
-    λ equal.
     let names = c.if-not-is_order.ensures in
     let script = fields_of c.args.script.now in
     let ran = c.in_ok-told.ensures.ran in
@@ -36,5 +34,5 @@ returns c =
       history = ran.history;
       answers = answers;
       runs = ran.runs;
-      ends = same_ending _ _ (sym c.eq.ensures ∙ equal) ∙ after;
+      ends = after;
     }

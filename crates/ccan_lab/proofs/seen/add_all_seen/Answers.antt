@@ -1,0 +1,44 @@
+use Rattle.std.proofs.Common.{◌≡◌, ◌≤◌, ◌+◌, ◌++◌, ℕ, Bool, [], ap, ◌∙◌, if◌then◌else◌, map, string_bytes, sym, refl, le_refl, append-nil, add-one, subst, rules}
+use Rattle.ccan_line.specs.Script.{fields_of}
+use Rattle.ccan_lab.specs.Observed.{AreFirstTexts}
+use Rattle.ccan_lab.specs.Seen.{IsSeenText}
+use Rattle.ccan_lab.proofs.Apart.{count_by, count_none}
+use Rattle.ccan_lab.proofs.Texts.{part_more}
+use Rattle.ccan_lab.proofs.seen.add_all_seen.Goals as goal
+use Rattle.ccan_lab.proofs.seen.add_all_seen.Goals.{then-branch, else-branch}
+
+pub loop-place-init : goal.loop-place-init
+loop-place-init c = (
+  le_refl 0,
+  sym (count_none (map string_bytes c.args.texts.now)),
+  ([], sym (append-nil (string_bytes c.args.text.now)), refl),
+)
+
+pub loop-place-preserved : goal.loop-place-preserved
+loop-place-preserved c =
+    let texts = map string_bytes c.args.texts.now in
+    let watch = c.args.watch.now in
+    let script = fields_of c.args.script.now in
+    let keys = c.args.outcomes.now.listing.endings.keys in
+    let place = c.loop-place.place in
+    let count = c.loop-place.count in
+    let first = c.in_ok-add_if_new.field-0 in
+    let so_far = c.loop-place.invariant.2 in
+    let last = c.in_ok-add_if_new.ensures.text.0 in
+    let counted : c.if-branch.count ≡ (if first then count + 1 else count) =
+    elim c.if-branch.branch [
+      | then-branch w ↦ w.count-is ∙ ap (λ (b : Bool). if b then count + 1 else count) (sym w.if-branch.true)
+      | else-branch w ↦ w.count-is ∙ ap (λ (b : Bool). if b then count + 1 else count) (sym w.if-branch.false)
+    ] in
+    let few_still : c.if-branch.count ≤ place + 1 =
+    elim c.if-branch.branch [ then-branch w ↦ search rules | else-branch w ↦ search rules ] in (
+      few_still,
+      counted ∙ count_by texts place count first c.loop-place.invariant.1 c.in_ok-add_if_new.ensures.first,
+      (
+        so_far.0 ++ last,
+        part_more (string_bytes c.loop-place.text) (string_bytes c.add_if_new.new.text) (string_bytes c.args.text.now)
+            so_far.0 last so_far.1 c.in_ok-add_if_new.ensures.text.1,
+        subst (λ (n : ℕ). AreFirstTexts (IsSeenText script watch keys texts) texts n (so_far.0 ++ last)) (sym (add-one place))
+            (so_far.0, last, refl, so_far.2, c.in_ok-add_if_new.ensures.text.2),
+      ),
+    )

@@ -1,0 +1,13 @@
+use Rattle.std.proofs.Common.{◌≡◌, ◌≤◌, ◌++◌, ℕ, List, map, string_bytes}
+use Rattle.ccan_line.specs.Script.{fields_of}
+use Rattle.ccan_lab.specs.Observed.{AreFirstTexts, first_count}
+use Rattle.ccan_lab.specs.Seen.{IsSeenText}
+use Rattle.ccan_lab.proofs.seen.add_all_seen.Given as goal
+
+-- the endings so far, and how many of them show what none before them does
+abbrev pub invariant-loop-place : goal.invariant-loop-place
+invariant-loop-place l =
+    (l.count ≤ l.place) × (l.count ≡ first_count (map string_bytes l.texts) l.place)
+    × ((added : List ℕ) × (string_bytes l.text ≡ string_bytes l.initial.text ++ added)
+    × AreFirstTexts (IsSeenText (fields_of l.script) l.watch l.outcomes.listing.endings.keys (map string_bytes l.texts))
+    (map string_bytes l.texts) l.place added)
