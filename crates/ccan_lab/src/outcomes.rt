@@ -213,9 +213,7 @@ pub fn answer_outcomes<T: AllocGlobal + Input + Files + Print>(
     let script = script_asked(rt, question.file)?;
     refuse_unknown(rt.alloc(), &script, question.asked)?;
     let answer = match question.asked {
-        Asked::Observed(names) => {
-            answer_of_observed(rt.alloc(), &script, names, question.most)?
-        }
+        Asked::Observed(names) => { answer_of_observed(rt.alloc(), &script, names, question.most)? }
         asked => answer_of_all(rt.alloc(), &script, asked, question.most)?,
     };
     match io::writer(rt).write_all(answer.text.as_bytes()) {

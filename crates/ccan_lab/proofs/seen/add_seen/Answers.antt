@@ -32,11 +32,10 @@ returns c =
       (
         steps,
         order,
-        (λ ending is.
-            (
-              c.in_ok-history.ensures ending is,
-              subst (λ (e : Ending). IfSome order (ReplaysSeen script watch e)) (it_is ending is) found,
-            )),
+        (λ ending is. (
+          c.in_ok-history.ensures ending is,
+          subst (λ (e : Ending). IfSome order (ReplaysSeen script watch e)) (it_is ending is) found,
+        )),
         refl,
       ),
     )
