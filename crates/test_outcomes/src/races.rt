@@ -2,7 +2,7 @@
 //! that prints them.
 use ccan_object::ObjectNo;
 use ccan_outcomes::{
-    HistoryKind, Watch, all_outcomes, history_of, line_process_laws, machine_laws,
+    HistoryKind, Watch, all_outcomes, history_of, kept_ending, line_process_laws, machine_laws,
     observed_history, observed_outcomes, place_laws, process_laws, quiet_laws, same, seat_laws,
     way_to,
 };
@@ -91,6 +91,16 @@ fn tells_apart_what_is_looked_at(rt: HostRuntime) -> Result<(), Fail> {
         return Err(Fail::new("more states than that"));
     };
     assert_eq!(rt; two.listing.endings.len(), 2);
+    for whole in all.listing.endings.as_slice() {
+        let kept = kept_ending(rt.alloc(), &second, whole)?;
+        assert!(rt;
+            two.listing
+                .endings
+                .as_slice()
+                .iter()
+                .any(|ending| *ending == kept)
+        );
+    }
     for place in 0..2 {
         let history = observed_history(rt.alloc(), &script, &second, &two, place)?;
         // A look and the write, and a look for each read.
