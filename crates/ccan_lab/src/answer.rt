@@ -78,7 +78,7 @@ pub fn answer_of(
     asked: Asked<'_>,
 ) -> Result<Answer, AllocError>
     requires found { AreFound (fields_of script.now) outcomes.now }
-    requires of_all { IsOfAll asked.entry }
+    requires of_all { IsOfAll asked }
     ensures text { IfOk result (λ answer. Answers (fields_of script.now)
         outcomes.now.listing.endings.keys (length outcomes.now.reached.states.keys) asked.entry
         (string_bytes answer.text)) }

@@ -183,7 +183,7 @@ fn answer_of_all(
     asked: Asked<'_>,
     most: usize,
 ) -> Result<Answer, LabError>
-    requires { IsOfAll asked.entry }
+    requires { IsOfAll asked }
 {
     let Some(outcomes) = all_outcomes(alloc, script, most)? else {
         return Err(LabError::More(most));
