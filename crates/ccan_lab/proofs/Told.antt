@@ -5,7 +5,8 @@ use Rattle.ccan_ram.specs.declared.port.PortName.{PortName}
 use Rattle.ccan_line.specs.Script.{ScriptFields}
 use Rattle.ccan_outcomes.specs.declared.ending.Ending.{Ending}
 use Rattle.ccan_outcomes.specs.declared.watch.Watch.{Watch}
-use Rattle.ccan_outcomes.specs.Equal.{ending_is, same_ending}
+use Rattle.ccan_outcomes.specs.contracts.ending.EndingPartialEq.TheImpl.{ghosts as ending_is}
+use Rattle.ccan_outcomes.specs.Equal.{same_ending}
 use Rattle.ccan_outcomes.specs.Watch.{kept_ending}
 use Rattle.ccan_lab.specs.Replay.{Replays, ReplaysSeen}
 

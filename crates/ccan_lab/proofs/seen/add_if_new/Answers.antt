@@ -21,8 +21,8 @@ returns-clause-text c =
     let first : repeat ≡ false = search rules in
     let shown = c.index-texts-place.result in
     let within : place < length texts = subst (λ count. place < count) (sym c.requires.as_many) c.requires.within in
-    let lines_are : c.as_str.result.now ≡ lines =
-    c.as_str.ensures.value ∙ ap string_bytes c.index-texts-place.is ∙ sym (text_in texts place shown within) in
+    let lines_are : c.as_str-lines.result.now ≡ lines =
+    c.as_str-lines.ensures.value ∙ ap string_bytes c.index-texts-place.is ∙ sym (text_in texts place shown within) in
     let is_text : List ℕ → ℕ → Type 0 =
     λ shown_lines number. IsTextWith (IsHistorySeen script watch) (ReplaysSeen script watch) keys place shown_lines number added in
     let told : IsSeenText script watch keys (map string_bytes texts) lines place added =
