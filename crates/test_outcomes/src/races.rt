@@ -101,7 +101,7 @@ fn tells_apart_what_is_looked_at(rt: HostRuntime) -> Result<(), Fail> {
                 .any(|ending| *ending == kept)
         );
     }
-    for place in 0..2 {
+    for place in 0..two.listing.endings.len() {
         let history = observed_history(rt.alloc(), &script, &second, &two, place)?;
         // A look and the write, and a look for each read.
         assert_eq!(rt; history.len(), 4);
