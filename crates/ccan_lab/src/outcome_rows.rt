@@ -10,7 +10,7 @@ use ccan_draw::wrapping::wrapped;
 use ccan_draw::{Column, Picture, Row};
 use ccan_object::{MOST_OBJECTS, ObjectNo};
 use ccan_outcomes::all_ports::AllPorts;
-use ccan_outcomes::{Ending, HistoryKind, HistoryStep, Outcomes, history_of, way_to};
+use ccan_outcomes::{Ending, HistoryKind, HistoryStep, Outcomes, history_of, states_along};
 use ccan_ram::{Flag, PortName};
 use ccan_script::{LineAnswer, Script, print_line};
 use std::alloc::{AllocError, Global};
@@ -186,24 +186,17 @@ fn flag_in(state: &AllPorts, object: ObjectNo, flag: Flag) -> bool {
     }
 }
 
-/// The state behind so many steps of a way.
-fn state_at<'a>(states: &'a [AllPorts], way: &[usize], steps: usize) -> Option<&'a AllPorts> {
-    let index = way.get(steps)?;
-    states.get(*index)
-}
-
-/// A flag of an object behind each row. A way has one state more than there are steps, the first before any.
+/// A flag of an object behind each row. There is one state more than there are steps, the first before any.
 fn column_of(
     alloc: Global,
     states: &[AllPorts],
-    way: &[usize],
     runs: &[Run],
     object: ObjectNo,
     flag: Flag,
 ) -> Result<Column, AllocError> {
     let mut shown = Vec::new(alloc);
     for run in runs {
-        let is = match state_at(states, way, run.end) {
+        let is = match states.get(run.end) {
             Some(state) => flag_in(state, object, flag),
             None => false,
         };
@@ -221,12 +214,11 @@ fn add_flags(
     alloc: Global,
     columns: &mut Vec<Column>,
     states: &[AllPorts],
-    way: &[usize],
     runs: &[Run],
     object: ObjectNo,
 ) -> Result<(), AllocError> {
     for flag in FLAGS {
-        columns.push(column_of(alloc, states, way, runs, object, flag)?)?;
+        columns.push(column_of(alloc, states, runs, object, flag)?)?;
     }
     Ok(())
 }
@@ -237,17 +229,12 @@ fn is_touched(runs: &[Run], object: ObjectNo) -> bool {
 }
 
 /// The flags of the objects that a history does more with than look.
-fn columns_of(
-    alloc: Global,
-    states: &[AllPorts],
-    way: &[usize],
-    runs: &[Run],
-) -> Result<Vec<Column>, AllocError> {
+fn columns_of(alloc: Global, states: &[AllPorts], runs: &[Run]) -> Result<Vec<Column>, AllocError> {
     let mut columns = Vec::new(alloc);
     for place in 0..MOST_OBJECTS {
         let object = ObjectNo::new(place as u8 + 1).unwrap();
         if is_touched(runs, object) {
-            add_flags(alloc, &mut columns, states, way, runs, object)?;
+            add_flags(alloc, &mut columns, states, runs, object)?;
         }
     }
     Ok(columns)
@@ -264,13 +251,11 @@ pub fn picture_of_outcome(
     requires found { AreFound (fields_of script.now) outcomes.now }
 {
     let steps = history_of(alloc, script, outcomes, place)?;
-    let way = way_to(alloc, script, outcomes, place)?;
-    let way: Vec<usize> = way.iter().copied().collect(alloc)?;
+    let states = states_along(alloc, script, steps.as_slice())?;
     let ending = &outcomes.listing.endings.as_slice()[place];
-    let states = outcomes.reached.states.as_slice();
     let runs = runs_of(alloc, steps.as_slice())?;
     Ok(Picture {
         rows: rows_of(alloc, runs.as_slice(), steps.as_slice(), ending)?,
-        columns: columns_of(alloc, states, way.as_slice(), runs.as_slice())?,
+        columns: columns_of(alloc, states.as_slice(), runs.as_slice())?,
     })
 }
