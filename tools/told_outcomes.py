@@ -1,6 +1,6 @@
-"""Scripts whose hosts and bus race, and what can come of each, worked by hand from the rules: how many states the ports come to
-(None where that was not worked out; 131 is what another program found, which was written for that in another language), how the
-lines begin that are looked at, and these lines of each outcome."""
+"""Scripts whose hosts and bus race, and what can come of each, worked by hand from the rules: how many states the search keeps
+(None where that was not worked out), how the lines begin that are looked at, and these lines of each outcome. Kept are the state in
+which the ports begin, those in which more than one step may come next, and those in which all lines have run."""
 
 
 def transfer(request, **registers):
@@ -26,15 +26,6 @@ def flags(word):
 def seen(flag, value):
     """The lines of IF1 that looks at IntPnd of object 2, and then asks for the interrupt value."""
     return [f"if1 until 02 intpnd {flag}", f"if1 interrupt {value}"]
-
-
-def thrice(arb2, data):
-    """Writes object 1 and reads it twice, the second time without clearing anything."""
-    return [
-        transfer("0001", cmask="00b7", arb2=arb2, ctrl="0082", dataa1=data),
-        transfer("0001", cmask="007f"),
-        transfer("0001", cmask="0073"),
-    ]
 
 
 TOLD = [
@@ -81,10 +72,11 @@ TOLD = [
         "if1",
         [seen("no", "0000"), seen("no", "0001"), seen("no", "0002"), seen("yes", "0001"), seen("yes", "0002")],
     ),
-    # 32 looks for something to send, then the decision: nothing is on the bus.
-    ({"bus": [{"op": "round"}]}, 34, "bus", [["bus idle"]]),
+    # 32 looks for something to send, then the decision: nothing is on the bus. One step comes after the other, so only the first
+    # state is kept and the last.
+    ({"bus": [{"op": "round"}]}, 2, "bus", [["bus idle"]]),
     # With a frame, 32 looks more for an object that takes it, and none does.
-    ({"nodes": 1, "bus": [{"op": "round", "send": [{"node": 1, "id": 291, "dlc": 0}]}]}, 66, "bus", [["bus received none"]]),
+    ({"nodes": 1, "bus": [{"op": "round", "send": [{"node": 1, "id": 291, "dlc": 0}]}]}, 2, "bus", [["bus received none"]]),
     # Lines without a look are run at once.
     (
         {"bus": [{"op": "status"}, {"op": "init"}, {"op": "counters", "node": 0}]},
@@ -92,6 +84,26 @@ TOLD = [
         "bus",
         [["bus status 0000", "bus init", "bus counters 0 0 0 active"]],
     ),
-    # How many states there are is what another program found.
-    ({"if1": thrice("a480", "0000"), "if2": thrice("a488", "8888")}, 131, None, []),
+    # IF2 looks and then writes; IF1 looks twice for the flag. Kept are the beginning, IF2 in its try before IF1's first look and before
+    # its second, and the two ends. IF2's look comes at once, since IF1 changes nothing, and so does what is left of one port where
+    # the other has done.
+    (
+        {"if1": [{"op": "until", "object": 1, "flag": "newdat", "turns": 2}], "if2": [transfer("0001", **NEW)]},
+        5,
+        "if1",
+        [["if1 until 01 newdat yes"], ["if1 until 01 newdat no"]],
+    ),
+    # Each host writes object 1 with one try. Kept are the beginning, one host or the other in its try, both in it, the two states in
+    # which one has written and the other's try is contended, and the three ends. Where one has written before the other looked, that
+    # one's look and write come at once.
+    (
+        {"tries": 1, "if1": [transfer("0001", cmask="0080")], "if2": [transfer("0001", cmask="0080")]},
+        9,
+        "if",
+        [
+            ["if1 write 01 00000000 00000000 0000 0000000000000000", "if2 write 01 00000000 00000000 0000 0000000000000000"],
+            ["if1 busy 01", "if2 write 01 00000000 00000000 0000 0000000000000000"],
+            ["if1 write 01 00000000 00000000 0000 0000000000000000", "if2 busy 01"],
+        ],
+    ),
 ]

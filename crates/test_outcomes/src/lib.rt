@@ -1,7 +1,10 @@
-//! Tests of the search over a machine's states, and of the outcomes of scripts. There is nothing here but tests and two small
+//! Tests of the search over a machine's states, and of the outcomes of scripts. There is nothing here but tests and some small
 //! machines.
 #![tactic(auto)]
 
+pub mod ladder;
+#[cfg(test)]
+mod ladders;
 #[cfg(test)]
 mod races;
 pub mod residues;

@@ -4,7 +4,7 @@ use ccan_object::ObjectNo;
 use ccan_outcomes::{
     HistoryKind, Watch, all_outcomes, history_of, kept_ending, line_process_laws, machine_laws,
     observed_history, observed_outcomes, place_laws, process_laws, quiet_laws, same, seat_laws,
-    way_to,
+    states_along,
 };
 use ccan_run::read_input;
 use std::test::Fail;
@@ -34,7 +34,7 @@ fn laws_hold() {
 }
 
 #[test]
-fn answers_a_way_to_each_outcome(rt: HostRuntime) -> Result<(), Fail> {
+fn answers_a_history_of_each_outcome(rt: HostRuntime) -> Result<(), Fail> {
     // A look and a change of each host lead to an end, so four steps after the start.
     let text =
         r#"{"if1":[{"op":"transfer","request":"0001","set":{"cmask":"0082","dataa1":"1111"}}],"if2":[{"op":"transfer","request":"0001","set":{"cmask":"0082","dataa1":"2222"}}]}"#;
@@ -43,11 +43,13 @@ fn answers_a_way_to_each_outcome(rt: HostRuntime) -> Result<(), Fail> {
         return Err(Fail::new("more states than that"));
     };
     for place in 0..outcomes.listing.endings.len() {
-        let way = way_to(rt.alloc(), &script, &outcomes, place)?;
-        assert_eq!(rt; way.len(), 5);
-        assert!(rt; way.iter().next() == Some(&0));
         let history = history_of(rt.alloc(), &script, &outcomes, place)?;
         assert_eq!(rt; history.len(), 4);
+        let states = states_along(rt.alloc(), &script, history.as_slice())?;
+        assert_eq!(rt; states.len(), 5);
+        assert_eq!(rt; states.as_slice()[0].used1, 0);
+        assert_eq!(rt; states.as_slice()[4].used1, 1);
+        assert_eq!(rt; states.as_slice()[4].used2, 1);
         for step in history.as_slice() {
             assert_eq!(rt; step.line, 1);
             assert!(rt; step.object == ObjectNo::new(1));

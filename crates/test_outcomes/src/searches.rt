@@ -6,7 +6,7 @@ use std::test::Fail;
 
 #[test]
 fn finds_all_states(rt: HostRuntime) -> Result<(), Fail> {
-    let found = reachable(&Residues, rt.alloc(), 1, 10)?;
+    let found = reachable(&Residues, rt.alloc(), 1, 0, 10)?;
     let Some(reached) = found else {
         return Err(Fail::new("more than ten states"));
     };
@@ -19,14 +19,14 @@ fn finds_all_states(rt: HostRuntime) -> Result<(), Fail> {
 
 #[test]
 fn finds_that_there_are_more(rt: HostRuntime) -> Result<(), Fail> {
-    let found = reachable(&Residues, rt.alloc(), 1, 9)?;
+    let found = reachable(&Residues, rt.alloc(), 1, 0, 9)?;
     assert!(rt; found.is_none());
     Ok(())
 }
 
 #[test]
 fn answers_a_shortest_way(rt: HostRuntime) -> Result<(), Fail> {
-    let found = reachable(&Residues, rt.alloc(), 1, 10)?;
+    let found = reachable(&Residues, rt.alloc(), 1, 0, 10)?;
     let Some(reached) = found else {
         return Err(Fail::new("more than ten states"));
     };
@@ -41,5 +41,14 @@ fn answers_a_shortest_way(rt: HostRuntime) -> Result<(), Fail> {
         }
     }
     assert_eq!(rt; digits.as_slice(), [1, 4, 8, 6, 9].as_slice());
+    Ok(())
+}
+
+#[test]
+fn passes_no_state_that_two_follow(rt: HostRuntime) -> Result<(), Fail> {
+    let Some(reached) = reachable(&Residues, rt.alloc(), 1, 9, 10)? else {
+        return Err(Fail::new("more than ten states"));
+    };
+    assert_eq!(rt; reached.states.len(), 10);
     Ok(())
 }

@@ -12,6 +12,9 @@ impl Machine for Till {
     /// The digit that it shows.
     type State = u64;
 
+    /// The digit that a coin leads to.
+    type Told = u64;
+
     /// The coins that it was fed, the newest first.
     ghost Abstract = { List ℕ };
 
@@ -21,11 +24,21 @@ impl Machine for Till {
 
     ghost follows = { λ _ from to. Contains ((from % 10 + 2) % 10 ∷ (from % 10 + 4) % 10 ∷ []) to };
 
+    ghost told = { λ _ from to. to };
+
     ghost to_follow = { λ _ _ coins more. (more ≡ 2 ∷ coins) ⊎ (more ≡ 4 ∷ coins) };
 
     fn next(&self, alloc: Global, from: &u64) -> Result<Vec<u64>, AllocError> {
         let digit = *from % 10;
         Ok(vec![in alloc; (digit + 2) % 10, (digit + 4) % 10]?)
+    }
+
+    fn tell(&self, _from: &u64, to: &u64) -> u64 {
+        *to
+    }
+
+    fn may_pass(&self, _state: &u64) -> bool {
+        false
     }
 
     ghost same = { eqb-true };
