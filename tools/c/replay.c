@@ -39,6 +39,12 @@ static const char *next(void)
 static uint32_t flag_next(void) { return number_in(flags, 5, next()); }
 static unsigned long next_number(int base) { return strtoul(next(), NULL, base); }
 
+/* The object that a request names. */
+static unsigned object_of(uint16_t asked)
+{
+    return (asked & 63) % objects ? (asked & 63) % objects : objects;
+}
+
 static void show(uint32_t arbitration, uint32_t masks, uint16_t control, const uint8_t *bytes)
 {
     printf(" %08x %08x %04x ", (unsigned)arbitration, (unsigned)masks, (unsigned)control);
@@ -67,56 +73,96 @@ static uint16_t get16(ccan_host *host, unsigned offset)
     return value;
 }
 
-/* A transfer by registers at their offsets: that of Command Request, and those of the ten others, are in the line. */
-static void request16(const char *name, ccan_host *host)
+/* The half of a word of 32 bits at this offset. */
+static uint16_t get_in_word(ccan_host *host, unsigned offset)
 {
-    uint16_t asked = (uint16_t)next_number(16), value[10];
-    unsigned object = (asked & 63) % objects ? (asked & 63) % objects : objects;
-    unsigned at = (unsigned)next_number(16);
-    need(ccan_write16(host, at, asked), "ccan_write16");
-    if (get16(host, at) != object) {
-        printf("%s: Command Request reads %04x\n", name, (unsigned)get16(host, at));
+    uint32_t word;
+    need(ccan_read32(host, offset & ~3u, &word), "ccan_read32");
+    return (uint16_t)(offset & 2 ? word >> 16 : word);
+}
+
+/* What a transfer left in the registers, by one of the calls above: the offsets of the ten registers are in the line. */
+static void show_transfer(const char *name, ccan_host *host, uint16_t asked, unsigned at, uint16_t (*read)(ccan_host *, unsigned))
+{
+    uint16_t value[10], shown = read(host, at);
+    if (shown != object_of(asked)) {
+        printf("%s: Command Request reads %04x\n", name, (unsigned)shown);
         return;
     }
     for (int reg = 0; reg < 10; reg++)
-        value[reg] = get16(host, (unsigned)next_number(16));
+        value[reg] = read(host, (unsigned)next_number(16));
     uint8_t bytes[8];
     for (int pair = 0; pair < 4; pair++) {
         bytes[2 * pair] = (uint8_t)value[CCAN_DATAA1 + pair];
         bytes[2 * pair + 1] = (uint8_t)(value[CCAN_DATAA1 + pair] >> 8);
     }
-    printf("%s %s %02u", name, value[CCAN_CMASK] & 0x80 ? "write" : "read", object);
+    printf("%s %s %02u", name, value[CCAN_CMASK] & 0x80 ? "write" : "read", object_of(asked));
     show((uint32_t)value[CCAN_ARB2] << 16 | value[CCAN_ARB1], (uint32_t)value[CCAN_MASK2] << 16 | value[CCAN_MASK1],
          value[CCAN_CTRL], bytes);
 }
 
-/* What came of an access to a register; a value that was read goes beside it. */
-static void show_access(const char *name, const char *call, unsigned offset, uint32_t code, const uint16_t *value)
+/* A transfer by registers at their offsets: that of Command Request, and those of the ten others, are in the line. */
+static void request16(const char *name, ccan_host *host)
+{
+    uint16_t asked = (uint16_t)next_number(16);
+    unsigned at = (unsigned)next_number(16);
+    need(ccan_write16(host, at, asked), "ccan_write16");
+    show_transfer(name, host, asked, at, get16);
+}
+
+/* What a transfer left that calls before it have made, by words of 32 bits. */
+static void shown32(const char *name, ccan_host *host)
+{
+    uint16_t asked = (uint16_t)next_number(16);
+    unsigned at = (unsigned)next_number(16);
+    show_transfer(name, host, asked, at, get_in_word);
+}
+
+/* What came of an access to a register. */
+static void show_access(const char *name, const char *call, unsigned offset, uint32_t code, const char *value)
 {
     printf("%s %s %04x ", name, call, offset);
     if (code == CCAN_OFFSET_RANGE || code == CCAN_OTHER_INTERFACE)
         printf("refused %u\n", (unsigned)code);
     else if (code != CCAN_DONE)
         need(code, call);
-    else if (value)
-        printf("%04x\n", (unsigned)*value);
     else
-        printf("done\n");
+        printf("%s\n", value);
+}
+
+static void read_register(const char *name, ccan_host *host, const char *call, unsigned offset)
+{
+    char text[9];
+    uint16_t half = 0;
+    uint32_t word = 0, code;
+    if (!strcmp(call, "read16")) {
+        code = host ? ccan_read16(host, offset, &half) : ccan_bus_read16(&chip.bus, offset, &half);
+        snprintf(text, sizeof text, "%04x", (unsigned)half);
+    } else {
+        code = host ? ccan_read32(host, offset, &word) : ccan_bus_read32(&chip.bus, offset, &word);
+        snprintf(text, sizeof text, "%08x", (unsigned)word);
+    }
+    show_access(name, call, offset, code, text);
+}
+
+static void write_register(const char *name, ccan_host *host, const char *call, unsigned offset, uint32_t value)
+{
+    uint32_t code;
+    if (!strcmp(call, "write16"))
+        code = host ? ccan_write16(host, offset, (uint16_t)value) : ccan_bus_write16(&chip.bus, offset, (uint16_t)value);
+    else
+        code = host ? ccan_write32(host, offset, value) : ccan_bus_write32(&chip.bus, offset, value);
+    show_access(name, call, offset, code, "done");
 }
 
 /* A call on a register or the interrupt line, by one of the hosts, or by the bus where there is none. */
 static int is_register_call(const char *name, ccan_host *host, const char *call)
 {
-    if (!strcmp(call, "read16")) {
+    if (!strcmp(call, "read16") || !strcmp(call, "read32")) {
+        read_register(name, host, call, (unsigned)next_number(16));
+    } else if (!strcmp(call, "write16") || !strcmp(call, "write32")) {
         unsigned offset = (unsigned)next_number(16);
-        uint16_t value = 0;
-        uint32_t code = host ? ccan_read16(host, offset, &value) : ccan_bus_read16(&chip.bus, offset, &value);
-        show_access(name, call, offset, code, &value);
-    } else if (!strcmp(call, "write16")) {
-        unsigned offset = (unsigned)next_number(16);
-        uint16_t value = (uint16_t)next_number(16);
-        uint32_t code = host ? ccan_write16(host, offset, value) : ccan_bus_write16(&chip.bus, offset, value);
-        show_access(name, call, offset, code, NULL);
+        write_register(name, host, call, offset, (uint32_t)next_number(16));
     } else if (!strcmp(call, "line")) {
         uint32_t pulled;
         need(host ? ccan_line(host, &pulled) : ccan_bus_line(&chip.bus, &pulled), "ccan_line");
@@ -130,7 +176,7 @@ static int is_register_call(const char *name, ccan_host *host, const char *call)
 static void request(const char *name, ccan_host *host)
 {
     uint16_t asked = (uint16_t)next_number(16);
-    unsigned object = (asked & 63) % objects ? (asked & 63) % objects : objects;
+    unsigned object = object_of(asked);
     uint32_t code = ccan_request(host, asked);
     if (code == CCAN_BUSY || code == CCAN_SPENT) {
         printf("%s %s %02u\n", name, code == CCAN_BUSY ? "busy" : "spent", object);
@@ -161,8 +207,13 @@ static void host_call(const char *name, ccan_host *host, const char *call)
     } else if (!strcmp(call, "set16")) {
         unsigned offset = (unsigned)next_number(16);
         need(ccan_write16(host, offset, (uint16_t)next_number(16)), "ccan_write16");
+    } else if (!strcmp(call, "set32")) {
+        unsigned offset = (unsigned)next_number(16);
+        need(ccan_write32(host, offset, (uint32_t)next_number(16)), "ccan_write32");
     } else if (!strcmp(call, "request16")) {
         request16(name, host);
+    } else if (!strcmp(call, "shown32")) {
+        shown32(name, host);
     } else if (is_register_call(name, host, call)) {
         return;
     } else if (!strcmp(call, "request")) {

@@ -8,6 +8,7 @@ use crate::code::{BUSY, DONE, OFFSET_RANGE, OTHER_INTERFACE, SPENT};
 use ccan_registers::AccessError;
 
 /// The code of an error.
+#[inline(always)]
 fn code_of_error(error: AccessError) -> u32
     ensures value { result ≡ call.code_of_error error }
     ensures refused { result ≢ done }
@@ -20,6 +21,7 @@ fn code_of_error(error: AccessError) -> u32
 }
 
 /// The code of an access, if there is a register at the offset.
+#[inline(always)]
 pub(crate) fn code_of_access<T: Copy>(told: &Option<Result<T, AccessError>>) -> u32
     ensures { result ≡ call.code_of_access told.now }
 {
@@ -47,6 +49,7 @@ pub(crate) fn read_word_out(told: &Option<Result<u32, AccessError>>, out: &mut u
 }
 
 /// The code of a read, whose value goes into the place for it.
+#[inline(always)]
 pub(crate) fn read_out(told: &Option<Result<u16, AccessError>>, out: &mut u16) -> u32
     ensures code { result ≡ call.code_of_access told.now }
     ensures read { IsRead told.now out.new }

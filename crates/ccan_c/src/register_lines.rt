@@ -15,6 +15,7 @@ impl Held {
     ghost use Rattle.ccan_c.specs.Steps.{HostSteps, Steps};
 
     /// Reads the register at an offset.
+    #[inline(always)]
     pub(crate) fn read(&mut self, offset: u32) -> Option<Result<u16, AccessError>>
         ensures { Steps (λ terms seen added.
             ReadsAt terms self.old.tries self.old.map offset self.old.own seen added result)
@@ -31,6 +32,7 @@ impl Held {
     }
 
     /// Writes the register at an offset.
+    #[inline(always)]
     pub(crate) fn write(&mut self, offset: u32, value: u16) -> Option<Result<(), AccessError>>
         ensures steps { HostSteps (λ terms seen added left.
             WritesAt terms self.old.tries self.old.map offset value self.old.own seen added result

@@ -12,6 +12,7 @@ use ccan_object::{Profile, Reg};
 use ccan_ram::flag::Flag;
 
 /// The register at an offset that stands once.
+#[inline(always)]
 fn general_at(offset: u32) -> Option<Register>
     ensures some { IfSome result (λ r. (dcan_offset r ≡ offset) × IsGeneral r) }
     ensures each { (r : Register) → IsGeneral r → dcan_offset r ≡ offset → result ≡ Some r }
@@ -29,6 +30,7 @@ fn general_at(offset: u32) -> Option<Register>
 }
 
 /// The Command Mask or message buffer register at a place, in bytes from where its interface begins.
+#[inline(always)]
 fn buffer_at(place: u32) -> Option<Reg>
     ensures some { IfSome result (λ register. buffer_place register ≡ place) }
     ensures each { (register : Reg) → buffer_place register ≡ place → result ≡ Some register }
@@ -49,6 +51,7 @@ fn buffer_at(place: u32) -> Option<Reg>
 }
 
 /// The register of an interface at a place, in bytes from where the interface begins.
+#[inline(always)]
 fn interface_at(interface: Interface, place: u32) -> Option<Register>
     ensures some { IfSome result (IsAtInterface interface place) }
     ensures each { (r : Register) → IsAtInterface interface place r → result ≡ Some r }
@@ -63,6 +66,7 @@ fn interface_at(interface: Interface, place: u32) -> Option<Register>
 }
 
 /// The register at an offset, if a chip with so many objects has one there.
+#[inline(always)]
 pub fn register_at(profile: Profile, offset: u32) -> Option<Register>
     ensures some { IfSome result (λ r. (dcan_offset r ≡ offset) × IsIn profile r) }
     ensures each { (r : Register) → IsIn profile r → dcan_offset r ≡ offset → result ≡ Some r }

@@ -151,6 +151,7 @@ pub fn wait(
 }
 
 /// A flag of all objects in one moment: that of object k in bit k - 1.
+#[inline(never)]
 pub fn flags(ram: &EndlessRam, holder: &mut PortHolder, flag: Flag) -> u64
     requires memory { (port_at holder.old).pass.memory ≡ ram.now.words }
     ensures { ChipGoes (port_at holder.old) (port_at holder.new) (λ terms seen added.
@@ -167,6 +168,7 @@ pub fn flags(ram: &EndlessRam, holder: &mut PortHolder, flag: Flag) -> u64
 
 /// The interrupt value of one moment: 0x8000 where the status interrupt is pending; else the number of the first object with
 /// IntPnd, or 0.
+#[inline(never)]
 pub fn interrupt(ram: &EndlessRam, holder: &mut PortHolder, pending: bool) -> u16
     requires memory { (port_at holder.old).pass.memory ≡ ram.now.words }
     ensures { ChipGoes (port_at holder.old) (port_at holder.new) (λ terms seen added.

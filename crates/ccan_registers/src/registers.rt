@@ -29,10 +29,9 @@ use ccan_ram::{PortName, SharedRam, Tries};
 fn is_own(port: PortName, interface: Interface) -> bool
     ensures { result ≡ says.is_own port interface }
 {
-    match (port, interface) {
-        (PortName::If1, Interface::One) => true,
-        (PortName::If2, Interface::Two) => true,
-        _ => false,
+    match interface {
+        Interface::One => matches!(port, PortName::If1),
+        Interface::Two => matches!(port, PortName::If2),
     }
 }
 
@@ -51,7 +50,7 @@ fn read_of(map: Map) -> ControllerChange
 }
 
 /// Reads the Status register.
-#[inline(always)]
+#[inline(never)]
 pub fn read_status(
     ram: &EndlessRam,
     holder: &mut PortHolder,
@@ -69,6 +68,7 @@ pub fn read_status(
 }
 
 /// Writes a register of the controller.
+#[inline(never)]
 pub fn write_controller(
     ram: &EndlessRam,
     holder: &mut PortHolder,
@@ -126,7 +126,7 @@ fn read_own(port: PortName, interface: Interface, value: u16) -> Result<u16, Acc
 }
 
 /// Reads a register.
-#[inline(always)]
+#[inline(never)]
 pub fn read(
     own: &InterfaceSet,
     ram: &EndlessRam,
@@ -157,6 +157,7 @@ pub fn read(
 }
 
 /// Reads the register at an offset, in bytes from where the chip begins. None where no register of the layout begins there.
+#[inline(always)]
 pub fn read_at(
     own: &InterfaceSet,
     ram: &EndlessRam,
@@ -170,6 +171,11 @@ pub fn read_at(
         ReadsAt terms tries map offset own.now seen added result) }
 {
     match map.register_at(ram.profile(), offset) {
+        // Nobody else has these, so they are read here, and not by the long way of what the ports share.
+        Some(Register::Buffer(interface, reg)) => {
+            let value = own.registers.get(reg);
+            Some(read_own(holder.name(), interface, value))
+        }
         Some(register) => Some(read(own, ram, holder, map, register, tries)),
         None => None,
     }
@@ -189,6 +195,7 @@ fn transfer_told(reply: &LineAnswer) -> Result<(), AccessError>
 }
 
 /// Writes the Command Request register of the port's own interface.
+#[inline(never)]
 fn write_request(
     own: &mut InterfaceSet,
     ram: &EndlessRam,
@@ -241,6 +248,7 @@ fn change_by(register: Register, value: u16) -> Option<ControllerChange>
 }
 
 /// Writes a register.
+#[inline(never)]
 pub fn write(
     own: &mut InterfaceSet,
     ram: &EndlessRam,
@@ -268,6 +276,7 @@ pub fn write(
 }
 
 /// Writes the register at an offset, in bytes from where the chip begins. None where no register of the layout begins there.
+#[inline(always)]
 pub fn write_at(
     own: &mut InterfaceSet,
     ram: &EndlessRam,
@@ -283,6 +292,10 @@ pub fn write_at(
     ensures bus { (port_at holder.old).pass.port ≡ BusPort → own.new ≡ own.old }
 {
     match map.register_at(ram.profile(), offset) {
+        // As in `read_at`.
+        Some(Register::Buffer(interface, reg)) => {
+            Some(write_own(own, holder.name(), interface, reg, value))
+        }
         Some(register) => Some(write(own, ram, holder, register, value, tries)),
         None => None,
     }

@@ -56,6 +56,7 @@ fn both_written(high: Written, low: Written) -> Written
 }
 
 /// Reads the two halves of a word.
+#[inline(never)]
 fn read_halves(
     own: &InterfaceSet,
     ram: &EndlessRam,
@@ -140,6 +141,7 @@ pub fn read_word(
 }
 
 /// Writes the two halves of a word.
+#[inline(never)]
 fn write_halves(
     own: &mut InterfaceSet,
     ram: &EndlessRam,

@@ -32,7 +32,7 @@ compare_exchange-requires g c =
     mine.1 in
     let setting = subst (λ (u : ControllerChange × Controller). IsSetting d.port u.0 u.1)
     (λ i. (sym c.requires.change i, sym c.requires.before i)) c.requires.setting in
-    let old : packed d.before ≡ c.pack-old.result = ap packed c.requires.before ∙ sym c.pack-old.ensures.word in
+    let old : packed d.before ≡ c.args.word = ap packed c.requires.before ∙ sym c.requires.word in
     let new : packed (controller_after d.change d.before) ≡ c.pack-new.result =
     (λ i. packed (controller_after (c.requires.change i) (c.requires.before i)))
     ∙ (ap packed (sym c.requires.after) ∙ sym c.pack-new.ensures.word) in (
@@ -41,7 +41,7 @@ compare_exchange-requires g c =
       (let wide = w.1.wide in omega arith),
       by_key w.0
           (λ (rule : ChipState → Type 0).
-          Allows rule slots seat.id seat.me controller_cell (λ n. either (eqb n c.pack-old.result) c.pack-new.result n)
+          Allows rule slots seat.id seat.me controller_cell (λ n. either (eqb n c.args.word) c.pack-new.result n)
           (λ found n. SetsController d.profile d.port d.change d.before seat.me found n × IsSeated n.0))
           (subst (λ (u : Profile × ℕ × ℕ).
           Allows (ChipKeeps s.key.profile) slots seat.id seat.me controller_cell (λ n. either (eqb n u.1) u.2 n)

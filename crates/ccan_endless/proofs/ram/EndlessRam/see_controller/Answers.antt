@@ -1,8 +1,8 @@
 -- To see the controller adds nothing to the chip's history. The port has only seen more of it, by the lemmas of
--- `ControllerCalls`, and what it answers is the controller that this longer history leaves.
+-- `ControllerCalls`, and what it answers is the word of the controller that this longer history leaves.
 use Rattle.std.proofs.Common.{sym, refl, ap, ◌∙◌, subst}
-use Rattle.ccan_confine.specs.Controller.{IsController}
-use Rattle.ccan_endless.specs.Chip.{controller_at}
+use Rattle.ccan_confine.specs.Controller.{IsController, packed}
+use Rattle.ccan_endless.specs.Chip.{ChipHistory, controller_at}
 use Rattle.ccan_endless.proofs.ChipPorts.{knows_chip}
 use Rattle.ccan_endless.proofs.ControllerCalls.{stepped_after, adds_no_event, adds_none, new_whole}
 use Rattle.ccan_endless.proofs.ram.EndlessRam.see_controller.Goals as goal
@@ -35,9 +35,9 @@ pub returns-clause-now : goal.returns-clause-now
 returns-clause-now c =
     let t = c.see_aside.ensures.told in
     let k = knows_chip c.port.inside c.port.invariant in
-    let shown = c.unpack.ensures (controller_at t.log) t.finds.is (sym t.finds.found_is) in
-    shown
-    ∙ ap controller_at (sym (new_whole c.port.inside c.port.invariant c.port.view_is c.requires.memory c.see_aside.new.seat
+    t.finds.found_is
+    ∙ ap (λ (log : ChipHistory). packed (controller_at log))
+    (sym (new_whole c.port.inside c.port.invariant c.port.view_is c.requires.memory c.see_aside.new.seat
     c.see_aside.ensures.same
     c.see_aside.ensures.seated k.whole k.had t.log t.log refl t.finds.ram (t.finds.goes_on c.port.inside.name k.whole k.had)
     t.view))
@@ -45,4 +45,10 @@ returns-clause-now c =
 pub returns-clause-is : goal.returns-clause-is
 returns-clause-is c =
     let t = c.see_aside.ensures.told in
-    subst IsController (sym (c.unpack.ensures (controller_at t.log) t.finds.is (sym t.finds.found_is))) t.finds.is
+    let k = knows_chip c.port.inside c.port.invariant in
+    subst (λ (log : ChipHistory). IsController (controller_at log))
+    (sym (new_whole c.port.inside c.port.invariant c.port.view_is c.requires.memory c.see_aside.new.seat
+    c.see_aside.ensures.same
+    c.see_aside.ensures.seated k.whole k.had t.log t.log refl t.finds.ram (t.finds.goes_on c.port.inside.name k.whole k.had)
+    t.view))
+    t.finds.is
