@@ -39,7 +39,7 @@ pub fn draw_command<'a>(alloc: Global) -> Result<Command<'a>, AllocError> {
         .value_name("N")
         .action(ArgAction::Set)
         .value_parser(value_parser!(usize))
-        .help("The greatest number of states to go through [default: 1000000]");
+        .help("The greatest number of states to keep [default: 1000000]");
     let file = Arg::new(alloc, "file")
         .value_name("FILE")
         .action(ArgAction::Set)

@@ -42,7 +42,7 @@ fn most_option<'a>(alloc: Global) -> Arg<'a> {
         .action(ArgAction::Set)
         .value_parser(value_parser!(usize))
         .default_value("1000000")
-        .help("The greatest number of states to go through")
+        .help("The greatest number of states to keep")
 }
 
 /// The flag that asks for the whole list.
