@@ -148,6 +148,16 @@ static double writes_by_offset(void)
     return (now() - start) / CALLS;
 }
 
+/* Reads of a register of IF1's own, which each are little more than a load. */
+static double gets(void)
+{
+    uint16_t shown;
+    double start = now();
+    for (int i = 0; i < CALLS; i++)
+        must(ccan_get(&chip.if1, CCAN_DATAA1, &shown));
+    return (now() - start) / CALLS;
+}
+
 static double sets(void)
 {
     double start = now();
@@ -195,6 +205,7 @@ static double reads_of(uint32_t offset)
     return (now() - start) / CALLS;
 }
 
+static double gets_by_offset(void) { return reads_of(CCAN_OFFSET_IF1_DATA_A1); }
 static double controls_by_offset(void) { return reads_of(CCAN_OFFSET_CONTROL); }
 static double statuses_by_offset(void) { return reads_of(CCAN_OFFSET_STATUS); }
 
@@ -241,8 +252,10 @@ int main(void)
     measure("a flag of 32 objects in one moment", flags);
     measure("a full write by the offset of Command Request", writes_by_offset);
     measure("a flag of 16 objects by its offset", flags_by_offset);
-    measure("a register of an interface", sets);
-    measure("a register of an interface by its offset", sets_by_offset);
+    measure("a write of a register of an interface", sets);
+    measure("a write of a register of an interface by its offset", sets_by_offset);
+    measure("a read of a register of an interface", gets);
+    measure("a read of a register of an interface by its offset", gets_by_offset);
     measure("a read of Status by the bus", statuses);
     measure("a read of Status by its offset, by a host", statuses_by_offset);
     measure("a read of Status by its offset, beside rounds", statuses_beside_rounds);
