@@ -17,15 +17,15 @@ impl Machine for Ladder {
 
     ghost Abstract = { ℕ };
 
-    ghost leads = { λ _ from to. Contains (if from == 0 then 3 ∷ 6 ∷ [] else from - 1 ∷ []) to };
+    ghost leads = { λ _ from to. Contains (if from == 0 then 3 ∷ 6 ∷ [] else (from - 1) ∷ []) to };
 
     ghost stands_for = { λ _ state there. state ≡ there };
 
-    ghost follows = { λ _ from to. Contains (if from == 0 then 3 ∷ 6 ∷ [] else from - 1 ∷ []) to };
+    ghost follows = { λ _ from to. Contains (if from == 0 then 3 ∷ 6 ∷ [] else (from - 1) ∷ []) to };
 
     ghost told = { λ _ from to. to };
 
-    ghost to_follow = { λ _ _ from to. Contains (if from == 0 then 3 ∷ 6 ∷ [] else from - 1 ∷ []) to };
+    ghost to_follow = { λ _ _ from to. Contains (if from == 0 then 3 ∷ 6 ∷ [] else (from - 1) ∷ []) to };
 
     fn next(&self, alloc: Global, from: &u64) -> Result<Vec<u64>, AllocError> {
         if *from == 0 {

@@ -2,11 +2,13 @@
 //! that prints them.
 use ccan_object::ObjectNo;
 use ccan_outcomes::{
-    HistoryKind, Watch, all_outcomes, history_of, kept_ending, line_process_laws, machine_laws,
-    observed_history, observed_outcomes, place_laws, process_laws, quiet_laws, same, seat_laws,
-    states_along,
+    Ending, HistoryKind, Outcomes, Watch, all_outcomes, history_of, kept_ending, line_process_laws,
+    machine_laws, observed_history, observed_outcomes, place_laws, process_laws, quiet_laws, same,
+    seat_laws, states_along,
 };
 use ccan_run::read_input;
+use ccan_script::Script;
+use std::alloc::Global;
 use std::test::Fail;
 
 #[test]
@@ -47,9 +49,6 @@ fn answers_a_history_of_each_outcome(rt: HostRuntime) -> Result<(), Fail> {
         assert_eq!(rt; history.len(), 4);
         let states = states_along(rt.alloc(), &script, history.as_slice())?;
         assert_eq!(rt; states.len(), 5);
-        assert_eq!(rt; states.as_slice()[0].used1, 0);
-        assert_eq!(rt; states.as_slice()[4].used1, 1);
-        assert_eq!(rt; states.as_slice()[4].used2, 1);
         for step in history.as_slice() {
             assert_eq!(rt; step.line, 1);
             assert!(rt; step.object == ObjectNo::new(1));
@@ -61,52 +60,95 @@ fn answers_a_history_of_each_outcome(rt: HostRuntime) -> Result<(), Fail> {
     Ok(())
 }
 
+/// What can be seen by these answers, after a look at the history of each.
+fn seen(alloc: Global, script: &Script, watch: &Watch) -> Result<Outcomes, Fail> {
+    let Some(found) = observed_outcomes(alloc, script, watch, 1000)? else {
+        return Err(Fail::new("more states than that"));
+    };
+    for place in 0..found.listing.endings.len() {
+        let history = observed_history(alloc, script, watch, &found, place)?;
+        // A look and the write, and a look for each read.
+        if history.len() != 4 {
+            return Err(Fail::new("a history of another length"));
+        }
+    }
+    Ok(found)
+}
+
+/// All outcomes.
+fn whole(alloc: Global, script: &Script) -> Result<Outcomes, Fail> {
+    match all_outcomes(alloc, script, 1000)? {
+        Some(found) => Ok(found),
+        None => Err(Fail::new("more states than that")),
+    }
+}
+
+/// How many endings and how many states a search has found.
+fn counted(found: &Outcomes) -> (usize, usize) {
+    (found.listing.endings.len(), found.reached.states.len())
+}
+
+/// Whether one of these is what is kept of an ending.
+fn has_kept(alloc: Global, watch: &Watch, all: &[Ending], ending: &Ending) -> Result<bool, Fail> {
+    let kept = kept_ending(alloc, watch, ending)?;
+    Ok(all.iter().any(|it| *it == kept))
+}
+
+/// Whether all that is kept of the endings of a script is among what is seen of them.
+fn has_all_kept(alloc: Global, script: &Script, watch: &Watch) -> Result<bool, Fail> {
+    let all = whole(alloc, script)?;
+    let found = seen(alloc, script, watch)?;
+    for ending in all.listing.endings.as_slice() {
+        if !has_kept(alloc, watch, found.listing.endings.as_slice(), ending)? {
+            return Ok(false);
+        }
+    }
+    Ok(true)
+}
+
+/// One host writes object 1, and the other reads it twice.
+fn two_reads(alloc: Global) -> Result<Script, Fail> {
+    let text = r#"{
+        "if1":[{"op":"transfer","request":"0001","set":{"cmask":"0082","dataa1":"1111"}}],
+        "if2":[{"op":"transfer","request":"0001","set":{"cmask":"0002"}},
+               {"op":"transfer","request":"0001","set":{"cmask":"0002"}}]
+    }"#;
+    Ok(read_input(alloc, &mut text.as_bytes())?)
+}
+
+/// A look at these lines of IF2, and no other.
+fn watching(alloc: Global, if2: &[bool]) -> Result<Watch, Fail> {
+    Ok(Watch {
+        if1: Vec::new(alloc),
+        if2: Vec::from_slice(alloc, if2)?,
+        bus: Vec::new(alloc),
+    })
+}
+
 #[test]
 fn tells_apart_what_is_looked_at(rt: HostRuntime) -> Result<(), Fail> {
     // The two reads show what stood before the write, what it left, or one of each: three outcomes, whose objects are the same
-    // at the end. By the second read alone there are two, and by no answer one.
-    let write = r#"{"op":"transfer","request":"0001","set":{"cmask":"0082","dataa1":"1111"}}"#;
-    let read = r#"{"op":"transfer","request":"0001","set":{"cmask":"0002"}}"#;
-    let text = format!(in rt.alloc(); "{{\"if1\":[{write}],\"if2\":[{read},{read}]}}")?;
-    let script = read_input(rt.alloc(), &mut text.as_bytes())?;
-    let Some(all) = all_outcomes(rt.alloc(), &script, 1000)? else {
-        return Err(Fail::new("more states than that"));
-    };
-    assert_eq!(rt; all.listing.endings.len(), 3);
-    let nothing = Watch {
-        if1: Vec::new(rt.alloc()),
-        if2: Vec::new(rt.alloc()),
-        bus: Vec::new(rt.alloc()),
-    };
-    let Some(one) = observed_outcomes(rt.alloc(), &script, &nothing, 1000)? else {
-        return Err(Fail::new("more states than that"));
-    };
-    assert_eq!(rt; one.listing.endings.len(), 1);
-    assert!(rt; one.reached.states.len() < all.reached.states.len());
-    assert!(rt; observed_outcomes(rt.alloc(), &script, &nothing, 3)?.is_none());
-    let second = Watch {
-        if1: Vec::new(rt.alloc()),
-        if2: Vec::from_slice(rt.alloc(), &[false, true])?,
-        bus: Vec::new(rt.alloc()),
-    };
-    let Some(two) = observed_outcomes(rt.alloc(), &script, &second, 1000)? else {
-        return Err(Fail::new("more states than that"));
-    };
-    assert_eq!(rt; two.listing.endings.len(), 2);
-    for whole in all.listing.endings.as_slice() {
-        let kept = kept_ending(rt.alloc(), &second, whole)?;
-        assert!(rt;
-            two.listing
-                .endings
-                .as_slice()
-                .iter()
-                .any(|ending| *ending == kept)
-        );
-    }
-    for place in 0..two.listing.endings.len() {
-        let history = observed_history(rt.alloc(), &script, &second, &two, place)?;
-        // A look and the write, and a look for each read.
-        assert_eq!(rt; history.len(), 4);
-    }
+    // at the end. By the second read alone there are two.
+    let script = two_reads(rt.alloc())?;
+    let (all, _) = counted(&whole(rt.alloc(), &script)?);
+    assert_eq!(rt; all, 3);
+    let second = watching(rt.alloc(), &[false, true])?;
+    let (seen, _) = counted(&seen(rt.alloc(), &script, &second)?);
+    assert_eq!(rt; seen, 2);
+    assert!(rt; has_all_kept(rt.alloc(), &script, &second)?);
+    Ok(())
+}
+
+#[test]
+fn tells_nothing_apart_by_no_answer(rt: HostRuntime) -> Result<(), Fail> {
+    let script = two_reads(rt.alloc())?;
+    let nothing = watching(rt.alloc(), &[])?;
+    let (_, most) = counted(&whole(rt.alloc(), &script)?);
+    let (seen, states) = counted(&seen(rt.alloc(), &script, &nothing)?);
+    assert_eq!(rt; seen, 1);
+    assert!(rt; states < most);
+    assert!(rt;
+        observed_outcomes(rt.alloc(), &script, &nothing, states.saturating_sub(1))?.is_none()
+    );
     Ok(())
 }
