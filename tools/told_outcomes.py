@@ -1,6 +1,6 @@
 """Scripts whose hosts and bus race, and what can come of each, worked by hand from the rules: how many states the search keeps
 (None where that was not worked out), how the lines begin that are looked at, and these lines of each outcome. Kept are the state in
-which the ports begin, those in which more than one step may come next, and those in which all lines have run."""
+which the ports begin, those from which more than one step is followed, and those in which all lines have run."""
 
 
 def transfer(request, **registers):
