@@ -6,10 +6,12 @@ use crate::input::script_asked;
 use crate::lab_error::LabError;
 use crate::outcome_rows::picture_of_outcome;
 use crate::outcomes::DEFAULT_MOST;
+use crate::progress_line::ProgressLine;
 use ccan_draw::{Picture, picture_of_run, svg_of};
 use ccan_explain::tell;
 use ccan_outcomes::all_outcomes;
 use ccan_script::Script;
+use ccan_search::Progress;
 use clap::{Arg, ArgAction, ArgMatches, Command, value_parser};
 use std::alloc::{AllocError, Global};
 use std::fs::Files;
@@ -61,13 +63,14 @@ pub fn draw_question<'a>(words: &ArgMatches<'a>) -> DrawQuestion<'a> {
 }
 
 /// The picture of a history of the outcome of this number, from 1.
-fn outcome_drawn(
+fn outcome_drawn<P: Progress>(
     alloc: Global,
     script: &Script,
     number: usize,
     most: usize,
+    progress: &P,
 ) -> Result<Picture, LabError> {
-    let Some(outcomes) = all_outcomes(alloc, script, most)? else {
+    let Some(outcomes) = all_outcomes(alloc, script, most, progress)? else {
         return Err(LabError::More(most));
     };
     let listed = outcomes.listing.endings.len();
@@ -83,16 +86,29 @@ fn run_drawn(alloc: Global, script: &Script) -> Result<Picture, AllocError> {
     picture_of_run(alloc, script, &told)
 }
 
-/// Draws what is asked, and prints it.
-pub fn answer_draw<T: AllocGlobal + Input + Files + Print>(
+/// The picture that is asked of a script.
+fn drawn<P: Progress>(
+    alloc: Global,
+    script: &Script,
+    question: &DrawQuestion<'_>,
+    progress: &P,
+) -> Result<Picture, LabError> {
+    match question.outcome {
+        Some(number) => outcome_drawn(alloc, script, number, question.most, progress),
+        None => Ok(run_drawn(alloc, script)?),
+    }
+}
+
+/// Draws what is asked, and prints it. On a terminal it is told how far a search for the outcome is.
+pub fn answer_draw<T: AllocGlobal + Input + Files + Print + Eprint>(
     rt: &T,
     question: &DrawQuestion<'_>,
+    progress: &ProgressLine<'_, T>,
 ) -> Result<(), LabError> {
     let script = script_asked(rt, question.file)?;
-    let picture = match question.outcome {
-        Some(number) => outcome_drawn(rt.alloc(), &script, number, question.most)?,
-        None => run_drawn(rt.alloc(), &script)?,
-    };
+    let made = drawn(rt.alloc(), &script, question, progress);
+    progress.clear();
+    let picture = made?;
     let text = svg_of(rt.alloc(), &picture)?;
     print_text(rt, text.as_str())
 }

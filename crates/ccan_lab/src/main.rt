@@ -30,6 +30,7 @@ pub mod observed;
 pub mod outcome_rows;
 pub mod outcomes;
 pub mod place;
+pub mod progress_line;
 pub mod question;
 pub mod replay;
 pub mod report;
@@ -44,6 +45,7 @@ use crate::explaining::{answer_explain, answer_log};
 use crate::input::tell_terminal;
 use crate::lab_error::LabError;
 use crate::outcomes::answer_outcomes;
+use crate::progress_line::ProgressLine;
 use crate::question::{Question, question_asked};
 use clap::error::ErrorKind;
 use std::alloc::AllocError;
@@ -70,17 +72,18 @@ where
     }
 }
 
-/// Answers a question, and gives the exit status.
+/// Answers a question, and gives the exit status. A long search tells on a terminal how far it is.
 fn answer_question<T: AllocGlobal + Input + Files + Print + Eprint>(
     rt: &T,
     question: &Question<'_>,
+    progress: &ProgressLine<'_, T>,
 ) -> Result<u8, LabError>
 where
     T::Reader: IsTerminal,
 {
     match question {
         Question::Outcomes(question) => {
-            let is_so = answer_outcomes(rt, question)?;
+            let is_so = answer_outcomes(rt, question, progress)?;
             Ok(if is_so { 0 } else { NOT_SO })
         }
         Question::Check(question) => {
@@ -92,7 +95,7 @@ where
             Ok(0)
         }
         Question::Draw(question) => {
-            answer_draw(rt, question)?;
+            answer_draw(rt, question, progress)?;
             Ok(0)
         }
         Question::FromCandump(file) => {
@@ -144,7 +147,11 @@ fn main(rt: HostRuntime) -> ExitCode {
         Err(error) => return tell_words(&rt, &error),
     };
     tell_waiting(&rt, &question);
-    match answer_question(&rt, &question) {
+    let progress = ProgressLine {
+        rt: &rt,
+        is_terminal: rt.stderr().is_terminal(),
+    };
+    match answer_question(&rt, &question, &progress) {
         Ok(status) => ExitCode::from(status),
         Err(fault) => refuse(&rt, &fault),
     }

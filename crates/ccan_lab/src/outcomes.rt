@@ -11,9 +11,11 @@ use crate::asked::Asked;
 use crate::input::script_asked;
 use crate::lab_error::LabError;
 use crate::observed::first_unknown;
+use crate::progress_line::ProgressLine;
 use crate::seen::seen_text;
 use ccan_outcomes::all_outcomes;
 use ccan_script::Script;
+use ccan_search::Progress;
 use clap::{Arg, ArgAction, ArgMatches, Command, value_parser};
 use std::alloc::{AllocError, Global};
 use std::fs::Files;
@@ -177,15 +179,16 @@ fn refuse_unknown(alloc: Global, script: &Script, asked: Asked<'_>) -> Result<()
 }
 
 /// What is answered to a question about the list of all outcomes of a script.
-fn answer_of_all(
+fn answer_of_all<P: Progress>(
     alloc: Global,
     script: &Script,
     asked: Asked<'_>,
     most: usize,
+    progress: &P,
 ) -> Result<Answer, LabError>
     requires { IsOfAll asked }
 {
-    let Some(outcomes) = all_outcomes(alloc, script, most)? else {
+    let Some(outcomes) = all_outcomes(alloc, script, most, progress)? else {
         return Err(LabError::More(most));
     };
     Ok(answer_of(alloc, script, &outcomes, asked)?)
@@ -193,29 +196,46 @@ fn answer_of_all(
 
 /// What is answered to the question what of the outcomes of a script can be told apart by the lines and objects of these
 /// names.
-fn answer_of_observed(
+fn answer_of_observed<P: Progress>(
     alloc: Global,
     script: &Script,
     names: &str,
     most: usize,
+    progress: &P,
 ) -> Result<Answer, LabError> {
-    let Some(text) = seen_text(alloc, script, names, most)? else {
+    let Some(text) = seen_text(alloc, script, names, most, progress)? else {
         return Err(LabError::More(most));
     };
     Ok(Answer { text, holds: true })
 }
 
-/// Lists the outcomes of the script, prints what is answered, and says whether it is as asked.
-pub fn answer_outcomes<T: AllocGlobal + Input + Files + Print>(
+/// What is answered to a question about the outcomes of a script.
+fn answer_of_script<P: Progress>(
+    alloc: Global,
+    script: &Script,
+    question: &OutcomesQuestion<'_>,
+    progress: &P,
+) -> Result<Answer, LabError> {
+    match question.asked {
+        Asked::Observed(names) => {
+            answer_of_observed(alloc, script, names, question.most, progress)
+        }
+        asked => answer_of_all(alloc, script, asked, question.most, progress),
+    }
+}
+
+/// Lists the outcomes of the script, prints what is answered, and says whether it is as asked. On a terminal it is told how far
+/// the search is.
+pub fn answer_outcomes<T: AllocGlobal + Input + Files + Print + Eprint>(
     rt: &T,
     question: &OutcomesQuestion<'_>,
+    progress: &ProgressLine<'_, T>,
 ) -> Result<bool, LabError> {
     let script = script_asked(rt, question.file)?;
     refuse_unknown(rt.alloc(), &script, question.asked)?;
-    let answer = match question.asked {
-        Asked::Observed(names) => { answer_of_observed(rt.alloc(), &script, names, question.most)? }
-        asked => answer_of_all(rt.alloc(), &script, asked, question.most)?,
-    };
+    let answered = answer_of_script(rt.alloc(), &script, question, progress);
+    progress.clear();
+    let answer = answered?;
     match io::writer(rt).write_all(answer.text.as_bytes()) {
         Ok(()) => Ok(answer.holds),
         Err(_) => Err(LabError::Write),

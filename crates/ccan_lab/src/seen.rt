@@ -15,6 +15,7 @@ use crate::rows::all_rows;
 use crate::wording::add_counted;
 use ccan_outcomes::{Outcomes, Watch, observed_history, observed_outcomes};
 use ccan_script::Script;
+use ccan_search::Progress;
 use std::alloc::{AllocError, Global};
 
 /// So many of these marks, from this place on.
@@ -172,18 +173,19 @@ fn seen_listing(
 ///
 /// A name is that of a line, as `if1[2]`, of an object at the end, as `final 01`, or a port's or `final` for all of them; names
 /// have commas between them.
-pub fn seen_text(
+pub fn seen_text<P: Progress>(
     alloc: Global,
     script: &Script,
     list: &str,
     most: usize,
+    progress: &P,
 ) -> Result<Option<String>, AllocError>
     ensures { IfOk result (λ found. IfSome found (λ text.
         TellsSeen (names_in list.now) (fields_of script.now) (string_bytes text))) }
 {
     let marks = marks_of(alloc, script, list)?;
     let watch = watch_of(alloc, script, marks.as_slice())?;
-    let Some(outcomes) = observed_outcomes(alloc, script, &watch, most)? else {
+    let Some(outcomes) = observed_outcomes(alloc, script, &watch, most, progress)? else {
         return Ok(None);
     };
     Ok(Some(seen_listing(alloc, script, &watch, marks.as_slice(), &outcomes)?))

@@ -4,7 +4,10 @@ use ccan_object::{ObjectNo, Profile, Record};
 use ccan_ram::Flag;
 
 /// What a line of a script is answered.
+///
+/// A hash leaves out which flag a line asked for: answers to one line of a script never differ in it.
 #[derive(Clone, Copy, PartialEq, Eq, Debug)]
+#[derive_where(Hash)]
 pub enum LineAnswer {
     /// A write ended, and left this record in the interface buffer.
     Write(ObjectNo, Record),
@@ -15,11 +18,11 @@ pub enum LineAnswer {
     /// The port has made as many changes as it may.
     Spent(ObjectNo),
     /// Whether one of the looks at the object showed the flag.
-    Until(ObjectNo, Flag, bool),
+    Until(ObjectNo, #[derive_where(skip(Hash))] Flag, bool),
     /// The interrupt value: 0x8000 the status interrupt, else the number of an object, or 0.
     Interrupt(u16),
     /// The flag of all objects of the profile, that of object k in bit k - 1.
-    Flags(Flag, u64, Profile),
+    Flags(#[derive_where(skip(Hash))] Flag, u64, Profile),
     /// What came of a load.
     Load(LoadAnswer),
     /// What came of a round.

@@ -2,8 +2,8 @@ ghost use Rattle.std.specs.Prelude.{◌≡◌, ◌<◌, ◌↔◌, Err, IfOk, If
 ghost use Rattle.ccan_ram.specs.SharedRam.{opened};
 ghost use Rattle.ccan_line.specs.Script.{fields_of};
 ghost use Rattle.ccan_line.specs.Gate.{WasAsked};
-ghost use Rattle.ccan_run.specs.Threads.{AllRan, AreOpened, HasRoom, HasRun, HaveRun, IsFirstHeld};
-ghost use Rattle.ccan_run.specs.Threads.{HaveAsked, RunsAtOnce, StopsThreads, WereLet};
+ghost use Rattle.ccan_run.specs.Threads.{AllRan, AreOpened, HasRoom, HasRun, HaveRoom, HaveRun};
+ghost use Rattle.ccan_run.specs.Threads.{HaveAsked, IsFirstHeld, RunsAtOnce, StopsThreads, WereLet};
 
 use crate::outcome::Outcome;
 use crate::per_port::PerPort;
@@ -34,12 +34,7 @@ impl<'a, R: SharedRam, G: Gate> Promise<PortRun<R::Port>> for RunOf<'a, R, G> {
 
 /// Room for the answers of each port.
 fn logs_for(alloc: Global, script: &Script) -> Result<PerPort<Vec<LineAnswer>>, AllocError>
-    ensures if1 { IfOk result (λ logs.
-        HasRoom (fields_of script.now) PortName.If1 logs.if1.items (vec_capacity logs.if1)) }
-    ensures if2 { IfOk result (λ logs.
-        HasRoom (fields_of script.now) PortName.If2 logs.if2.items (vec_capacity logs.if2)) }
-    ensures bus { IfOk result (λ logs.
-        HasRoom (fields_of script.now) PortName.Bus logs.bus.items (vec_capacity logs.bus)) }
+    ensures { IfOk result (HaveRoom (fields_of script.now)) }
 {
     Ok(PerPort {
         if1: Vec::with_capacity(alloc, script.if1.len())?,
@@ -99,12 +94,7 @@ fn join_all<'s, E: 's, R: SharedRam + Sync, G: Gate + Copy + Sync, T: Threads>(
 ) -> Result<PerPort<PortRun<R::Port>>, RunError>
     requires opened { AreOpened R.pass (R.memory ram.now) ports }
     requires profile { (R.memory ram.now).profile ≡ script.now.profile }
-    requires if1 { HasRoom (fields_of script.now) PortName.If1 logs.if1.items
-        (vec_capacity logs.if1) }
-    requires if2 { HasRoom (fields_of script.now) PortName.If2 logs.if2.items
-        (vec_capacity logs.if2) }
-    requires bus { HasRoom (fields_of script.now) PortName.Bus logs.bus.items
-        (vec_capacity logs.bus) }
+    requires room { HaveRoom (fields_of script.now) logs }
     ensures ok { IfOk result
         (HaveRun R.pass R.contends (R.memory ram.now) (fields_of script.now)) }
     ensures asked { IfOk result (HaveAsked G.enters gate.now) }
@@ -139,12 +129,7 @@ fn run_at_once<R: SharedRam + Sync, G: Gate + Copy + Sync, T: Threads + Wait + S
 ) -> Result<PerPort<PortRun<R::Port>>, RunError>
     requires opened { AreOpened R.pass (R.memory ram.now) ports }
     requires profile { (R.memory ram.now).profile ≡ script.now.profile }
-    requires if1 { HasRoom (fields_of script.now) PortName.If1 logs.if1.items
-        (vec_capacity logs.if1) }
-    requires if2 { HasRoom (fields_of script.now) PortName.If2 logs.if2.items
-        (vec_capacity logs.if2) }
-    requires bus { HasRoom (fields_of script.now) PortName.Bus logs.bus.items
-        (vec_capacity logs.bus) }
+    requires room { HaveRoom (fields_of script.now) logs }
     ensures ok { IfOk result
         (HaveRun R.pass R.contends (R.memory ram.now) (fields_of script.now)) }
     ensures asked { IfOk result (HaveAsked G.enters gate.now) }
@@ -156,12 +141,7 @@ fn run_at_once<R: SharedRam + Sync, G: Gate + Copy + Sync, T: Threads + Wait + S
         move |scope|
             requires opened { AreOpened R.pass (R.memory ram.now) ports }
             requires profile { (R.memory ram.now).profile ≡ script.now.profile }
-            requires if1 { HasRoom (fields_of script.now) PortName.If1 logs.if1.items
-                (vec_capacity logs.if1) }
-            requires if2 { HasRoom (fields_of script.now) PortName.If2 logs.if2.items
-                (vec_capacity logs.if2) }
-            requires bus { HasRoom (fields_of script.now) PortName.Bus logs.bus.items
-                (vec_capacity logs.bus) }
+            requires room { HaveRoom (fields_of script.now) logs }
         { join_all(scope, rt, ram, ports, script, gate, logs) },
     )
 }

@@ -8,6 +8,7 @@ use ccan_outcomes::{
 };
 use ccan_run::read_input;
 use ccan_script::Script;
+use ccan_search::Untold;
 use std::alloc::Global;
 use std::test::Fail;
 
@@ -41,7 +42,7 @@ fn answers_a_history_of_each_outcome(rt: HostRuntime) -> Result<(), Fail> {
     let text =
         r#"{"if1":[{"op":"transfer","request":"0001","set":{"cmask":"0082","dataa1":"1111"}}],"if2":[{"op":"transfer","request":"0001","set":{"cmask":"0082","dataa1":"2222"}}]}"#;
     let script = read_input(rt.alloc(), &mut text.as_bytes())?;
-    let Some(outcomes) = all_outcomes(rt.alloc(), &script, 1000)? else {
+    let Some(outcomes) = all_outcomes(rt.alloc(), &script, 1000, &Untold)? else {
         return Err(Fail::new("more states than that"));
     };
     for place in 0..outcomes.listing.endings.len() {
@@ -62,7 +63,7 @@ fn answers_a_history_of_each_outcome(rt: HostRuntime) -> Result<(), Fail> {
 
 /// What can be seen by these answers, after a look at the history of each.
 fn seen(alloc: Global, script: &Script, watch: &Watch) -> Result<Outcomes, Fail> {
-    let Some(found) = observed_outcomes(alloc, script, watch, 1000)? else {
+    let Some(found) = observed_outcomes(alloc, script, watch, 1000, &Untold)? else {
         return Err(Fail::new("more states than that"));
     };
     for place in 0..found.listing.endings.len() {
@@ -77,7 +78,7 @@ fn seen(alloc: Global, script: &Script, watch: &Watch) -> Result<Outcomes, Fail>
 
 /// All outcomes.
 fn whole(alloc: Global, script: &Script) -> Result<Outcomes, Fail> {
-    match all_outcomes(alloc, script, 1000)? {
+    match all_outcomes(alloc, script, 1000, &Untold)? {
         Some(found) => Ok(found),
         None => Err(Fail::new("more states than that")),
     }
@@ -147,8 +148,7 @@ fn tells_nothing_apart_by_no_answer(rt: HostRuntime) -> Result<(), Fail> {
     let (seen, states) = counted(&seen(rt.alloc(), &script, &nothing)?);
     assert_eq!(rt; seen, 1);
     assert!(rt; states < most);
-    assert!(rt;
-        observed_outcomes(rt.alloc(), &script, &nothing, states.saturating_sub(1))?.is_none()
-    );
+    let fewer = states.saturating_sub(1);
+    assert!(rt; observed_outcomes(rt.alloc(), &script, &nothing, fewer, &Untold)?.is_none());
     Ok(())
 }

@@ -1,12 +1,12 @@
 //! What a till can show, worked by hand. Its coins are even, so from nothing it shows even digits alone: 2 and 4 after one coin,
 //! then 6 and 8 too, and then 0 again.
 use crate::till::Till;
-use ccan_search::{laws, reachable, way};
+use ccan_search::{Untold, laws, reachable, way};
 use std::test::Fail;
 
 #[test]
 fn finds_a_digit_for_all_sums(rt: HostRuntime) -> Result<(), Fail> {
-    let Some(reached) = reachable(&Till, rt.alloc(), 0, 0, 5)? else {
+    let Some(reached) = reachable(&Till, rt.alloc(), 0, 0, 5, &Untold)? else {
         return Err(Fail::new("more than five digits"));
     };
     assert_eq!(rt; reached.states.len(), 5);
@@ -18,7 +18,7 @@ fn finds_a_digit_for_all_sums(rt: HostRuntime) -> Result<(), Fail> {
 
 #[test]
 fn finds_more_digits_than_that(rt: HostRuntime) -> Result<(), Fail> {
-    assert!(rt; reachable(&Till, rt.alloc(), 0, 0, 4)?.is_none());
+    assert!(rt; reachable(&Till, rt.alloc(), 0, 0, 4, &Untold)?.is_none());
     Ok(())
 }
 
@@ -27,7 +27,7 @@ fn answers_a_way_by_two_coins(rt: HostRuntime) -> Result<(), Fail> {
     // Two coins show 8 only where both are of 4.
     laws::trails_are_walks(&Till);
     laws::closed_states_stand_for_all(&Till);
-    let Some(reached) = reachable(&Till, rt.alloc(), 0, 0, 5)? else {
+    let Some(reached) = reachable(&Till, rt.alloc(), 0, 0, 5, &Untold)? else {
         return Err(Fail::new("more than five digits"));
     };
     let Some(index) = reached.states.get_index_of(&8) else {

@@ -4,7 +4,7 @@ use Rattle.ccan_lab.specs.Seen.{IsSeenListing, IsWatch}
 use Rattle.ccan_lab.proofs.seen.seen_text.Goals as goal
 
 pub returns : goal.returns
-returns c =
+returns g c =
     let script = fields_of c.args.script.now in
     let watch = c.in_ok-watch.watch in
     let outcomes = c.in-Some.outcomes in

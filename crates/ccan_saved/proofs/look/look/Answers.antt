@@ -1,5 +1,5 @@
 use Rattle.ccan_ram.specs.Attempt.{IsLook}
-use Rattle.ccan_saved.proofs.Going.{on_objects}
+use Rattle.ccan_registers.proofs.Going.{on_objects}
 use Rattle.ccan_saved.proofs.look.look.Goals as goal
 
 pub returns : goal.returns

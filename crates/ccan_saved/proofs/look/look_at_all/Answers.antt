@@ -4,7 +4,7 @@ use Rattle.ccan_ram.specs.SharedRam.{Memory}
 use Rattle.ccan_endless.specs.declared.chip.ControllerStep.TheVariants.{Look}
 use Rattle.ccan_registers.specs.ChipSteps.{AtController, terms_at}
 use Rattle.ccan_saved.specs.Looks.{LooksThrough}
-use Rattle.ccan_saved.proofs.Going.{goes_then, weaker}
+use Rattle.ccan_registers.proofs.Going.{goes_then, weaker}
 use Rattle.ccan_saved.proofs.look.look_at_all.Goals as goal
 
 pub returns-clause-goes : goal.returns-clause-goes

@@ -1,5 +1,5 @@
 use Rattle.ccan_endless.specs.declared.chip.ControllerStep.TheVariants.{Look}
-use Rattle.ccan_saved.proofs.Going.{at_controller}
+use Rattle.ccan_registers.proofs.Going.{at_controller}
 use Rattle.ccan_saved.proofs.look.look_controller.Goals as goal
 
 pub returns-clause-goes : goal.returns-clause-goes

@@ -6,7 +6,8 @@ use Rattle.ccan_object.specs.declared.record.Record.{Record}
 use Rattle.ccan_object.specs.Record.{zero_record}
 use Rattle.ccan_registers.specs.ChipSteps.{ChipGoes}
 use Rattle.ccan_saved.specs.Looks.{LooksThrough}
-use Rattle.ccan_saved.proofs.Going.{looks_on, rests}
+use Rattle.ccan_registers.proofs.Going.{rests}
+use Rattle.ccan_saved.proofs.Going.{looks_on}
 use Rattle.ccan_saved.proofs.look.look_through.Goals as goal
 
 pub loop-k-init : goal.loop-k-init

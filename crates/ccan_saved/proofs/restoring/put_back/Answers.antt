@@ -5,7 +5,8 @@ use Rattle.ccan_object.specs.declared.record.Record.{Record}
 use Rattle.ccan_ram.specs.SharedRam.{Memory}
 use Rattle.ccan_registers.specs.ChipSteps.{ChipGoes}
 use Rattle.ccan_saved.specs.Looks.{LooksAtAll}
-use Rattle.ccan_saved.proofs.Going.{goes_then, some_steps, on_and_on, weaker}
+use Rattle.ccan_registers.proofs.Going.{goes_then, weaker}
+use Rattle.ccan_saved.proofs.Going.{some_steps, on_and_on}
 use Rattle.ccan_saved.proofs.restoring.put_back.Goals as goal
 
 pub returns-then-is_as_saved-clause-goes : goal.returns-then-is_as_saved-clause-goes
