@@ -27,8 +27,9 @@ impl<'a, T: Eprint> ProgressLine<'a, T> {
 impl<'a, T: Eprint> Progress for ProgressLine<'a, T> {
     fn tell(&self, kept: usize, followed: usize) {
         if self.is_terminal && followed > 0 && followed % EACH == 0 {
-            let _told =
-                eprint!(self.rt; "\rccan-lab: {kept} states so far, {followed} of them followed");
+            let _told = eprint!(self.rt;
+                "\rccan-lab: {kept} states so far, {followed} of them followed"
+            );
         }
     }
 }

@@ -12,7 +12,7 @@ use Rattle.ccan_endless.specs.declared.controller_changed.ControllerBusy.{Contro
 use Rattle.ccan_endless.specs.declared.controller_changed.ControllerChanged.{ControllerChanged}
 use Rattle.ccan_endless.specs.Chip.{ChipHistory, controller_at}
 use Rattle.ccan_endless.specs.ChipPort.{AddsController, AddsNoEvent, AddsNone, ChipPass}
-use Rattle.ccan_registers.specs.ChipSteps.{ChipGoes}
+use Rattle.ccan_registers.specs.ChipSteps.{ChipGoes, terms_at}
 use Rattle.ccan_registers.specs.Objects.{ShowsObject}
 use Rattle.ccan_registers.proofs.Going.{at_controller, goes_then, weaker}
 use Rattle.ccan_saved.specs.Looks.{GoesOn, LooksThrough}
