@@ -147,10 +147,7 @@ fn main(rt: HostRuntime) -> ExitCode {
         Err(error) => return tell_words(&rt, &error),
     };
     tell_waiting(&rt, &question);
-    let progress = ProgressLine {
-        rt: &rt,
-        is_terminal: rt.stderr().is_terminal(),
-    };
+    let progress = ProgressLine::new(&rt, rt.stderr().is_terminal());
     match answer_question(&rt, &question, &progress) {
         Ok(status) => ExitCode::from(status),
         Err(fault) => refuse(&rt, &fault),

@@ -1,25 +1,38 @@
 //! How far a search is, told on a terminal.
 
 use ccan_search::Progress;
+use std::cell::Cell;
 
 /// So many states are followed between two tellings.
 const EACH: usize = 10_000;
 
 /// A line of standard error that is written anew while a search goes on, where that is a terminal. Else nothing is written.
-#[derive(Clone, Copy, Drop)]
+#[derive(Drop)]
 pub struct ProgressLine<'a, T> {
     /// What gives standard error.
-    pub rt: &'a T,
+    rt: &'a T,
     /// Whether that is a terminal.
-    pub is_terminal: bool,
+    is_terminal: bool,
+    /// Whether the line stands there.
+    is_written: Cell<bool>,
 }
 
 impl<'a, T: Eprint> ProgressLine<'a, T> {
-    /// Takes the line away again.
+    /// Nothing is written yet.
+    pub fn new(rt: &'a T, is_terminal: bool) -> Self {
+        ProgressLine {
+            rt,
+            is_terminal,
+            is_written: Cell::new(false),
+        }
+    }
+
+    /// Takes the line away again, if it was written.
     pub fn clear(&self) {
-        if self.is_terminal {
+        if self.is_written.get() {
             // To the first column, and from there the line is erased (ECMA-48: carriage return, erase in line).
             let _told = self.rt.eprint("\r\u{1b}[K");
+            self.is_written.set(false);
         }
     }
 }
@@ -30,6 +43,7 @@ impl<'a, T: Eprint> Progress for ProgressLine<'a, T> {
             let _told = eprint!(self.rt;
                 "\rccan-lab: {kept} states so far, {followed} of them followed"
             );
+            self.is_written.set(true);
         }
     }
 }
