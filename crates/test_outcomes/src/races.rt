@@ -2,10 +2,10 @@
 //! that prints them.
 use ccan_object::ObjectNo;
 use ccan_outcomes::{
-    Ending, HistoryKind, Outcomes, Watch, all_outcomes, history_of, kept_ending, line_process_laws,
-    machine_laws, observed_history, observed_outcomes, place_laws, process_laws, quiet_laws, same,
-    seat_laws, states_along,
+    Ending, HistoryKind, Outcomes, Watch, all_outcomes, history_of, kept_ending, observed_history,
+    observed_outcomes, place_laws, quiet_laws, same, seat_laws, states_along,
 };
+use ccan_process::{line_process_laws, machine_laws, process_laws, undisturbed_laws};
 use ccan_run::read_input;
 use ccan_script::Script;
 use ccan_search::Untold;
@@ -30,7 +30,7 @@ fn laws_hold() {
     same::equal_answers_are_the_same();
     machine_laws::all_outcomes_are_reached();
     machine_laws::walks_are_histories();
-    quiet_laws::no_end_is_lost();
+    undisturbed_laws::no_end_is_lost();
     quiet_laws::hosts_leave_alone();
     quiet_laws::hosts_have_done();
     quiet_laws::bus_leaves_alone();

@@ -1,0 +1,20 @@
+mod Foreign
+pub mod Peeled
+pub mod Joint
+pub mod NamedObjects
+pub mod MemorySteps
+pub mod Joined
+pub mod Swapped
+pub mod ToFront
+pub mod Undisturbed
+pub mod Stepwise
+pub mod Whole
+pub mod Parts
+pub mod LooksRun
+pub mod HostLinesRun
+pub mod ScansRun
+pub mod LoadsRun
+pub mod RoundsRun
+pub mod Pending
+pub mod BusLinesRun
+pub mod PortsRun
