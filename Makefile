@@ -3,7 +3,7 @@ SCRIPT ?= examples/first_write.json
 PREFIX ?= /usr/local
 export SCRIPT PREFIX
 
-.PHONY: help run try examples prove test install bench sweep hostile soak c-test c-wrong schema clean
+.PHONY: help run try examples prove wrong test install bench sweep hostile soak c-test c-wrong schema clean
 
 help:
 	@tools/targets
@@ -19,6 +19,11 @@ examples:
 
 prove:
 	@tools/build
+
+wrong:
+	@tools/build ccan_lab
+	@tools/build ccan_c
+	tools/refuse_wrong
 
 test:
 	tools/gate
