@@ -7,6 +7,9 @@ pub mod Joined
 pub mod Swapped
 pub mod ToFront
 pub mod Undisturbed
+pub mod Looser
+pub mod LooserSteps
+pub mod LooksOnce
 pub mod Stepwise
 pub mod Whole
 pub mod Parts

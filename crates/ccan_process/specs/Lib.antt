@@ -6,3 +6,4 @@ pub mod Machine
 pub mod MachineLaws
 pub mod Quiet
 pub mod UndisturbedLaws
+pub mod WaitLaws
