@@ -9,7 +9,7 @@ use crate::outcomes::DEFAULT_MOST;
 use crate::progress_line::ProgressLine;
 use ccan_draw::{Picture, picture_of_run, svg_of};
 use ccan_explain::tell;
-use ccan_outcomes::all_outcomes;
+use ccan_outcomes::{all_outcomes, looking_once};
 use ccan_script::Script;
 use ccan_search::Progress;
 use clap::{Arg, ArgAction, ArgMatches, Command, value_parser};
@@ -62,7 +62,7 @@ pub fn draw_question<'a>(words: &ArgMatches<'a>) -> DrawQuestion<'a> {
     }
 }
 
-/// The picture of a history of the outcome of this number, from 1.
+/// The picture of a history of the outcome of this number, from 1, as `ccan-lab outcomes --all` lists it.
 fn outcome_drawn<P: Progress>(
     alloc: Global,
     script: &Script,
@@ -89,13 +89,16 @@ fn run_drawn(alloc: Global, script: &Script) -> Result<Picture, AllocError> {
 /// The picture that is asked of a script.
 fn drawn<P: Progress>(
     alloc: Global,
-    script: &Script,
+    script: Script,
     question: &DrawQuestion<'_>,
     progress: &P,
 ) -> Result<Picture, LabError> {
     match question.outcome {
-        Some(number) => outcome_drawn(alloc, script, number, question.most, progress),
-        None => Ok(run_drawn(alloc, script)?),
+        Some(number) => {
+            let once = looking_once(alloc, script)?;
+            outcome_drawn(alloc, &once, number, question.most, progress)
+        }
+        None => Ok(run_drawn(alloc, &script)?),
     }
 }
 
@@ -106,7 +109,7 @@ pub fn answer_draw<T: AllocGlobal + Input + Files + Print + Eprint>(
     progress: &ProgressLine<'_, T>,
 ) -> Result<(), LabError> {
     let script = script_asked(rt, question.file)?;
-    let made = drawn(rt.alloc(), &script, question, progress);
+    let made = drawn(rt.alloc(), script, question, progress);
     progress.clear();
     let picture = made?;
     let text = svg_of(rt.alloc(), &picture)?;

@@ -13,7 +13,7 @@ use crate::lab_error::LabError;
 use crate::observed::first_unknown;
 use crate::progress_line::ProgressLine;
 use crate::seen::seen_text;
-use ccan_outcomes::all_outcomes;
+use ccan_outcomes::{all_outcomes, looking_once};
 use ccan_script::Script;
 use ccan_search::Progress;
 use clap::{Arg, ArgAction, ArgMatches, Command, value_parser};
@@ -224,14 +224,14 @@ fn answer_of_script<P: Progress>(
     }
 }
 
-/// Lists the outcomes of the script, prints what is answered, and says whether it is as asked. On a terminal it is told how far
-/// the search is.
+/// Lists the outcomes of the script, prints what is answered, and says whether it is as asked. A wait is told by its last look:
+/// that changes no outcome. On a terminal it is told how far the search is.
 pub fn answer_outcomes<T: AllocGlobal + Input + Files + Print + Eprint>(
     rt: &T,
     question: &OutcomesQuestion<'_>,
     progress: &ProgressLine<'_, T>,
 ) -> Result<bool, LabError> {
-    let script = script_asked(rt, question.file)?;
+    let script = looking_once(rt.alloc(), script_asked(rt, question.file)?)?;
     refuse_unknown(rt.alloc(), &script, question.asked)?;
     let answered = answer_of_script(rt.alloc(), &script, question, progress);
     progress.clear();
