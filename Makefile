@@ -56,7 +56,7 @@ soak:
 	@tools/build
 	tools/soak crates/ccan/out/ccan
 	@tools/build ccan_lab
-	tools/check_listed crates/ccan/out/ccan crates/ccan_lab/out/ccan_lab 1000 examples/threads/claims.json examples/outcomes/*.json
+	tools/check_listed crates/ccan/out/ccan crates/ccan_lab/out/ccan_lab 1000 examples/threads/*.json examples/outcomes/*.json
 	tools/check_second_model crates/ccan/out/ccan crates/ccan_lab/out/ccan_lab 5000 2
 
 c-test:

@@ -3,9 +3,10 @@
 use ccan_object::ObjectNo;
 use ccan_outcomes::{
     Ending, HistoryKind, Outcomes, Watch, all_outcomes, history_of, kept_ending, observed_history,
-    observed_outcomes, place_laws, quiet_laws, same, seat_laws, states_along,
+    looking_once, observed_outcomes, place_laws, quiet_laws, same, seat_laws, states_along,
 };
-use ccan_process::{line_process_laws, machine_laws, process_laws, undisturbed_laws};
+use ccan_line::HostLine;
+use ccan_process::{line_process_laws, machine_laws, process_laws, undisturbed_laws, wait_laws};
 use ccan_run::read_input;
 use ccan_script::Script;
 use ccan_search::Untold;
@@ -31,6 +32,7 @@ fn laws_hold() {
     machine_laws::all_outcomes_are_reached();
     machine_laws::walks_are_histories();
     undisturbed_laws::no_end_is_lost();
+    wait_laws::waits_look_once();
     quiet_laws::hosts_leave_alone();
     quiet_laws::hosts_have_done();
     quiet_laws::bus_leaves_alone();
@@ -150,5 +152,30 @@ fn tells_nothing_apart_by_no_answer(rt: HostRuntime) -> Result<(), Fail> {
     assert!(rt; states < most);
     let fewer = states.saturating_sub(1);
     assert!(rt; observed_outcomes(rt.alloc(), &script, &nothing, fewer, &Untold)?.is_none());
+    Ok(())
+}
+
+/// Whether this is a wait that looks once.
+fn looks_once(line: &HostLine) -> bool {
+    matches!(line, HostLine::Until { turns: 1, .. })
+}
+
+/// One host waits in at most so many looks for a flag of object 1, which the other sets.
+const WAIT: &str = r#"{
+    "if1":[{"op":"until","object":1,"flag":"newdat","turns":5}],
+    "if2":[{"op":"transfer","request":"0001","set":{"cmask":"0090","ctrl":"8000"}}]
+}"#;
+
+#[test]
+fn waits_may_look_once(rt: HostRuntime) -> Result<(), Fail> {
+    // The wait finds the flag or not, however often it looks.
+    let script = read_input(rt.alloc(), &mut WAIT.as_bytes())?;
+    let (all, most) = counted(&whole(rt.alloc(), &script)?);
+    assert_eq!(rt; all, 2);
+    let once = looking_once(rt.alloc(), script)?;
+    assert!(rt; once.if1.as_slice().first().is_some_and(|line| looks_once(line)));
+    let (found, states) = counted(&whole(rt.alloc(), &once)?);
+    assert_eq!(rt; found, 2);
+    assert!(rt; states < most);
     Ok(())
 }
