@@ -2,10 +2,11 @@
 -- project's own.
 use Rattle.std.specs.Prelude.{ℕ, ◌≡◌, ◌+◌, ◌++◌, Bool, List, take, drop, length, codes}
 use Rattle.ccan_line.specs.Script.{ScriptFields}
+use Rattle.ccan_outcomes.specs.declared.all_ports.AllPorts.{AllPorts}
 use Rattle.ccan_outcomes.specs.declared.ending.Ending.{Ending}
 use Rattle.ccan_outcomes.specs.declared.outcomes.Outcomes.{Outcomes}
 use Rattle.ccan_outcomes.specs.declared.watch.Watch.{Watch}
-use Rattle.ccan_outcomes.specs.Observed.{AreFoundSeen, AreObserved, IsHistorySeen}
+use Rattle.ccan_outcomes.specs.Observed.{AreFoundSeen, AreObserved, HasMoreSeen, IsHistorySeen}
 use Rattle.ccan_lab.specs.Observed.{AreFirstTexts, first_count, marks_of, observed_texts}
 use Rattle.ccan_lab.specs.Replay.{ReplaysSeen}
 use Rattle.ccan_lab.specs.Report.{IsTextWith, counted_text}
@@ -44,3 +45,10 @@ pub record TellsSeen (names : List (List ℕ)) (script : ScriptFields) (text : L
   pub are : AreObserved script watch outcomes.listing.endings.keys
   pub lists : IsSeenListing script watch (marks_of names script) outcomes.listing.endings.keys
       (length outcomes.reached.states.keys) text
+
+-- where the places of these names are looked at, the ports can come to more states than so many, of which no two look the same
+pub record HasMoreAsNamed (names : List (List ℕ)) (script : ScriptFields) (eq : AllPorts → AllPorts → Bool) (most : ℕ) : Type 0
+    where
+  pub watch : Watch
+  pub is_watch : IsWatch script (marks_of names script) watch
+  pub more : HasMoreSeen script watch eq most

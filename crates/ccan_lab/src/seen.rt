@@ -1,18 +1,19 @@
 //! A list of what can be told apart by some lines and objects, of a search that keeps no other answers.
-ghost use Rattle.std.specs.Prelude.{◌≡◌, ◌<◌, ◌≤◌, ◌++◌, List, ℕ, IfOk, IfSome, OnOk, drop, length, map, not, take};
+ghost use Rattle.std.specs.Prelude.{◌≡◌, ◌<◌, ◌≤◌, ◌++◌, List, ℕ, IfOk, IfSome, IfNone, OnOk, drop, length, map, not, take};
 ghost use Rattle.std.specs.Prelude.{string_bytes};
 ghost use Rattle.ccan_line.specs.Script.{fields_of};
 ghost use Rattle.ccan_outcomes.specs.Observed.{AreFoundSeen, IsHistorySeen};
 ghost use Rattle.ccan_lab.specs.Observed.{AreFirstTexts, IsFirstText, first_count, is_repeat, names_in, text_at};
 ghost use Rattle.ccan_lab.specs.Replay.{ReplaysSeen};
 ghost use Rattle.ccan_lab.specs.Report.{IsTextWith};
-ghost use Rattle.ccan_lab.specs.Seen.{IsSeenListing, IsSeenText, IsWatch, TellsSeen, seen_heading};
+ghost use Rattle.ccan_lab.specs.Seen.{HasMoreAsNamed, IsSeenListing, IsSeenText, IsWatch, TellsSeen, seen_heading};
 
 use crate::observed::{is_repeat, marks_of, observed_texts};
 use crate::replay::order_to_kept;
 use crate::report::add_told_outcome;
 use crate::rows::all_rows;
 use crate::wording::add_counted;
+use ccan_outcomes::all_ports::AllPorts;
 use ccan_outcomes::{Outcomes, Watch, observed_history, observed_outcomes};
 use ccan_script::Script;
 use ccan_search::Progress;
@@ -180,8 +181,10 @@ pub fn seen_text<P: Progress>(
     most: usize,
     progress: &P,
 ) -> Result<Option<String>, AllocError>
-    ensures { IfOk result (λ found. IfSome found (λ text.
+    ensures text { IfOk result (λ found. IfSome found (λ text.
         TellsSeen (names_in list.now) (fields_of script.now) (string_bytes text))) }
+    ensures more { IfOk result (λ found. IfNone found (HasMoreAsNamed (names_in list.now)
+        (fields_of script.now) ⟦<AllPorts as PartialEq>⟧.eq most)) }
 {
     let marks = marks_of(alloc, script, list)?;
     let watch = watch_of(alloc, script, marks.as_slice())?;

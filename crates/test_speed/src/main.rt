@@ -1,18 +1,14 @@
-//! Times made scripts, from their text to their answers, and the memories that three threads share without a lock.
+//! Times the memories that three threads share without a lock.
 //!
-//! With the word `measure` it prints medians of several runs; with the word `transfers` a script of 2,000 transfers; with the
-//! word `open` whether the memories could be opened; without a word nothing.
+//! With the word `measure` it prints medians of several runs; with the word `open` whether the memories could be opened; without
+//! a word nothing.
 #![tactic(auto)]
 
-mod lines;
-mod made;
 mod memories;
 mod opening;
 mod rivals;
-mod scripts;
 mod timing;
 
-use crate::made::transfers;
 use crate::memories::measure_memory;
 use crate::opening::open_memories;
 use anyhow::Result;
@@ -24,13 +20,11 @@ fn main(rt: HostRuntime) -> Result<()> {
     for word in env::args(&rt)? {
         match word.as_str() {
             "measure" => {
-                scripts::measure(&rt, rt.alloc())?;
                 measure_memory::<WordRam>(&rt, rt.alloc(), "a word for each object")?;
                 measure_memory::<RootRam>(&rt, rt.alloc(), "one word for all objects")?;
                 measure_memory::<EndlessRam>(&rt, rt.alloc(), "no end")?;
             }
             "open" => open_memories(&rt, rt.alloc())?,
-            "transfers" => print!(&rt; "{}", transfers(rt.alloc())?)?,
             _ => (),
         }
     }

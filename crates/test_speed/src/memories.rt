@@ -2,7 +2,6 @@
 ghost use Rattle.std.specs.Prelude.{◌≡◌};
 ghost use Rattle.ccan_object.specs.Profile.{Holds};
 
-use crate::lines::lines;
 use crate::rivals::three_writers;
 use crate::timing::{median, tenths};
 use anyhow::{Result, bail};
@@ -21,7 +20,7 @@ const STEPS: u32 = 100_000;
 const RUNS: u32 = 21;
 
 /// How many memories are opened for changes, each of which takes as many as its quota.
-pub const MEMORIES: u32 = 63;
+const MEMORIES: u32 = 63;
 
 /// The quota that a memory is opened with: its greatest, or this where it has no end that could be reached.
 pub fn quota_of<R: SharedRam>() -> u64 {
@@ -241,8 +240,6 @@ pub fn measure_memory<R: SharedRam + Sync + Drop>(
     print_time(rt, "full write", changes::<R>(rt, alloc, &write_all())?)?;
     let clear = Change::Clear(CommandMask::of(0x007f));
     print_time(rt, "clearing read", changes::<R>(rt, alloc, &clear)?)?;
-    print_time(rt, "line of a read", lines::<R>(rt, alloc, 0x0073)?)?;
-    print_time(rt, "line of a full write", lines::<R>(rt, alloc, 0x00f3)?)?;
     let apart = three_writers::<R, _>(rt, alloc, [1, 2, 3])?;
     print_writers(rt, "three writers apart", apart)?;
     let together = three_writers::<R, _>(rt, alloc, [1, 1, 1])?;

@@ -3,8 +3,8 @@ use Rattle.ccan_line.specs.Script.{fields_of}
 use Rattle.ccan_lab.specs.Seen.{IsSeenListing, IsWatch}
 use Rattle.ccan_lab.proofs.seen.seen_text.Goals as goal
 
-pub returns : goal.returns
-returns g c =
+pub returns-clause-text : goal.returns-clause-text
+returns-clause-text g c =
     let script = fields_of c.args.script.now in
     let watch = c.in_ok-watch.watch in
     let outcomes = c.in-Some.outcomes in
@@ -20,3 +20,6 @@ returns g c =
       lists = subst (λ (marks : List Bool). IsSeenListing script watch marks outcomes.listing.endings.keys
           (length outcomes.reached.states.keys) text) listed_by c.in_ok-seen_listing.ensures;
     }
+
+pub returns-then-none-clause-more : goal.returns-then-none-clause-more
+returns-then-none-clause-more g c = ?
