@@ -58,6 +58,7 @@ soak:
 	@tools/build ccan_lab
 	tools/check_listed crates/ccan/out/ccan crates/ccan_lab/out/ccan_lab 1000 examples/threads/*.json examples/outcomes/*.json
 	tools/check_second_model crates/ccan/out/ccan crates/ccan_lab/out/ccan_lab 5000 2
+	tools/check_second_model crates/ccan/out/ccan crates/ccan_lab/out/ccan_lab files examples/threads/*.json
 
 c-test:
 	@tools/c_test

@@ -48,7 +48,7 @@ pub record TellsSeen (names : List (List ℕ)) (script : ScriptFields) (text : L
 
 -- where the places of these names are looked at, the ports can come to more states than so many, of which no two look the same
 pub record HasMoreAsNamed (names : List (List ℕ)) (script : ScriptFields) (eq : AllPorts → AllPorts → Bool) (most : ℕ) : Type 0
-    where
-  pub watch : Watch
-  pub is_watch : IsWatch script (marks_of names script) watch
-  pub more : HasMoreSeen script watch eq most
+  where
+    pub watch : Watch
+    pub is_watch : IsWatch script (marks_of names script) watch
+    pub more : HasMoreSeen script watch eq most

@@ -1,11 +1,11 @@
 //! The laws of the outcomes, and the histories of a script in which two hosts race. Lists of outcomes are tested with the program
 //! that prints them.
+use ccan_line::HostLine;
 use ccan_object::ObjectNo;
 use ccan_outcomes::{
-    Ending, HistoryKind, Outcomes, Watch, all_outcomes, history_of, kept_ending, observed_history,
-    looking_once, observed_outcomes, place_laws, quiet_laws, same, seat_laws, states_along,
+    Ending, HistoryKind, Outcomes, Watch, all_outcomes, history_of, kept_ending, looking_once,
+    observed_history, observed_outcomes, place_laws, quiet_laws, same, seat_laws, states_along,
 };
-use ccan_line::HostLine;
 use ccan_process::{line_process_laws, machine_laws, process_laws, undisturbed_laws, wait_laws};
 use ccan_run::read_input;
 use ccan_script::Script;
@@ -173,7 +173,12 @@ fn waits_may_look_once(rt: HostRuntime) -> Result<(), Fail> {
     let (all, most) = counted(&whole(rt.alloc(), &script)?);
     assert_eq!(rt; all, 2);
     let once = looking_once(rt.alloc(), script)?;
-    assert!(rt; once.if1.as_slice().first().is_some_and(|line| looks_once(line)));
+    assert!(rt;
+        once.if1
+            .as_slice()
+            .first()
+            .is_some_and(|line| looks_once(line))
+    );
     let (found, states) = counted(&whole(rt.alloc(), &once)?);
     assert_eq!(rt; found, 2);
     assert!(rt; states < most);

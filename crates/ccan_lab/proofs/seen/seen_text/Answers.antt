@@ -21,5 +21,12 @@ returns-clause-text g c =
           (length outcomes.reached.states.keys) text) listed_by c.in_ok-seen_listing.ensures;
     }
 
-pub returns-then-none-clause-more : goal.returns-then-none-clause-more
-returns-then-none-clause-more g c = ?
+pub returns-in_default-clause-more : goal.returns-in_default-clause-more
+returns-in_default-clause-more g c =
+    let script = fields_of c.args.script.now in
+    let marks_are = c.as_slice.ensures.value ∙ c.in_ok-marks.ensures in
+    record {
+      watch = c.in_ok-watch.watch;
+      is_watch = subst (λ (marks : List Bool). IsWatch script marks c.in_ok-watch.watch) marks_are c.in_ok-watch.ensures;
+      more = rw c.in_default.is at c.in_ok-outcomes.ensures.more;
+    }
