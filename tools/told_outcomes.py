@@ -84,12 +84,12 @@ TOLD = [
         "bus",
         [["bus status 0000", "bus init", "bus counters 0 0 0 active"]],
     ),
-    # IF2 looks and then writes; IF1 looks twice for the flag. Kept are the beginning, IF2 in its try before IF1's first look and before
-    # its second, and the two ends. IF2's look comes at once, since IF1 changes nothing, and so does what is left of one port where
-    # the other has done.
+    # IF2 looks and then writes; IF1 waits for the flag, which is told by one look. Kept are the beginning, IF2 in its try before that
+    # look, and the two ends. IF2's look comes at once, since IF1 changes nothing, and so does what is left of one port where the other
+    # has done.
     (
         {"if1": [{"op": "until", "object": 1, "flag": "newdat", "turns": 2}], "if2": [transfer("0001", **NEW)]},
-        5,
+        4,
         "if1",
         [["if1 until 01 newdat yes"], ["if1 until 01 newdat no"]],
     ),
