@@ -3,6 +3,4 @@
 mod arbitrations;
 mod bench;
 mod contention;
-mod loops;
-mod rounds;
 mod steps;

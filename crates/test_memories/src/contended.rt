@@ -1,10 +1,9 @@
-use crate::expect::{holds, same};
-use crate::found::found;
+use crate::expect::{found, frame, holds, registers, same, tries};
 use ccan_accept::Frame;
 use ccan_handler::ScanRefused;
-use ccan_object::{Iface, ObjectNo, Profile, Reg};
-use ccan_ram::{Access, Change, Changed, Refused, Tries};
-use std::test::Fail;
+use ccan_object::{ObjectNo, Profile, Reg};
+use ccan_ram::{Access, Change, Changed, Refused};
+use std::process::Abort;
 use test_contended::calls::{
     choose, choose_at_once, choose_from, interrupt, receive, receive_from,
 };
@@ -39,10 +38,7 @@ const INVALID: [(Reg, u16); 1] = [(Reg::CMask, 0x00a0)];
 
 /// A transfer from new registers that were set so.
 fn transfer(request: u16, settings: &[(Reg, u16)]) -> Transfer {
-    let mut registers = Iface::new();
-    for (register, value) in settings {
-        registers.set(*register, *value);
-    }
+    let registers = registers(settings, &[]);
     Transfer {
         object: ObjectNo::from_request(Profile::One, request),
         command: registers.command(),
@@ -50,27 +46,18 @@ fn transfer(request: u16, settings: &[(Reg, u16)]) -> Transfer {
     }
 }
 
-/// So many tries.
-fn tries(most: u16) -> Result<Tries, Fail> {
-    Ok(Tries::new(most).ok_or("tries")?)
-}
-
 /// A standard data frame 0x123 with one byte 01.
-fn one_byte() -> Result<Frame, Fail> {
-    Ok(
-        Frame::new(0x123, false, false, 1, [1, 0, 0, 0, 0, 0, 0, 0])
-            .ok()
-            .ok_or("frame")?,
-    )
+fn one_byte(rt: &impl Abort) -> Frame {
+    frame(rt, 0x123, false, false, 1, [1, 0, 0, 0, 0, 0, 0, 0])
 }
 
 #[test]
-fn loses_a_try_and_makes_the_change(rt: HostRuntime) -> Result<(), Fail> {
+fn loses_a_try_and_makes_the_change(rt: HostRuntime) {
     let theirs = [transfer(3, &RECEIVER), transfer(3, &DATA)];
     let mut ram = Contended::new(Profile::One, 64, &theirs);
     holds(&rt, ram.go_on());
     let third = ObjectNo::from_request(ram.profile(), 3);
-    match ram.change(third, &Change::Store(one_byte()?), tries(2)?) {
+    match ram.change(third, &Change::Store(one_byte(&rt)), tries(&rt, 2)) {
         Ok(
             Changed::Done {
                 before,
@@ -83,15 +70,14 @@ fn loses_a_try_and_makes_the_change(rt: HostRuntime) -> Result<(), Fail> {
             same(&rt, after.bytes, [1, 0, 0, 0, 0, 0, 0, 0]);
             same(&rt, number, 131073);
         }
-        other => assert!(rt; false, "{other:?}"),
+        _ => holds(&rt, false),
     }
     holds(&rt, !ram.go_on());
     same(&rt, ram.used(), 1);
-    Ok(())
 }
 
 #[test]
-fn is_busy_after_all_tries_and_goes_on_where_it_stopped(rt: HostRuntime) -> Result<(), Fail> {
+fn is_busy_after_all_tries_and_goes_on_where_it_stopped(rt: HostRuntime) {
     let theirs = [
         transfer(3, &RECEIVER),
         transfer(3, &DATA),
@@ -99,24 +85,23 @@ fn is_busy_after_all_tries_and_goes_on_where_it_stopped(rt: HostRuntime) -> Resu
     ];
     let mut ram = Contended::new(Profile::One, 64, &theirs);
     holds(&rt, ram.go_on());
-    let received = one_byte()?;
+    let received = one_byte(&rt);
     let at = ObjectNo::from_request(ram.profile(), 3);
     let why = Refused::Busy { tries: 2, now: 3 };
     same(
         &rt,
-        receive(&mut ram, &received, tries(2)?),
+        receive(&mut ram, &received, tries(&rt, 2)),
         Err(ScanRefused { at, why }),
     );
     same(&rt, ram.used(), 0);
-    let stored = found(receive_from(&mut ram, &received, 3, tries(2)?))?;
+    let stored = found(&rt, receive_from(&mut ram, &received, 3, tries(&rt, 2)));
     same(&rt, stored.object, at);
     same(&rt, stored.after.control(), 0x8081);
     same(&rt, ram.used(), 1);
-    Ok(())
 }
 
 #[test]
-fn goes_on_past_an_object_made_invalid(rt: HostRuntime) -> Result<(), Fail> {
+fn goes_on_past_an_object_made_invalid(rt: HostRuntime) {
     for (most, chosen, busy) in [(2, 9, false), (1, 5, true)] {
         let theirs = [
             transfer(5, &READY),
@@ -126,7 +111,7 @@ fn goes_on_past_an_object_made_invalid(rt: HostRuntime) -> Result<(), Fail> {
         let mut ram = Contended::new(Profile::One, 64, &theirs);
         holds(&rt, ram.go_on() && ram.go_on());
         let object = ObjectNo::from_request(Profile::One, chosen);
-        match choose(&mut ram, tries(most)?) {
+        match choose(&mut ram, tries(&rt, most)) {
             Ok(Some((found, started))) => {
                 holds(&rt, !busy);
                 same(&rt, found, object);
@@ -143,14 +128,13 @@ fn goes_on_past_an_object_made_invalid(rt: HostRuntime) -> Result<(), Fail> {
         }
         let fifth = ObjectNo::from_request(ram.profile(), 5);
         holds(&rt, !ram.look(fifth).valid);
-        let (resumed, _started) = found(choose_from(&mut ram, 6, tries(1)?))?;
+        let (resumed, _started) = found(&rt, choose_from(&mut ram, 6, tries(&rt, 1)));
         same(&rt, resumed.get(), 9);
     }
-    Ok(())
 }
 
 #[test]
-fn starts_the_next_object_where_the_first_is_ready_no_more(rt: HostRuntime) -> Result<(), Fail> {
+fn starts_the_next_object_where_the_first_is_ready_no_more(rt: HostRuntime) {
     for most in [2, 1] {
         let theirs = [
             transfer(5, &READY),
@@ -164,20 +148,19 @@ fn starts_the_next_object_where_the_first_is_ready_no_more(rt: HostRuntime) -> R
             let why = Refused::Busy { tries: 1, now: 3 };
             same(
                 &rt,
-                choose_at_once(&mut ram, tries(most)?),
+                choose_at_once(&mut ram, tries(&rt, most)),
                 Err(ScanRefused { at, why }),
             );
         }
-        let (found, started) = found(choose_at_once(&mut ram, tries(most)?))?;
+        let (found, started) = found(&rt, choose_at_once(&mut ram, tries(&rt, most)));
         same(&rt, found.get(), 9);
         same(&rt, started.control(), 0x0188);
         same(&rt, started.bytes, FIRST);
     }
-    Ok(())
 }
 
 #[test]
-fn loses_nothing_to_another_object(rt: HostRuntime) -> Result<(), Fail> {
+fn loses_nothing_to_another_object(rt: HostRuntime) {
     let theirs = [
         transfer(3, &RECEIVER),
         transfer(6, &READY),
@@ -185,16 +168,15 @@ fn loses_nothing_to_another_object(rt: HostRuntime) -> Result<(), Fail> {
     ];
     let mut ram = Contended::new(Profile::One, 64, &theirs);
     holds(&rt, ram.go_on());
-    let received = one_byte()?;
-    let stored = found(receive(&mut ram, &received, tries(1)?))?;
+    let received = one_byte(&rt);
+    let stored = found(&rt, receive(&mut ram, &received, tries(&rt, 1)));
     same(&rt, stored.object.get(), 3);
     let sixth = ObjectNo::from_request(ram.profile(), 6);
     same(&rt, ram.look(sixth).control(), 0x0188);
-    Ok(())
 }
 
 #[test]
-fn stops_where_a_quota_is_spent(rt: HostRuntime) -> Result<(), Fail> {
+fn stops_where_a_quota_is_spent(rt: HostRuntime) {
     let theirs = [
         transfer(3, &RECEIVER),
         transfer(3, &DATA),
@@ -203,10 +185,10 @@ fn stops_where_a_quota_is_spent(rt: HostRuntime) -> Result<(), Fail> {
     ];
     let mut ram = Contended::new(Profile::One, 2, &theirs);
     holds(&rt, ram.go_on());
-    let received = one_byte()?;
+    let received = one_byte(&rt);
     for expected in [Some(1), Some(2), None] {
         let third = ObjectNo::from_request(ram.profile(), 3);
-        match ram.change(third, &Change::Store(received), tries(2)?) {
+        match ram.change(third, &Change::Store(received), tries(&rt, 2)) {
             Ok(_) => same(&rt, Some(ram.used()), expected),
             Err(why) => {
                 same(&rt, why, Refused::Spent);
@@ -215,7 +197,6 @@ fn stops_where_a_quota_is_spent(rt: HostRuntime) -> Result<(), Fail> {
         }
     }
     holds(&rt, !ram.go_on());
-    Ok(())
 }
 
 #[test]

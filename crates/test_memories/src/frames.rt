@@ -1,8 +1,8 @@
 //! Worked examples of frames: acceptance, storing, and what is sent.
 
-use crate::expect::{holds, same};
+use crate::expect::{frame, holds, same};
 use ccan_accept::*;
-use ccan_object::{CommandMask, Record, cleared, unpack};
+use ccan_object::{Record, unpack};
 use std::alloc::AllocError;
 use std::process::Abort;
 
@@ -11,11 +11,11 @@ const WRITTEN: [u8; 8] = [0x11, 0x22, 0x33, 0x44, 0x55, 0x66, 0x77, 0x88];
 
 /// The record that registers show: Arbitration 2 and 1, Mask 2 and 1, Message Control, and the data.
 fn record(rt: &impl Abort, arbitration: u32, masks: u32, control: u16, bytes: [u8; 8]) -> Record {
-    let identifiers = (u64::from(masks) << 32) + u64::from(arbitration);
-    unpack([identifiers, u64::from(control), u64::from_le_bytes(bytes)]).expect(
-        rt,
-        "the record has no reserved bits",
-    )
+    let identifiers = u64::from(masks) << 32 | u64::from(arbitration);
+    match unpack([identifiers, u64::from(control), u64::from_le_bytes(bytes)]) {
+        Some(object) => object,
+        None => panic!(rt; "a reserved bit"),
+    }
 }
 
 /// The registers that show a record.
@@ -30,16 +30,12 @@ fn shown(object: &Record) -> (u32, u32, u16, [u8; 8]) {
 
 /// A standard data frame.
 fn data(rt: &impl Abort, id: u32, dlc: u8, bytes: [u8; 8]) -> Frame {
-    Frame::new(id, false, false, dlc, bytes)
-        .ok()
-        .expect(rt, "the identifier and the length fit")
+    frame(rt, id, false, false, dlc, bytes)
 }
 
 /// A standard remote frame for 0x123 with four bytes.
 fn request(rt: &impl Abort) -> Frame {
-    Frame::new(0x123, false, true, 4, WRITTEN)
-        .ok()
-        .expect(rt, "the identifier and the length fit")
+    frame(rt, 0x123, false, true, 4, WRITTEN)
 }
 
 #[test]
@@ -59,9 +55,7 @@ fn frames_have_ranges(rt: HostRuntime) {
         Frame::new(536870912, true, false, 0, WRITTEN),
         Err(FrameError::IdRange),
     );
-    let extended = Frame::new(536870911, true, false, 15, WRITTEN)
-        .ok()
-        .expect(&rt, "a frame");
+    let extended = frame(&rt, 536870911, true, false, 15, WRITTEN);
     same(&rt, extended.id(), 536870911);
     holds(&rt, extended.xtd() && !extended.rtr());
     same(&rt, extended.dlc().get(), 15);
@@ -91,10 +85,10 @@ fn frame_errors_have_texts(rt: HostRuntime) -> Result<(), AllocError> {
 fn stores_through_a_mask(rt: HostRuntime) {
     let object = record(&rt, 0x848c0000, 0xdff80000, 0x1080, [0; 8]);
     for (id, want) in [(0x123, true), (0x122, true), (0x121, false)] {
-        assert_eq!(rt;
-            accepts(&object, &data(&rt, id, 0, [0; 8])),
-            want,
-            "at {id}"
+        same(
+            &rt,
+            (id, accepts(&object, &data(&rt, id, 0, [0; 8]))),
+            (id, want),
         );
     }
     let after = stored(&object, &data(&rt, 0x122, 0, [0; 8]));
@@ -208,10 +202,12 @@ fn accepts_by_width_kind_and_mask(rt: HostRuntime) {
     ] {
         let object = record(&rt, arbitration, masks, control, [0; 8]);
         for ((id, xtd, rtr), want) in frames.iter().zip(wanted.iter()) {
-            let frame = Frame::new(*id, *xtd, *rtr, 0, [0; 8])
-                .ok()
-                .expect(&rt, "a frame");
-            assert_eq!(rt; accepts(&object, &frame), *want, "{object:?} {frame:?}");
+            let sent = frame(&rt, *id, *xtd, *rtr, 0, [0; 8]);
+            same(
+                &rt,
+                (object, sent, accepts(&object, &sent)),
+                (object, sent, *want),
+            );
         }
     }
 }
@@ -227,9 +223,7 @@ fn stores_data_frames(rt: HostRuntime) {
         (0x848c0000, 0, 0xe483, [1, 2, 3, 0, 0, 0, 0, 0]),
     );
     let extended = record(&rt, 0xdfffffff, 0, 0x0080, WRITTEN);
-    let long = Frame::new(0x1fffffff, true, false, 15, [1, 2, 3, 4, 5, 6, 7, 8])
-        .ok()
-        .expect(&rt, "a frame");
+    let long = frame(&rt, 0x1fffffff, true, false, 15, [1, 2, 3, 4, 5, 6, 7, 8]);
     holds(&rt, accepts(&extended, &long));
     let after = stored(&extended, &long);
     same(
@@ -238,71 +232,6 @@ fn stores_data_frames(rt: HostRuntime) {
         (0xdfffffff, 0, 0x808f, [1, 2, 3, 4, 5, 6, 7, 8]),
     );
     same(&rt, frame_of(&Record { dir: true, ..after }), long);
-}
-
-/// The first of some objects that accepts a frame stores it: its place, and what its registers show then.
-fn receive(objects: &mut [Record; 3], frame: &Frame) -> Option<(usize, u16, [u8; 8])> {
-    for (place, object) in objects.iter_mut().enumerate() {
-        if accepts(object, frame) {
-            *object = stored(object, frame);
-            return Some((place, object.control(), object.bytes));
-        }
-    }
-    None
-}
-
-#[test]
-fn fills_a_fifo_buffer(rt: HostRuntime) {
-    let mut objects = [
-        record(&rt, 0x848c0000, 0, 0x0008, [0; 8]),
-        record(&rt, 0x848c0000, 0, 0x0008, [0; 8]),
-        record(&rt, 0x848c0000, 0, 0x0088, [0; 8]),
-    ];
-    for (byte, place, control) in [
-        (1, 0, 0x8001),
-        (2, 1, 0x8001),
-        (3, 2, 0x8081),
-        (4, 2, 0xc081),
-    ] {
-        let bytes = [byte, 0, 0, 0, 0, 0, 0, 0];
-        let answer = receive(&mut objects, &data(&rt, 0x123, 1, bytes));
-        same(&rt, answer, Some((place, control, bytes)));
-    }
-    let [full, second, last] = objects;
-    same(
-        &rt,
-        shown(&full),
-        (0x848c0000, 0, 0x8001, [1, 0, 0, 0, 0, 0, 0, 0]),
-    );
-    // the host reads the first object, and clears NewDat
-    let mut objects = [cleared(CommandMask::of(0x007f), &full), second, last];
-    let bytes = [5, 0, 0, 0, 0, 0, 0, 0];
-    let answer = receive(&mut objects, &data(&rt, 0x123, 1, bytes));
-    same(&rt, answer, Some((0, 0x8001, bytes)));
-}
-
-#[test]
-fn answers_remote_frames(rt: HostRuntime) {
-    for (arbitration, masks, control, after) in [
-        (0xa48c0000, 0, 0x0288, (0xa48c0000, 0, 0x0388, WRITTEN)),
-        (0xa48c0000, 0, 0x0088, (0xa48c0000, 0, 0x0088, WRITTEN)),
-        (
-            0xa48c0000,
-            0xdfffffff,
-            0x1088,
-            (0xa48c0000, 0xdfffffff, 0x9084, WRITTEN),
-        ),
-        (
-            0x848c0000,
-            0x9fffffff,
-            0x1088,
-            (0xa48c0000, 0x9fffffff, 0x9084, WRITTEN),
-        ),
-    ] {
-        let object = record(&rt, arbitration, masks, control, WRITTEN);
-        assert!(rt; accepts(&object, &request(&rt)), "{object:?}");
-        assert_eq!(rt; shown(&stored(&object, &request(&rt))), after, "{object:?}");
-    }
 }
 
 #[test]

@@ -1,12 +1,13 @@
 use ccan_handler::{ScanRefused, laws};
-use test_contended::calls::{choose, flags, interrupt, until};
+use test_contended::calls::{choose, flags, until};
 
 mod moments;
 mod scans;
 
-use crate::expect::{holds, same};
-use ccan_object::{Iface, ObjectNo, Profile, Record, Reg};
-use ccan_ram::{Access, Array, Change, Changed, Flag, PortName, Refused, Tries};
+use crate::expect::{holds, registers, same, tries};
+use ccan_object::{ObjectNo, Profile, Record, Reg};
+use ccan_ram::{Access, Array, Change, Changed, Flag, PortName, Refused};
+use std::process::Abort;
 use std::test::Fail;
 
 /// The data of a first message.
@@ -28,41 +29,28 @@ const RECEIVER: [(Reg, u16); 2] = [(Reg::CMask, 0x00f3), (Reg::Arb2, 0x848c)];
 /// A write of Message Control alone.
 const CONTROL: [(Reg, u16); 1] = [(Reg::CMask, 0x0090)];
 
-/// Sets registers.
-fn set(registers: &mut Iface, settings: &[(Reg, u16)]) {
-    for (register, value) in settings {
-        registers.set(*register, *value);
-    }
-}
-
-/// So many tries.
-fn tries(most: u16) -> Result<Tries, Fail> {
-    Ok(Tries::new(most).ok_or("tries")?)
-}
-
 /// A change by one port of the object that a request names.
-fn change(ram: &mut Array, port: PortName, request: u16, made: &Change) -> Result<Record, Fail> {
+fn change(rt: &impl Abort, ram: &mut Array, port: PortName, request: u16, made: &Change) -> Record {
     ram.at(port);
     let number = ObjectNo::from_request(ram.profile(), request);
-    match ram.change(number, made, tries(4)?) {
-        Ok(Changed::Done { after, .. }) => Ok(after),
-        other => Err(Fail::from("refused")),
+    match ram.change(number, made, tries(rt, 4)) {
+        Ok(Changed::Done { after, .. }) => after,
+        _ => panic!(rt; "refused"),
     }
 }
 
 /// Sets registers and writes the object that the request names.
 fn write(
+    rt: &impl Abort,
     ram: &mut Array,
     port: PortName,
     request: u16,
     settings: [&[(Reg, u16)]; 2],
-) -> Result<Record, Fail> {
-    let mut registers = Iface::new();
-    for part in settings {
-        set(&mut registers, part);
-    }
+) -> Record {
+    let [some, more] = settings;
+    let registers = registers(some, more);
     let made = Change::Write(registers.command(), registers.buffer());
-    change(ram, port, request, &made)
+    change(rt, ram, port, request, &made)
 }
 
 /// The four fields of a printed record.
@@ -76,76 +64,25 @@ fn fields(shown: &Record) -> (u32, u32, u16, [u8; 8]) {
 }
 
 #[test]
-fn reads_the_flags_of_all_objects(rt: HostRuntime) -> Result<(), Fail> {
+fn reads_the_flags_of_all_objects(rt: HostRuntime) {
     let mut ram = Array::new(Profile::One, 64);
     for request in [0x0001, 0x0000] {
         let _written = write(
+            &rt,
             &mut ram,
             PortName::If1,
             request,
             [&CONTROL, &[(Reg::Ctrl, 0x0100)]],
-        )?;
+        );
     }
     ram.at(PortName::If2);
     same(&rt, flags(&mut ram, Flag::TxRqst), 0x8000_0001);
     same(&rt, flags(&mut ram, Flag::MsgVal), 0);
     ram.at(PortName::Bus);
-    same(&rt, choose(&mut ram, tries(4)?), Ok(None));
+    same(&rt, choose(&mut ram, tries(&rt, 4)), Ok(None));
     holds(&rt, !until(&mut ram, 0x0002, Flag::TxRqst, 1));
     holds(&rt, until(&mut ram, 0x0000, Flag::TxRqst, 1));
     holds(&rt, !until(&mut ram, 0x0000, Flag::TxRqst, 0));
-    Ok(())
-}
-
-#[test]
-fn tells_the_interrupt_and_the_flag_of_the_last_object(rt: HostRuntime) -> Result<(), Fail> {
-    for (profile, number, word) in [
-        (Profile::One, 0x0020, 0x8000_0000),
-        (Profile::Two, 0x0040, 0x8000_0000_0000_0000),
-    ] {
-        let mut ram = Array::new(profile, 64);
-        same(&rt, interrupt(&mut ram, false), 0);
-        let written = write(
-            &mut ram,
-            PortName::If1,
-            0x0000,
-            [&CONTROL, &[(Reg::Ctrl, 0x2000)]],
-        )?;
-        same(&rt, fields(&written), (0, 0, 0x2000, [0; 8]));
-        same(&rt, interrupt(&mut ram, false), number);
-        same(&rt, flags(&mut ram, Flag::IntPnd), word);
-    }
-    Ok(())
-}
-
-#[test]
-fn tells_the_first_interrupt_and_the_status_interrupt_before_it(
-    rt: HostRuntime,
-) -> Result<(), Fail> {
-    let mut ram = Array::new(Profile::One, 64);
-    for request in [0x0007, 0x0003] {
-        let _written = write(
-            &mut ram,
-            PortName::If1,
-            request,
-            [&CONTROL, &[(Reg::Ctrl, 0x2080)]],
-        )?;
-    }
-    ram.at(PortName::Bus);
-    same(&rt, interrupt(&mut ram, false), 0x0003);
-    same(&rt, interrupt(&mut ram, true), 0x8000);
-    let mut registers = Iface::new();
-    registers.set(Reg::CMask, 0x0008);
-    let cleared = change(
-        &mut ram,
-        PortName::If1,
-        0x0003,
-        &Change::Clear(registers.command()),
-    )?;
-    same(&rt, fields(&cleared), (0, 0, 0x0080, [0; 8]));
-    ram.at(PortName::Bus);
-    same(&rt, interrupt(&mut ram, false), 0x0007);
-    Ok(())
 }
 
 #[test]

@@ -1,7 +1,7 @@
 //! Tests of what lies below scripts, by worked examples whose expected values come from the rules and not from the program:
 //! objects, frames, fault confinement, the controller's registers, and where the registers of the chip stand; the message
 //! handler and the bus, over a plain memory and over one whose tries are lost on purpose; and the memories that threads
-//! share. There is nothing here but tests.
+//! share; and saved chips, which were led through many states and come back from their bytes. There is nothing here but tests.
 #![tactic(auto)]
 
 #[cfg(test)]
@@ -15,8 +15,6 @@ mod controller;
 #[cfg(test)]
 mod expect;
 #[cfg(test)]
-mod found;
-#[cfg(test)]
 mod frames;
 #[cfg(test)]
 mod handler;
@@ -26,5 +24,9 @@ mod map;
 mod memory;
 #[cfg(test)]
 mod objects;
+#[cfg(test)]
+mod saved;
+#[cfg(test)]
+mod saved_bytes;
 #[cfg(test)]
 mod shared;

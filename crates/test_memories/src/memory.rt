@@ -1,7 +1,6 @@
 //! Worked examples of the plain memory.
 
 mod drafts;
-mod handler;
 mod plain;
 
 use ccan_object::{Iface, ObjectNo, Profile, Record, Reg};
@@ -20,21 +19,11 @@ const MESSAGE: [(Reg, u16); 6] = [
     (Reg::DataB2, 0x8877),
 ];
 
-/// The registers that a driver sets to receive standard frames 0x123, but for Message Control.
-const RECEIVER: [(Reg, u16); 2] = [(Reg::CMask, 0x00f3), (Reg::Arb2, 0x848c)];
-
 /// Four tries for each change.
 fn four_tries() -> Tries {
     match Tries::new(4) {
         Some(tries) => tries,
         None => unreachable!(),
-    }
-}
-
-/// Sets registers.
-fn set(registers: &mut Iface, settings: &[(Reg, u16)]) {
-    for (register, value) in settings {
-        registers.set(*register, *value);
     }
 }
 

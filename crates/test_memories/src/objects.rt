@@ -40,16 +40,27 @@ fn interface(settings: &[(Reg, u16)]) -> Iface {
     registers
 }
 
-/// Makes the transfer that the Command Mask register says, and answers what the message buffer shows then.
-fn transfer(registers: &mut Iface, object: &mut Record) -> Shown {
+/// Makes a write, as the Command Mask register says.
+fn write(registers: &mut Iface, object: &mut Record) {
+    let command = registers.command();
+    *object = merged(command, &registers.buffer(), object);
+    registers.fill(command, object);
+}
+
+/// Makes a read, as the Command Mask register says.
+fn read(registers: &mut Iface, object: &mut Record) {
     let command = registers.command();
     let before = *object;
-    if command.is_write() {
-        *object = merged(command, &registers.buffer(), &before);
-        registers.fill(command, object);
+    *object = cleared(command, &before);
+    registers.fill(command, &before);
+}
+
+/// Makes the transfer that the Command Mask register says, and answers what the message buffer shows then.
+fn transfer(registers: &mut Iface, object: &mut Record) -> Shown {
+    if registers.command().is_write() {
+        write(registers, object);
     } else {
-        *object = cleared(command, &before);
-        registers.fill(command, &before);
+        read(registers, object);
     }
     shown(&registers.buffer())
 }
@@ -80,13 +91,13 @@ fn unpacks_no_reserved_bits(rt: HostRuntime) {
         [0, 1 << 16, 0],
         [0, 1 << 63, 0],
     ] {
-        assert_eq!(rt; unpack(words), None, "{words:?}");
+        same(&rt, (words, unpack(words)), (words, None));
     }
     for words in [[u64::MAX - (1 << 61), 0xff8f, u64::MAX], [0, 0, 0]] {
-        assert_eq!(rt;
-            unpack(words).map(|object| pack(&object)),
-            Some(words),
-            "{words:?}"
+        same(
+            &rt,
+            (words, unpack(words).map(|object| pack(&object))),
+            (words, Some(words)),
         );
     }
 }
@@ -120,12 +131,12 @@ fn names_the_requested_object(rt: HostRuntime) {
     ] {
         for (profile, number) in [(Profile::One, first), (Profile::Two, second)] {
             let object = ObjectNo::from_request(profile, request);
-            assert_eq!(rt; object.get(), number, "{request:#x}");
+            same(&rt, (request, object.get()), (request, number));
             holds(&rt, profile.holds(object));
         }
     }
     for (number, wanted) in [(0, None), (1, Some(1)), (64, Some(64)), (65, None)] {
-        assert_eq!(rt; object_number(number), wanted, "{number}");
+        same(&rt, (number, object_number(number)), (number, wanted));
     }
 }
 
@@ -165,22 +176,6 @@ fn writes_a_part_and_shows_the_whole(rt: HostRuntime) {
 }
 
 #[test]
-fn writes_new_data_after_a_start(rt: HostRuntime) {
-    // the object as a transmission left it at its start, and its registers as they were written
-    let mut registers = interface(&FIRST_MESSAGE);
-    registers.set(Reg::Ctrl, 0x0188);
-    let mut object = registers.buffer();
-    for register in [Reg::DataA1, Reg::DataA2, Reg::DataB1, Reg::DataB2] {
-        registers.set(register, 0x9999);
-    }
-    registers.set(Reg::CMask, 0x0093);
-    registers.set(Reg::Ctrl, 0x8188);
-    let whole = (0xa48c0000, 0, 0x8188, [0x99; 8]);
-    same(&rt, transfer(&mut registers, &mut object), whole);
-    same(&rt, shown(&object), whole);
-}
-
-#[test]
 fn reads_the_flags_before_it_clears_them(rt: HostRuntime) {
     let mut object = Record::zero();
     let mut registers = interface(&[(Reg::CMask, 0x0090), (Reg::Ctrl, 0xa488)]);
@@ -191,15 +186,22 @@ fn reads_the_flags_before_it_clears_them(rt: HostRuntime) {
     ] {
         registers.set(Reg::CMask, command);
         let answer = transfer(&mut registers, &mut object);
-        assert_eq!(rt; answer, (0, 0, before, [0; 8]), "{command:#x}");
-        assert_eq!(rt; object.control(), after, "{command:#x}");
+        let shows = (0, 0, before, [0; 8]);
+        same(
+            &rt,
+            (command, answer, object.control()),
+            (command, shows, after),
+        );
     }
     // each bit clears its own flag
     for (command, after) in [(0x0008, 0x8488), (0x0004, 0x2488), (0x0073, 0xa488)] {
         let mut object = interface(&[(Reg::Ctrl, 0xa488)]).buffer();
         let answer = transfer(&mut interface(&[(Reg::CMask, command)]), &mut object);
-        assert_eq!(rt; object.control(), after, "{command:#x}");
-        assert_eq!(rt; answer.0, 0, "{command:#x}");
+        same(
+            &rt,
+            (command, object.control(), answer.0),
+            (command, after, 0),
+        );
     }
 }
 
@@ -228,8 +230,8 @@ fn commands_say_what_they_move(rt: HostRuntime) {
         (0x0008, false, false),
     ] {
         let command = CommandMask::of(register);
-        assert_eq!(rt; command.is_write(), is_write, "{register:#x}");
-        assert_eq!(rt; command.is_pure_read(), is_pure_read, "{register:#x}");
+        let kind = (command.is_write(), command.is_pure_read());
+        same(&rt, (register, kind), (register, (is_write, is_pure_read)));
     }
     let data = CommandMask::of(0x0087);
     for (group, is_selected) in [
@@ -239,7 +241,7 @@ fn commands_say_what_they_move(rt: HostRuntime) {
         (Group::Arb, false),
         (Group::Control, false),
     ] {
-        assert_eq!(rt; data.selects(group), is_selected, "{group:?}");
+        same(&rt, (group, data.selects(group)), (group, is_selected));
     }
     let others = (data.has_txrqst_newdat(), data.clears_intpnd());
     same(&rt, others, (true, false));
@@ -261,9 +263,9 @@ fn registers_drop_their_reserved_bits(rt: HostRuntime) {
         (Reg::DataB1, 0xffff),
         (Reg::DataB2, 0xffff),
     ] {
-        assert_eq!(rt; registers.get(register), 0, "{register:?}");
+        same(&rt, (register, registers.get(register)), (register, 0));
         registers.set(register, 0xffff);
-        assert_eq!(rt; registers.get(register), shows, "{register:?}");
+        same(&rt, (register, registers.get(register)), (register, shows));
     }
 }
 
@@ -347,7 +349,7 @@ fn writes_the_selected_group_alone(rt: HostRuntime) {
         (0x0081, (0, 0, 0, [0, 0, 0, 0, 255, 255, 255, 255])),
     ] {
         let answers = written(&registers, command);
-        assert_eq!(rt; answers, (wanted, wanted), "{command:#x}");
+        same(&rt, (command, answers), (command, (wanted, wanted)));
     }
 }
 
@@ -393,7 +395,7 @@ fn identifiers_and_lengths_have_ranges(rt: HostRuntime) {
         (15, Some(8)),
         (16, None),
     ] {
-        assert_eq!(rt; byte_count(code), count, "{code}");
+        same(&rt, (code, byte_count(code)), (code, count));
     }
     same(&rt, DataLength::of(0x1235).get(), 5);
     let defaults = (Identifier::default(), DataLength::default());

@@ -28,7 +28,7 @@ fn passes_all_rungs(rt: HostRuntime) -> Result<(), Fail> {
     let Some(reached) = reachable(&Ladder, rt.alloc(), 0, 10, 1, &Untold)? else {
         return Err(Fail::new("more than one"));
     };
-    assert_eq!(rt; reached.states.as_slice(), [0].as_slice());
+    assert!(rt; reached.states.as_slice() == [0].as_slice());
     Ok(())
 }
 

@@ -3,8 +3,9 @@
 use ccan_line::HostLine;
 use ccan_object::ObjectNo;
 use ccan_outcomes::{
-    Ending, HistoryKind, Outcomes, Watch, all_outcomes, history_of, kept_ending, looking_once,
-    observed_history, observed_outcomes, place_laws, quiet_laws, same, seat_laws, states_along,
+    Ending, HistoryKind, HistoryStep, Outcomes, Watch, all_outcomes, history_of, kept_ending,
+    looking_once, observed_history, observed_outcomes, place_laws, quiet_laws, same, seat_laws,
+    states_along,
 };
 use ccan_process::{line_process_laws, machine_laws, process_laws, undisturbed_laws, wait_laws};
 use ccan_run::read_input;
@@ -38,28 +39,52 @@ fn laws_hold() {
     quiet_laws::bus_leaves_alone();
 }
 
-#[test]
-fn answers_a_history_of_each_outcome(rt: HostRuntime) -> Result<(), Fail> {
-    // A look and a change of each host lead to an end, so four steps after the start.
-    let text =
-        r#"{"if1":[{"op":"transfer","request":"0001","set":{"cmask":"0082","dataa1":"1111"}}],"if2":[{"op":"transfer","request":"0001","set":{"cmask":"0082","dataa1":"2222"}}]}"#;
-    let script = read_input(rt.alloc(), &mut text.as_bytes())?;
-    let Some(outcomes) = all_outcomes(rt.alloc(), &script, 1000, &Untold)? else {
+/// A script from its text. This and the functions below promise nothing, so that a test's proof has no more to carry than its
+/// own lines.
+fn read(alloc: Global, text: &str) -> Result<Script, Fail> {
+    Ok(read_input(alloc, &mut text.as_bytes())?)
+}
+
+/// Whether each step is of line 1 at object 1, and the last one writes it.
+fn writes_one_at_last(history: &[HistoryStep]) -> bool {
+    let last = history.last();
+    history
+        .iter()
+        .all(|step| step.line == 1 && step.object == ObjectNo::new(1))
+        && last.is_some_and(|step| step.kind == HistoryKind::Writes)
+}
+
+/// How many states a history leads through.
+fn states(alloc: Global, script: &Script, history: &[HistoryStep]) -> Result<usize, Fail> {
+    Ok(states_along(alloc, script, history)?.len())
+}
+
+/// How many outcomes a script has, where each has a history of four steps, through five states, of which the last writes.
+fn races(alloc: Global, script: &Script) -> Result<usize, Fail> {
+    let Some(found) = all_outcomes(alloc, script, 1000, &Untold)? else {
         return Err(Fail::new("more states than that"));
     };
-    for place in 0..outcomes.listing.endings.len() {
-        let history = history_of(rt.alloc(), &script, &outcomes, place)?;
-        assert_eq!(rt; history.len(), 4);
-        let states = states_along(rt.alloc(), &script, history.as_slice())?;
-        assert_eq!(rt; states.len(), 5);
-        for step in history.as_slice() {
-            assert_eq!(rt; step.line, 1);
-            assert!(rt; step.object == ObjectNo::new(1));
+    let endings = found.listing.endings.len();
+    for place in 0..endings {
+        let history = history_of(alloc, script, &found, place)?;
+        if !writes_one_at_last(history.as_slice()) || history.len() != 4 {
+            return Err(Fail::new("another history"));
         }
-        if let Some(last) = history.as_slice().last() {
-            assert!(rt; last.kind == HistoryKind::Writes);
+        if states(alloc, script, history.as_slice())? != 5 {
+            return Err(Fail::new("other states"));
         }
     }
+    Ok(endings)
+}
+
+#[test]
+fn answers_a_history_of_each_outcome(rt: HostRuntime) -> Result<(), Fail> {
+    // A look and a change of each host lead to an end, so four steps after the start. Either host may write last.
+    let text =
+        r#"{"if1":[{"op":"transfer","request":"0001","set":{"cmask":"0082","dataa1":"1111"}}],"if2":[{"op":"transfer","request":"0001","set":{"cmask":"0082","dataa1":"2222"}}]}"#;
+    let script = read(rt.alloc(), text)?;
+    let found = races(rt.alloc(), &script)?;
+    assert!(rt; found == 2);
     Ok(())
 }
 
@@ -110,14 +135,11 @@ fn has_all_kept(alloc: Global, script: &Script, watch: &Watch) -> Result<bool, F
 }
 
 /// One host writes object 1, and the other reads it twice.
-fn two_reads(alloc: Global) -> Result<Script, Fail> {
-    let text = r#"{
-        "if1":[{"op":"transfer","request":"0001","set":{"cmask":"0082","dataa1":"1111"}}],
-        "if2":[{"op":"transfer","request":"0001","set":{"cmask":"0002"}},
-               {"op":"transfer","request":"0001","set":{"cmask":"0002"}}]
-    }"#;
-    Ok(read_input(alloc, &mut text.as_bytes())?)
-}
+const TWO_READS: &str = r#"{
+    "if1":[{"op":"transfer","request":"0001","set":{"cmask":"0082","dataa1":"1111"}}],
+    "if2":[{"op":"transfer","request":"0001","set":{"cmask":"0002"}},
+           {"op":"transfer","request":"0001","set":{"cmask":"0002"}}]
+}"#;
 
 /// A look at these lines of IF2, and no other.
 fn watching(alloc: Global, if2: &[bool]) -> Result<Watch, Fail> {
@@ -128,36 +150,56 @@ fn watching(alloc: Global, if2: &[bool]) -> Result<Watch, Fail> {
     })
 }
 
+/// How many endings and states are found in all.
+fn of_all(alloc: Global, script: &Script) -> Result<(usize, usize), Fail> {
+    Ok(counted(&whole(alloc, script)?))
+}
+
+/// How many endings and states are found of what can be seen by these answers.
+fn of_seen(alloc: Global, script: &Script, watch: &Watch) -> Result<(usize, usize), Fail> {
+    Ok(counted(&seen(alloc, script, watch)?))
+}
+
+/// Whether there are more states than so many of what can be seen.
+fn has_more(alloc: Global, script: &Script, watch: &Watch, most: usize) -> Result<bool, Fail> {
+    Ok(observed_outcomes(alloc, script, watch, most, &Untold)?.is_none())
+}
+
 #[test]
 fn tells_apart_what_is_looked_at(rt: HostRuntime) -> Result<(), Fail> {
     // The two reads show what stood before the write, what it left, or one of each: three outcomes, whose objects are the same
     // at the end. By the second read alone there are two.
-    let script = two_reads(rt.alloc())?;
-    let (all, _) = counted(&whole(rt.alloc(), &script)?);
-    assert_eq!(rt; all, 3);
+    let script = read(rt.alloc(), TWO_READS)?;
+    let (all, _) = of_all(rt.alloc(), &script)?;
+    assert!(rt; all == 3);
     let second = watching(rt.alloc(), &[false, true])?;
-    let (seen, _) = counted(&seen(rt.alloc(), &script, &second)?);
-    assert_eq!(rt; seen, 2);
+    let (seen, _) = of_seen(rt.alloc(), &script, &second)?;
+    assert!(rt; seen == 2);
     assert!(rt; has_all_kept(rt.alloc(), &script, &second)?);
     Ok(())
 }
 
 #[test]
 fn tells_nothing_apart_by_no_answer(rt: HostRuntime) -> Result<(), Fail> {
-    let script = two_reads(rt.alloc())?;
+    let script = read(rt.alloc(), TWO_READS)?;
     let nothing = watching(rt.alloc(), &[])?;
-    let (_, most) = counted(&whole(rt.alloc(), &script)?);
-    let (seen, states) = counted(&seen(rt.alloc(), &script, &nothing)?);
-    assert_eq!(rt; seen, 1);
-    assert!(rt; states < most);
+    let (_, most) = of_all(rt.alloc(), &script)?;
+    let (seen, states) = of_seen(rt.alloc(), &script, &nothing)?;
+    assert!(rt; seen == 1 && states < most);
     let fewer = states.saturating_sub(1);
-    assert!(rt; observed_outcomes(rt.alloc(), &script, &nothing, fewer, &Untold)?.is_none());
+    assert!(rt; has_more(rt.alloc(), &script, &nothing, fewer)?);
     Ok(())
 }
 
-/// Whether this is a wait that looks once.
-fn looks_once(line: &HostLine) -> bool {
-    matches!(line, HostLine::Until { turns: 1, .. })
+/// Whether IF1 begins with a wait that looks once.
+fn begins_with_one_look(script: &Script) -> bool {
+    let first = script.if1.as_slice().first();
+    first.is_some_and(|line| matches!(line, HostLine::Until { turns: 1, .. }))
+}
+
+/// The script with waits that look once.
+fn shortened(alloc: Global, script: Script) -> Result<Script, Fail> {
+    Ok(looking_once(alloc, script)?)
 }
 
 /// One host waits in at most so many looks for a flag of object 1, which the other sets.
@@ -169,18 +211,11 @@ const WAIT: &str = r#"{
 #[test]
 fn waits_may_look_once(rt: HostRuntime) -> Result<(), Fail> {
     // The wait finds the flag or not, however often it looks.
-    let script = read_input(rt.alloc(), &mut WAIT.as_bytes())?;
-    let (all, most) = counted(&whole(rt.alloc(), &script)?);
-    assert_eq!(rt; all, 2);
-    let once = looking_once(rt.alloc(), script)?;
-    assert!(rt;
-        once.if1
-            .as_slice()
-            .first()
-            .is_some_and(|line| looks_once(line))
-    );
-    let (found, states) = counted(&whole(rt.alloc(), &once)?);
-    assert_eq!(rt; found, 2);
-    assert!(rt; states < most);
+    let script = read(rt.alloc(), WAIT)?;
+    let (all, most) = of_all(rt.alloc(), &script)?;
+    let once = shortened(rt.alloc(), script)?;
+    assert!(rt; begins_with_one_look(&once));
+    let (found, states) = of_all(rt.alloc(), &once)?;
+    assert!(rt; all == 2 && found == 2 && states < most);
     Ok(())
 }

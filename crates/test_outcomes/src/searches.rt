@@ -25,9 +25,9 @@ fn finds_all_states(rt: HostRuntime) -> Result<(), Fail> {
     let Some(reached) = found else {
         return Err(Fail::new("more than ten states"));
     };
-    assert_eq!(rt; reached.states.len(), 10);
+    assert!(rt; reached.states.len() == 10);
     for digit in 0..10u64 {
-        assert!(rt; reached.states.contains(&digit), "no {digit}");
+        assert!(rt; reached.states.contains(&digit));
     }
     Ok(())
 }
@@ -64,7 +64,7 @@ fn passes_no_state_that_two_follow(rt: HostRuntime) -> Result<(), Fail> {
     let Some(reached) = reachable(&Residues, rt.alloc(), 1, 9, 10, &Untold)? else {
         return Err(Fail::new("more than ten states"));
     };
-    assert_eq!(rt; reached.states.len(), 10);
+    assert!(rt; reached.states.len() == 10);
     Ok(())
 }
 
@@ -77,7 +77,7 @@ fn tells_how_far_it_is(rt: HostRuntime) -> Result<(), Fail> {
     };
     let found = reachable(&Residues, rt.alloc(), 1, 0, 10, &told)?;
     assert!(rt; found.is_some());
-    assert_eq!(rt; told.number.get(), 10);
-    assert_eq!(rt; told.kept.get(), 10);
+    assert!(rt; told.number.get() == 10);
+    assert!(rt; told.kept.get() == 10);
     Ok(())
 }

@@ -9,9 +9,9 @@ fn finds_a_digit_for_all_sums(rt: HostRuntime) -> Result<(), Fail> {
     let Some(reached) = reachable(&Till, rt.alloc(), 0, 0, 5, &Untold)? else {
         return Err(Fail::new("more than five digits"));
     };
-    assert_eq!(rt; reached.states.len(), 5);
+    assert!(rt; reached.states.len() == 5);
     for digit in [0, 2, 4, 6, 8u64] {
-        assert!(rt; reached.states.contains(&digit), "no {digit}");
+        assert!(rt; reached.states.contains(&digit));
     }
     Ok(())
 }

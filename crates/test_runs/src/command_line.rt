@@ -1,4 +1,5 @@
 //! The words of the command line.
+use crate::expect::same;
 use crate::runs::shows;
 use ccan_run::{CliError, RunMode, mode};
 use std::test::Fail;
@@ -22,7 +23,8 @@ fn takes_the_name_of_a_mode(rt: HostRuntime) {
         (["ccan", "help"].as_slice(), Err(CliError::Words)),
         (["ccan", "--threads"].as_slice(), Err(CliError::Words)),
     ] {
-        assert_eq!(rt; mode(rt.alloc(), words), want, "at {} words", words.len());
+        let got = mode(rt.alloc(), words);
+        same(&rt, (words.len(), got), (words.len(), want));
     }
 }
 
@@ -33,7 +35,7 @@ fn tells_each_fault(rt: HostRuntime) -> Result<(), Fail> {
         (CliError::Memory, "ccan: out of memory", 3),
     ] {
         shows(&rt, rt.alloc(), &fault, want)?;
-        assert_eq!(rt; fault.status(), status, "at {want}");
+        same(&rt, (want, fault.status()), (want, status));
     }
     Ok(())
 }

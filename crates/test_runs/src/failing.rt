@@ -3,8 +3,7 @@ ghost use Rattle.std.specs.Prelude.{◌≤◌};
 
 use crate::faulty::{FAULTS, Fault, Late, Sheet, Spaces};
 use crate::runs::{holds, pieces, run};
-use crate::streams::{spent, write};
-use crate::worked::{WORKED, worked};
+use crate::streams::{sent, spent, write};
 use arrayvec::ArrayVec;
 use ccan_run::RunError;
 use ccan_script::ScriptError;
@@ -72,16 +71,7 @@ fn stops_where_a_read_fails(rt: HostRuntime) {
         for step in [1, 64] {
             fails_to_read_anywhere(&rt, rt.alloc(), write(), step, fault);
             fails_to_read_anywhere(&rt, rt.alloc(), spent(), step, fault);
-        }
-    }
-}
-
-#[test]
-fn stops_where_a_read_of_a_worked_script_fails(rt: HostRuntime) {
-    for fault in FAULTS {
-        for place in 0..WORKED {
-            let (_name, script, text) = worked(place);
-            fails_to_read_anywhere(&rt, rt.alloc(), (script, text), 64, fault);
+            fails_to_read_anywhere(&rt, rt.alloc(), sent(), step, fault);
         }
     }
 }
@@ -106,7 +96,7 @@ fn stops_where_a_late_read_fails(rt: HostRuntime) {
 }
 
 /// Holds a script to its text whose reader gives one byte a call.
-fn reads_bytes(rt: &impl Abort, alloc: Global, script: &str, text: &str) {
+fn reads_bytes(rt: &impl Abort, alloc: Global, (script, text): (&str, &str)) {
     let mut out = failing_sheet(4096, 0, None);
     let got = run(alloc, &mut pieces(script, 1, 0, None), &mut out);
     holds(rt, script, got, &out, Ok(()), text.as_bytes());
@@ -114,10 +104,9 @@ fn reads_bytes(rt: &impl Abort, alloc: Global, script: &str, text: &str) {
 
 #[test]
 fn reads_one_byte_a_call(rt: HostRuntime) {
-    for place in 0..WORKED {
-        let (_name, script, text) = worked(place);
-        reads_bytes(&rt, rt.alloc(), script, text);
-    }
+    reads_bytes(&rt, rt.alloc(), write());
+    reads_bytes(&rt, rt.alloc(), spent());
+    reads_bytes(&rt, rt.alloc(), sent());
 }
 
 /// A read that gives nothing ends the input, whatever would come after it: here a bracket that would spoil the script.
@@ -172,13 +161,6 @@ fn writes_a_prefix_where_a_write_fails(rt: HostRuntime) {
     for fault in FAULTS {
         fails_to_write_anywhere(&rt, rt.alloc(), write(), 5, 1, fault);
         fails_to_write_anywhere(&rt, rt.alloc(), spent(), 5, 1, fault);
-    }
-}
-
-#[test]
-fn writes_a_prefix_of_a_worked_text_where_a_write_fails(rt: HostRuntime) {
-    for place in 0..WORKED {
-        let (_name, script, text) = worked(place);
-        fails_to_write_anywhere(&rt, rt.alloc(), (script, text), 4096, 29, Fault::Nothing);
+        fails_to_write_anywhere(&rt, rt.alloc(), sent(), 4096, 29, fault);
     }
 }

@@ -24,5 +24,3 @@ mod runs;
 mod streams;
 #[cfg(test)]
 mod threads;
-#[cfg(test)]
-mod worked;

@@ -1,4 +1,5 @@
 //! Reading a script by itself, and printing what a run without an order came to.
+use crate::expect::same;
 use crate::faulty::{Counting, FAULTS, Fault, Sheet, Spaces, new_sheet};
 use crate::runs::{holds, pieces};
 use crate::streams::write;
@@ -24,8 +25,7 @@ fn reads_a_script_to_the_end_of_the_input(rt: HostRuntime) -> Result<(), Fail> {
     let mut reader = pieces(write().0, 64, 0, None);
     let script = read_input(rt.alloc(), &mut reader)?;
     assert!(rt; reader.rest.is_empty());
-    assert_eq!(rt; script.if1.len(), 1);
-    assert_eq!(rt; script.order.as_slice(), [PortName::If1].as_slice());
+    assert!(rt; script.if1.len() == 1 && script.order.as_slice() == [PortName::If1].as_slice());
     Ok(())
 }
 
@@ -54,7 +54,7 @@ fn tells_why_input_is_no_script(rt: HostRuntime) {
         ),
     ] {
         let got = fault(rt.alloc(), &mut input.as_bytes());
-        assert_eq!(rt; got, Some(RunError::Script(want)), "at {input}");
+        same(&rt, (input, got), (input, Some(RunError::Script(want))));
     }
 }
 
@@ -65,19 +65,19 @@ fn tells_that_input_is_too_long(rt: HostRuntime) {
         (4_194_305, RunError::TooLong),
     ] {
         let got = fault(rt.alloc(), &mut Spaces { left });
-        assert_eq!(rt; got, Some(want), "at {left} spaces");
+        same(&rt, (left, got), (left, Some(want)));
     }
 }
 
 #[test]
 fn tells_that_input_could_not_be_read(rt: HostRuntime) {
     let mut reader = pieces(write().0, 64, 2, Some(Fault::Fails(ErrorKind::Interrupted)));
-    assert_eq!(rt; fault(rt.alloc(), &mut reader), Some(RunError::Read));
+    same(&rt, fault(rt.alloc(), &mut reader), Some(RunError::Read));
 }
 
 // ---- printing
 
-/// The record that the first worked script leaves.
+/// The record that a write of 0x123 with eight bytes leaves.
 fn written() -> Result<Record, Fail> {
     Ok(unpack([0xa48c_0000, 0x0088, 0x8877_6655_4433_2211]).ok_or("no record")?)
 }
@@ -134,8 +134,8 @@ fn prints_an_outcome(rt: HostRuntime) -> Result<(), Fail> {
         let outcome = outcome(rt.alloc(), profile)?;
         for step in [1, 4096] {
             let mut out = new_sheet(step);
-            assert_eq!(rt; print_outcome(&outcome, &mut out), Ok(()));
-            assert!(rt; out.taken.as_slice() == want.as_bytes(), "at {step} bytes");
+            let got = print_outcome(&outcome, &mut out);
+            holds(&rt, want, got, &out, Ok(()), want.as_bytes());
         }
     }
     Ok(())
@@ -154,8 +154,8 @@ fn prints_nothing(rt: HostRuntime) -> Result<(), Fail> {
         },
     };
     let mut out = Counting { calls: 0 };
-    assert_eq!(rt; print_outcome(&empty, &mut out), Ok(()));
-    assert_eq!(rt; out.calls, 0);
+    let got = print_outcome(&empty, &mut out);
+    same(&rt, (got, out.calls), (Ok(()), 0));
     Ok(())
 }
 
@@ -212,10 +212,10 @@ fn long_outcome(alloc: Global) -> Result<(Outcome, String), Fail> {
 fn prints_a_long_outcome_in_few_calls(rt: HostRuntime) -> Result<(), Fail> {
     let (outcome, want) = long_outcome(rt.alloc())?;
     let mut out = Counting { calls: 0 };
-    assert_eq!(rt; print_outcome(&outcome, &mut out), Ok(()));
-    assert!(rt; out.calls <= want.len() / 65_457 + 1, "{} calls", out.calls);
+    same(&rt, print_outcome(&outcome, &mut out), Ok(()));
+    assert!(rt; out.calls <= want.len() / 65_457 + 1);
     let mut text: Vec<u8> = Vec::new(rt.alloc());
-    assert_eq!(rt; print_outcome(&outcome, &mut text), Ok(()));
+    same(&rt, print_outcome(&outcome, &mut text), Ok(()));
     assert!(rt; text.as_slice() == want.as_bytes());
     Ok(())
 }

@@ -2,6 +2,7 @@
 ghost use Rattle.std.specs.Prelude.{◌≡◌};
 ghost use Rattle.ccan_ram.specs.Port.{IsQuota};
 
+use crate::expect::same;
 use ccan_accept::Frame;
 use ccan_handler::ScanRefused;
 use ccan_object::{CommandMask, Iface, ObjectNo, Profile, Record, Reg};
@@ -50,8 +51,8 @@ fn spend<A: Access>(rt: &impl Abort, access: &mut A, quota: u64, first: u64) -> 
             access.change(ObjectNo::from_request(profile, 1), &clear, tries)
         };
         match answer {
-            Ok(Changed::Done { number, .. }) => assert_eq!(rt; number.wrapping_sub(made), first),
-            _ => panic!(rt; "change {made} was not made"),
+            Ok(Changed::Done { number, .. }) => same(rt, number.wrapping_sub(made), first),
+            _ => return Err("a change was not made".into()),
         }
     }
     Ok(())
@@ -79,7 +80,7 @@ fn refuses<A: Access>(
     let tries = Tries::new(1).ok_or("tries")?;
     let object = ObjectNo::from_request(access.profile(), request);
     let answer = access.change(object, change, tries);
-    assert_eq!(rt; answer, Err(Refused::Spent));
+    same(rt, answer, Err(Refused::Spent));
     Ok(())
 }
 
@@ -91,21 +92,24 @@ fn scans_are_spent<A: Access>(rt: &impl Abort, access: &mut A) -> Result<(), Fai
         at: third,
         why: Refused::Spent,
     };
-    assert_eq!(rt; choose(access, tries), Err(spent));
-    assert_eq!(rt; receive(access, &frame(0x123)?, tries), Err(spent));
-    assert_eq!(rt; receive(access, &frame(0x124)?, tries), Ok(None));
+    same(rt, choose(access, tries), Err(spent));
+    same(rt, receive(access, &frame(0x123)?, tries), Err(spent));
+    same(rt, receive(access, &frame(0x124)?, tries), Ok(None));
     Ok(())
 }
 
 /// Every look still answers.
 fn still_answers<A: Access>(rt: &impl Abort, access: &mut A) {
-    assert_eq!(rt; interrupt(access, false), 0x0003);
-    assert_eq!(rt; interrupt(access, true), 0x8000);
-    assert_eq!(rt; flags(access, Flag::NewDat), 0x0004);
-    assert!(rt; until(access, 3, Flag::IntPnd, 1));
-    assert!(rt; !until(access, 3, Flag::MsgLst, 2));
+    let values = (interrupt(access, false), interrupt(access, true));
+    same(rt, values, (0x0003, 0x8000));
+    same(rt, flags(access, Flag::NewDat), 0x0004);
+    let waits = (
+        until(access, 3, Flag::IntPnd, 1),
+        until(access, 3, Flag::MsgLst, 2),
+    );
+    same(rt, waits, (true, false));
     let third = ObjectNo::from_request(access.profile(), 3);
-    assert_eq!(rt; shown(&access.look(third)), (0x848c0000, 0xa180));
+    same(rt, shown(&access.look(third)), (0x848c0000, 0xa180));
 }
 
 /// Spends a port's quota, and shows what is refused then and what is answered.

@@ -1,5 +1,6 @@
 //! What tests do with scripts. These functions promise nothing, so the proof of a test has no more to carry than its own
 //! lines.
+use crate::expect::same;
 use crate::faulty::{Fault, Pieces, Sheet, new_sheet};
 use ccan_run::{RunError, run_stream};
 use std::alloc::{AllocError, Global};
@@ -22,8 +23,9 @@ pub fn holds(
     want: Result<(), RunError>,
     text: &[u8],
 ) {
-    assert_eq!(rt; got, want, "at {script}");
-    assert!(rt; out.taken.as_slice() == text, "at {script}");
+    same(rt, (script, got), (script, want));
+    let is_all = out.taken.as_slice() == text;
+    same(rt, (script, is_all), (script, true));
 }
 
 /// Holds a script to its text, where each write takes so many bytes.
@@ -56,6 +58,6 @@ pub fn shows<T: Display>(
     want: &str,
 ) -> Result<(), Fail> {
     let text = shown(alloc, value)?;
-    assert_eq!(rt; text.as_str(), want);
+    same(rt, text.as_str(), want);
     Ok(())
 }

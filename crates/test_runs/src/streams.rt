@@ -1,4 +1,5 @@
 //! Scripts through the whole stream: long ones, numbers at the ends of their ranges, want of memory, and the texts of faults.
+use crate::expect::same;
 use crate::faulty::{Counting, new_sheet};
 use crate::runs::{prints, run, shows};
 use ccan_ram::PortName;
@@ -22,6 +23,14 @@ pub fn spent() -> (&'static str, &'static str) {
     (
         r#"{"quota":1,"if1":[{"op":"transfer","request":"0001","set":{"cmask":"00f3","arb2":"a48c","ctrl":"0088","dataa1":"2211","dataa2":"4433","datab1":"6655","datab2":"8877"}},{"op":"transfer","request":"0001","set":{"cmask":"0087","dataa1":"9999","dataa2":"9999","datab1":"9999","datab2":"9999"}},{"op":"transfer","request":"0001","set":{"cmask":"0073"}}]}"#,
         "if1 write 01 a48c0000 00000000 0088 1122334455667788\nif1 spent 01\nif1 read 01 a48c0000 00000000 0088 1122334455667788\nfinal 01 a48c0000 00000000 0088 1122334455667788\n",
+    )
+}
+
+/// A message that is loaded and sent, and what it prints.
+pub fn sent() -> (&'static str, &'static str) {
+    (
+        r#"{"nodes":1,"if1":[{"op":"transfer","request":"0002","set":{"cmask":"00f3","arb2":"a48c","ctrl":"8188","dataa1":"2211","dataa2":"4433","datab1":"6655","datab2":"8877"}}],"bus":[{"op":"load"},{"op":"load"},{"op":"round"}]}"#,
+        "if1 write 02 a48c0000 00000000 8188 1122334455667788\nbus loaded 02 a48c0000 00000000 0188 1122334455667788\nbus held 02\nbus sent 02 a48c0000 00000000 0088 1122334455667788\nfinal 02 a48c0000 00000000 0088 1122334455667788\n",
     )
 }
 
@@ -166,7 +175,7 @@ fn writes_two_thousand_lines_in_few_calls(rt: HostRuntime) -> Result<(), Fail> {
     let script = all_lines(rt.alloc())?;
     let mut out = Counting { calls: 0 };
     run_stream(rt.alloc(), &mut script.as_bytes(), &mut out)?;
-    assert!(rt; out.calls <= 2, "{} calls", out.calls);
+    assert!(rt; out.calls <= 2);
     Ok(())
 }
 
@@ -178,8 +187,7 @@ fn writes_nothing_without_memory(rt: HostRuntime) {
     match run(rt.alloc(), &mut script.as_bytes(), &mut out) {
         Ok(()) => assert!(rt; out.taken.as_slice() == text.as_bytes()),
         Err(fault) => {
-            assert_eq!(rt; fault.status(), 3);
-            assert!(rt; out.taken.as_slice().is_empty());
+            assert!(rt; fault.status() == 3 && out.taken.as_slice().is_empty());
         }
     }
 }
@@ -225,7 +233,7 @@ fn tells_each_fault_of_a_script(rt: HostRuntime) -> Result<(), Fail> {
     for (fault, want, status) in SCRIPT_FAULTS {
         let fault = RunError::Script(fault);
         shows(&rt, rt.alloc(), &fault, want)?;
-        assert_eq!(rt; fault.status(), status, "at {want}");
+        same(&rt, (want, fault.status()), (want, status));
     }
     Ok(())
 }
@@ -249,7 +257,7 @@ fn tells_each_fault_of_a_run(rt: HostRuntime) -> Result<(), Fail> {
         ),
     ] {
         shows(&rt, rt.alloc(), &fault, want)?;
-        assert_eq!(rt; fault.status(), status, "at {want}");
+        same(&rt, (want, fault.status()), (want, status));
     }
     Ok(())
 }

@@ -4,12 +4,12 @@ ghost use Rattle.std.specs.Prelude.{◌≡◌, ◌≤◌, ◌<◌, ◌^◌};
 ghost use Rattle.ccan_accept.specs.Frame.{identifier_bits};
 ghost use Rattle.ccan_ram.specs.Port.{IsQuota};
 
+use crate::expect::registers;
 use arrayvec::ArrayVec;
 use ccan_accept::Frame;
 use ccan_bus::{Bus, Decision, Fault, LoadAnswer, RoundAnswer, RoundEnd, RoundLine, RoundReport};
 use ccan_confine::NodeState;
-use ccan_handler::interrupt;
-use ccan_object::{Iface, ObjectNo, Profile, Record, Reg};
+use ccan_object::{ObjectNo, Profile, Record, Reg};
 use ccan_ram::{Access, Array, Change, Changed, PortName, Tries};
 
 /// The registers of a message that waits to be sent: standard, 0x123, eight bytes 11 to 88; but for Message Control.
@@ -51,23 +51,6 @@ pub fn object(request: u16) -> ObjectNo {
     ObjectNo::from_request(Profile::One, request)
 }
 
-/// Sets registers.
-pub fn set(registers: &mut Iface, settings: &[(Reg, u16)]) {
-    for (register, value) in settings {
-        registers.set(*register, *value);
-    }
-}
-
-/// The four fields of a printed record.
-pub fn fields(object: &Record) -> (u32, u32, u16, [u8; 8]) {
-    (
-        object.arbitration(),
-        object.masks(),
-        object.control(),
-        object.bytes,
-    )
-}
-
 /// A memory and a bus.
 #[derive(Drop)]
 pub struct Bench {
@@ -90,9 +73,7 @@ impl Bench {
 
     /// A transfer by IF1 of the object that a request names, with these registers. Whether it was made.
     pub fn transfer(&mut self, request: u16, some: &[(Reg, u16)], more: &[(Reg, u16)]) -> bool {
-        let mut registers = Iface::new();
-        set(&mut registers, some);
-        set(&mut registers, more);
+        let registers = registers(some, more);
         let command = registers.command();
         let change = if command.is_write() {
             Change::Write(command, registers.buffer())
@@ -214,36 +195,9 @@ impl Bench {
         (counters.tec(), counters.rec(), counters.state())
     }
 
-    /// What the Status register reads.
-    pub fn status(&mut self) -> u16 {
-        self.bus.status_read()
-    }
-
-    /// Writes SIE and EIE.
-    pub fn enable(&mut self, sie: bool, eie: bool) {
-        self.bus.enable(sie, eie);
-    }
-
-    /// The interrupt register.
-    pub fn interrupt(&mut self) -> u16 {
-        let pending = self.bus.status_pending();
-        interrupt(&mut self.ram, pending)
-    }
-
     /// Sets loop back mode.
     pub fn loop_back(&mut self, on: bool) {
         self.bus.loop_back(on);
-    }
-
-    /// Clears Init.
-    pub fn clear_init(&mut self) {
-        self.bus.clear_init();
-    }
-
-    /// The controller's state after so many groups of recessive bits.
-    pub fn recessive(&mut self, groups: u16) -> NodeState {
-        self.bus.recessive(groups);
-        self.bus.counters(0).state()
     }
 }
 

@@ -2,13 +2,13 @@
 
 ghost use Rattle.std.specs.Prelude.{◌≡◌};
 
-use super::bench::{MESSAGE, RECEIVER, empty_frame, frame, object, set};
-use crate::expect::{holds, same};
+use super::bench::{MESSAGE, RECEIVER, empty_frame, frame, object};
+use crate::expect::{holds, registers, same};
 use arrayvec::ArrayVec;
 use ccan_accept::Frame;
 use ccan_bus::{Bus, Choice, Fault, LoadAnswer, RoundAnswer, RoundLine};
 use ccan_confine::NodeState;
-use ccan_object::{Iface, Profile, Reg};
+use ccan_object::{Profile, Reg};
 use ccan_ram::{Access, Tries};
 use test_contended::{Contended, Transfer};
 
@@ -88,9 +88,7 @@ fn two_tries() -> Tries {
 
 /// A transfer of IF1 from new registers that were set so.
 fn transfer(request: u16, some: &[(Reg, u16)], more: &[(Reg, u16)]) -> Transfer {
-    let mut registers = Iface::new();
-    set(&mut registers, some);
-    set(&mut registers, more);
+    let registers = registers(some, more);
     Transfer {
         object: object(request),
         command: registers.command(),

@@ -1,115 +1,12 @@
-use super::{FIRST, MESSAGE, fields, four_tries, look, number, set, transfer, try_change};
-use crate::expect::{holds, same};
+use super::{FIRST, MESSAGE, fields, four_tries, look, number, transfer, try_change};
+use crate::expect::{holds, registers, same};
 use ccan_object::{CommandMask, Iface, ObjectNo, Profile, Record, Reg};
 use ccan_ram::{Access, Array, Change, Changed, PortName, Refused, Tries};
 use std::test::Fail;
 
 /// Registers that nobody has set, but for a first message and its Message Control.
 fn first_message(control: u16) -> Iface {
-    let mut registers = Iface::new();
-    set(&mut registers, &MESSAGE);
-    registers.set(Reg::Ctrl, control);
-    registers
-}
-
-#[test]
-fn writes_a_message_and_then_a_part_of_it(rt: HostRuntime) {
-    let mut ram = Array::new(Profile::One, 64);
-    let mut registers = first_message(0x0088);
-    same(&rt, transfer(&mut ram, &mut registers, 0x0001), Some(1));
-    same(
-        &rt,
-        fields(&registers.buffer()),
-        (0xa48c0000, 0, 0x0088, FIRST),
-    );
-    let object = ObjectNo::from_request(ram.profile(), 1);
-    same(
-        &rt,
-        fields(&ram.record_of(object)),
-        (0xa48c0000, 0, 0x0088, FIRST),
-    );
-    registers.set(Reg::CMask, 0x0087);
-    for register in [Reg::DataA1, Reg::DataA2, Reg::DataB1, Reg::DataB2] {
-        registers.set(register, 0x9999);
-    }
-    same(&rt, transfer(&mut ram, &mut registers, 0x0001), Some(2));
-    same(
-        &rt,
-        fields(&registers.buffer()),
-        (0xa48c0000, 0, 0x0188, [0x99; 8]),
-    );
-    same(
-        &rt,
-        fields(&look(&mut ram, 0x0001)),
-        (0xa48c0000, 0, 0x0188, [0x99; 8]),
-    );
-}
-
-#[test]
-fn reads_objects_that_nobody_wrote(rt: HostRuntime) {
-    let mut ram = Array::new(Profile::One, 64);
-    let mut registers = Iface::new();
-    registers.set(Reg::CMask, 0x0073);
-    for request in [0x0000, 0x0021, 0x003f] {
-        same(&rt, transfer(&mut ram, &mut registers, request), Some(0));
-        same(&rt, registers.buffer(), Record::zero());
-    }
-}
-
-#[test]
-fn reads_back_with_clearing(rt: HostRuntime) {
-    let mut ram = Array::new(Profile::One, 64);
-    let mut registers = Iface::new();
-    set(&mut registers, &[(Reg::CMask, 0x0090), (Reg::Ctrl, 0xa488)]);
-    same(&rt, transfer(&mut ram, &mut registers, 0x0002), Some(1));
-    registers.set(Reg::CMask, 0x007f);
-    for (made, control) in [(2, 0xa488), (3, 0x0488)] {
-        same(&rt, transfer(&mut ram, &mut registers, 0x0002), Some(made));
-        same(&rt, fields(&registers.buffer()), (0, 0, control, [0; 8]));
-    }
-    same(&rt, fields(&look(&mut ram, 0x0002)), (0, 0, 0x0488, [0; 8]));
-}
-
-#[test]
-fn reads_a_part_at_the_other_interface(rt: HostRuntime) {
-    let mut ram = Array::new(Profile::One, 64);
-    same(
-        &rt,
-        transfer(&mut ram, &mut first_message(0x0088), 0x0001),
-        Some(1),
-    );
-    ram.at(PortName::If2);
-    let mut second = Iface::new();
-    second.set(Reg::CMask, 0x0002);
-    same(&rt, transfer(&mut ram, &mut second, 0x0001), Some(0));
-    let shown = [0x11, 0x22, 0x33, 0x44, 0, 0, 0, 0];
-    same(&rt, fields(&second.buffer()), (0, 0, 0, shown));
-}
-
-#[test]
-fn spends_a_quota_of_one(rt: HostRuntime) {
-    let mut ram = Array::new(Profile::One, 1);
-    let mut registers = first_message(0x0088);
-    same(&rt, transfer(&mut ram, &mut registers, 0x0001), Some(1));
-    let clear = Change::Clear(CommandMask::of(0x0008));
-    same(
-        &rt,
-        try_change(&mut ram, 0x0001, &clear),
-        Err(Refused::Spent),
-    );
-    registers.set(Reg::CMask, 0x0073);
-    same(&rt, transfer(&mut ram, &mut registers, 0x0001), Some(0));
-    same(
-        &rt,
-        fields(&registers.buffer()),
-        (0xa48c0000, 0, 0x0088, FIRST),
-    );
-    ram.at(PortName::If2);
-    same(
-        &rt,
-        transfer(&mut ram, &mut first_message(0x0088), 0x0002),
-        Some(65537),
-    );
+    registers(&MESSAGE, &[(Reg::Ctrl, control)])
 }
 
 #[test]
@@ -176,7 +73,7 @@ fn has_as_many_objects_as_its_profile(rt: HostRuntime) -> Result<(), Fail> {
             // The look below asks for it.
             assert!(rt; ram.profile().holds(object));
             let written = ram.look(object) != Record::zero();
-            assert_eq!(rt; written, number == last, "{number}");
+            same(&rt, (number, written), (number, number == last));
         }
     }
     Ok(())
@@ -185,7 +82,7 @@ fn has_as_many_objects_as_its_profile(rt: HostRuntime) -> Result<(), Fail> {
 #[test]
 fn tells_how_often_a_change_may_be_tried(rt: HostRuntime) {
     for (tries, known) in [(0, false), (1, true), (1000, true), (1001, false)] {
-        assert_eq!(rt; Tries::new(tries).is_some(), known, "{tries}");
+        same(&rt, (tries, Tries::new(tries).is_some()), (tries, known));
     }
     same(&rt, four_tries().get(), 4);
 }

@@ -13,7 +13,7 @@ use ccan_ram::Tries;
 use std::thread::{Threads, join};
 
 /// What came of it.
-#[derive(Clone, Copy, PartialEq, Eq, Debug)]
+#[derive(Clone, Copy)]
 pub struct AtWork {
     /// The counters that the events which were made at the controller make of a new controller's.
     pub counters: Counters,

@@ -10,7 +10,7 @@ use ccan_ram::Tries;
 use std::thread::{Threads, join};
 
 /// What a port counted while it worked.
-#[derive(Clone, Copy, PartialEq, Eq, Debug)]
+#[derive(Clone, Copy)]
 pub struct Counted {
     /// How many changes it made.
     pub made: u32,

@@ -8,7 +8,7 @@ use ccan_ram::{Change, Flag, SharedRam, Tries};
 use std::thread::{Threads, join};
 
 /// Two objects, in the order in which a host sets their NewDat.
-#[derive(Clone, Copy, Debug)]
+#[derive(Clone, Copy)]
 pub struct Pair {
     /// The object whose flag is set first, and cleared last.
     pub first: ObjectNo,

@@ -8,7 +8,7 @@ use ccan_ram::{Change, Changed, Final, Refused, SharedRam, Tries};
 use std::thread::{Threads, join};
 
 /// The work of a port, and the changes that it makes.
-#[derive(Clone, Copy, PartialEq, Eq, Debug)]
+#[derive(Clone, Copy)]
 pub enum Task {
     /// The mask counts up.
     Masks,
@@ -58,7 +58,7 @@ impl Task {
 }
 
 /// What a port saw while it worked.
-#[derive(Clone, Copy, PartialEq, Eq, Debug)]
+#[derive(Clone, Copy)]
 pub struct Seen {
     /// How many changes it made.
     pub made: u16,
@@ -164,7 +164,7 @@ pub fn work<R: SharedRam>(
 }
 
 /// What three ports are to do, each in a thread of its own.
-#[derive(Clone, Copy, Debug)]
+#[derive(Clone, Copy)]
 pub struct Plan {
     /// The object of each port: IF1, IF2 and bus.
     pub objects: [ObjectNo; 3],

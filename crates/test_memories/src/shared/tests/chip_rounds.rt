@@ -213,7 +213,7 @@ fn no_event_is_lost_while_a_host_writes(rt: HostRuntime) {
         tries(1000),
     );
     // In how many rounds the controller takes part is the schedule's: where the host sleeps while Init is set, in none.
-    assert!(&rt; at_work.all_noted, "{at_work:?}");
+    holds(&rt, at_work.all_noted);
     let controller = last.controller;
     same(&rt, at_work.counters, controller.counters);
     let left = u32::from(controller.transfer_pending);

@@ -2,7 +2,7 @@
 //! once.
 use super::*;
 use crate::expect::{holds, same};
-use crate::shared::chips::{changed, looked, three_at_the_controller};
+use crate::shared::chips::{Counted, changed, looked, three_at_the_controller};
 use ccan_confine::{BusEvent, ControlRegister, ControllerChange, StatusEvent};
 
 #[test]
@@ -30,6 +30,11 @@ fn reset_and_an_event_of_the_bus(rt: HostRuntime) {
     same(&rt, last.timing.register(), 0x1234);
 }
 
+/// Holds a port to all its changes, each in turn.
+fn made_in_turn(rt: &impl Abort, counted: Counted) {
+    same(rt, (counted.made, counted.own_in_turn), (100_000, true));
+}
+
 #[test]
 fn no_event_of_the_controller_is_lost(rt: HostRuntime) {
     let Ok((ram, if1, if2, bus)) = EndlessRam::open_ram(rt.alloc(), Profile::One, 64) else {
@@ -44,19 +49,14 @@ fn no_event_of_the_controller_is_lost(rt: HostRuntime) {
         100_000,
         tries(1000),
     );
-    for counted in [writer, reader, sender] {
-        assert!(&rt;
-            counted.made == 100_000 && counted.own_in_turn,
-            "{counted:?}"
-        );
-    }
+    made_in_turn(&rt, writer);
+    made_in_turn(&rt, reader);
+    made_in_turn(&rt, sender);
     // The last writes are those of the turn 99,999, and so many receive faults as good frames were received.
-    same(
-        &rt,
-        (last.controller.control.init, last.controller.control.sie),
-        (false, true),
-    );
-    same(&rt, last.controller.counters.rec(), 0);
-    let left = u32::from(last.controller.transfer_pending);
+    let controller = last.controller;
+    let control = controller.control;
+    same(&rt, (control.init, control.sie), (false, true));
+    same(&rt, controller.counters.rec(), 0);
+    let left = u32::from(controller.transfer_pending);
     same(&rt, sender.pending, reader.pending.saturating_add(left));
 }

@@ -115,11 +115,11 @@ fn takes<R: SharedRam + Drop>(
 fn quotas_have_a_range(rt: HostRuntime) {
     for (quota, want) in [(0, false), (64, true), (65, false)] {
         let got = takes::<RootRam>(rt.alloc(), Profile::One, quota);
-        assert_eq!(rt; got, Some(want), "at {quota}");
+        same(&rt, (quota, got), (quota, Some(want)));
     }
     for (quota, want) in [(65, true), (4096, true), (4097, false)] {
         let got = takes::<WordRam>(rt.alloc(), Profile::Two, quota);
-        assert_eq!(rt; got, Some(want), "at {quota}");
+        same(&rt, (quota, got), (quota, Some(want)));
     }
 }
 
@@ -129,7 +129,7 @@ fn a_memory_without_an_end_has_a_great_quota(rt: HostRuntime) {
     let most = 140_737_488_355_327;
     for (quota, want) in [(0, false), (most, true), (most + 1, false)] {
         let got = takes::<EndlessRam>(rt.alloc(), Profile::Two, quota);
-        assert_eq!(rt; got, Some(want), "at {quota}");
+        same(&rt, (quota, got), (quota, Some(want)));
     }
 }
 

@@ -44,7 +44,7 @@ fn write_last_object<R: SharedRam>(
         } else {
             Record::zero()
         };
-        assert_eq!(rt; *object, want, "at {place}");
+        same(rt, (place, *object), (place, want));
     }
 }
 

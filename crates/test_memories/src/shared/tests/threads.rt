@@ -42,13 +42,12 @@ fn other_objects_never_cost_a_try(rt: HostRuntime) {
         tries(1),
     );
     for port in seen {
-        let alone = Seen {
-            made: 1000,
-            own_in_turn: true,
-            others_rise: true,
-            busy: 0,
-        };
-        same(&rt, port, alone);
+        same(
+            &rt,
+            (port.made, port.own_in_turn, port.others_rise),
+            (1000, true, true),
+        );
+        same(&rt, port.busy, 0);
     }
     same(&rt, Task::Masks.count_in(&last.records[0]), 1000);
     same(&rt, Task::Bytes.count_in(&last.records[1]), 1000);
@@ -65,9 +64,10 @@ fn three_threads_count_in_one_object(rt: HostRuntime) {
         tries(1000),
     );
     for port in seen {
-        assert!(rt;
-            port.made == 1000 && port.own_in_turn && port.others_rise,
-            "{port:?}"
+        same(
+            &rt,
+            (port.made, port.own_in_turn, port.others_rise),
+            (1000, true, true),
         );
     }
     same(&rt, Task::Masks.count_in(&last.records[0]), 1000);
@@ -85,9 +85,10 @@ fn three_threads_count_in_one_object_without_an_end(rt: HostRuntime) {
         tries(1000),
     );
     for port in seen {
-        assert!(rt;
-            port.made == 65_535 && port.own_in_turn && port.others_rise,
-            "{port:?}"
+        same(
+            &rt,
+            (port.made, port.own_in_turn, port.others_rise),
+            (65_535, true, true),
         );
     }
     same(&rt, Task::Masks.count_in(&last.records[0]), 65_535);
@@ -105,10 +106,12 @@ fn three_threads_count_behind_one_word(rt: HostRuntime) {
         tries(200),
     );
     for port in seen {
-        assert!(rt;
-            port.made == 64 && port.own_in_turn && port.others_rise && port.busy == 0,
-            "{port:?}"
+        same(
+            &rt,
+            (port.made, port.own_in_turn, port.others_rise),
+            (64, true, true),
         );
+        same(&rt, port.busy, 0);
     }
     same(&rt, Task::Masks.count_in(&last.records[0]), 64);
     same(&rt, Task::Bytes.count_in(&last.records[0]), 64);

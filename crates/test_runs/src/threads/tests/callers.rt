@@ -1,5 +1,6 @@
 //! Three threads of a caller's own.
 use super::*;
+use crate::expect::{holds, same};
 
 /// What is printed of a script whose ports a caller runs in threads.
 fn text_by_callers<R: SharedRam + Sync, T: Threads + Sync>(
@@ -27,14 +28,10 @@ fn callers_come_to_the_same(rt: HostRuntime) -> Result<(), Fail> {
     let want = "if1 write 01 00000000 00000000 8000 0000000000000000\n\
 if2 write 02 00000000 00000000 0100 0000000000000000\nbus status 0000\n\
 final 01 00000000 00000000 8000 0000000000000000\nfinal 02 00000000 00000000 0100 0000000000000000\n";
-    assert!(rt;
-        text_by_callers::<WordRam, HostRuntime>(&rt, rt.alloc(), script)?.as_slice()
-            == want.as_bytes()
-    );
-    assert!(rt;
-        text_by_callers::<RootRam, HostRuntime>(&rt, rt.alloc(), script)?.as_slice()
-            == want.as_bytes()
-    );
+    let words = text_by_callers::<WordRam, HostRuntime>(&rt, rt.alloc(), script)?;
+    holds(&rt, words.as_slice() == want.as_bytes());
+    let root = text_by_callers::<RootRam, HostRuntime>(&rt, rt.alloc(), script)?;
+    holds(&rt, root.as_slice() == want.as_bytes());
     Ok(())
 }
 
@@ -69,10 +66,10 @@ fn callers_come_to_the_lines_that_ran(rt: HostRuntime) -> Result<(), Fail> {
         line: 1,
     };
     let (stopped, text) = held_by_callers::<WordRam, HostRuntime>(&rt, rt.alloc(), script, gate)?;
-    assert_eq!(rt; stopped, [Some(1), None, Some(1)]);
+    same(&rt, stopped, [Some(1), None, Some(1)]);
     let want = "if1 write 01 00000000 00000000 8000 0000000000000000\n\
 if2 write 02 00000000 00000000 0100 0000000000000000\nbus status 0000\n\
 final 01 00000000 00000000 8000 0000000000000000\nfinal 02 00000000 00000000 0100 0000000000000000\n";
-    assert!(rt; text.as_slice() == want.as_bytes());
+    holds(&rt, text.as_slice() == want.as_bytes());
     Ok(())
 }

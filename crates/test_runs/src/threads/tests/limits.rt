@@ -1,6 +1,7 @@
 //! Scripts at their limits, in threads: as many lines as a script may have, and quotas at the ends of their range.
 use super::scripts::text_in_threads;
 use super::*;
+use crate::expect::{holds, same};
 
 /// The most lines of a port.
 const LINES: usize = 2_000;
@@ -61,7 +62,7 @@ fn six_thousand_lines_run(rt: HostRuntime) -> Result<(), Fail> {
     let script = all_lines(rt.alloc())?;
     let want = all_lines_text(rt.alloc())?;
     let got = text_in_threads::<WordRam, HostRuntime>(&rt, rt.alloc(), script.as_bytes())?;
-    assert!(rt; got.as_slice() == want.as_bytes());
+    holds(&rt, got.as_slice() == want.as_bytes());
     Ok(())
 }
 
@@ -83,7 +84,8 @@ fn the_least_and_the_greatest_quota_run(rt: HostRuntime) -> Result<(), Fail> {
 final 01 00000000 00000000 0080 0000000000000000\n";
     for quota in [1, 65, 4_096] {
         let got = text_with_quota(&rt, rt.alloc(), quota)?;
-        assert!(rt; got.as_slice() == want.as_bytes(), "at {quota}");
+        let is_all = got.as_slice() == want.as_bytes();
+        same(&rt, (quota, is_all), (quota, true));
     }
     Ok(())
 }

@@ -1,6 +1,7 @@
 //! Two hosts and the bus at work on one object for a thousand lines each. The hosts count up, each in a part of its own, and
 //! the bus sends the object and is asked for it. What each saw tells whether a change was lost or done twice.
 use super::*;
+use crate::expect::{holds, same};
 use std::fmt::Write as _;
 
 /// How many lines each port has. IF1 has one more, which prepares the object.
@@ -91,22 +92,22 @@ fn never_falls(answers: &[LineAnswer]) -> bool {
     true
 }
 
+/// What came of the script of rivals in threads.
+fn outcome_of_rivals<T: Threads + Wait + Sync>(rt: &T, alloc: Global) -> Result<Outcome, Fail> {
+    let bytes = script_of_rivals(alloc)?;
+    let script = read_script(alloc, bytes.as_bytes())?;
+    Ok(run_threads::<WordRam, FreeGate, T>(rt, alloc, &script, &FreeGate)?)
+}
+
 #[test]
 fn no_change_of_three_rivals_is_lost(rt: HostRuntime) -> Result<(), Fail> {
-    let bytes = script_of_rivals(rt.alloc())?;
-    let script = read_script(rt.alloc(), bytes.as_bytes())?;
-    let outcome = run_threads::<WordRam, FreeGate, HostRuntime>(
-        &rt,
-        rt.alloc(),
-        &script,
-        &FreeGate,
-    )?;
-    assert!(rt; counts_in_turn(&outcome.if1, true));
-    assert!(rt; counts_in_turn(&outcome.if2, false));
-    assert!(rt; outcome.bus.len() == usize::from(LINES) + 1);
+    let outcome = outcome_of_rivals(&rt, rt.alloc())?;
+    holds(&rt, counts_in_turn(&outcome.if1, true));
+    holds(&rt, counts_in_turn(&outcome.if2, false));
+    same(&rt, outcome.bus.len(), usize::from(LINES) + 1);
+    holds(&rt, never_falls(&outcome.bus));
     let last = outcome.last;
     let counts = counts_in(&last.records[0]);
-    assert_eq!(rt; counts, (u32::from(LINES), u32::from(LINES)));
-    assert!(rt; never_falls(&outcome.bus));
+    same(&rt, counts, (u32::from(LINES), u32::from(LINES)));
     Ok(())
 }

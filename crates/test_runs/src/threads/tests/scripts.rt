@@ -1,5 +1,6 @@
 //! Scripts in threads. No text here comes from the program.
 use super::*;
+use crate::expect::{holds, same};
 
 /// Each host sets NewDat in an object of its own, and waits for that of the other.
 const WAIT_FOR_EACH_OTHER: &[u8] = br#"{"if1":[
@@ -56,6 +57,20 @@ pub fn text_in_threads<R: SharedRam + Sync + Drop, T: Threads + Wait + Sync>(
     printed(alloc, &outcome)
 }
 
+/// Holds what a script comes to in threads, over each of the memories, to a text.
+fn comes_to<T: Threads + Wait + Abort + Sync>(
+    rt: &T,
+    alloc: Global,
+    script: &[u8],
+    want: &str,
+) -> Result<(), Fail> {
+    let words = text_in_threads::<WordRam, T>(rt, alloc, script)?;
+    holds(rt, words.as_slice() == want.as_bytes());
+    let root = text_in_threads::<RootRam, T>(rt, alloc, script)?;
+    holds(rt, root.as_slice() == want.as_bytes());
+    Ok(())
+}
+
 /// Runs a script in threads with a gate.
 fn run_gated<R: SharedRam + Sync + Drop, G: Gate + Copy + Sync, T: Threads + Wait + Sync>(
     rt: &T,
@@ -78,7 +93,7 @@ fn hosts_wait_for_each_other<R: SharedRam + Sync + Drop, T: Threads + Wait + Abo
     let want = "if1 write 01 00000000 00000000 8000 0000000000000000\nif1 until 02 newdat yes\n\
 if2 write 02 00000000 00000000 8000 0000000000000000\nif2 until 01 newdat yes\n\
 final 01 00000000 00000000 8000 0000000000000000\nfinal 02 00000000 00000000 8000 0000000000000000\n";
-    assert!(rt; printed(alloc, &outcome)?.as_slice() == want.as_bytes());
+    holds(rt, printed(alloc, &outcome)?.as_slice() == want.as_bytes());
     Ok(())
 }
 
@@ -108,82 +123,63 @@ fn the_bus_starts_with_the_hosts(rt: HostRuntime) -> Result<(), Fail> {
         &gate,
     )??;
     let want = "if1 interrupt 0000\nif2 interrupt 0000\nbus status 0000\n";
-    assert!(rt; printed(rt.alloc(), &outcome)?.as_slice() == want.as_bytes());
+    holds(
+        &rt,
+        printed(rt.alloc(), &outcome)?.as_slice() == want.as_bytes(),
+    );
     Ok(())
+}
+
+/// Why a script in threads with a gate comes to nothing, if it does.
+fn refusal<R: SharedRam + Sync + Drop, G: Gate + Copy + Sync, T: Threads + Wait + Sync>(
+    rt: &T,
+    alloc: Global,
+    bytes: &[u8],
+    gate: G,
+) -> Result<Option<RunError>, Fail> {
+    Ok(run_gated::<R, G, T>(rt, alloc, bytes, &gate)?.err())
+}
+
+/// A gate that holds this port, or each, from the second line on.
+fn held_from_the_second(port: Option<PortName>) -> HeldFrom {
+    HeldFrom { port, line: 1 }
 }
 
 #[test]
 fn a_gate_holds_the_first_port_in_order(rt: HostRuntime) -> Result<(), Fail> {
-    let all = HeldFrom {
-        port: None,
-        line: 1,
-    };
-    let held = run_gated::<WordRam, HeldFrom, HostRuntime>(
-        &rt,
-        rt.alloc(),
-        WAIT_FOR_EACH_OTHER,
-        &all,
-    )?.err();
-    let first = RunError::Held {
-        port: PortName::If1,
-        line: 1,
-    };
-    assert_eq!(rt; held, Some(first));
-    let second = HeldFrom {
-        port: Some(PortName::If2),
-        line: 1,
-    };
-    let held = run_gated::<WordRam, HeldFrom, HostRuntime>(
-        &rt,
-        rt.alloc(),
-        LOOK_ONCE,
-        &second,
-    )?.err();
-    let other = RunError::Held {
-        port: PortName::If2,
-        line: 1,
-    };
-    assert_eq!(rt; held, Some(other));
+    for (script, port, held) in [
+        (WAIT_FOR_EACH_OTHER, None, PortName::If1),
+        (LOOK_ONCE, Some(PortName::If2), PortName::If2),
+    ] {
+        let gate = held_from_the_second(port);
+        let got = refusal::<WordRam, HeldFrom, HostRuntime>(&rt, rt.alloc(), script, gate)?;
+        let want = RunError::Held {
+            port: held,
+            line: 1,
+        };
+        same(&rt, got, Some(want));
+    }
     Ok(())
 }
 
 #[test]
 fn a_memory_that_is_refused_is_want_of_memory(rt: HostRuntime) -> Result<(), Fail> {
-    let refused = run_gated::<Refusing, FreeGate, HostRuntime>(
-        &rt,
-        rt.alloc(),
-        WRITE,
-        &FreeGate,
-    )?.err();
-    assert_eq!(rt; refused, Some(RunError::Memory));
+    let got = refusal::<Refusing, FreeGate, HostRuntime>(&rt, rt.alloc(), WRITE, FreeGate)?;
+    same(&rt, got, Some(RunError::Memory));
     Ok(())
 }
 
 #[test]
 fn a_quota_past_the_form_is_refused(rt: HostRuntime) -> Result<(), Fail> {
-    let refused = run_gated::<RootRam, FreeGate, HostRuntime>(
-        &rt,
-        rt.alloc(),
-        br#"{"quota":65}"#,
-        &FreeGate,
-    )?.err();
-    assert_eq!(rt; refused, Some(RunError::Quota));
-    assert!(rt;
-        run_gated::<RootRam, FreeGate, HostRuntime>(
-            &rt,
-            rt.alloc(),
-            br#"{"quota":64}"#,
-            &FreeGate
-        )?.is_ok()
-    );
-    assert!(rt;
-        run_gated::<WordRam, FreeGate, HostRuntime>(
-            &rt,
-            rt.alloc(),
-            br#"{"quota":4096}"#,
-            &FreeGate
-        )?.is_ok()
-    );
+    let over = br#"{"quota":65}"#;
+    let got = refusal::<RootRam, FreeGate, HostRuntime>(&rt, rt.alloc(), over, FreeGate)?;
+    same(&rt, got, Some(RunError::Quota));
+    let most = br#"{"quota":64}"#;
+    let got = refusal::<RootRam, FreeGate, HostRuntime>(&rt, rt.alloc(), most, FreeGate)?;
+    same(&rt, got, None);
+    let most = br#"{"quota":4096}"#;
+    let got = refusal::<WordRam, FreeGate, HostRuntime>(&rt, rt.alloc(), most, FreeGate)?;
+    same(&rt, got, None);
     Ok(())
 }
 
@@ -193,14 +189,7 @@ fn a_spent_port_leaves_the_others(rt: HostRuntime) -> Result<(), Fail> {
 if2 write 02 a48c0000 00000000 0088 1122334455667788\n\
 final 01 a48c0000 00000000 0088 1122334455667788\nfinal 02 a48c0000 00000000 0088 1122334455667788\n";
     for _ in 0..20u8 {
-        assert!(rt;
-            text_in_threads::<WordRam, HostRuntime>(&rt, rt.alloc(), TWICE)?.as_slice()
-                == want.as_bytes()
-        );
-        assert!(rt;
-            text_in_threads::<RootRam, HostRuntime>(&rt, rt.alloc(), TWICE)?.as_slice()
-                == want.as_bytes()
-        );
+        comes_to(&rt, rt.alloc(), TWICE, want)?;
     }
     Ok(())
 }
@@ -209,14 +198,7 @@ final 01 a48c0000 00000000 0088 1122334455667788\nfinal 02 a48c0000 00000000 008
 fn a_write_is_answered(rt: HostRuntime) -> Result<(), Fail> {
     let want = "if1 write 01 a48c0000 00000000 0088 1122334455667788\n\
 final 01 a48c0000 00000000 0088 1122334455667788\n";
-    assert!(rt;
-        text_in_threads::<WordRam, HostRuntime>(&rt, rt.alloc(), WRITE)?.as_slice()
-            == want.as_bytes()
-    );
-    assert!(rt;
-        text_in_threads::<RootRam, HostRuntime>(&rt, rt.alloc(), WRITE)?.as_slice()
-            == want.as_bytes()
-    );
+    comes_to(&rt, rt.alloc(), WRITE, want)?;
     Ok(())
 }
 
@@ -225,14 +207,7 @@ fn both_profiles_and_loop_back_run(rt: HostRuntime) -> Result<(), Fail> {
     let want = "if1 write 64 00000000 00000000 2000 0000000000000000\nif1 interrupt 0040\n\
 if1 flags intpnd 8000000000000000\nbus loopback 1\nbus idle\nbus status 0000\n\
 final 64 00000000 00000000 2000 0000000000000000\n";
-    assert!(rt;
-        text_in_threads::<WordRam, HostRuntime>(&rt, rt.alloc(), LAST_OBJECT)?.as_slice()
-            == want.as_bytes()
-    );
-    assert!(rt;
-        text_in_threads::<RootRam, HostRuntime>(&rt, rt.alloc(), LAST_OBJECT)?.as_slice()
-            == want.as_bytes()
-    );
+    comes_to(&rt, rt.alloc(), LAST_OBJECT, want)?;
     Ok(())
 }
 
@@ -256,21 +231,13 @@ fn runs_as_far_as_its_gate_lets_it<R: SharedRam + Drop, T: Abort>(
 ) -> Result<(), Fail> {
     let script = read_script(alloc, SPENT)?;
     let (stopped, text) = first_lines::<R, FreeGate>(alloc, &script, &mut FreeGate)?;
-    assert_eq!(rt; stopped, None);
     let all = "if1 write 01 a48c0000 00000000 0088 1122334455667788\nif1 spent 01\n\
 if1 read 01 a48c0000 00000000 0088 1122334455667788\n";
-    assert_eq!(rt; text.as_str(), all);
-    let (stopped, text) = first_lines::<R, HeldFrom>(
-        alloc,
-        &script,
-        &mut HeldFrom {
-            port: None,
-            line: 1,
-        },
-    )?;
-    assert_eq!(rt; stopped, Some(1));
+    same(rt, (stopped, text.as_str()), (None, all));
+    let mut gate = held_from_the_second(None);
+    let (stopped, text) = first_lines::<R, HeldFrom>(alloc, &script, &mut gate)?;
     let one = "if1 write 01 a48c0000 00000000 0088 1122334455667788\n";
-    assert_eq!(rt; text.as_str(), one);
+    same(rt, (stopped, text.as_str()), (Some(1), one));
     Ok(())
 }
 
