@@ -4,6 +4,7 @@ ghost use Rattle.std.specs.Prelude.{◌≡◌, vec_len};
 ghost use Rattle.ccan_lab.specs.CheckCommand.{end_by_counts};
 
 use crate::check_end::CheckEnd;
+use crate::command_words::{command, file, option, switch, with};
 use crate::expect::compare_run;
 use crate::explaining::print_text;
 use crate::lab_error::LabError;
@@ -11,7 +12,7 @@ use ccan_check::{Report, check, print_report};
 use ccan_run::{RunError, read_all};
 use ccan_script::read_script;
 use clap::error::ErrorKind;
-use clap::{Arg, ArgAction, ArgMatches, Command, Error};
+use clap::{ArgAction, ArgMatches, Command, Error};
 use std::alloc::{AllocError, Global};
 use std::fs;
 use std::fs::Files;
@@ -30,27 +31,32 @@ pub struct CheckQuestion<'a> {
 
 /// The command that tells the faults of scripts.
 pub fn check_command<'a>(alloc: Global) -> Result<Command<'a>, AllocError> {
-    let strict = Arg::new(alloc, "strict")
-        .long("strict")
-        .action(ArgAction::SetTrue)
-        .help("Exit status 7 where there are warnings and no faults");
-    let expected = Arg::new(alloc, "expect")
-        .long("expect")
-        .value_name("TEXT")
-        .action(ArgAction::Set)
-        .help(
-            "The file with what ccan must print of the one script; exit status 8 where it prints another text",
-        );
-    let files = Arg::new(alloc, "file")
-        .value_name("FILE")
-        .action(ArgAction::Append)
-        .num_args(0..)
-        .help("The scripts; left out or -: standard input");
-    Command::new(alloc, "check")
-        .about("Tells the faults of scripts, each with its file, line and column")
-        .arg(strict)?
-        .arg(expected)?
-        .arg(files)
+    let checked = command(
+        alloc,
+        "check",
+        "Tells the faults of scripts, each with its file, line and column",
+    );
+    let strict = switch(
+        alloc,
+        "strict",
+        "Exit status 7 where there are warnings and no faults",
+    );
+    let checked = with(checked, strict)?;
+    let expected = option(
+        alloc,
+        "expect",
+        "TEXT",
+        "The file with what ccan must print of the one script; exit status 8 where it prints another text",
+    );
+    let checked = with(checked, expected)?;
+    let files = file(alloc, "FILE", "The scripts; left out or -: standard input");
+    with(checked, files.action(ArgAction::Append).num_args(0..))
+}
+
+/// What is told where a text is expected of several scripts.
+fn one_script_expected(alloc: Global) -> Result<Error, Error> {
+    let message = "with '--expect <TEXT>' there is one script";
+    Ok(check_command(alloc)?.error(ErrorKind::TooManyValues, message)?)
 }
 
 /// The question that the words after `check` ask. A text is expected of one script only.
@@ -65,8 +71,7 @@ pub fn check_question<'a>(
     }
     let expected = words.get_str("expect");
     if expected.is_some() && 1 < files.len() {
-        let message = "with '--expect <TEXT>' there is one script";
-        return Err(check_command(alloc)?.error(ErrorKind::TooManyValues, message)?);
+        return Err(one_script_expected(alloc)?);
     }
     Ok(CheckQuestion {
         is_strict: words.get_flag("strict"),

@@ -1,6 +1,7 @@
 //! The question `ccan-lab draw`: its words, and the picture.
 ghost use Rattle.std.specs.Prelude.{◌<◌, length};
 
+use crate::command_words::{command, file, number, with};
 use crate::explaining::print_text;
 use crate::input::script_asked;
 use crate::lab_error::LabError;
@@ -12,7 +13,7 @@ use ccan_explain::tell;
 use ccan_outcomes::{all_outcomes, looking_once};
 use ccan_script::Script;
 use ccan_search::Progress;
-use clap::{Arg, ArgAction, ArgMatches, Command, value_parser};
+use clap::{ArgMatches, Command};
 use std::alloc::{AllocError, Global};
 use std::fs::Files;
 use std::io::Input;
@@ -30,27 +31,27 @@ pub struct DrawQuestion<'a> {
 
 /// The command that draws a run.
 pub fn draw_command<'a>(alloc: Global) -> Result<Command<'a>, AllocError> {
-    let outcome = Arg::new(alloc, "outcome")
-        .long("outcome")
-        .value_name("N")
-        .action(ArgAction::Set)
-        .value_parser(value_parser!(usize))
-        .help("Draw a history of outcome N of outcomes --all; exit status 9 where there is none");
-    let most = Arg::new(alloc, "most")
-        .long("most")
-        .value_name("N")
-        .action(ArgAction::Set)
-        .value_parser(value_parser!(usize))
-        .help("The greatest number of states to keep [default: 1000000]");
-    let file = Arg::new(alloc, "file")
-        .value_name("FILE")
-        .action(ArgAction::Set)
-        .help("The script; left out or -: standard input");
-    Command::new(alloc, "draw")
-        .about("Draws one picture of a run of a script in its order, as SVG")
-        .arg(outcome)?
-        .arg(most.requires_arg("outcome")?)?
-        .arg(file)
+    let drawn = command(
+        alloc,
+        "draw",
+        "Draws one picture of a run of a script in its order, as SVG",
+    );
+    let outcome = number(
+        alloc,
+        "outcome",
+        "Draw a history of outcome N of outcomes --all; exit status 9 where there is none",
+    );
+    let drawn = with(drawn, outcome)?;
+    let most = number(
+        alloc,
+        "most",
+        "The greatest number of states to keep [default: 1000000]",
+    );
+    let drawn = with(drawn, most.requires_arg("outcome")?)?;
+    with(
+        drawn,
+        file(alloc, "FILE", "The script; left out or -: standard input"),
+    )
 }
 
 /// The question that the words after `draw` ask.

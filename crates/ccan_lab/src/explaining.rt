@@ -1,11 +1,12 @@
 //! The questions about one run of a script in its order: what each line came to, and the frames on its bus; and the way back,
 //! from a log of a bus to a script.
+use crate::command_words::{command, file, switch, with};
 use crate::input::script_asked;
 use crate::lab_error::LabError;
 use ccan_explain::{FromLog, LogError, json_of, log_of, script_of_log, tell, text_of};
 use ccan_run::RunError;
 use ccan_script::Script;
-use clap::{Arg, ArgAction, ArgMatches, Command};
+use clap::{ArgMatches, Command};
 use std::alloc::{AllocError, Global};
 use std::fs::Files;
 use std::io::{ErrorKind, Input, Read, Write};
@@ -31,42 +32,38 @@ pub struct ExplainQuestion<'a> {
     pub file: Option<&'a str>,
 }
 
-/// An option that is on or off.
-fn switch<'a>(alloc: Global, name: &'a str, help: &'a str) -> Arg<'a> {
-    Arg::new(alloc, name)
-        .long(name)
-        .action(ArgAction::SetTrue)
-        .help(help)
-}
-
 /// The command that tells a run.
 pub fn explain_command<'a>(alloc: Global) -> Result<Command<'a>, AllocError> {
+    let told = command(
+        alloc,
+        "explain",
+        "Runs a script in its order and tells each line decoded",
+    );
     let json = switch(alloc, "json", "A JSON object a line");
+    let told = with(told, json.conflicts_with("candump")?)?;
     let candump = switch(
         alloc,
         "candump",
         "The frames on the bus, as a log of can-utils; the time counts rounds",
     );
-    let file = Arg::new(alloc, "file")
-        .value_name("FILE")
-        .action(ArgAction::Set)
-        .help("The script; left out or -: standard input");
-    Command::new(alloc, "explain")
-        .about("Runs a script in its order and tells each line decoded")
-        .arg(json.conflicts_with("candump")?)?
-        .arg(candump)?
-        .arg(file)
+    let told = with(told, candump)?;
+    with(
+        told,
+        file(alloc, "FILE", "The script; left out or -: standard input"),
+    )
 }
 
 /// The command that makes a script of a log.
 pub fn from_candump_command<'a>(alloc: Global) -> Result<Command<'a>, AllocError> {
-    let log = Arg::new(alloc, "file")
-        .value_name("LOG")
-        .action(ArgAction::Set)
-        .help("The log; left out or -: standard input");
-    Command::new(alloc, "from-candump")
-        .about("Makes a script of a log that candump wrote")
-        .arg(log)
+    let made = command(
+        alloc,
+        "from-candump",
+        "Makes a script of a log that candump wrote",
+    );
+    with(
+        made,
+        file(alloc, "LOG", "The log; left out or -: standard input"),
+    )
 }
 
 /// The form that the words ask for.

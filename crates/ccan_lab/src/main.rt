@@ -20,6 +20,7 @@ pub mod answer;
 pub mod asked;
 pub mod check_command;
 pub mod check_end;
+pub mod command_words;
 pub mod drawing;
 pub mod expect;
 pub mod explaining;

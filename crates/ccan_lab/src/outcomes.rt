@@ -8,6 +8,7 @@ ghost use Rattle.ccan_lab.specs.Question.{AreKnown, AreKnownNames, AsksAllBy, As
 
 use crate::answer::{Answer, answer_of};
 use crate::asked::Asked;
+use crate::command_words::{command, file, number, option, switch, with};
 use crate::input::script_asked;
 use crate::lab_error::LabError;
 use crate::observed::first_unknown;
@@ -16,7 +17,7 @@ use crate::seen::seen_text;
 use ccan_outcomes::{all_outcomes, looking_once};
 use ccan_script::Script;
 use ccan_search::Progress;
-use clap::{Arg, ArgAction, ArgMatches, Command, value_parser};
+use clap::{Arg, ArgMatches, Command};
 use std::alloc::{AllocError, Global};
 use std::fs::Files;
 use std::io;
@@ -38,71 +39,55 @@ pub struct OutcomesQuestion<'a> {
 
 /// The option that a number of states is given by.
 fn most_option<'a>(alloc: Global) -> Arg<'a> {
-    Arg::new(alloc, "most")
-        .long("most")
-        .value_name("N")
-        .action(ArgAction::Set)
-        .value_parser(value_parser!(usize))
-        .default_value("1000000")
-        .help("The greatest number of states to keep")
+    number(alloc, "most", "The greatest number of states to keep").default_value("1000000")
 }
 
 /// The flag that asks for the whole list.
 fn all_flag<'a>(alloc: Global) -> Result<Arg<'a>, AllocError> {
-    Arg::new(alloc, "all")
-        .long("all")
-        .action(ArgAction::SetTrue)
-        .help("Show each outcome, with a history that leads to it")
+    let help = "Show each outcome, with a history that leads to it";
+    switch(alloc, "all", help)
         .conflicts_with("can")?
         .conflicts_with("never")
 }
 
 /// The option that asks for the outcomes that can be told apart by some lines.
 fn observe_option<'a>(alloc: Global) -> Result<Arg<'a>, AllocError> {
-    Arg::new(alloc, "observe")
-        .long("observe")
-        .value_name("NAMES")
-        .action(ArgAction::Set)
-        .help(
-            "Show each outcome that differs in these, as if1[2],bus,final: lines, all of a port, objects at the end",
-        )
+    let help =
+        "Show each outcome that differs in these, as if1[2],bus,final: lines, all of a port, objects at the end";
+    option(alloc, "observe", "NAMES", help)
         .conflicts_with("can")?
         .conflicts_with("never")
 }
 
 /// The option that asks whether an outcome has a line.
 fn can_option<'a>(alloc: Global) -> Result<Arg<'a>, AllocError> {
-    Arg::new(alloc, "can")
-        .long("can")
-        .value_name("LINE")
-        .action(ArgAction::Set)
-        .help("Ask whether an outcome has a line that begins so; exit status 6 where none has")
-        .conflicts_with("never")
+    let help = "Ask whether an outcome has a line that begins so; exit status 6 where none has";
+    option(alloc, "can", "LINE", help).conflicts_with("never")
 }
 
 /// The option that asks whether no outcome has a line.
 fn never_option<'a>(alloc: Global) -> Arg<'a> {
-    Arg::new(alloc, "never")
-        .long("never")
-        .value_name("LINE")
-        .action(ArgAction::Set)
-        .help("Ask whether no outcome has a line that begins so; exit status 6 where one has")
+    let help = "Ask whether no outcome has a line that begins so; exit status 6 where one has";
+    option(alloc, "never", "LINE", help)
+}
+
+/// The command, which takes what chooses outcomes.
+fn choosing<'a>(alloc: Global, command: Command<'a>) -> Result<Command<'a>, AllocError> {
+    let chosen = with(command, all_flag(alloc)?)?;
+    let chosen = with(chosen, observe_option(alloc)?)?;
+    let chosen = with(chosen, can_option(alloc)?)?;
+    with(chosen, never_option(alloc))
 }
 
 /// The command that asks about outcomes.
 pub fn outcomes_command<'a>(alloc: Global) -> Result<Command<'a>, AllocError> {
-    let file = Arg::new(alloc, "file")
-        .value_name("FILE")
-        .action(ArgAction::Set)
-        .help("The script; left out or -: standard input");
-    Command::new(alloc, "outcomes")
-        .about("Shows what can come of a script whose two hosts and bus run at once")
-        .arg(all_flag(alloc)?)?
-        .arg(observe_option(alloc)?)?
-        .arg(can_option(alloc)?)?
-        .arg(never_option(alloc))?
-        .arg(most_option(alloc))?
-        .arg(file)
+    let about = "Shows what can come of a script whose two hosts and bus run at once";
+    let asked = choosing(alloc, command(alloc, "outcomes", about))?;
+    let asked = with(asked, most_option(alloc))?;
+    with(
+        asked,
+        file(alloc, "FILE", "The script; left out or -: standard input"),
+    )
 }
 
 /// What the words of that command ask of the whole list.

@@ -1,5 +1,7 @@
 use crate::asked::Asked;
 use crate::check_command::{CheckQuestion, check_command, check_question};
+use crate::command_words as words;
+use crate::command_words::over;
 use crate::drawing::{DrawQuestion, draw_command, draw_question};
 use crate::explaining::{ExplainQuestion, explain_command, explain_question, from_candump_command};
 use crate::outcomes::{DEFAULT_MOST, OutcomesQuestion, outcomes_command, outcomes_question};
@@ -22,18 +24,26 @@ pub enum Question<'a> {
     FromCandump(Option<&'a str>),
 }
 
-/// The command line.
-fn command<'a>(alloc: Global) -> Result<Command<'a>, AllocError> {
-    Command::new(alloc, "ccan-lab")
-        .version("0.2.0")
-        .about("Answers questions about scripts of the C_CAN model")
+/// The command line without its questions, and what it is for.
+fn program<'a>(alloc: Global) -> Command<'a> {
+    let about = "Answers questions about scripts of the C_CAN model";
+    words::command(alloc, "ccan-lab", about).version("0.2.0")
+}
+
+/// The command, which wants one of those under it and has no other that tells help.
+fn asking<'a>(command: Command<'a>) -> Command<'a> {
+    command
         .subcommand_required(true)
         .disable_help_subcommand(true)
-        .subcommand(outcomes_command(alloc)?)?
-        .subcommand(check_command(alloc)?)?
-        .subcommand(explain_command(alloc)?)?
-        .subcommand(draw_command(alloc)?)?
-        .subcommand(from_candump_command(alloc)?)
+}
+
+/// The command line.
+fn command<'a>(alloc: Global) -> Result<Command<'a>, AllocError> {
+    let asked = over(asking(program(alloc)), outcomes_command(alloc)?)?;
+    let asked = over(asked, check_command(alloc)?)?;
+    let asked = over(asked, explain_command(alloc)?)?;
+    let asked = over(asked, draw_command(alloc)?)?;
+    over(asked, from_candump_command(alloc)?)
 }
 
 /// The question that the words of the command line ask. The first of them is the program's name.
