@@ -1,5 +1,5 @@
 //! Scripts at their limits: as many bytes and as many lines as a script may have, and a quota above what one word numbers.
-use crate::faulty::{Late, Spaces};
+use crate::faulty::{Counting, Late, Spaces};
 use crate::runs::{pieces, prints};
 use ccan_run::run_stream;
 use std::alloc::{AllocError, Global};
@@ -84,6 +84,22 @@ fn runs_six_thousand_lines(rt: HostRuntime) -> Result<(), Fail> {
     let want = all_lines_text(rt.alloc())?;
     let got = printed_at_full_length(rt.alloc(), script.as_str())?;
     assert!(rt; got.as_slice() == want.as_bytes());
+    Ok(())
+}
+
+/// How many calls of a writer it takes to print what a script comes to.
+fn calls_to_print(alloc: Global, script: &str) -> Result<usize, Fail> {
+    let mut out = Counting { calls: 0 };
+    run_stream(alloc, &mut script.as_bytes(), &mut out)?;
+    Ok(out.calls)
+}
+
+/// The text of 276,000 bytes goes out in few writes.
+#[test]
+fn writes_six_thousand_lines_in_few_calls(rt: HostRuntime) -> Result<(), Fail> {
+    let script = all_lines(rt.alloc())?;
+    let calls = calls_to_print(rt.alloc(), script.as_str())?;
+    assert!(rt; calls <= 5);
     Ok(())
 }
 

@@ -1,5 +1,5 @@
 use crate::expect::{holds, same};
-use ccan_bus::Fault;
+use ccan_bus::{Fault, RoundLine};
 use ccan_object::{ObjectNo, Profile, Reg};
 use ccan_ram::{Flag, PortName};
 use ccan_script::*;
@@ -135,8 +135,34 @@ fn reads_bus_lines(rt: HostRuntime) {
     }
 }
 
+/// The round in a place.
+fn round_at(bus: &[BusLine], place: usize) -> Option<&RoundLine> {
+    match bus.get(place) {
+        Some(BusLine::Round(round)) => Some(round),
+        _ => None,
+    }
+}
+
+/// A frame that is sent in a round: its node, identifier, width, kind, length code and data.
+type Sent = (u8, u32, bool, bool, u8, [u8; 8]);
+
+/// The frame in a place.
+fn sent(round: &RoundLine, place: usize) -> Option<Sent> {
+    let (node, frame) = round.sends().get(place)?;
+    let kind = (frame.xtd(), frame.rtr());
+    Some((
+        *node,
+        frame.id(),
+        kind.0,
+        kind.1,
+        frame.dlc().get(),
+        frame.bytes(),
+    ))
+}
+
+/// No node sends twice in a round.
 #[test]
-fn reads_rounds(rt: HostRuntime) -> Result<(), Fail> {
+fn refuses_a_round_with_a_node_twice(rt: HostRuntime) {
     let text = r#"{"nodes":2,"bus":[
         {"op":"round"},
         {"op":"round","fault":"crc","send":[
@@ -144,6 +170,10 @@ fn reads_rounds(rt: HostRuntime) -> Result<(), Fail> {
             {"node":1,"id":291,"rtr":1,"dlc":4},
             {"node":2,"id":0,"dlc":3,"data":"0A0b0C"}]}]}"#;
     holds(&rt, read_script(rt.alloc(), text.as_bytes()).is_err());
+}
+
+#[test]
+fn reads_rounds(rt: HostRuntime) -> Result<(), Fail> {
     let text = r#"{"nodes":2,"bus":[
         {"op":"round"},
         {"op":"round","fault":"crc","send":[
@@ -152,38 +182,18 @@ fn reads_rounds(rt: HostRuntime) -> Result<(), Fail> {
         {"op":"round","fault":"bit0","send":[
             {"node":2,"id":0,"dlc":3,"data":"0A0b0C"}]}]}"#;
     let bus = read(&rt, rt.alloc(), text).bus;
-    let Some(BusLine::Round(empty)) = bus.first() else {
-        return Err("no round".into());
-    };
-    holds(&rt, empty.sends().is_empty());
-    same(&rt, empty.fault(), Fault::Quiet);
-    let Some(BusLine::Round(two)) = bus.get(1) else {
-        return Err("no round".into());
-    };
-    same(&rt, two.fault(), Fault::Crc);
-    same(&rt, two.sends().len(), 2);
-    let (node, frame) = *two.sends().get(0).ok_or("no frame")?;
-    same(
-        &rt,
-        (node, frame.id(), frame.xtd(), frame.rtr()),
-        (2, 0x1fff_ffff, true, false),
-    );
-    same(&rt, frame.dlc().get(), 15);
-    same(&rt, frame.bytes(), [1, 2, 3, 4, 5, 6, 7, 8]);
-    let (node, frame) = *two.sends().get(1).ok_or("no frame")?;
-    same(
-        &rt,
-        (node, frame.id(), frame.xtd(), frame.rtr()),
-        (1, 0x123, false, true),
-    );
-    same(&rt, frame.dlc().get(), 4);
-    same(&rt, frame.bytes(), [0; 8]);
-    let Some(BusLine::Round(short)) = bus.get(2) else {
-        return Err("no round".into());
-    };
-    same(&rt, short.fault(), Fault::Bit0);
-    let (_, frame) = *short.sends().first().ok_or("no frame")?;
-    same(&rt, frame.bytes(), [10, 11, 12, 0, 0, 0, 0, 0]);
+    let long = (2, 0x1fff_ffff, true, false, 15, [1, 2, 3, 4, 5, 6, 7, 8]);
+    let remote = (1, 0x123, false, true, 4, [0; 8]);
+    let short = (2, 0, false, false, 3, [10, 11, 12, 0, 0, 0, 0, 0]);
+    for (place, fault, first, second) in [
+        (0, Fault::Quiet, None, None),
+        (1, Fault::Crc, Some(long), Some(remote)),
+        (2, Fault::Bit0, Some(short), None),
+    ] {
+        let round = round_at(bus.as_slice(), place).ok_or("no round")?;
+        same(&rt, round.fault(), fault);
+        same(&rt, (sent(round, 0), sent(round, 1)), (first, second));
+    }
     Ok(())
 }
 
