@@ -3,7 +3,7 @@
 mod drafts;
 mod plain;
 
-use ccan_object::{Iface, ObjectNo, Profile, Record, Reg};
+use ccan_object::{Iface, ObjectNo, Record, Reg};
 use ccan_ram::{Access, Change, Changed, Refused, Tries};
 
 /// The data of a first message.

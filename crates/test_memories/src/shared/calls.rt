@@ -54,6 +54,7 @@ pub fn commit<R: SharedRam>(
     requires memory { (R.pass port.old).memory ≡ R.memory ram.now }
     requires drawn { IsDrawn R.contends draft (R.pass port.old) }
     ensures memory { (R.pass port.new).memory ≡ (R.pass port.old).memory }
+    ensures port { (R.pass port.new).port ≡ (R.pass port.old).port }
 {
     ram.commit(port, draft, change)
 }

@@ -17,6 +17,7 @@ pub fn prepare_beside<R: SharedRam>(
     requires held { Holds (R.memory ram.now).profile object }
     requires other { IsDrawn R.contends other.now (R.pass port.old) }
     ensures memory { (R.pass port.new).memory ≡ (R.pass port.old).memory }
+    ensures port { (R.pass port.new).port ≡ (R.pass port.old).port }
     ensures drawn { IsDrawn R.contends result (R.pass port.new) }
     ensures other { IsDrawn R.contends other.now (R.pass port.new) }
 {
@@ -36,6 +37,7 @@ pub fn commit_beside<R: SharedRam>(
     requires drawn { IsDrawn R.contends draft (R.pass port.old) }
     requires other { IsDrawn R.contends other.now (R.pass port.old) }
     ensures memory { (R.pass port.new).memory ≡ (R.pass port.old).memory }
+    ensures port { (R.pass port.new).port ≡ (R.pass port.old).port }
     ensures other { IsDrawn R.contends other.now (R.pass port.new) }
 {
     let _ = ram.used(port);

@@ -2,8 +2,8 @@ ghost use Rattle.ccan_ram.specs.Tries.{IsTries};
 
 use super::*;
 use crate::shared::calls;
-use crate::shared::drafts::{commit_beside, prepare_beside};
 use crate::shared::rivals::{Seen, Task, work};
+use crate::shared::three_ports::ThreePorts;
 
 mod chip_rounds;
 mod controller;
@@ -14,15 +14,13 @@ mod threads;
 
 use ccan_accept::Frame;
 use ccan_endless::EndlessRam;
-use ccan_handler::{
-    ScanRefused, choose, choose_at_once, flags, flags_at_once, interrupt, interrupt_at_once,
-    receive, receive_from,
-};
+use ccan_handler::{ScanRefused, choose, choose_at_once, flags_at_once, receive, receive_from};
 use ccan_object::{Iface, ObjectNo, Profile, Record, Reg};
 use ccan_ram::{
-    Access, Change, Changed, CommitError, Flag, On, OpenError, Refused, SharedRam, Tries,
+    Access, Change, Changed, CommitError, Flag, On, OpenError, PortName, Refused, SharedRam, Tries,
 };
 use ccan_words::{RootRam, WordRam};
+use std::alloc::Global;
 use std::process::Abort;
 
 /// So many tries.

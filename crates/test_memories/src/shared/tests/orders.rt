@@ -1,6 +1,4 @@
 //! Worked examples with a forced order of the ports' steps.
-ghost use Rattle.std.specs.Prelude.{◌≡◌};
-
 use super::*;
 use crate::expect::{holds, same};
 
@@ -12,61 +10,25 @@ const P: (u32, u32, u16, [u8; 8]) = (
 );
 
 /// A start of an object that was made invalid after the look is lost, and the scan goes on to the next that is ready.
-fn start_of_an_invalid_object<R: SharedRam + Drop>(rt: &impl Abort, alloc: std::alloc::Global) {
-    let Ok((ram, mut if1, if2, mut bus)) = R::open_ram(alloc, Profile::One, 64) else {
-        panic!(rt; "no memory")
-    };
-    let five = ObjectNo::from_request(ram.profile(), 5);
-    let nine = ObjectNo::from_request(ram.profile(), 9);
-    let first = calls::change(&ram, &mut if1, five, &message(0x0188), tries(1));
-    same(rt, number(&first), Some(1));
-    let second = calls::change(&ram, &mut if1, nine, &message(0x0188), tries(1));
-    same(rt, number(&second), Some(2));
-    let draft = calls::prepare(&ram, &mut bus, five);
+fn start_of_an_invalid_object<R: SharedRam + Drop>(rt: &impl Abort, alloc: Global) {
+    let once = tries(1);
+    let mut three = ThreePorts::<R>::open(rt, alloc, Profile::One, 64);
+    let first = three.change(PortName::If1, 5, &message(0x0188), once);
+    let second = three.change(PortName::If1, 9, &message(0x0188), once);
+    same(rt, (number(&first), number(&second)), (Some(1), Some(2)));
     let invalid = change_of(&[(Reg::CMask, 0x00a0), (Reg::Arb2, 0x048c)]);
-    let third = calls::change(&ram, &mut if1, five, &invalid, tries(1));
-    same(rt, number(&third), Some(3));
-    let lost = calls::commit(&ram, &mut bus, draft, &Change::Start);
+    let lost = three.bus_disturbed(5, &invalid, &Change::Start, once);
     same(rt, lost, Err(CommitError::Lost { now: 3 }));
-    let mut handler = On::new(&ram, bus);
-    let not_now = handler.change(five, &Change::Start, tries(1));
+    let not_now = three.change(PortName::Bus, 5, &Change::Start, once);
     holds(rt, matches!(&not_now, Ok(Changed::NotNow(_))));
-    let Ok(Some((chosen, started))) = choose(&mut handler, tries(1)) else {
+    let (mut three, chosen) = three.choose(once);
+    let Ok(Some((object, started))) = chosen else {
         panic!(rt; "nothing was started")
     };
-    same(rt, chosen, nine);
+    same(rt, object, three.object(9));
     same(rt, shown(&started), (P.0, P.1, 0x0188, P.3));
-    let bus = handler.into_port();
-    same(
-        rt,
-        (ram.used(&if1), ram.used(&if2), ram.used(&bus)),
-        (3, 0, 1),
-    );
-    let draft = calls::prepare(&ram, &mut if1, nine);
-    same(rt, draft.number(), 131073);
-}
-
-/// What comes of a commit of IF1 at object 4 after a change of IF2 at another object or the same, and what a change
-/// of IF1 then leaves.
-fn commit_after<R: SharedRam + Drop>(
-    rt: &impl Abort,
-    alloc: std::alloc::Global,
-    request: u16,
-) -> (Result<Changed, CommitError>, Record) {
-    let Ok((ram, mut if1, mut if2, _bus)) = R::open_ram(alloc, Profile::One, 64) else {
-        panic!(rt; "no memory")
-    };
-    let four = ObjectNo::from_request(ram.profile(), 4);
-    let other = ObjectNo::from_request(ram.profile(), request);
-    let draft = calls::prepare(&ram, &mut if1, four);
-    let theirs = calls::change(&ram, &mut if2, other, &data(0x9999), tries(1));
-    same(rt, number(&theirs), Some(65537));
-    let committed = calls::commit(&ram, &mut if1, draft, &control(0x0088));
-    let changed = calls::change(&ram, &mut if1, four, &control(0x0088), tries(1));
-    let Some((after, _)) = done(&changed) else {
-        panic!(rt; "the change was not made")
-    };
-    (committed, after)
+    same(rt, three.used(), (3, 0, 1));
+    same(rt, three.drafted(9).2, 131073);
 }
 
 #[test]
@@ -76,34 +38,63 @@ fn a_start_of_an_invalid_object_is_lost(rt: HostRuntime) {
     start_of_an_invalid_object::<EndlessRam>(&rt, rt.alloc());
 }
 
+/// What comes of a commit of IF1 at object 4 after a change of IF2 at another object or the same, and what a change
+/// of IF1 then leaves.
+fn commit_after<R: SharedRam + Drop>(
+    rt: &impl Abort,
+    alloc: Global,
+    request: u16,
+) -> (Result<Changed, CommitError>, Option<Record>) {
+    let once = tries(1);
+    let mut three = ThreePorts::<R>::open(rt, alloc, Profile::One, 64);
+    let (theirs, committed) = three.host_disturbed(
+        4,
+        (request, &data(0x9999)),
+        &control(0x0088),
+        once,
+    );
+    same(rt, number(&theirs), Some(65537));
+    let changed = three.change(PortName::If1, 4, &control(0x0088), once);
+    (committed, done(&changed).map(|made| made.0))
+}
+
+/// Whether changes of one object contend, and, as far as this is told, those of two objects.
+fn contends<R: SharedRam + Drop>(rt: &impl Abort, alloc: Global, beside: bool) {
+    let after = [0x99; 8];
+    let (lost, both) = commit_after::<R>(rt, alloc, 4);
+    same(rt, lost, Err(CommitError::Lost { now: 65537 }));
+    same(
+        rt,
+        both.map(|left| shown(&left)),
+        Some((0, 0, 0x0088, after)),
+    );
+    let (other, mine) = commit_after::<R>(rt, alloc, 6);
+    let is_lost = matches!(&other, Err(CommitError::Lost { now: 65537 }));
+    same(
+        rt,
+        (number(&other), is_lost),
+        if beside {
+            (None, true)
+        } else {
+            (Some(1), false)
+        },
+    );
+    same(
+        rt,
+        mine.map(|left| shown(&left)),
+        Some((0, 0, 0x0088, [0; 8])),
+    );
+}
+
 #[test]
 fn changes_contend_by_the_layout(rt: HostRuntime) {
-    let (lost, both) = commit_after::<WordRam>(&rt, rt.alloc(), 4);
-    same(&rt, lost, Err(CommitError::Lost { now: 65537 }));
-    same(&rt, shown(&both), (0, 0, 0x0088, [0x99; 8]));
-    let (other, mine) = commit_after::<WordRam>(&rt, rt.alloc(), 6);
-    same(&rt, number(&other), Some(1));
-    same(&rt, shown(&mine), (0, 0, 0x0088, [0; 8]));
-    let (lost, both) = commit_after::<EndlessRam>(&rt, rt.alloc(), 4);
-    same(&rt, lost, Err(CommitError::Lost { now: 65537 }));
-    same(&rt, shown(&both), (0, 0, 0x0088, [0x99; 8]));
-    let (other, mine) = commit_after::<EndlessRam>(&rt, rt.alloc(), 6);
-    same(&rt, number(&other), Some(1));
-    same(&rt, shown(&mine), (0, 0, 0x0088, [0; 8]));
-    let (lost, both) = commit_after::<RootRam>(&rt, rt.alloc(), 4);
-    same(&rt, lost, Err(CommitError::Lost { now: 65537 }));
-    same(&rt, shown(&both), (0, 0, 0x0088, [0x99; 8]));
-    let (other, mine) = commit_after::<RootRam>(&rt, rt.alloc(), 6);
-    same(&rt, other, Err(CommitError::Lost { now: 65537 }));
-    same(&rt, shown(&mine), (0, 0, 0x0088, [0; 8]));
+    contends::<WordRam>(&rt, rt.alloc(), false);
+    contends::<EndlessRam>(&rt, rt.alloc(), false);
+    contends::<RootRam>(&rt, rt.alloc(), true);
 }
 
 /// Whether a memory is opened with this quota. None: it is refused for another reason than the quota.
-fn takes<R: SharedRam + Drop>(
-    alloc: std::alloc::Global,
-    profile: Profile,
-    quota: u64,
-) -> Option<bool> {
+fn takes<R: SharedRam + Drop>(alloc: Global, profile: Profile, quota: u64) -> Option<bool> {
     match R::open_ram(alloc, profile, quota) {
         Ok(_) => Some(true),
         Err(OpenError::QuotaRange) => Some(false),
@@ -134,20 +125,20 @@ fn a_memory_without_an_end_has_a_great_quota(rt: HostRuntime) {
 }
 
 /// What another port sees of a write.
-fn write_is_seen<R: SharedRam + Drop>(rt: &impl Abort, alloc: std::alloc::Global) {
-    let Ok((ram, mut if1, mut if2, _bus)) = R::open_ram(alloc, Profile::One, 64) else {
-        panic!(rt; "no memory")
-    };
-    let one = ObjectNo::from_request(ram.profile(), 1);
-    same(rt, calls::look(&ram, &mut if1, one), Record::zero());
-    let written = calls::change(&ram, &mut if2, one, &message(0x0088), tries(1));
+fn write_is_seen<R: SharedRam + Drop>(rt: &impl Abort, alloc: Global) {
+    let mut three = ThreePorts::<R>::open(rt, alloc, Profile::One, 64);
+    same(rt, three.look(PortName::If1, 1), Record::zero());
+    let written = three.change(PortName::If2, 1, &message(0x0088), tries(1));
     same(rt, number(&written), Some(65537));
-    let draft = calls::prepare(&ram, &mut if1, one);
-    same(rt, shown(&draft.held()), P);
-    same(rt, (draft.object(), draft.number()), (one, 65537));
-    same(rt, shown(&calls::look(&ram, &mut if2, one)), P);
-    ram.meet(&mut if1, &mut if2);
-    same(rt, shown(&calls::look(&ram, &mut if1, one)), P);
+    let (object, held, last) = three.drafted(1);
+    same(
+        rt,
+        (object, shown(&held), last),
+        (three.object(1), P, 65537),
+    );
+    same(rt, shown(&three.look(PortName::If2, 1)), P);
+    three.meet();
+    same(rt, shown(&three.look(PortName::If1, 1)), P);
 }
 
 #[test]
@@ -158,31 +149,19 @@ fn a_write_is_seen_by_others(rt: HostRuntime) {
 }
 
 /// A port makes its quota of changes, the last with this number, and then no more.
-fn spent_after<R: SharedRam + Drop>(
-    rt: &impl Abort,
-    alloc: std::alloc::Global,
-    quota: u64,
-    greatest: u64,
-) {
-    let Ok((ram, _if1, _if2, bus)) = R::open_ram(alloc, Profile::One, quota) else {
-        panic!(rt; "no memory")
-    };
-    let one = ObjectNo::from_request(ram.profile(), 1);
+fn spent_after<R: SharedRam + Drop>(rt: &impl Abort, alloc: Global, quota: u64, greatest: u64) {
+    let once = tries(1);
+    let mut three = ThreePorts::<R>::open(rt, alloc, Profile::One, quota);
     let clear = change_of(&[(Reg::CMask, 0x000c)]);
     let mut last = None;
-    let mut handler = On::new(&ram, bus);
     for _ in 0..quota {
-        last = number(&handler.change(one, &clear, tries(1)));
+        last = number(&three.change(PortName::Bus, 1, &clear, once));
     }
     same(rt, last, Some(greatest));
-    same(
-        rt,
-        handler.change(one, &clear, tries(1)),
-        Err(Refused::Spent),
-    );
-    same(rt, handler.look(one), Record::zero());
-    let bus = handler.into_port();
-    same(rt, ram.used(&bus), quota);
+    let spent = three.change(PortName::Bus, 1, &clear, once);
+    same(rt, spent, Err(Refused::Spent));
+    same(rt, three.look(PortName::Bus, 1), Record::zero());
+    same(rt, three.used(), (0, 0, quota));
 }
 
 #[test]
@@ -199,7 +178,7 @@ fn a_port_is_spent_after_its_quota(rt: HostRuntime) {
 
 /// A scan whose store loses every try is refused with its tries and the number of the last change that contends. It
 /// goes on at the object where it was refused.
-fn scan_is_resumed<R: SharedRam + Drop>(rt: &impl Abort, alloc: std::alloc::Global) {
+fn scan_is_resumed<R: SharedRam + Drop>(rt: &impl Abort, alloc: Global) {
     let Ok((ram, mut if1, _if2, bus)) = R::open_ram(alloc, Profile::One, 64) else {
         panic!(rt; "no memory")
     };
@@ -249,46 +228,28 @@ fn a_refused_scan_is_resumed(rt: HostRuntime) {
 }
 
 /// Drafts of three ports at one object, one of them twice, and what comes of each.
-fn three_ports_at_one_object<R: SharedRam + Drop>(rt: &impl Abort, alloc: std::alloc::Global) {
-    let Ok((ram, mut if1, mut if2, mut bus)) = R::open_ram(alloc, Profile::One, 64) else {
-        panic!(rt; "no memory")
-    };
-    let four = ObjectNo::from_request(ram.profile(), 4);
-    let own = calls::prepare(&ram, &mut if1, four);
-    let other = calls::prepare(&ram, &mut if2, four);
-    let first = calls::prepare(&ram, &mut bus, four);
-    let second = prepare_beside(&ram, &mut bus, four, &first);
-    let written = calls::commit(&ram, &mut if1, own, &message(0x0088));
-    same(rt, number(&written), Some(1));
+fn three_ports_at_one_object<R: SharedRam + Drop>(rt: &impl Abort, alloc: Global) {
+    let once = tries(1);
+    let mut three = ThreePorts::<R>::open(rt, alloc, Profile::One, 64);
     let clear = change_of(&[(Reg::CMask, 0x000c)]);
-    let lost = calls::commit(&ram, &mut if2, other, &clear);
+    let [written, lost, cleared, late, empty] = three.four_drafts(4, &message(0x0088), &clear);
+    same(rt, number(&written), Some(1));
     same(rt, lost, Err(CommitError::Lost { now: 1 }));
-    let again = calls::prepare(&ram, &mut if2, four);
-    let cleared = calls::commit(&ram, &mut if2, again, &clear);
     holds(
         rt,
         matches!(&cleared, Ok(Changed::Done { before, after, number: 65537 }) if after == before),
     );
-    let lost = commit_beside(&ram, &mut bus, first, &Change::Finish, &second);
-    same(rt, lost, Err(CommitError::Lost { now: 65537 }));
-    let not_now = calls::commit(&ram, &mut bus, second, &Change::Start);
-    same(rt, not_now, Ok(Changed::NotNow(Record::zero())));
-    let third = calls::prepare(&ram, &mut bus, four);
-    let not_now = calls::commit(&ram, &mut bus, third, &Change::Start);
+    same(rt, late, Err(CommitError::Lost { now: 65537 }));
+    same(rt, empty, Ok(Changed::NotNow(Record::zero())));
+    let not_now = three.change(PortName::Bus, 4, &Change::Start, once);
     holds(
         rt,
         matches!(&not_now, Ok(Changed::NotNow(object)) if shown(object) == P),
     );
-    let fourth = calls::prepare(&ram, &mut bus, four);
-    let finished = calls::commit(&ram, &mut bus, fourth, &Change::Finish);
+    let finished = three.change(PortName::Bus, 4, &Change::Finish, once);
     same(rt, number(&finished), Some(131073));
-    same(
-        rt,
-        (ram.used(&if1), ram.used(&if2), ram.used(&bus)),
-        (1, 1, 1),
-    );
-    let last = calls::look(&ram, &mut if1, four);
-    same(rt, shown(&last), P);
+    same(rt, three.used(), (1, 1, 1));
+    same(rt, shown(&three.look(PortName::If1, 4)), P);
 }
 
 #[test]
@@ -299,20 +260,18 @@ fn three_ports_share_one_object(rt: HostRuntime) {
 }
 
 /// The same record again is not the same version: a draft that was made before is lost.
-fn same_record_again<R: SharedRam + Drop>(rt: &impl Abort, alloc: std::alloc::Global) {
-    let Ok((ram, mut if1, mut if2, _bus)) = R::open_ram(alloc, Profile::One, 64) else {
-        panic!(rt; "no memory")
-    };
-    let four = ObjectNo::from_request(ram.profile(), 4);
-    let first = calls::change(&ram, &mut if1, four, &message(0x0088), tries(1));
+fn same_record_again<R: SharedRam + Drop>(rt: &impl Abort, alloc: Global) {
+    let once = tries(1);
+    let mut three = ThreePorts::<R>::open(rt, alloc, Profile::One, 64);
+    let first = three.change(PortName::If1, 4, &message(0x0088), once);
     same(rt, number(&first), Some(1));
-    let draft = calls::prepare(&ram, &mut if2, four);
-    let second = calls::change(&ram, &mut if1, four, &data(0x9999), tries(1));
-    same(rt, number(&second), Some(2));
-    let third = calls::change(&ram, &mut if1, four, &message(0x0088), tries(1));
-    same(rt, number(&third), Some(3));
-    same(rt, draft.held(), calls::look(&ram, &mut if1, four));
-    let lost = calls::commit(&ram, &mut if2, draft, &control(0x0001));
+    let (held, lost) = three.disturbed_twice(
+        4,
+        [&data(0x9999), &message(0x0088)],
+        &control(0x0001),
+        once,
+    );
+    same(rt, held, three.look(PortName::If1, 4));
     same(rt, lost, Err(CommitError::Lost { now: 3 }));
 }
 
@@ -324,7 +283,7 @@ fn the_same_record_again_is_another_version(rt: HostRuntime) {
 }
 
 /// A choice of one moment, each of whose tries the rival disturbs by a write that takes the request away.
-fn chosen_are_ready_no_more<R: SharedRam + Drop>(rt: &impl Abort, alloc: std::alloc::Global) {
+fn chosen_are_ready_no_more<R: SharedRam + Drop>(rt: &impl Abort, alloc: Global) {
     let Ok((ram, mut if1, _if2, bus)) = R::open_ram(alloc, Profile::One, 64) else {
         panic!(rt; "no memory")
     };

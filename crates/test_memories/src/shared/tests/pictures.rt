@@ -20,22 +20,18 @@ fn ends() -> Pair
 /// What the registers show once two objects were written.
 fn written_objects<R: SharedRam + Drop>(
     rt: &impl Abort,
-    alloc: std::alloc::Global,
+    alloc: Global,
 ) -> ccan_ram::HandlerRegisters {
-    let Ok((ram, mut if1, _if2, bus)) = R::open_ram(alloc, Profile::Two, 64) else {
-        panic!(rt; "no memory")
-    };
-    let three = ObjectNo::from_request(ram.profile(), 3);
-    let last = ObjectNo::from_request(ram.profile(), 0);
-    let _three = calls::change(&ram, &mut if1, three, &message(0x8188), tries(1));
-    let _last = calls::change(&ram, &mut if1, last, &control(0x6000), tries(1));
-    On::new(&ram, bus).look_all()
+    let mut three = ThreePorts::<R>::open(rt, alloc, Profile::Two, 64);
+    let _three = three.change(PortName::If1, 3, &message(0x8188), tries(1));
+    let _last = three.change(PortName::If1, 0, &control(0x6000), tries(1));
+    three.registers()
 }
 
 /// How many pictures and pairs of looks of a new memory were torn, beside a host that sets and clears.
 fn torn_of<R: SharedRam + Sync + Drop, T: Abort + Threads + Sync>(
     rt: &T,
-    alloc: std::alloc::Global,
+    alloc: Global,
     quota: u64,
     turns: u32,
 ) -> (u32, u32) {
@@ -46,7 +42,7 @@ fn torn_of<R: SharedRam + Sync + Drop, T: Abort + Threads + Sync>(
 }
 
 /// Whether looks and a picture of a new memory are torn, where a host comes between two looks.
-fn torn_at_once<R: SharedRam + Drop>(rt: &impl Abort, alloc: std::alloc::Global) -> (u32, u32) {
+fn torn_at_once<R: SharedRam + Drop>(rt: &impl Abort, alloc: Global) -> (u32, u32) {
     let Ok((ram, if1, _if2, bus)) = R::open_ram(alloc, Profile::One, 64) else {
         panic!(rt; "no memory")
     };
