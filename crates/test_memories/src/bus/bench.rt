@@ -195,6 +195,27 @@ impl Bench {
         (counters.tec(), counters.rec(), counters.state())
     }
 
+    /// Whether the status interrupt is pending behind a round in which these nodes send, with SIE set before it; what the Status
+    /// register then reads; and whether it is pending after that.
+    pub fn interrupts(&mut self, sends: &[(u8, Frame)]) -> (bool, u16, bool) {
+        self.bus.enable(true, false);
+        let _heard = self.round(sends, Fault::Quiet);
+        let before = self.bus.status_pending();
+        let status = self.bus.status_read();
+        (before, status, self.bus.status_pending())
+    }
+
+    /// The controller's state after groups of recessive bits: 500 while Init is set, and 127 and one more once it is cleared.
+    pub fn comes_back(&mut self) -> [NodeState; 3] {
+        self.bus.recessive(500);
+        let waiting = self.bus.counters(0).state();
+        self.bus.clear_init();
+        self.bus.recessive(127);
+        let counting = self.bus.counters(0).state();
+        self.bus.recessive(1);
+        [waiting, counting, self.bus.counters(0).state()]
+    }
+
     /// Sets loop back mode.
     pub fn loop_back(&mut self, on: bool) {
         self.bus.loop_back(on);

@@ -7,6 +7,7 @@ use super::bench::{BYTES, Bench, MESSAGE, RECEIVER, empty_frame, frame, object};
 use crate::expect::{holds, same};
 use ccan_accept::Frame;
 use ccan_bus::{Decision, Fault, LoadAnswer, MemoryStep, RoundAnswer, RoundEnd};
+use ccan_confine::NodeState;
 use ccan_object::Reg;
 
 /// The frame of the message.
@@ -136,4 +137,21 @@ fn passes_a_frame_while_the_controller_is_off(rt: HostRuntime) {
         &rt,
         bench.comes_to(&[(1, heard)], LoadAnswer::Nothing, decided, passed),
     );
+}
+
+#[test]
+fn a_status_interrupt_is_pending_until_status_is_read(rt: HostRuntime) {
+    let mut bench = Bench::new(1, 64);
+    let heard = bench.interrupts(&[(1, empty_frame(0x7ff))]);
+    same(&rt, heard, (true, 0x0010, false));
+}
+
+#[test]
+fn comes_back_after_init_and_groups(rt: HostRuntime) {
+    let mut bench = bench(2, 64);
+    for _ in 0..32 {
+        let _fault = bench.round(&[], Fault::Crc);
+    }
+    let want = [NodeState::Off, NodeState::Off, NodeState::Active];
+    same(&rt, bench.comes_back(), want);
 }

@@ -1,5 +1,5 @@
 use super::{FIRST, MESSAGE, fields, four_tries, look, number, transfer, try_change};
-use crate::expect::{holds, registers, same};
+use crate::expect::{frame, holds, registers, same};
 use ccan_object::{CommandMask, Iface, ObjectNo, Profile, Record, Reg};
 use ccan_ram::{Access, Array, Change, Changed, PortName, Refused, Tries};
 use std::test::Fail;
@@ -115,6 +115,21 @@ fn shows_a_record_that_does_not_fit(rt: HostRuntime) {
         &rt,
         try_change(&mut ram, 0x0001, &Change::Start),
         Ok(Changed::NotNow(shown)),
+    );
+}
+
+/// A remote frame that is not answered changes no field, and is a change all the same.
+#[test]
+fn numbers_a_store_that_changes_no_field(rt: HostRuntime) {
+    let mut ram = Array::new(Profile::One, 64);
+    let written = transfer(&mut ram, &mut first_message(0x0088), 0x0001);
+    same(&rt, written, Some(1));
+    ram.at(PortName::Bus);
+    let requests = frame(&rt, 0x123, false, true, 4, [0; 8]);
+    let made = try_change(&mut ram, 0x0001, &Change::Store(requests));
+    holds(
+        &rt,
+        matches!(&made, Ok(Changed::Done { before, after, number: 131073 }) if after == before),
     );
 }
 
