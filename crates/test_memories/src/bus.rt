@@ -2,5 +2,4 @@
 
 mod arbitrations;
 mod bench;
-mod contention;
 mod steps;

@@ -1,109 +1,54 @@
 //! Worked examples of frames: acceptance, storing, and what is sent.
 
-use crate::expect::{frame, holds, same};
+use crate::expect::{BYTES, empty_frame, frame, holds, registers, same, shown};
 use ccan_accept::*;
-use ccan_object::{Record, unpack};
-use std::alloc::AllocError;
-use std::process::Abort;
+use ccan_object::{Record, Reg};
 
-/// The bytes that a driver writes into an object.
-const WRITTEN: [u8; 8] = [0x11, 0x22, 0x33, 0x44, 0x55, 0x66, 0x77, 0x88];
-
-/// The record that registers show: Arbitration 2 and 1, Mask 2 and 1, Message Control, and the data.
-fn record(rt: &impl Abort, arbitration: u32, masks: u32, control: u16, bytes: [u8; 8]) -> Record {
-    let identifiers = u64::from(masks) << 32 | u64::from(arbitration);
-    match unpack([identifiers, u64::from(control), u64::from_le_bytes(bytes)]) {
-        Some(object) => object,
-        None => panic!(rt; "a reserved bit"),
+/// The record that registers show: Arbitration 2 and 1, Mask 2 and 1, and Message Control; with these bytes.
+fn record(arbitration: u32, masks: u32, control: u16, bytes: [u8; 8]) -> Record {
+    let settings = [
+        (Reg::Arb2, (arbitration >> 16) as u16),
+        (Reg::Arb1, (arbitration % 0x10000) as u16),
+        (Reg::Mask2, (masks >> 16) as u16),
+        (Reg::Mask1, (masks % 0x10000) as u16),
+        (Reg::Ctrl, control),
+    ];
+    Record {
+        bytes,
+        ..registers(&settings, &[]).buffer()
     }
-}
-
-/// The registers that show a record.
-fn shown(object: &Record) -> (u32, u32, u16, [u8; 8]) {
-    (
-        object.arbitration(),
-        object.masks(),
-        object.control(),
-        object.bytes,
-    )
-}
-
-/// A standard data frame.
-fn data(rt: &impl Abort, id: u32, dlc: u8, bytes: [u8; 8]) -> Frame {
-    frame(rt, id, false, false, dlc, bytes)
-}
-
-/// A standard remote frame for 0x123 with four bytes.
-fn request(rt: &impl Abort) -> Frame {
-    frame(rt, 0x123, false, true, 4, WRITTEN)
 }
 
 #[test]
 fn frames_have_ranges(rt: HostRuntime) {
-    same(
-        &rt,
-        Frame::new(2048, false, false, 16, WRITTEN),
-        Err(FrameError::IdRange),
-    );
-    same(
-        &rt,
-        Frame::new(2047, false, false, 16, WRITTEN),
-        Err(FrameError::DlcRange),
-    );
-    same(
-        &rt,
-        Frame::new(536870912, true, false, 0, WRITTEN),
-        Err(FrameError::IdRange),
-    );
-    let extended = frame(&rt, 536870911, true, false, 15, WRITTEN);
+    for (id, xtd, dlc, error) in [
+        (2048, false, 16, FrameError::IdRange),
+        (2047, false, 16, FrameError::DlcRange),
+        (536870912, true, 0, FrameError::IdRange),
+    ] {
+        same(&rt, Frame::new(id, xtd, false, dlc, BYTES), Err(error));
+    }
+    let extended = frame(536870911, true, false, 15, BYTES);
     same(&rt, extended.id(), 536870911);
     holds(&rt, extended.xtd() && !extended.rtr());
     same(&rt, extended.dlc().get(), 15);
-    same(&rt, extended.bytes(), WRITTEN);
-    let short = data(&rt, 2047, 3, WRITTEN);
-    same(&rt, short.bytes(), [0x11, 0x22, 0x33, 0, 0, 0, 0, 0]);
-    holds(&rt, !short.xtd());
-    let remote = request(&rt);
-    holds(&rt, remote.rtr());
-    same(&rt, remote.dlc().get(), 4);
+    same(&rt, extended.bytes(), BYTES);
+    let remote = frame(2047, false, true, 4, BYTES);
+    holds(&rt, remote.rtr() && !remote.xtd());
     same(&rt, remote.bytes(), [0; 8]);
-}
-
-#[test]
-fn frame_errors_have_texts(rt: HostRuntime) -> Result<(), AllocError> {
-    for (error, want) in [
-        (FrameError::IdRange, "identifier out of range"),
-        (FrameError::DlcRange, "data length code above 15"),
-    ] {
-        let text = format!(in rt.alloc(); "{error}")?;
-        same(&rt, text.as_str(), want);
-    }
-    Ok(())
-}
-
-#[test]
-fn stores_through_a_mask(rt: HostRuntime) {
-    let object = record(&rt, 0x848c0000, 0xdff80000, 0x1080, [0; 8]);
-    for (id, want) in [(0x123, true), (0x122, true), (0x121, false)] {
-        same(
-            &rt,
-            (id, accepts(&object, &data(&rt, id, 0, [0; 8]))),
-            (id, want),
-        );
-    }
-    let after = stored(&object, &data(&rt, 0x122, 0, [0; 8]));
-    same(&rt, shown(&after), (0x84880000, 0xdff80000, 0x9080, [0; 8]));
+    let short = frame(2047, false, false, 3, BYTES);
+    same(&rt, short.bytes(), [0x11, 0x22, 0x33, 0, 0, 0, 0, 0]);
 }
 
 #[test]
 fn accepts_by_width_kind_and_mask(rt: HostRuntime) {
     let frames = [
-        (0x123, false, false),
-        (0x122, false, false),
-        (0x123, false, true),
-        (0x048c0001, true, false),
-        (0x048c0000, true, false),
-        (0x04880001, true, false),
+        empty_frame(0x123),
+        empty_frame(0x122),
+        frame(0x123, false, true, 0, [0; 8]),
+        frame(0x048c0001, true, false, 0, [0; 8]),
+        frame(0x048c0000, true, false, 0, [0; 8]),
+        frame(0x04880001, true, false, 0, [0; 8]),
     ];
     for (arbitration, masks, control, wanted) in [
         // a standard object and an extended one, without a mask
@@ -200,13 +145,12 @@ fn accepts_by_width_kind_and_mask(rt: HostRuntime) {
             [false, false, false, false, false, false],
         ),
     ] {
-        let object = record(&rt, arbitration, masks, control, [0; 8]);
-        for ((id, xtd, rtr), want) in frames.iter().zip(wanted.iter()) {
-            let sent = frame(&rt, *id, *xtd, *rtr, 0, [0; 8]);
+        let object = record(arbitration, masks, control, [0; 8]);
+        for (sent, want) in frames.iter().zip(wanted.iter()) {
             same(
                 &rt,
-                (object, sent, accepts(&object, &sent)),
-                (object, sent, *want),
+                (object, *sent, accepts(&object, sent)),
+                (object, *sent, *want),
             );
         }
     }
@@ -214,45 +158,54 @@ fn accepts_by_width_kind_and_mask(rt: HostRuntime) {
 
 #[test]
 fn stores_data_frames(rt: HostRuntime) {
-    let object = record(&rt, 0x848c0000, 0, 0x8488, [0; 8]);
-    let short = data(&rt, 0x123, 3, [1, 2, 3, 0, 0, 0, 0, 0]);
-    holds(&rt, accepts(&object, &short));
-    same(
-        &rt,
-        shown(&stored(&object, &short)),
-        (0x848c0000, 0, 0xe483, [1, 2, 3, 0, 0, 0, 0, 0]),
-    );
-    let extended = record(&rt, 0xdfffffff, 0, 0x0080, WRITTEN);
-    let long = frame(&rt, 0x1fffffff, true, false, 15, [1, 2, 3, 4, 5, 6, 7, 8]);
-    holds(&rt, accepts(&extended, &long));
-    let after = stored(&extended, &long);
-    same(
-        &rt,
-        shown(&after),
-        (0xdfffffff, 0, 0x808f, [1, 2, 3, 4, 5, 6, 7, 8]),
-    );
-    same(&rt, frame_of(&Record { dir: true, ..after }), long);
+    let bytes = [1, 2, 3, 4, 5, 6, 7, 8];
+    let three = [1, 2, 3, 0, 0, 0, 0, 0];
+    for (object, frame, after) in [
+        (
+            record(0x848c0000, 0, 0x8488, [0; 8]),
+            frame(0x123, false, false, 3, bytes),
+            (0x848c0000, 0, 0xe483, three),
+        ),
+        (
+            record(0xdfffffff, 0, 0x0080, BYTES),
+            frame(0x1fffffff, true, false, 15, bytes),
+            (0xdfffffff, 0, 0x808f, bytes),
+        ),
+        // the place that the mask leaves out is the frame's
+        (
+            record(0x848c0000, 0xdff80000, 0x1080, [0; 8]),
+            empty_frame(0x122),
+            (0x84880000, 0xdff80000, 0x9080, [0; 8]),
+        ),
+    ] {
+        holds(&rt, accepts(&object, &frame));
+        let left = stored(&object, &frame);
+        same(&rt, shown(&left), after);
+        same(&rt, frame_of(&Record { dir: true, ..left }), frame);
+    }
 }
 
 #[test]
 fn sends_once(rt: HostRuntime) {
-    let object = record(&rt, 0xa48c0000, 0, 0x8188, WRITTEN);
+    let object = record(0xa48c0000, 0, 0x8188, BYTES);
     holds(&rt, ready(&object));
     let sent = started(&object);
-    same(&rt, shown(&sent), (0xa48c0000, 0, 0x0188, WRITTEN));
-    same(&rt, frame_of(&sent), data(&rt, 0x123, 8, WRITTEN));
+    same(&rt, shown(&sent), (0xa48c0000, 0, 0x0188, BYTES));
+    let message = frame(0x123, false, false, 8, BYTES);
+    same(&rt, frame_of(&sent), message);
     let done = finished(&sent);
-    same(&rt, shown(&done), (0xa48c0000, 0, 0x0088, WRITTEN));
+    same(&rt, shown(&done), (0xa48c0000, 0, 0x0088, BYTES));
     holds(&rt, !ready(&done));
     // a host writes new data between the start and the end
-    let again = record(&rt, 0xa48c0000, 0, 0x8188, [0x99; 8]);
+    let again = record(0xa48c0000, 0, 0x8188, [0x99; 8]);
     same(
         &rt,
         shown(&finished(&again)),
         (0xa48c0000, 0, 0x8188, [0x99; 8]),
     );
-    let receiving = record(&rt, 0x848c0000, 0, 0x0984, WRITTEN);
-    same(&rt, frame_of(&receiving), request(&rt));
+    let receiving = record(0x848c0000, 0, 0x0984, BYTES);
+    let request = frame(0x123, false, true, 4, BYTES);
+    same(&rt, frame_of(&receiving), request);
     same(&rt, finished(&receiving).control(), 0x2884);
 }
 

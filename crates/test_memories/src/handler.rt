@@ -1,105 +1,69 @@
+//! Worked examples of the message handler, over a plain memory.
+use crate::expect::{
+    BYTES, CONTROL, MESSAGE, RECEIVER, change_of, found, frame, holds, same, shown,
+};
+use crate::plain::Plain;
 use ccan_handler::{ScanRefused, laws};
-use test_contended::calls::{choose, flags, until};
-
-mod moments;
-mod scans;
-
-use crate::expect::{holds, registers, same, tries};
-use ccan_object::{ObjectNo, Profile, Record, Reg};
-use ccan_ram::{Access, Array, Change, Changed, Flag, PortName, Refused};
-use std::process::Abort;
-use std::test::Fail;
-
-/// The data of a first message.
-const FIRST: [u8; 8] = [0x11, 0x22, 0x33, 0x44, 0x55, 0x66, 0x77, 0x88];
-
-/// The registers that a driver sets to write 0x123 with eight bytes, but for Message Control.
-const MESSAGE: [(Reg, u16); 6] = [
-    (Reg::CMask, 0x00f3),
-    (Reg::Arb2, 0xa48c),
-    (Reg::DataA1, 0x2211),
-    (Reg::DataA2, 0x4433),
-    (Reg::DataB1, 0x6655),
-    (Reg::DataB2, 0x8877),
-];
-
-/// The registers that a driver sets to receive standard frames 0x123, but for Message Control.
-const RECEIVER: [(Reg, u16); 2] = [(Reg::CMask, 0x00f3), (Reg::Arb2, 0x848c)];
-
-/// A write of Message Control alone.
-const CONTROL: [(Reg, u16); 1] = [(Reg::CMask, 0x0090)];
-
-/// A change by one port of the object that a request names.
-fn change(rt: &impl Abort, ram: &mut Array, port: PortName, request: u16, made: &Change) -> Record {
-    ram.at(port);
-    let number = ObjectNo::from_request(ram.profile(), request);
-    match ram.change(number, made, tries(rt, 4)) {
-        Ok(Changed::Done { after, .. }) => after,
-        _ => panic!(rt; "refused"),
-    }
-}
-
-/// Sets registers and writes the object that the request names.
-fn write(
-    rt: &impl Abort,
-    ram: &mut Array,
-    port: PortName,
-    request: u16,
-    settings: [&[(Reg, u16)]; 2],
-) -> Record {
-    let [some, more] = settings;
-    let registers = registers(some, more);
-    let made = Change::Write(registers.command(), registers.buffer());
-    change(rt, ram, port, request, &made)
-}
-
-/// The four fields of a printed record.
-fn fields(shown: &Record) -> (u32, u32, u16, [u8; 8]) {
-    (
-        shown.arbitration(),
-        shown.masks(),
-        shown.control(),
-        shown.bytes,
-    )
-}
+use ccan_object::{Profile, Reg};
+use ccan_ram::{Flag, PortName, Refused};
 
 #[test]
-fn reads_the_flags_of_all_objects(rt: HostRuntime) {
-    let mut ram = Array::new(Profile::One, 64);
-    for request in [0x0001, 0x0000] {
-        let _written = write(
-            &rt,
-            &mut ram,
-            PortName::If1,
-            request,
-            [&CONTROL, &[(Reg::Ctrl, 0x0100)]],
-        );
-    }
-    ram.at(PortName::If2);
-    same(&rt, flags(&mut ram, Flag::TxRqst), 0x8000_0001);
-    same(&rt, flags(&mut ram, Flag::MsgVal), 0);
-    ram.at(PortName::Bus);
-    same(&rt, choose(&mut ram, tries(&rt, 4)), Ok(None));
-    holds(&rt, !until(&mut ram, 0x0002, Flag::TxRqst, 1));
-    holds(&rt, until(&mut ram, 0x0000, Flag::TxRqst, 1));
-    holds(&rt, !until(&mut ram, 0x0000, Flag::TxRqst, 0));
-}
-
-#[test]
-fn tells_why_a_scan_was_refused(rt: HostRuntime) -> Result<(), Fail> {
-    let at = ObjectNo::from_request(Profile::One, 3);
-    let busy = Refused::Busy { tries: 2, now: 3 };
-    for (why, text) in [
-        (busy, "object 3: each of 2 tries was lost"),
-        (
-            Refused::Spent,
-            "object 3: the port has made all its changes",
-        ),
+fn reads_flags_and_interrupt_value(rt: HostRuntime) {
+    let mut ram = Plain::new(Profile::One, 64);
+    same(&rt, ram.interrupt(false), [0, 0]);
+    holds(&rt, ram.write(7, &CONTROL, &[(Reg::Ctrl, 0x2080)]));
+    holds(&rt, ram.write(0, &CONTROL, &[(Reg::Ctrl, 0x6100)]));
+    for (flag, word) in [
+        (Flag::IntPnd, 0x8000_0040),
+        (Flag::TxRqst, 0x8000_0000),
+        (Flag::MsgLst, 0x8000_0000),
+        (Flag::NewDat, 0),
+        (Flag::MsgVal, 0),
     ] {
-        let printed = format!(in rt.alloc(); "{}", ScanRefused { at, why })?;
-        same(&rt, printed.as_str(), text);
+        same(&rt, (flag, ram.flags(flag)), (flag, [word, word]));
     }
-    Ok(())
+    same(&rt, ram.interrupt(false), [0x0007, 0x0007]);
+    same(&rt, ram.interrupt(true), [0x8000, 0x8000]);
+    holds(&rt, !ram.shows_within(2, Flag::TxRqst, 1));
+    holds(&rt, ram.shows_within(0, Flag::TxRqst, 1));
+    holds(&rt, !ram.shows_within(0, Flag::TxRqst, 0));
+}
+
+#[test]
+fn receives_where_the_filter_accepts(rt: HostRuntime) {
+    let mut ram = Plain::new(Profile::One, 64);
+    holds(&rt, ram.write(2, &RECEIVER, &[(Reg::Ctrl, 0x8488)]));
+    let received = frame(0x123, false, false, 3, [1, 2, 3, 0, 0, 0, 0, 0]);
+    let stored = found(&rt, ram.receive(&received));
+    same(&rt, stored.object.get(), 2);
+    same(&rt, shown(&stored.before), (0x848c0000, 0, 0x8488, [0; 8]));
+    same(
+        &rt,
+        shown(&stored.after),
+        (0x848c0000, 0, 0xe483, [1, 2, 3, 0, 0, 0, 0, 0]),
+    );
+    same(&rt, ram.receive_from(&received, 3), Ok(None));
+}
+
+#[test]
+fn chooses_until_the_quota_is_spent(rt: HostRuntime) {
+    let mut ram = Plain::new(Profile::Two, 1);
+    same(&rt, ram.choose_at_once(), Ok(None));
+    holds(&rt, ram.write(0, &MESSAGE, &[(Reg::Ctrl, 0x8188)]));
+    let ready = change_of(&MESSAGE, &[(Reg::Ctrl, 0x0188)]);
+    holds(&rt, ram.change(PortName::If2, 5, &ready).is_ok());
+    let (chosen, started) = found(&rt, ram.choose());
+    same(&rt, chosen.get(), 5);
+    same(&rt, shown(&started), (0xa48c0000, 0, 0x0188, BYTES));
+    let why = Refused::Spent;
+    let (fifth, last) = (ram.object(5), ram.object(0));
+    same(&rt, ram.choose(), Err(ScanRefused { at: fifth, why }));
+    same(&rt, ram.choose_from(6), Err(ScanRefused { at: last, why }));
+    same(
+        &rt,
+        ram.choose_at_once(),
+        Err(ScanRefused { at: fifth, why }),
+    );
 }
 
 #[test]

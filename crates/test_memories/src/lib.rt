@@ -1,7 +1,8 @@
 //! Tests of what lies below scripts, by worked examples whose expected values come from the rules and not from the program:
-//! objects, frames, fault confinement, the controller's registers, and where the registers of the chip stand; the message
-//! handler and the bus, over a plain memory and over one whose tries are lost on purpose; and the memories that threads
-//! share; and saved chips, which were led through many states and come back from their bytes. There is nothing here but tests.
+//! objects, frames, fault confinement, the controller's registers, and where the registers of the chip stand; the bus, over a
+//! plain memory, and the message handler, over that and over one whose tries are lost on purpose; the memories that threads
+//! share; saved chips, which were led through many states and come back from their bytes; and the texts of errors and names.
+//! There is nothing here but tests.
 #![tactic(auto)]
 
 #[cfg(test)]
@@ -25,8 +26,12 @@ mod memory;
 #[cfg(test)]
 mod objects;
 #[cfg(test)]
+mod plain;
+#[cfg(test)]
 mod saved;
 #[cfg(test)]
 mod saved_bytes;
 #[cfg(test)]
 mod shared;
+#[cfg(test)]
+mod texts;

@@ -121,57 +121,30 @@ fn all_as_listed(rt: &impl Abort, map: Map, places: &Places) {
     }
 }
 
-/// How many registers of a list stand where it says, in a chip with so many objects.
-fn count(map: Map, profile: Profile, registers: &[Register], offsets: &[u32]) -> u32 {
-    let mut found = 0;
-    for (register, at) in registers.iter().zip(offsets) {
-        if map.register_at(profile, *at) == Some(*register) && found < u32::MAX {
-            found += 1;
-        }
-    }
-    found
-}
-
-/// All registers stand where the lists say: 37 with 32 objects, and 8 more with 64.
-fn none_missing(rt: &impl Abort, map: Map, places: &Places) {
-    same(rt, count(map, Profile::One, &COMMON, &places.common), 37);
-    same(rt, count(map, Profile::Two, &COMMON, &places.common), 37);
-    same(rt, count(map, Profile::One, &FURTHER, &places.further), 0);
-    same(rt, count(map, Profile::Two, &FURTHER, &places.further), 8);
-}
-
 #[test]
-fn registers_of_16_bits_stand_side_by_side(rt: HostRuntime) {
+fn registers_stand_where_the_lists_say(rt: HostRuntime) {
     all_as_listed(&rt, Map::Narrow, &NARROW);
-    none_missing(&rt, Map::Narrow, &NARROW);
-}
-
-#[test]
-fn registers_of_16_bits_stand_in_words_of_32(rt: HostRuntime) {
     all_as_listed(&rt, Map::Wide, &WIDE);
-    none_missing(&rt, Map::Wide, &WIDE);
-}
-
-#[test]
-fn registers_of_32_bits_have_two_halves(rt: HostRuntime) {
     all_as_listed(&rt, Map::Dcan, &DCAN);
-    none_missing(&rt, Map::Dcan, &DCAN);
 }
 
 #[test]
-fn layouts_have_numbers(rt: HostRuntime) {
-    same(&rt, Map::numbered(0), Some(Map::Narrow));
-    same(&rt, Map::numbered(1), Some(Map::Wide));
-    same(&rt, Map::numbered(2), Some(Map::Dcan));
-    same(&rt, Map::numbered(3), None);
-}
-
-#[test]
-fn parts_have_16_flags(rt: HostRuntime) {
-    let word = 0x1122_3344_5566_7788;
-    same(&rt, FlagPart::First.of(word), 0x7788);
-    same(&rt, FlagPart::Second.of(word), 0x5566);
-    same(&rt, FlagPart::Third.of(word), 0x3344);
-    same(&rt, FlagPart::Fourth.of(word), 0x1122);
+fn layouts_have_numbers_and_parts_16_flags(rt: HostRuntime) {
+    for (number, map) in [
+        (0, Some(Map::Narrow)),
+        (1, Some(Map::Wide)),
+        (2, Some(Map::Dcan)),
+        (3, None),
+    ] {
+        same(&rt, (number, Map::numbered(number)), (number, map));
+    }
+    for (part, flags) in [
+        (FlagPart::First, 0x7788),
+        (FlagPart::Second, 0x5566),
+        (FlagPart::Third, 0x3344),
+        (FlagPart::Fourth, 0x1122),
+    ] {
+        same(&rt, (part, part.of(0x1122_3344_5566_7788)), (part, flags));
+    }
     laws::registers_lie_apart();
 }

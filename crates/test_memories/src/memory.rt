@@ -1,83 +1,8 @@
-//! Worked examples of the plain memory.
-
-mod drafts;
-mod plain;
-
-use ccan_object::{Iface, ObjectNo, Record, Reg};
-use ccan_ram::{Access, Change, Changed, Refused, Tries};
-
-/// The data of a first message.
-const FIRST: [u8; 8] = [0x11, 0x22, 0x33, 0x44, 0x55, 0x66, 0x77, 0x88];
-
-/// The registers that a driver sets to write 0x123 with eight bytes, but for Message Control.
-const MESSAGE: [(Reg, u16); 6] = [
-    (Reg::CMask, 0x00f3),
-    (Reg::Arb2, 0xa48c),
-    (Reg::DataA1, 0x2211),
-    (Reg::DataA2, 0x4433),
-    (Reg::DataB1, 0x6655),
-    (Reg::DataB2, 0x8877),
-];
-
-/// Four tries for each change.
-fn four_tries() -> Tries {
-    match Tries::new(4) {
-        Some(tries) => tries,
-        None => unreachable!(),
-    }
-}
-
-/// What came of a change of the object that a request names.
-fn try_change<A: Access>(ram: &mut A, request: u16, change: &Change) -> Result<Changed, Refused> {
-    let object = ObjectNo::from_request(ram.profile(), request);
-    ram.change(object, change, four_tries())
-}
-
-/// What a look at the object that a request names shows.
-fn look<A: Access>(ram: &mut A, request: u16) -> Record {
-    let object = ObjectNo::from_request(ram.profile(), request);
-    ram.look(object)
-}
-
-/// A transfer between interface registers and the message RAM, as a host makes it, and the number of its change: 0 for a
-/// pure read, which makes none, and None where the transfer was refused.
-fn transfer<A: Access>(ram: &mut A, registers: &mut Iface, request: u16) -> Option<u64> {
-    let command = registers.command();
-    if command.is_pure_read() {
-        let shown = look(ram, request);
-        registers.fill(command, &shown);
-        return Some(0);
-    }
-    let made = if command.is_write() {
-        Change::Write(command, registers.buffer())
-    } else {
-        Change::Clear(command)
-    };
-    match try_change(ram, request, &made) {
-        Ok(
-            Changed::Done {
-                before,
-                after,
-                number,
-            },
-        ) => {
-            let moved = if command.is_write() { after } else { before };
-            registers.fill(command, &moved);
-            Some(number)
-        }
-        _ => None,
-    }
-}
-
-/// The four fields of a printed record.
-fn fields(object: &Record) -> (u32, u32, u16, [u8; 8]) {
-    (
-        object.arbitration(),
-        object.masks(),
-        object.control(),
-        object.bytes,
-    )
-}
+//! Worked examples of the plain memory, and of what changes are made of.
+use crate::expect::{BYTES, MESSAGE, change_of, holds, same, shown, tries};
+use crate::plain::Plain;
+use ccan_object::{CommandMask, ObjectNo, Profile, Record, Reg};
+use ccan_ram::{Change, Changed, Draft, PortName, Refused, Tries};
 
 /// The number of a change that was made.
 fn number(changed: Result<Changed, Refused>) -> Option<u64> {
@@ -85,4 +10,64 @@ fn number(changed: Result<Changed, Refused>) -> Option<u64> {
         Ok(Changed::Done { number, .. }) => Some(number),
         _ => None,
     }
+}
+
+#[test]
+fn numbers_the_changes_of_each_port_up_to_its_quota(rt: HostRuntime) {
+    let mut ram = Plain::new(Profile::One, 2);
+    let written = change_of(&MESSAGE, &[(Reg::Ctrl, 0x0088)]);
+    for (port, first) in [
+        (PortName::If1, 1),
+        (PortName::If2, 65537),
+        (PortName::Bus, 131073),
+    ] {
+        let made = ram.change(port, 5, &written);
+        same(&rt, number(made), Some(first));
+        // an object that isn't ready is shown, and that is no change
+        let not_now = ram.change(port, 5, &Change::Start);
+        same(&rt, not_now, Ok(Changed::NotNow(ram.look(5))));
+        let made = ram.change(port, 5, &Change::Clear(CommandMask::of(0)));
+        same(&rt, number(made), Some(first + 1));
+        let refused = ram.change(port, 5, &written);
+        same(&rt, refused, Err(Refused::Spent));
+    }
+    same(&rt, shown(&ram.look(5)), (0xa48c0000, 0, 0x0088, BYTES));
+}
+
+#[test]
+fn changes_have_their_parts(rt: HostRuntime) {
+    for (most, known) in [(0, false), (1, true), (1000, true), (1001, false)] {
+        same(&rt, (most, Tries::new(most).is_some()), (most, known));
+    }
+    same(&rt, tries(4).get(), 4);
+    let object = ObjectNo::from_request(Profile::One, 5);
+    let empty = Record::zero();
+    let draft = Draft::new(object, empty, 65537);
+    same(
+        &rt,
+        (draft.object(), draft.held(), draft.number()),
+        (object, empty, 65537),
+    );
+    let write = change_of(&MESSAGE, &[(Reg::Ctrl, 0x0088)]);
+    holds(
+        &rt,
+        write.fits(&empty) && Change::Finish.fits(&empty) && !Change::Start.fits(&empty),
+    );
+    let written = write.applied(&empty);
+    same(&rt, shown(&written), (0xa48c0000, 0, 0x0088, BYTES));
+    same(&rt, Change::Finish.applied(&written), written);
+}
+
+#[test]
+fn holds_the_laws() {
+    ccan_ram::laws::flags_change_by_the_table();
+    ccan_ram::laws::lost_messages_are_marked();
+    ccan_ram::laws::looks_alone_show_the_memory();
+    ccan_ram::laws::attempts_alone_are_determined();
+    ccan_ram::laws::undisturbed_looks_are_one_thread();
+    ccan_ram::laws::undisturbed_attempts_are_one_thread();
+    ccan_ram::laws::lost_tries_have_changes_of_their_own();
+    ccan_ram::laws::many_tries_are_never_busy();
+    ccan_ram::laws::undisturbed_pictures_are_one_thread();
+    ccan_ram::laws::pictures_make_no_change();
 }

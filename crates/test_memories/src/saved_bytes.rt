@@ -2,10 +2,8 @@
 ghost use Rattle.std.specs.Prelude.{◌≤◌, ◌+◌};
 
 use crate::expect::holds;
-use ccan_registers::AccessError;
-use ccan_saved::{Field, FormatError, LENGTH, NotRestored, from_bytes, to_bytes};
+use ccan_saved::{Field, FormatError, LENGTH, from_bytes, to_bytes};
 use std::process::Abort;
-use std::test::Fail;
 
 /// Puts a word at a place.
 fn put(bytes: &mut [u8; LENGTH], place: usize, word: u64)
@@ -69,38 +67,4 @@ fn bytes_are_read_by_their_table(rt: HostRuntime) {
     refuses(&rt, 96, 0, FormatError::Range(Field::If2));
     refuses(&rt, 232, 1 << 61, FormatError::Range(Field::Object(5)));
     refuses(&rt, 904, 1, FormatError::Range(Field::Unused));
-}
-
-#[test]
-fn errors_have_texts(rt: HostRuntime) -> Result<(), Fail> {
-    let length = format!(in rt.alloc(); "{}", FormatError::Length(3))?;
-    holds(
-        &rt,
-        length.as_str() == "a saved chip has 1672 bytes, and these are 3",
-    );
-    let object = format!(in rt.alloc(); "{}", FormatError::Range(Field::Object(64)))?;
-    holds(&rt, object.as_str() == "object 64 is out of its range");
-    let version = format!(in rt.alloc(); "{}", FormatError::Version(2))?;
-    holds(
-        &rt,
-        version.as_str() == "version 2 of a saved chip is not known",
-    );
-    let no_chip = format!(in rt.alloc(); "{}", NotRestored::NotAChip)?;
-    holds(&rt, no_chip.as_str() == "no chip can be like this");
-    let other = format!(in rt.alloc(); "{}", AccessError::OtherInterface)?;
-    holds(
-        &rt,
-        other.as_str() == "the register is of another port's interface",
-    );
-    let busy = format!(in rt.alloc(); "{}", AccessError::Busy)?;
-    holds(
-        &rt,
-        busy.as_str() == "each try was lost to a change of another port",
-    );
-    let spent = format!(in rt.alloc(); "{}", AccessError::Spent)?;
-    holds(
-        &rt,
-        spent.as_str() == "the port has made all the changes that it can",
-    );
-    Ok(())
 }

@@ -7,7 +7,6 @@ mod chip_bench;
 mod chip_threads;
 mod chips;
 mod contended;
-mod drafts;
 mod pictures;
 mod rivals;
 mod tests;

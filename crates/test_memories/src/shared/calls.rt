@@ -58,3 +58,28 @@ pub fn commit<R: SharedRam>(
 {
     ram.commit(port, draft, change)
 }
+
+/// Two changes of an object, one after the other, and the answer to the second.
+pub fn change_twice<R: SharedRam>(
+    ram: &R,
+    port: &mut R::Port,
+    object: ObjectNo,
+    changes: [&Change; 2],
+    tries: Tries,
+) -> Result<Changed, Refused>
+    requires memory { (R.pass port.old).memory ≡ R.memory ram.now }
+    requires held { Holds (R.memory ram.now).profile object }
+    ensures memory { (R.pass port.new).memory ≡ (R.pass port.old).memory }
+    ensures port { (R.pass port.new).port ≡ (R.pass port.old).port }
+{
+    let [first, second] = changes;
+    let _first = change(ram, port, object, first, tries);
+    change(ram, port, object, second, tries)
+}
+
+/// How many changes a port has made.
+pub fn used<R: SharedRam>(ram: &R, port: &R::Port) -> u64
+    requires memory { (R.pass port.now).memory ≡ R.memory ram.now }
+{
+    ram.used(port)
+}

@@ -1,22 +1,20 @@
 //! A chip with its three ports and a bus over it, in one thread, for worked examples of rounds.
-ghost use Rattle.std.specs.Prelude.{◌≡◌, ◌≤◌, ◌<◌, ◌^◌};
-ghost use Rattle.ccan_object.specs.Profile.{Holds};
-ghost use Rattle.ccan_ram.specs.declared.port.PortName.{PortName};
+ghost use Rattle.std.specs.Prelude.{◌≡◌};
 ghost use Rattle.ccan_ram.specs.declared.port.PortName.TheVariants.{If1, If2, Bus};
-ghost use Rattle.ccan_ram.specs.SharedRam.{IsMemoryOf};
 ghost use Rattle.ccan_object.specs.declared.profile.Profile.TheVariants.{One};
-ghost use Rattle.ccan_endless.specs.Chip.{MayMake};
 
+use crate::expect::tries;
 use crate::shared::chips::{changed, looked};
 use arrayvec::ArrayVec;
 use ccan_accept::Frame;
-use ccan_bus::{Fault, LoadAnswer, RoundLine};
-use ccan_chip::{ChipBus, ChipReport};
-use ccan_confine::{Controller, ControllerChange, Counters};
-use ccan_endless::{ControllerChanged, EndlessRam, FinalChip, Port};
-use ccan_object::{ObjectNo, Profile};
+use ccan_bus::{Fault, LoadAnswer, RoundAnswer, RoundLine};
+use ccan_chip::ChipBus;
+use ccan_confine::{ControlRegister, Controller, ControllerChange, NodeState};
+use ccan_endless::{EndlessRam, FinalChip, Port};
+use ccan_object::Profile;
 use ccan_ram::{Change, Changed, SharedRam, Tries};
 use std::alloc::Global;
+use std::process::Abort;
 
 /// The chip. The host's calls are IF1's.
 #[derive(Drop)]
@@ -34,38 +32,54 @@ pub struct ChipBench {
     ghost objects: { port.pass.memory.profile ≡ One },
 }
 
-/// The line of a round in which one node sends, or none, and this spoils the winner's frame.
-pub fn line_of(send: Option<(u8, Frame)>, fault: Fault) -> Option<RoundLine> {
+/// The line of a round in which node 1 sends, or none, and this spoils the winner's frame.
+pub fn line_of(rt: &impl Abort, send: Option<Frame>, fault: Fault) -> RoundLine {
     let mut sends = ArrayVec::new();
     if let Some(sending) = send {
-        sends.push(sending);
+        sends.push((1, sending));
     }
-    RoundLine::new(8, sends, fault)
+    match RoundLine::new(2, sends, fault) {
+        Some(line) => line,
+        None => panic!(rt; "no node sends twice"),
+    }
 }
 
 impl ChipBench {
-    /// A chip after its reset, with so many other nodes.
-    pub fn open(alloc: Global, nodes: u8, tries: Tries) -> Option<ChipBench>
-        requires { nodes ≤ 8 }
-    {
+    /// A chip after its reset, with two other nodes.
+    pub fn open(rt: &impl Abort, alloc: Global) -> ChipBench {
         match EndlessRam::open_reset(alloc, Profile::One, 64) {
-            Ok((ram, if1, if2, port)) => Some(ChipBench {
+            Ok((ram, if1, if2, port)) => ChipBench {
                 ram,
                 if1,
                 if2,
                 port,
-                bus: ChipBus::new(Profile::One, nodes),
-                tries,
-            }),
-            Err(_) => None,
+                bus: ChipBus::new(Profile::One, 2),
+                tries: tries(8),
+            },
+            Err(_) => panic!(rt; "no memory"),
         }
     }
 
-    /// The host's change of the controller.
-    pub fn host(&mut self, change: &ControllerChange) -> Option<ControllerChanged>
-        requires { MayMake If1 change.now }
-    {
-        changed(&self.ram, &mut self.if1, change, self.tries)
+    /// The host writes Init and SIE, and the other bits of the Control register as 0. Whether it was changed.
+    pub fn write_control(&mut self, init: bool, sie: bool) -> bool {
+        let written = ControllerChange::WriteControl(ControlRegister {
+            init,
+            sie,
+            ..ControlRegister::default()
+        });
+        changed(&self.ram, &mut self.if1, &written, self.tries).is_some()
+    }
+
+    /// The host reads the Status register. Whether a status interrupt was shown before and after it.
+    pub fn read_status(&mut self) -> (bool, bool) {
+        let read = ControllerChange::ReadStatus;
+        match changed(&self.ram, &mut self.if1, &read, self.tries) {
+            Some(made) => (
+                made.before.shows_status_interrupt(),
+                made.after.shows_status_interrupt(),
+            ),
+            None => (false, true),
+        }
     }
 
     /// The controller, as the host sees it.
@@ -73,10 +87,9 @@ impl ChipBench {
         looked(&self.ram, &mut self.if1)
     }
 
-    /// The host's change of an object. Whether it was made.
-    pub fn object(&mut self, object: ObjectNo, change: &Change) -> bool
-        requires { Holds One object }
-    {
+    /// The host's change of the last object. Whether it was made.
+    pub fn object(&mut self, change: &Change) -> bool {
+        let object = self.ram.profile().last();
         let made = self.ram.change(&mut self.if1, object, change, self.tries);
         matches!(made, Ok(Changed::Done { .. }))
     }
@@ -106,8 +119,8 @@ impl ChipBench {
         )
     }
 
-    /// A round of this line.
-    pub fn round(self, line: &RoundLine) -> (ChipBench, ChipReport) {
+    /// A round of this line: what it loaded, and what it came to.
+    pub fn round(self, line: &RoundLine) -> (ChipBench, LoadAnswer, RoundAnswer) {
         let ChipBench {
             ram,
             if1,
@@ -126,25 +139,27 @@ impl ChipBench {
                 bus,
                 tries,
             },
-            report,
+            report.report.loading,
+            report.report.end.answer,
         )
     }
 
-    /// So many groups of recessive bits.
-    pub fn recessive(&mut self, groups: u16) -> Option<ControllerChanged> {
-        self.bus
-            .recessive(&self.ram, &mut self.port, groups, self.tries)
-            .ok()
+    /// So many groups of recessive bits. The state of the controller then.
+    pub fn recessive(&mut self, groups: u16) -> Option<NodeState> {
+        let answer = self
+            .bus
+            .recessive(&self.ram, &mut self.port, groups, self.tries);
+        match answer {
+            Ok(made) => Some(made.after.counters.state()),
+            Err(_) => None,
+        }
     }
 
-    /// The error counters of another node.
-    pub fn others(&self) -> (u8, Option<Counters>) {
+    /// How many other nodes there are, and whether the first of them is error active.
+    pub fn others(&self) -> (u8, bool) {
         let nodes = self.bus.others();
-        if nodes >= 1 {
-            (nodes, Some(self.bus.counters(1)))
-        } else {
-            (nodes, None)
-        }
+        let is_active = nodes >= 1 && self.bus.counters(1).state() == NodeState::Active;
+        (nodes, is_active)
     }
 
     /// What is loaded.

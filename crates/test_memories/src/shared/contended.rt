@@ -1,7 +1,10 @@
 ghost use Rattle.std.specs.Prelude.{◌≡◌};
 
+use crate::shared::calls::used;
 use ccan_object::{ObjectNo, Profile, Record};
-use ccan_ram::{Access, Change, Changed, CommitError, HandlerRegisters, Refused, SharedRam, Tries};
+use ccan_ram::{
+    Access, Change, Changed, CommitError, HandlerRegisters, On, Refused, SharedRam, Tries,
+};
 
 /// An access to a shared memory whose tries are disturbed: between the two steps of each try of a change, another port
 /// makes a change of its own at the same object.
@@ -78,9 +81,6 @@ impl<'a, R: SharedRam> Contended<'a, R> {
         requires port { (R.pass port).memory ≡ R.memory ram.now }
         requires rival { (R.pass rival).memory ≡ R.memory ram.now }
         requires quota { quota ≡ (R.memory ram.now).quota }
-        ensures port { result.port ≡ port }
-        ensures rival { result.rival ≡ rival }
-        ensures ram { result.ram.now ≡ ram.now }
     {
         Contended {
             ram,
@@ -91,13 +91,13 @@ impl<'a, R: SharedRam> Contended<'a, R> {
         }
     }
 
-    /// Both ports, with all that they have seen.
-    pub fn into_ports(self) -> (R::Port, R::Port)
-        ensures port { result.0 ≡ self.entry.port }
-        ensures rival { result.1 ≡ self.entry.rival }
-        ensures memory { (R.pass result.0).memory ≡ R.memory self.entry.ram.now }
-        ensures beside { (R.pass result.1).memory ≡ R.memory self.entry.ram.now }
-    {
-        (self.port, self.rival)
+    /// How many changes the port and the rival have made.
+    pub fn used(&self) -> (u64, u64) {
+        (used(self.ram, &self.port), used(self.ram, &self.rival))
+    }
+
+    /// The port as an access that nobody disturbs.
+    pub fn undisturbed(self) -> On<'a, R> {
+        On::new(self.ram, self.port)
     }
 }

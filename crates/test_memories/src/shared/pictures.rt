@@ -50,7 +50,7 @@ pub fn set_and_clear<R: SharedRam>(
 }
 
 /// 1 where the second flag is set without the first.
-fn torn_by(first: bool, second: bool) -> u32 {
+pub fn torn_by(first: bool, second: bool) -> u32 {
     if first {
         return 0;
     }
@@ -85,28 +85,6 @@ pub fn torn_looks<R: SharedRam>(ram: &R, mut port: R::Port, pair: Pair, turns: u
         torn = torn.saturating_add(torn_by(first.newdat, second.newdat));
     }
     torn
-}
-
-/// Whether a pair of looks is torn where another port sets the flags of both objects between the two, and whether a picture
-/// taken after them is: 1 for yes.
-pub fn torn_between<R: SharedRam>(
-    ram: &R,
-    mut host: R::Port,
-    mut watcher: R::Port,
-    pair: Pair,
-    tries: Tries,
-) -> (u32, u32)
-    requires host { (R.pass host).memory ≡ R.memory ram.now }
-    requires watcher { (R.pass watcher).memory ≡ R.memory ram.now }
-    requires first { Holds (R.memory ram.now).profile pair.first }
-    requires second { Holds (R.memory ram.now).profile pair.second }
-{
-    let first = ram.look(&mut watcher, pair.first);
-    let _set = insist(ram, &mut host, pair.first, &new_data(true), tries);
-    let _set = insist(ram, &mut host, pair.second, &new_data(true), tries);
-    let second = ram.look(&mut watcher, pair.second);
-    let looks = torn_by(first.newdat, second.newdat);
-    (looks, torn_pictures(ram, watcher, pair, 1))
 }
 
 /// How many pictures, and how many pairs of looks, were torn beside a port that sets and clears.

@@ -117,11 +117,18 @@ fn noted(
     }
 }
 
+/// Whether what a task counts is no less in the second record.
+fn rises(task: Task, first: &Record, second: &Record) -> bool {
+    task.count_in(first) <= task.count_in(second)
+}
+
 /// Whether what the others count is no less in the second record.
 fn others_rise(task: Task, first: &Record, second: &Record) -> bool {
-    let masks = Task::Masks.count_in(first) <= Task::Masks.count_in(second);
-    let bytes = Task::Bytes.count_in(first) <= Task::Bytes.count_in(second);
-    (task == Task::Masks || masks) && (task == Task::Bytes || bytes)
+    match task {
+        Task::Masks => rises(Task::Bytes, first, second),
+        Task::Bytes => rises(Task::Masks, first, second),
+        Task::Finishes => { rises(Task::Masks, first, second) && rises(Task::Bytes, first, second) }
+    }
 }
 
 /// Whether what the others count is the same in both records.

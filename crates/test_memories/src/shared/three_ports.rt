@@ -2,16 +2,17 @@
 ghost use Rattle.std.specs.Prelude.{◌≡◌};
 ghost use Rattle.ccan_ram.specs.declared.port.PortName.TheVariants.{If1, If2, Bus};
 
-use crate::shared::calls::{change, commit, look, prepare};
-use crate::shared::drafts::{commit_beside, prepare_beside};
-use ccan_handler::{ScanRefused, choose, flags, flags_at_once, interrupt, interrupt_at_once};
+use super::Contended;
+use crate::shared::calls::{change, change_twice, commit, look, prepare, used};
+use ccan_accept::Frame;
+use ccan_handler::{ScanRefused, Stored};
 use ccan_object::{ObjectNo, Profile, Record};
 use ccan_ram::{
-    Change, Changed, CommitError, Final, Flag, HandlerRegisters, On, PortName, Refused, SharedRam,
-    Tries,
+    Change, Changed, CommitError, Final, HandlerRegisters, PortName, Refused, SharedRam, Tries,
 };
 use std::alloc::Global;
 use std::process::Abort;
+use test_contended::calls::{choose_at_once, receive, receive_from};
 
 /// A shared memory and its ports. That each port is the memory's belongs to it, so its calls promise nothing, and a test has no
 /// more to carry than its own lines. A request names an object, as in the Command Request register.
@@ -21,26 +22,32 @@ pub struct ThreePorts<R: SharedRam> {
     if1: R::Port,
     if2: R::Port,
     bus: R::Port,
+    quota: u64,
     ghost first: { ((R.pass if1).memory ≡ R.memory ram) × ((R.pass if1).port ≡ If1) },
     ghost second: { ((R.pass if2).memory ≡ R.memory ram) × ((R.pass if2).port ≡ If2) },
     ghost third: { ((R.pass bus).memory ≡ R.memory ram) × ((R.pass bus).port ≡ Bus) },
+    ghost quota_is: { quota ≡ (R.memory ram).quota },
 }
 
-/// The memory, and what a scan of its bus came to.
-pub type Scanned<R, T> = (ThreePorts<R>, Result<Option<T>, ScanRefused>);
+/// What a choice found, and what its start left.
+pub type Chosen = Result<Option<(ObjectNo, Record)>, ScanRefused>;
+
+/// What a receipt stored.
+pub type Received = Result<Option<Stored>, ScanRefused>;
 
 impl<R: SharedRam + Drop> ThreePorts<R> {
     /// A memory that was just opened, with so many changes for each port.
     pub fn open(rt: &impl Abort, alloc: Global, profile: Profile, quota: u64) -> ThreePorts<R> {
         match R::open_ram(alloc, profile, quota) {
-            Ok((ram, if1, if2, bus)) => ThreePorts { ram, if1, if2, bus },
+            Ok((ram, if1, if2, bus)) => ThreePorts {
+                ram,
+                if1,
+                if2,
+                bus,
+                quota,
+            },
             Err(_) => panic!(rt; "no memory"),
         }
-    }
-
-    /// How many objects it has.
-    pub fn profile(&self) -> Profile {
-        self.ram.profile()
     }
 
     /// The object that a request names.
@@ -81,25 +88,12 @@ impl<R: SharedRam + Drop> ThreePorts<R> {
         (draft.object(), draft.held(), draft.number())
     }
 
-    /// An attempt of the bus, between whose look and whose commit IF1 makes a change at the same object.
-    pub fn bus_disturbed(
+    /// An attempt of IF1, between whose look and whose commit IF2 makes two changes at this object; and what IF2 was answered
+    /// last.
+    pub fn disturbed(
         &mut self,
         request: u16,
-        theirs: &Change,
-        made: &Change,
-        tries: Tries,
-    ) -> Result<Changed, CommitError> {
-        let object = ObjectNo::from_request(self.ram.profile(), request);
-        let draft = prepare(&self.ram, &mut self.bus, object);
-        let _made = change(&self.ram, &mut self.if1, object, theirs, tries);
-        commit(&self.ram, &mut self.bus, draft, made)
-    }
-
-    /// An attempt of IF1, between whose look and whose commit IF2 makes a change at this object; and what IF2 was answered.
-    pub fn host_disturbed(
-        &mut self,
-        request: u16,
-        (at, theirs): (u16, &Change),
+        (at, theirs): (u16, [&Change; 2]),
         made: &Change,
         tries: Tries,
     ) -> (Result<Changed, Refused>, Result<Changed, CommitError>) {
@@ -107,46 +101,48 @@ impl<R: SharedRam + Drop> ThreePorts<R> {
         let object = ObjectNo::from_request(profile, request);
         let other = ObjectNo::from_request(profile, at);
         let draft = prepare(&self.ram, &mut self.if1, object);
-        let answer = change(&self.ram, &mut self.if2, other, theirs, tries);
+        let answer = change_twice(&self.ram, &mut self.if2, other, theirs, tries);
         (answer, commit(&self.ram, &mut self.if1, draft, made))
     }
 
-    /// An attempt of IF2, between whose look and whose commit IF1 makes two changes of the same object; and what its look found.
-    pub fn disturbed_twice(
-        &mut self,
-        request: u16,
-        theirs: [&Change; 2],
-        made: &Change,
-        tries: Tries,
-    ) -> (Record, Result<Changed, CommitError>) {
-        let [first, second] = theirs;
-        let object = ObjectNo::from_request(self.ram.profile(), request);
-        let draft = prepare(&self.ram, &mut self.if2, object);
-        let _first = change(&self.ram, &mut self.if1, object, first, tries);
-        let _second = change(&self.ram, &mut self.if1, object, second, tries);
-        (draft.held(), commit(&self.ram, &mut self.if2, draft, made))
+    /// A choice of the bus at one moment, each of whose tries IF1 disturbs by this change; and how many changes the bus and IF1
+    /// have made then.
+    pub fn chooses_disturbed(self, theirs: Change, tries: Tries) -> (Chosen, (u64, u64)) {
+        let ThreePorts {
+            ram,
+            if1,
+            bus,
+            quota,
+            ..
+        } = self;
+        let mut disturbed = Contended::new(&ram, bus, if1, theirs, quota);
+        let chosen = choose_at_once(&mut disturbed, tries);
+        (chosen, disturbed.used())
     }
 
-    /// Drafts of the three ports at one object, and a second one of the bus, with a commit of each in this order: IF1's, IF2's,
-    /// IF2's again with a new draft, a finish by the bus's first, and a start by its second.
-    pub fn four_drafts(
-        &mut self,
+    /// A receipt of the bus, each of whose tries IF1 disturbs by this change, and how many changes the bus and IF1 have made
+    /// then; and a receipt from this object on that nobody disturbs.
+    pub fn receives_disturbed(
+        self,
+        frame: &Frame,
         request: u16,
-        mine: &Change,
-        theirs: &Change,
-    ) -> [Result<Changed, CommitError>; 5] {
-        let object = ObjectNo::from_request(self.ram.profile(), request);
-        let own = prepare(&self.ram, &mut self.if1, object);
-        let other = prepare(&self.ram, &mut self.if2, object);
-        let first = prepare(&self.ram, &mut self.bus, object);
-        let second = prepare_beside(&self.ram, &mut self.bus, object, &first);
-        let written = commit(&self.ram, &mut self.if1, own, mine);
-        let lost = commit(&self.ram, &mut self.if2, other, theirs);
-        let again = prepare(&self.ram, &mut self.if2, object);
-        let made = commit(&self.ram, &mut self.if2, again, theirs);
-        let late = commit_beside(&self.ram, &mut self.bus, first, &Change::Finish, &second);
-        let empty = commit(&self.ram, &mut self.bus, second, &Change::Start);
-        [written, lost, made, late, empty]
+        theirs: Change,
+        tries: Tries,
+    ) -> (Received, (u64, u64), Received) {
+        let ThreePorts {
+            ram,
+            if1,
+            bus,
+            quota,
+            ..
+        } = self;
+        let mut disturbed = Contended::new(&ram, bus, if1, theirs, quota);
+        let first = receive(&mut disturbed, frame, tries);
+        let used = disturbed.used();
+        let mut handler = disturbed.undisturbed();
+        let second = receive_from(&mut handler, frame, request, tries);
+        let _bus = handler.into_port();
+        (first, used, second)
     }
 
     /// Shows IF1 and IF2 what the other has seen.
@@ -162,9 +158,9 @@ impl<R: SharedRam + Drop> ThreePorts<R> {
     /// How many changes IF1, IF2 and the bus have made.
     pub fn used(&self) -> (u64, u64, u64) {
         (
-            self.ram.used(&self.if1),
-            self.ram.used(&self.if2),
-            self.ram.used(&self.bus),
+            used(&self.ram, &self.if1),
+            used(&self.ram, &self.if2),
+            used(&self.ram, &self.bus),
         )
     }
 
@@ -178,26 +174,5 @@ impl<R: SharedRam + Drop> ThreePorts<R> {
             ..
         } = self;
         ram.close(if1, if2, bus)
-    }
-
-    /// The bus chooses what it sends.
-    pub fn choose(self, tries: Tries) -> Scanned<R, (ObjectNo, Record)> {
-        let ThreePorts { ram, if1, if2, bus } = self;
-        let mut handler = On::new(&ram, bus);
-        let chosen = choose(&mut handler, tries);
-        let bus = handler.into_port();
-        let left = ThreePorts { ram, if1, if2, bus };
-        (left, chosen)
-    }
-
-    /// IF2's interrupt value and its word of IntPnd flags, by looks one after another, and by one look at all.
-    pub fn pending(self) -> [(u16, u64); 2] {
-        let ThreePorts { ram, if2, .. } = self;
-        let mut host = On::new(&ram, if2);
-        let value = interrupt(&mut host, false);
-        let word = flags(&mut host, Flag::IntPnd);
-        let value_at_once = interrupt_at_once(&mut host, false);
-        let word_at_once = flags_at_once(&mut host, Flag::IntPnd);
-        [(value, word), (value_at_once, word_at_once)]
     }
 }

@@ -1,14 +1,15 @@
 //! Ports in threads of their own.
+
 use super::*;
-use crate::expect::same;
-use crate::shared::rivals::{Plan, three_at_work};
+use crate::expect::{same, tries};
+use crate::shared::rivals::{Plan, Seen, Task, three_at_work};
 use ccan_ram::Final;
 use std::thread::Threads;
 
 /// What three ports see who work on the objects of these requests, and what they leave.
 fn worked<R: SharedRam + Sync, T: Abort + Threads + Sync>(
     rt: &T,
-    alloc: std::alloc::Global,
+    alloc: Global,
     requests: [u16; 3],
     quota: u64,
     turns: u16,
@@ -31,6 +32,26 @@ fn worked<R: SharedRam + Sync, T: Abort + Threads + Sync>(
     three_at_work(rt, ram, if1, if2, bus, plan)
 }
 
+/// Each port made so many changes, each in turn, and what two of them counted stands at these places.
+fn counted(rt: &impl Abort, seen: &[Seen; 3], turns: u16, masks: &Record, bytes: &Record) {
+    for port in seen {
+        same(
+            rt,
+            (port.made, port.own_in_turn, port.others_rise),
+            (turns, true, true),
+        );
+    }
+    same(rt, Task::Masks.count_in(masks), u32::from(turns));
+    same(rt, Task::Bytes.count_in(bytes), u32::from(turns));
+}
+
+/// No port was busy.
+fn never_busy(rt: &impl Abort, seen: &[Seen; 3]) {
+    for port in seen {
+        same(rt, port.busy, 0);
+    }
+}
+
 #[test]
 fn other_objects_never_cost_a_try(rt: HostRuntime) {
     let (seen, last) = worked::<WordRam, HostRuntime>(
@@ -41,16 +62,8 @@ fn other_objects_never_cost_a_try(rt: HostRuntime) {
         1000,
         tries(1),
     );
-    for port in seen {
-        same(
-            &rt,
-            (port.made, port.own_in_turn, port.others_rise),
-            (1000, true, true),
-        );
-        same(&rt, port.busy, 0);
-    }
-    same(&rt, Task::Masks.count_in(&last.records[0]), 1000);
-    same(&rt, Task::Bytes.count_in(&last.records[1]), 1000);
+    counted(&rt, &seen, 1000, &last.records[0], &last.records[1]);
+    never_busy(&rt, &seen);
 }
 
 #[test]
@@ -63,19 +76,7 @@ fn three_threads_count_in_one_object(rt: HostRuntime) {
         1000,
         tries(1000),
     );
-    for port in seen {
-        same(
-            &rt,
-            (port.made, port.own_in_turn, port.others_rise),
-            (1000, true, true),
-        );
-    }
-    same(&rt, Task::Masks.count_in(&last.records[0]), 1000);
-    same(&rt, Task::Bytes.count_in(&last.records[0]), 1000);
-}
-
-#[test]
-fn three_threads_count_in_one_object_without_an_end(rt: HostRuntime) {
+    counted(&rt, &seen, 1000, &last.records[0], &last.records[0]);
     let (seen, last) = worked::<EndlessRam, HostRuntime>(
         &rt,
         rt.alloc(),
@@ -84,15 +85,7 @@ fn three_threads_count_in_one_object_without_an_end(rt: HostRuntime) {
         65_535,
         tries(1000),
     );
-    for port in seen {
-        same(
-            &rt,
-            (port.made, port.own_in_turn, port.others_rise),
-            (65_535, true, true),
-        );
-    }
-    same(&rt, Task::Masks.count_in(&last.records[0]), 65_535);
-    same(&rt, Task::Bytes.count_in(&last.records[0]), 65_535);
+    counted(&rt, &seen, 65_535, &last.records[0], &last.records[0]);
 }
 
 #[test]
@@ -105,14 +98,6 @@ fn three_threads_count_behind_one_word(rt: HostRuntime) {
         64,
         tries(200),
     );
-    for port in seen {
-        same(
-            &rt,
-            (port.made, port.own_in_turn, port.others_rise),
-            (64, true, true),
-        );
-        same(&rt, port.busy, 0);
-    }
-    same(&rt, Task::Masks.count_in(&last.records[0]), 64);
-    same(&rt, Task::Bytes.count_in(&last.records[0]), 64);
+    counted(&rt, &seen, 64, &last.records[0], &last.records[0]);
+    never_busy(&rt, &seen);
 }
