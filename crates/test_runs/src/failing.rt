@@ -1,24 +1,13 @@
 //! Readers and writers that fail at each place of a stream, and those that give or take little at each call.
 ghost use Rattle.std.specs.Prelude.{◌≤◌};
 
-use crate::faulty::{FAULTS, Fault, Late, Sheet, Spaces};
+use crate::faulty::{FAULTS, Fault, Late, Spaces, failing_sheet, new_sheet};
 use crate::runs::{holds, pieces, run};
 use crate::streams::{sent, spent, write};
-use arrayvec::ArrayVec;
 use ccan_run::RunError;
 use ccan_script::ScriptError;
 use std::alloc::Global;
 use std::process::Abort;
-
-/// A sheet that takes so many bytes a call, and meets a fault after so many bytes.
-fn failing_sheet(step: usize, room: usize, fault: Option<Fault>) -> Sheet {
-    Sheet {
-        taken: ArrayVec::new(),
-        step,
-        room,
-        fault,
-    }
-}
 
 /// What is told where a reader meets this fault within a script.
 fn told(fault: Fault) -> RunError {
@@ -29,7 +18,8 @@ fn told(fault: Fault) -> RunError {
 }
 
 /// Runs a script whose reader meets a fault after so many calls. The fault is told and not met again, and nothing is written;
-/// one that comes after the last byte and gives nothing is the end of the input.
+/// one that comes after the last byte and gives nothing is the end of the input. Up to the fault each call works, so with one that
+/// comes last, the whole script is read in steps of so many bytes.
 fn fails_to_read(
     rt: &impl Abort,
     alloc: Global,
@@ -38,7 +28,7 @@ fn fails_to_read(
     calls: usize,
     fault: Fault,
 ) {
-    let mut out = failing_sheet(4096, 0, None);
+    let mut out = new_sheet(4096);
     let mut reader = pieces(script, step, calls, Some(fault));
     let got = run(alloc, &mut reader, &mut out);
     if reader.rest.is_empty() && matches!(fault, Fault::Nothing) {
@@ -79,7 +69,7 @@ fn stops_where_a_read_fails(rt: HostRuntime) {
 /// Runs a script that begins with two million spaces, and whose reader meets a fault behind them. The fault is told and not met
 /// again, and nothing is written.
 fn fails_to_read_late(rt: &impl Abort, alloc: Global, fault: Fault) {
-    let mut out = failing_sheet(4096, 0, None);
+    let mut out = new_sheet(4096);
     let mut reader = Late {
         spaces: Spaces { left: 2_000_000 },
         then: pieces(write().0, 64, 0, Some(fault)),
@@ -95,20 +85,6 @@ fn stops_where_a_late_read_fails(rt: HostRuntime) {
     }
 }
 
-/// Holds a script to its text whose reader gives one byte a call.
-fn reads_bytes(rt: &impl Abort, alloc: Global, (script, text): (&str, &str)) {
-    let mut out = failing_sheet(4096, 0, None);
-    let got = run(alloc, &mut pieces(script, 1, 0, None), &mut out);
-    holds(rt, script, got, &out, Ok(()), text.as_bytes());
-}
-
-#[test]
-fn reads_one_byte_a_call(rt: HostRuntime) {
-    reads_bytes(&rt, rt.alloc(), write());
-    reads_bytes(&rt, rt.alloc(), spent());
-    reads_bytes(&rt, rt.alloc(), sent());
-}
-
 /// A read that gives nothing ends the input, whatever would come after it: here a bracket that would spoil the script.
 #[test]
 fn reads_no_further_than_the_end(rt: HostRuntime) {
@@ -116,7 +92,7 @@ fn reads_no_further_than_the_end(rt: HostRuntime) {
         r#"{"if1":[{"op":"transfer","request":"0001","set":{"cmask":"0090","ctrl":"0080"}}]}]"#;
     let step = both.len().saturating_sub(1);
     let mut reader = pieces(both, step, 1, Some(Fault::Nothing));
-    let mut out = failing_sheet(4096, 0, None);
+    let mut out = new_sheet(4096);
     let got = run(rt.alloc(), &mut reader, &mut out);
     let text =
         "if1 write 01 00000000 00000000 0080 0000000000000000\nfinal 01 00000000 00000000 0080 0000000000000000\n";

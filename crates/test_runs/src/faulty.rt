@@ -126,14 +126,19 @@ impl Write for Sheet {
     }
 }
 
-/// A sheet on which every write works.
-pub fn new_sheet(step: usize) -> Sheet {
+/// A sheet that takes so many bytes a call, and meets a fault after so many bytes.
+pub fn failing_sheet(step: usize, room: usize, fault: Option<Fault>) -> Sheet {
     Sheet {
         taken: ArrayVec::new(),
         step,
-        room: 0,
-        fault: None,
+        room,
+        fault,
     }
+}
+
+/// A sheet on which every write works.
+pub fn new_sheet(step: usize) -> Sheet {
+    failing_sheet(step, 0, None)
 }
 
 /// A writer that counts its calls, and takes all that it is given.

@@ -1,15 +1,22 @@
-//! Tests of the whole way of a script, over the crates that make it up: from bytes to printed lines in order and in threads,
-//! with expected values from the formats and not from the program. There is nothing here but tests and what they stand on.
+//! Tests over the crates that make up the way of a script: reading it, running it in order and in threads, printing what came of
+//! it, and searching for all that can come of it. What the gate's tools give to the proved programs is not tried again here:
+//! these tests are of what a program can't be made to show, as streams that fail once, gates, threads of a caller's own and calls
+//! that count, and call each public function once. Expected values come from the formats and not from the program. There is
+//! nothing here but tests and what they stand on.
 #![tactic(auto)]
 
-#[cfg(test)]
-mod command_line;
 #[cfg(test)]
 mod expect;
 #[cfg(test)]
 mod failing;
 #[cfg(test)]
+mod faults;
+#[cfg(test)]
 mod faulty;
+#[cfg(test)]
+mod ladder;
+#[cfg(test)]
+mod laws;
 #[cfg(test)]
 mod limits;
 #[cfg(test)]
@@ -17,9 +24,13 @@ mod outcomes;
 #[cfg(test)]
 mod quotas;
 #[cfg(test)]
+mod races;
+#[cfg(test)]
 mod reader;
 #[cfg(test)]
 mod runs;
+#[cfg(test)]
+mod searches;
 #[cfg(test)]
 mod streams;
 #[cfg(test)]

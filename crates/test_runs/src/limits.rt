@@ -1,110 +1,91 @@
-//! Scripts at their limits: as many bytes and as many lines as a script may have, and a quota above what one word numbers.
-use crate::faulty::{Counting, Late, Spaces};
-use crate::runs::{pieces, prints};
-use ccan_run::run_stream;
-use std::alloc::{AllocError, Global};
-use std::test::Fail;
+//! A script of as many lines as one may have, in order and in threads. Each host writes an object of its own, so it comes to one
+//! text. Where a writer takes all that it is given, there is at most one `write` for each 65,457 bytes, and one for the rest: 4
+//! for this text of 244,098 bytes.
+use crate::expect::{holds, same};
+use crate::faulty::Counting;
+use crate::runs::{repeated, run};
+use crate::threads::outcome_of;
+use ccan_run::{Outcome, print_outcome};
+use std::alloc::Global;
+use std::process::Abort;
 
-/// The most bytes that the input may have.
-const MOST_BYTES: usize = 4_194_304;
-
-/// The most lines of a port.
-const LINES: usize = 2_000;
-
-/// A transfer that sets all registers and selects nothing, so that it reads what it has set.
-const HOST_LINE: &str =
-    r#"{"op":"transfer","request":"0001","set":{"cmask":"0000","mask1":"0000","mask2":"0000","arb1":"0000","arb2":"a48c","ctrl":"0088","dataa1":"2211","dataa2":"4433","datab1":"6655","datab2":"8877"}}"#;
-
-/// Adds a list of so many items with a name.
-fn push_list(
-    script: &mut String,
-    name: &str,
-    items: &[&str],
-    times: usize,
-) -> Result<(), AllocError> {
-    script.push_str(name)?;
-    for time in 0..times {
-        for (index, item) in items.iter().enumerate() {
-            if time > 0 || index > 0 {
-                script.push_str(",")?;
-            }
-            script.push_str(item)?;
-        }
-    }
-    script.push_str("]")
-}
-
-/// A script of 6,000 lines, in an order that begins with the bus, of some 900,000 bytes.
-fn all_lines(alloc: Global) -> Result<String, AllocError> {
-    let mut script = String::from_str(alloc, r#"{"profile":2,"quota":4096,"tries":1000"#)?;
-    push_list(&mut script, r#","if1":["#, &[HOST_LINE], LINES)?;
-    push_list(&mut script, r#","if2":["#, &[HOST_LINE], LINES)?;
-    push_list(
-        &mut script,
-        r#","bus":["#,
-        &[r#"{"op":"flags","flag":"newdat"}"#],
-        LINES,
-    )?;
-    push_list(
-        &mut script,
-        r#","order":["#,
-        &[r#""bus""#, r#""if2""#, r#""if1""#],
-        LINES,
-    )?;
-    script.push_str("}")?;
-    Ok(script)
-}
+/// The script, by its parts.
+const SCRIPT: [(&str, usize); 8] = [
+    (r#"{"quota":4096,"if1":["#, 1),
+    (
+        r#"{"op":"transfer","request":"0001","set":{"cmask":"0090","ctrl":"0080"}},"#,
+        1999,
+    ),
+    (
+        r#"{"op":"transfer","request":"0001","set":{"cmask":"0090","ctrl":"0080"}}],"if2":["#,
+        1,
+    ),
+    (
+        r#"{"op":"transfer","request":"0002","set":{"cmask":"0090","ctrl":"0080"}},"#,
+        1999,
+    ),
+    (
+        r#"{"op":"transfer","request":"0002","set":{"cmask":"0090","ctrl":"0080"}}],"bus":["#,
+        1,
+    ),
+    (r#"{"op":"status"},"#, 1999),
+    (r#"{"op":"status"}]}"#, 1),
+    ("\n", 1),
+];
 
 /// What it prints.
-fn all_lines_text(alloc: Global) -> Result<String, AllocError> {
-    let mut text = String::new(alloc);
-    for _ in 0..LINES {
-        text.push_str("bus flags newdat 0000000000000000\n")?;
-        text.push_str("if2 read 01 a48c0000 00000000 0088 1122334455667788\n")?;
-        text.push_str("if1 read 01 a48c0000 00000000 0088 1122334455667788\n")?;
-    }
-    Ok(text)
-}
-
-/// What a script prints with so many spaces before it as fill the input.
-fn printed_at_full_length(alloc: Global, script: &str) -> Result<Vec<u8>, Fail> {
-    let left = MOST_BYTES.saturating_sub(script.len());
-    let mut reader = Late {
-        spaces: Spaces { left },
-        then: pieces(script, 4096, 0, None),
-    };
-    let mut out: Vec<u8> = Vec::new(alloc);
-    run_stream(alloc, &mut reader, &mut out)?;
-    Ok(out)
-}
+const TEXT: [(&str, usize); 5] = [
+    (
+        "if1 write 01 00000000 00000000 0080 0000000000000000\n",
+        2000,
+    ),
+    (
+        "if2 write 02 00000000 00000000 0080 0000000000000000\n",
+        2000,
+    ),
+    ("bus status 0000\n", 2000),
+    ("final 01 00000000 00000000 0080 0000000000000000\n", 1),
+    ("final 02 00000000 00000000 0080 0000000000000000\n", 1),
+];
 
 #[test]
-fn runs_six_thousand_lines(rt: HostRuntime) -> Result<(), Fail> {
-    let script = all_lines(rt.alloc())?;
-    let want = all_lines_text(rt.alloc())?;
-    let got = printed_at_full_length(rt.alloc(), script.as_str())?;
-    assert!(rt; got.as_slice() == want.as_bytes());
-    Ok(())
-}
-
-/// How many calls of a writer it takes to print what a script comes to.
-fn calls_to_print(alloc: Global, script: &str) -> Result<usize, Fail> {
+fn six_thousand_lines_run_in_order(rt: HostRuntime) {
+    let script = repeated(&rt, rt.alloc(), &SCRIPT);
+    let want = repeated(&rt, rt.alloc(), &TEXT);
+    let mut text: Vec<u8> = Vec::new(rt.alloc());
+    let got = run(rt.alloc(), &mut script.as_slice(), &mut text);
+    same(&rt, (got, text.len()), (Ok(()), 244_098));
+    holds(&rt, text.as_slice() == want.as_slice());
     let mut out = Counting { calls: 0 };
-    run_stream(alloc, &mut script.as_bytes(), &mut out)?;
-    Ok(out.calls)
+    let got = run(rt.alloc(), &mut script.as_slice(), &mut out);
+    same(&rt, got, Ok(()));
+    holds(&rt, out.calls <= 4);
 }
 
-/// The text of 276,000 bytes goes out in few writes.
-#[test]
-fn writes_six_thousand_lines_in_few_calls(rt: HostRuntime) -> Result<(), Fail> {
-    let script = all_lines(rt.alloc())?;
-    let calls = calls_to_print(rt.alloc(), script.as_str())?;
-    assert!(rt; calls <= 5);
-    Ok(())
+/// Prints an outcome in so many calls at most.
+fn prints_in_calls(rt: &impl Abort, outcome: &Outcome, most: usize) {
+    let mut out = Counting { calls: 0 };
+    same(rt, print_outcome(outcome, &mut out), Ok(()));
+    holds(rt, out.calls <= most);
 }
 
-/// A memory of one word numbers 64 changes of a port. The memory of an ordered run numbers more.
+/// The text of an outcome.
+fn text_of(rt: &impl Abort, alloc: Global, outcome: &Outcome) -> Vec<u8> {
+    let mut text = Vec::new(alloc);
+    same(rt, print_outcome(outcome, &mut text), Ok(()));
+    text
+}
+
+/// Where there is nothing to print, nothing is written.
 #[test]
-fn takes_a_quota_of_65(rt: HostRuntime) {
-    prints(&rt, rt.alloc(), r#"{"quota":65}"#, "", 512);
+fn six_thousand_lines_run_in_threads(rt: HostRuntime) {
+    let script = repeated(&rt, rt.alloc(), &SCRIPT);
+    let want = repeated(&rt, rt.alloc(), &TEXT);
+    let outcome = outcome_of(&rt, rt.alloc(), script.as_slice());
+    holds(
+        &rt,
+        text_of(&rt, rt.alloc(), &outcome).as_slice() == want.as_slice(),
+    );
+    prints_in_calls(&rt, &outcome, 4);
+    prints_in_calls(&rt, &outcome_of(&rt, rt.alloc(), b"{}"), 0);
 }

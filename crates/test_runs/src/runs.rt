@@ -1,16 +1,32 @@
 //! What tests do with scripts. These functions promise nothing, so the proof of a test has no more to carry than its own
 //! lines.
 use crate::expect::same;
-use crate::faulty::{Fault, Pieces, Sheet, new_sheet};
+use crate::faulty::{Fault, Pieces, Sheet};
+use ccan_object::ObjectNo;
 use ccan_run::{RunError, run_stream};
-use std::alloc::{AllocError, Global};
-use std::fmt::Display;
-use std::io::Read;
+use ccan_script::{Script, read_script};
+use std::alloc::Global;
+use std::io::{Read, Write};
 use std::process::Abort;
-use std::test::Fail;
+
+/// The script that a text is.
+pub fn read(rt: &impl Abort, alloc: Global, text: &str) -> Script {
+    let Ok(script) = read_script(alloc, text.as_bytes()) else {
+        panic!(rt; "no script")
+    };
+    script
+}
+
+/// The object of this number.
+pub fn object_no(rt: &impl Abort, number: u8) -> ObjectNo {
+    let Some(object) = ObjectNo::new(number) else {
+        panic!(rt; "no object")
+    };
+    object
+}
 
 /// Runs what a reader gives.
-pub fn run<R: Read>(alloc: Global, reader: &mut R, out: &mut Sheet) -> Result<(), RunError> {
+pub fn run<R: Read, W: Write>(alloc: Global, reader: &mut R, out: &mut W) -> Result<(), RunError> {
     run_stream(alloc, reader, out)
 }
 
@@ -28,13 +44,6 @@ pub fn holds(
     same(rt, (script, is_all), (script, true));
 }
 
-/// Holds a script to its text, where each write takes so many bytes.
-pub fn prints(rt: &impl Abort, alloc: Global, script: &str, text: &str, step: usize) {
-    let mut out = new_sheet(step);
-    let got = run(alloc, &mut script.as_bytes(), &mut out);
-    holds(rt, script, got, &out, Ok(()), text.as_bytes());
-}
-
 /// A reader of a script that gives so many bytes a call, and meets a fault after so many calls.
 pub fn pieces(script: &str, step: usize, calls: usize, fault: Option<Fault>) -> Pieces<'_> {
     Pieces {
@@ -45,19 +54,20 @@ pub fn pieces(script: &str, step: usize, calls: usize, fault: Option<Fault>) -> 
     }
 }
 
-/// What a value shows of itself.
-pub fn shown<T: Display>(alloc: Global, value: &T) -> Result<String, AllocError> {
-    format!(in alloc; "{value}")
+/// Adds a text to a script.
+pub fn push(rt: &impl Abort, script: &mut Vec<u8>, text: &[u8]) {
+    if script.extend_from_slice(text).is_err() {
+        panic!(rt; "no memory");
+    }
 }
 
-/// Holds what a value shows of itself to a text.
-pub fn shows<T: Display>(
-    rt: &impl Abort,
-    alloc: Global,
-    value: &T,
-    want: &str,
-) -> Result<(), Fail> {
-    let text = shown(alloc, value)?;
-    same(rt, text.as_str(), want);
-    Ok(())
+/// Texts one after another, each so many times.
+pub fn repeated(rt: &impl Abort, alloc: Global, parts: &[(&str, usize)]) -> Vec<u8> {
+    let mut all = Vec::new(alloc);
+    for (text, times) in parts {
+        for _ in 0..*times {
+            push(rt, &mut all, text.as_bytes());
+        }
+    }
+    all
 }

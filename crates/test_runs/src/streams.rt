@@ -1,62 +1,75 @@
-//! Scripts through the whole stream, want of memory, and the texts of faults. Scripts of each length, and numbers over their
-//! ranges, are given to the program (`tools/check_long_scripts`).
-use crate::expect::same;
+//! Scripts with what they print, and want of memory. Scripts of each length, and numbers over their ranges, are given to the
+//! program (`tools/check_long_scripts`).
+use crate::expect::holds;
 use crate::faulty::new_sheet;
-use crate::runs::{run, shows};
-use ccan_ram::PortName;
+use crate::runs::{read, run};
 use ccan_run::{RunError, run_ordered};
-use ccan_script::{ListName, ScriptError, read_script};
-use std::test::Fail;
+use ccan_script::Script;
+use std::alloc::Global;
+use std::io::Write;
 
 /// A write of one message, and what it prints. Nothing is promised of them, so a test's proof has no text to carry.
 pub fn write() -> (&'static str, &'static str) {
     (
-        r#"{"if1":[{"op":"transfer","request":"0001","set":{"cmask":"00f3","arb2":"a48c","ctrl":"0088","dataa1":"2211","dataa2":"4433","datab1":"6655","datab2":"8877"}}]}"#,
-        "if1 write 01 a48c0000 00000000 0088 1122334455667788\nfinal 01 a48c0000 00000000 0088 1122334455667788\n",
+        r#"{"if1":[{"op":"transfer","request":"0001","set":{"cmask":"00f3","arb2":"a48c","ctrl":"0088",
+            "dataa1":"2211","dataa2":"4433","datab1":"6655","datab2":"8877"}}]}"#,
+        "if1 write 01 a48c0000 00000000 0088 1122334455667788\n\
+final 01 a48c0000 00000000 0088 1122334455667788\n",
     )
 }
 
 /// A quota of one, with a write, another one that is refused, and a read; and what they print.
 pub fn spent() -> (&'static str, &'static str) {
     (
-        r#"{"quota":1,"if1":[{"op":"transfer","request":"0001","set":{"cmask":"00f3","arb2":"a48c","ctrl":"0088","dataa1":"2211","dataa2":"4433","datab1":"6655","datab2":"8877"}},{"op":"transfer","request":"0001","set":{"cmask":"0087","dataa1":"9999","dataa2":"9999","datab1":"9999","datab2":"9999"}},{"op":"transfer","request":"0001","set":{"cmask":"0073"}}]}"#,
-        "if1 write 01 a48c0000 00000000 0088 1122334455667788\nif1 spent 01\nif1 read 01 a48c0000 00000000 0088 1122334455667788\nfinal 01 a48c0000 00000000 0088 1122334455667788\n",
+        r#"{"quota":1,"if1":[
+{"op":"transfer","request":"0001","set":{"cmask":"00f3","arb2":"a48c","ctrl":"0088","dataa1":"2211"}},
+{"op":"transfer","request":"0001","set":{"cmask":"0082","dataa1":"9999"}},
+{"op":"transfer","request":"0001","set":{"cmask":"0073"}}]}"#,
+        "if1 write 01 a48c0000 00000000 0088 1122000000000000\nif1 spent 01\n\
+if1 read 01 a48c0000 00000000 0088 1122000000000000\n\
+final 01 a48c0000 00000000 0088 1122000000000000\n",
     )
 }
 
 /// A message that is loaded and sent, and what it prints.
 pub fn sent() -> (&'static str, &'static str) {
     (
-        r#"{"nodes":1,"if1":[{"op":"transfer","request":"0002","set":{"cmask":"00f3","arb2":"a48c","ctrl":"8188","dataa1":"2211","dataa2":"4433","datab1":"6655","datab2":"8877"}}],"bus":[{"op":"load"},{"op":"load"},{"op":"round"}]}"#,
-        "if1 write 02 a48c0000 00000000 8188 1122334455667788\nbus loaded 02 a48c0000 00000000 0188 1122334455667788\nbus held 02\nbus sent 02 a48c0000 00000000 0088 1122334455667788\nfinal 02 a48c0000 00000000 0088 1122334455667788\n",
+        r#"{"nodes":1,"if1":[
+            {"op":"transfer","request":"0002","set":{"cmask":"00f3","arb2":"a48c","ctrl":"8188",
+            "dataa1":"2211","dataa2":"4433","datab1":"6655","datab2":"8877"}}],
+            "bus":[{"op":"load"},{"op":"load"},{"op":"round"}]}"#,
+        "if1 write 02 a48c0000 00000000 8188 1122334455667788\n\
+bus loaded 02 a48c0000 00000000 0188 1122334455667788\nbus held 02\n\
+bus sent 02 a48c0000 00000000 0088 1122334455667788\n\
+final 02 a48c0000 00000000 0088 1122334455667788\n",
     )
 }
 
+/// A write of each host at an object of its own, and a line of the bus; and what they print, in order and in threads.
+pub fn each_port() -> (&'static str, &'static str) {
+    (
+        r#"{"if1":[{"op":"transfer","request":"0001","set":{"cmask":"0090","ctrl":"8000"}}],
+            "if2":[{"op":"transfer","request":"0002","set":{"cmask":"0090","ctrl":"0100"}}],
+            "bus":[{"op":"status"}]}"#,
+        "if1 write 01 00000000 00000000 8000 0000000000000000\n\
+if2 write 02 00000000 00000000 0100 0000000000000000\nbus status 0000\n\
+final 01 00000000 00000000 8000 0000000000000000\n\
+final 02 00000000 00000000 0100 0000000000000000\n",
+    )
+}
+
+/// Runs a script that was read.
+fn run_read<W: Write>(alloc: Global, script: &Script, out: &mut W) -> Result<(), RunError> {
+    run_ordered(alloc, script, out)
+}
+
 #[test]
-fn runs_a_script_in_order(rt: HostRuntime) -> Result<(), Fail> {
-    let script = read_script(
-        rt.alloc(),
-        br#"{"if1":[{"op":"transfer","request":"0003"}]}"#,
-    )?;
+fn runs_a_script_in_order(rt: HostRuntime) {
+    let (text, want) = each_port();
+    let script = read(&rt, rt.alloc(), text);
     let mut out = new_sheet(512);
-    run_ordered(rt.alloc(), &script, &mut out)?;
-    let want = "if1 read 03 00000000 00000000 0000 0000000000000000\n";
-    assert!(rt; out.taken.as_slice() == want.as_bytes());
-    Ok(())
-}
-
-#[test]
-fn laws_hold() {
-    ccan_script::laws::one_meaning();
-    ccan_run::laws::no_line_is_busy();
-    ccan_run::laws::one_text();
-    ccan_run::laws::answers_have_events();
-}
-
-#[test]
-fn laws_of_what_was_read_and_printed_hold() {
-    ccan_script::laws::what_was_read_has_a_meaning();
-    ccan_run::laws::what_was_printed_is_the_text();
+    let got = run_read(rt.alloc(), &script, &mut out);
+    crate::runs::holds(&rt, text, got, &out, Ok(()), want.as_bytes());
 }
 
 /// Holds too where any one allocation fails: then nothing is written.
@@ -65,91 +78,7 @@ fn writes_nothing_without_memory(rt: HostRuntime) {
     let (script, text) = spent();
     let mut out = new_sheet(512);
     match run(rt.alloc(), &mut script.as_bytes(), &mut out) {
-        Ok(()) => assert!(rt; out.taken.as_slice() == text.as_bytes()),
-        Err(fault) => {
-            assert!(rt; fault.status() == 3 && out.taken.as_slice().is_empty());
-        }
+        Ok(()) => holds(&rt, out.taken.as_slice() == text.as_bytes()),
+        Err(fault) => holds(&rt, fault.status() == 3 && out.taken.is_empty()),
     }
-}
-
-/// The texts of the faults of a script, and their status.
-const SCRIPT_FAULTS: [(ScriptError, &str, u8); 6] = [
-    (ScriptError::NotJson, "ccan: script: not JSON", 1),
-    (
-        ScriptError::Shape {
-            list: ListName::If1,
-            index: 12,
-        },
-        "ccan: script: shape, if1 12",
-        1,
-    ),
-    (
-        ScriptError::Range {
-            list: ListName::Top,
-            index: 0,
-        },
-        "ccan: script: range, top 0",
-        1,
-    ),
-    (
-        ScriptError::TooMany {
-            list: ListName::If1,
-        },
-        "ccan: script: too many, if1",
-        1,
-    ),
-    (
-        ScriptError::Order {
-            port: PortName::Bus,
-        },
-        "ccan: script: order, bus",
-        1,
-    ),
-    (ScriptError::Memory, "ccan: out of memory", 3),
-];
-
-#[test]
-fn tells_each_fault_of_a_script(rt: HostRuntime) -> Result<(), Fail> {
-    for (fault, want, status) in SCRIPT_FAULTS {
-        let fault = RunError::Script(fault);
-        shows(&rt, rt.alloc(), &fault, want)?;
-        same(&rt, (want, fault.status()), (want, status));
-    }
-    Ok(())
-}
-
-#[test]
-fn tells_each_fault_of_a_run(rt: HostRuntime) -> Result<(), Fail> {
-    for (fault, want, status) in [
-        (RunError::Read, "ccan: input could not be read", 4),
-        (RunError::TooLong, "ccan: input too long", 1),
-        (RunError::Memory, "ccan: out of memory", 3),
-        (RunError::Write, "ccan: output could not be written", 4),
-        (RunError::Quota, "ccan: quota out of range", 1),
-        (RunError::Spawn, "ccan: threads could not be started", 4),
-        (
-            RunError::Held {
-                port: PortName::If2,
-                line: 31,
-            },
-            "ccan: held, if2 31",
-            4,
-        ),
-    ] {
-        shows(&rt, rt.alloc(), &fault, want)?;
-        same(&rt, (want, fault.status()), (want, status));
-    }
-    Ok(())
-}
-
-#[test]
-fn names_each_list(rt: HostRuntime) -> Result<(), Fail> {
-    for (list, want) in [
-        (ListName::If2, "if2"),
-        (ListName::Bus, "bus"),
-        (ListName::Order, "order"),
-    ] {
-        shows(&rt, rt.alloc(), &list, want)?;
-    }
-    Ok(())
 }

@@ -3,9 +3,8 @@
 
 mod callers;
 mod gates;
-mod refusing;
 mod tests;
 
-use callers::{run_by_callers, run_gated_by_callers};
+use callers::run_gated_by_callers;
 use gates::{AllTogether, HeldFrom, Meeting, Together};
-use refusing::Refusing;
+pub use tests::outcome_of;

@@ -91,7 +91,7 @@ impl<'a> Gate for AllTogether<'a> {
 }
 
 /// Stops a port, or every port where none is named, from a line on. Where none is named, no line from there on is let through.
-#[derive(Clone, Copy, Debug)]
+#[derive(Clone, Copy)]
 pub struct HeldFrom {
     /// The port that is stopped.
     pub port: Option<PortName>,

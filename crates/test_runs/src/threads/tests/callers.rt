@@ -1,75 +1,70 @@
 //! Three threads of a caller's own.
+ghost use Rattle.std.specs.Prelude.{◌≡◌, ◌≤◌, [], vec_capacity};
+
 use super::*;
-use crate::expect::{holds, same};
+use crate::streams::each_port;
 
-/// What is printed of a script whose ports a caller runs in threads.
-fn text_by_callers<R: SharedRam + Sync, T: Threads + Sync>(
+/// Room for the answers to so many lines.
+fn room(rt: &impl Abort, alloc: Global, lines: usize) -> Vec<LineAnswer>
+    ensures empty { result.items ≡ [] }
+    ensures room { lines ≤ vec_capacity result }
+{
+    let Ok(room) = Vec::with_capacity(alloc, lines) else {
+        panic!(rt; "no memory")
+    };
+    room
+}
+
+/// Where each port was held, and what the lines that ran before came to, where a caller runs the ports in threads.
+fn run_held<R: SharedRam + Sync, G: Gate + Copy + Send + Drop, T: Threads + Abort + Sync>(
     rt: &T,
     alloc: Global,
-    bytes: &[u8],
-) -> Result<Vec<u8>, Fail> {
-    let script = read_script(alloc, bytes)?;
+    script: &Script,
+    gate: G,
+) -> ([Option<usize>; 3], Outcome) {
+    let Ok(all) = R::open_ram(alloc, script.profile, script.quota) else {
+        panic!(rt; "no memory")
+    };
     let logs = (
-        Vec::with_capacity(alloc, script.if1.len())?,
-        Vec::with_capacity(alloc, script.if2.len())?,
-        Vec::with_capacity(alloc, script.bus.len())?,
+        room(rt, alloc, script.if1.len()),
+        room(rt, alloc, script.if2.len()),
+        room(rt, alloc, script.bus.len()),
     );
-    let all = R::open_ram(alloc, script.profile, script.quota)?;
-    let outcome = run_by_callers(rt, all, &script, logs);
-    printed(alloc, &outcome)
+    let cut = run_gated_by_callers(rt, all, script, (gate, gate, gate), logs);
+    ([cut.if1.0, cut.if2.0, cut.bus.0], cut.outcome)
 }
 
-#[test]
-fn callers_come_to_the_same(rt: HostRuntime) -> Result<(), Fail> {
-    let script =
-        br#"{"if1":[{"op":"transfer","request":"0001","set":{"cmask":"0090","ctrl":"8000"}}],
-        "if2":[{"op":"transfer","request":"0002","set":{"cmask":"0090","ctrl":"0100"}}],
-        "bus":[{"op":"status"}]}"#;
-    let want = "if1 write 01 00000000 00000000 8000 0000000000000000\n\
-if2 write 02 00000000 00000000 0100 0000000000000000\nbus status 0000\n\
-final 01 00000000 00000000 8000 0000000000000000\nfinal 02 00000000 00000000 0100 0000000000000000\n";
-    let words = text_by_callers::<WordRam, HostRuntime>(&rt, rt.alloc(), script)?;
-    holds(&rt, words.as_slice() == want.as_bytes());
-    let root = text_by_callers::<RootRam, HostRuntime>(&rt, rt.alloc(), script)?;
-    holds(&rt, root.as_slice() == want.as_bytes());
-    Ok(())
-}
-
-/// Where each port was held, and what is printed of the lines that ran before, over a memory whose ports a gate stops.
-fn held_by_callers<R: SharedRam + Sync, T: Threads + Sync>(
+/// Holds where the ports were held, and what is printed of the lines that ran, to this.
+fn come_to<R: SharedRam + Sync, G: Gate + Copy + Send + Drop, T: Threads + Abort + Sync>(
     rt: &T,
     alloc: Global,
-    bytes: &[u8],
-    gate: HeldFrom,
-) -> Result<([Option<usize>; 3], Vec<u8>), Fail> {
-    let script = read_script(alloc, bytes)?;
-    let logs = (
-        Vec::with_capacity(alloc, script.if1.len())?,
-        Vec::with_capacity(alloc, script.if2.len())?,
-        Vec::with_capacity(alloc, script.bus.len())?,
-    );
-    let all = R::open_ram(alloc, script.profile, script.quota)?;
-    let cut = run_gated_by_callers(rt, all, &script, (gate, gate, gate), logs);
-    let text = printed(alloc, &cut.outcome)?;
-    Ok(([cut.if1.0, cut.if2.0, cut.bus.0], text))
+    (script, want): (&str, &str),
+    gate: G,
+    held: [Option<usize>; 3],
+) {
+    let script = read(rt, alloc, script);
+    let (stopped, outcome) = run_held::<R, G, T>(rt, alloc, &script, gate);
+    same(rt, stopped, held);
+    prints(rt, alloc, &outcome, want);
 }
 
-#[test]
-fn callers_come_to_the_lines_that_ran(rt: HostRuntime) -> Result<(), Fail> {
-    let script =
-        br#"{"if1":[{"op":"transfer","request":"0001","set":{"cmask":"0090","ctrl":"8000"}},
+/// A line more for IF1 and the bus than in the script whose text this comes to where each port is held from its second line on.
+const MORE_LINES: &str = r#"{
+    "if1":[{"op":"transfer","request":"0001","set":{"cmask":"0090","ctrl":"8000"}},
         {"op":"transfer","request":"0003","set":{"cmask":"0090","ctrl":"8000"}}],
-        "if2":[{"op":"transfer","request":"0002","set":{"cmask":"0090","ctrl":"0100"}}],
-        "bus":[{"op":"status"},{"op":"status"}]}"#;
+    "if2":[{"op":"transfer","request":"0002","set":{"cmask":"0090","ctrl":"0100"}}],
+    "bus":[{"op":"status"},{"op":"status"}]}"#;
+
+#[test]
+fn callers_come_to_the_lines_that_ran(rt: HostRuntime) {
+    let all = each_port();
+    come_to::<WordRam, FreeGate, HostRuntime>(&rt, rt.alloc(), all, FreeGate, [None; 3]);
+    come_to::<RootRam, FreeGate, HostRuntime>(&rt, rt.alloc(), all, FreeGate, [None; 3]);
     let gate = HeldFrom {
         port: None,
         line: 1,
     };
-    let (stopped, text) = held_by_callers::<WordRam, HostRuntime>(&rt, rt.alloc(), script, gate)?;
-    same(&rt, stopped, [Some(1), None, Some(1)]);
-    let want = "if1 write 01 00000000 00000000 8000 0000000000000000\n\
-if2 write 02 00000000 00000000 0100 0000000000000000\nbus status 0000\n\
-final 01 00000000 00000000 8000 0000000000000000\nfinal 02 00000000 00000000 0100 0000000000000000\n";
-    holds(&rt, text.as_slice() == want.as_bytes());
-    Ok(())
+    let cut = (MORE_LINES, all.1);
+    let held = [Some(1), None, Some(1)];
+    come_to::<WordRam, HeldFrom, HostRuntime>(&rt, rt.alloc(), cut, gate, held);
 }

@@ -1,47 +1,60 @@
 //! Two hosts and the bus at work on one object for a thousand lines each. The hosts count up, each in a part of its own, and
 //! the bus sends the object and is asked for it. What each saw tells whether a change was lost or done twice.
 use super::*;
-use crate::expect::{holds, same};
-use std::fmt::Write as _;
+use crate::runs::push;
+use ccan_bus::RoundAnswer;
+use ccan_object::Record;
 
 /// How many lines each port has. IF1 has one more, which prepares the object.
 const LINES: u16 = 1_000;
 
-/// A host's line that sets one register and writes its group.
-fn push_write(
-    script: &mut String,
-    command: &str,
-    register: &str,
-    value: u16,
-) -> Result<(), AllocError> {
-    write!(
-        script,
-        ",{{\"op\":\"transfer\",\"request\":\"0001\",\"set\":{{\"cmask\":\"{command}\",\"{register}\":\"{value:04x}\"}}}}"
-    )
+/// The digits of a number, in base 16.
+fn digits(value: u16) -> [u8; 4] {
+    [value >> 12, value >> 8, value >> 4, value].map(|shifted| b"0123456789abcdef"[usize::from(
+        shifted % 16,
+    )])
+}
+
+/// Adds a host's lines that write each number up to the last in turn, each before and behind these texts.
+fn push_counts(rt: &impl Abort, script: &mut Vec<u8>, before: &str, behind: &str) {
+    for value in 0..LINES {
+        push(rt, script, before.as_bytes());
+        push(rt, script, &digits(value.saturating_add(1)));
+        push(rt, script, behind.as_bytes());
+    }
 }
 
 /// The object is a transmit object that remote frames ask for. IF1 counts in its mask, IF2 in its first two bytes, and in
 /// each round node 1 asks for it.
-fn script_of_rivals(alloc: Global) -> Result<String, AllocError> {
-    let mut script = String::from_str(alloc, r#"{"nodes":1,"quota":4096,"tries":1000,"if1":["#)?;
-    script.push_str(
-        r#"{"op":"transfer","request":"0001","set":{"cmask":"00b0","arb2":"a48c","ctrl":"0288"}}"#,
-    )?;
-    for value in 1..=LINES {
-        push_write(&mut script, "00c0", "mask1", value)?;
-    }
-    script.push_str(
-        r#"],"if2":[{"op":"transfer","request":"0001","set":{"cmask":"0082","dataa1":"0000"}}"#,
-    )?;
-    for value in 1..=LINES {
-        push_write(&mut script, "0082", "dataa1", value)?;
-    }
-    script.push_str(r#"],"bus":[{"op":"loopback","on":0}"#)?;
+const IF1_PREPARES: &str = r#"{"nodes":1,"quota":4096,"tries":1000,"if1":[
+    {"op":"transfer","request":"0001","set":{"cmask":"00b0","arb2":"a48c","ctrl":"0288"}}"#;
+
+const IF1_COUNTS: &str = r#",{"op":"transfer","request":"0001","set":{"cmask":"00c0","mask1":""#;
+
+const IF2_BEGINS: &str =
+    r#"],"if2":[{"op":"transfer","request":"0001","set":{"cmask":"0082","dataa1":"0000"}}"#;
+
+const IF2_COUNTS: &str = r#",{"op":"transfer","request":"0001","set":{"cmask":"0082","dataa1":""#;
+
+const COUNTED: &str = r#""}}"#;
+
+const BUS_BEGINS: &str = r#"],"bus":[{"op":"loopback","on":0}"#;
+
+const BUS_ASKS: &str = r#",{"op":"round","send":[{"node":1,"id":291,"rtr":1}]}"#;
+
+/// The script of all lines.
+fn script_of_rivals(rt: &impl Abort, alloc: Global) -> Vec<u8> {
+    let mut script = Vec::new(alloc);
+    push(rt, &mut script, IF1_PREPARES.as_bytes());
+    push_counts(rt, &mut script, IF1_COUNTS, COUNTED);
+    push(rt, &mut script, IF2_BEGINS.as_bytes());
+    push_counts(rt, &mut script, IF2_COUNTS, COUNTED);
+    push(rt, &mut script, BUS_BEGINS.as_bytes());
     for _ in 0..LINES {
-        script.push_str(r#",{"op":"round","send":[{"node":1,"id":291,"rtr":1}]}"#)?;
+        push(rt, &mut script, BUS_ASKS.as_bytes());
     }
-    script.push_str("]}")?;
-    Ok(script)
+    push(rt, &mut script, b"]}");
+    script
 }
 
 /// How far the record shows that IF1 and IF2 got.
@@ -92,16 +105,10 @@ fn never_falls(answers: &[LineAnswer]) -> bool {
     true
 }
 
-/// What came of the script of rivals in threads.
-fn outcome_of_rivals<T: Threads + Wait + Sync>(rt: &T, alloc: Global) -> Result<Outcome, Fail> {
-    let bytes = script_of_rivals(alloc)?;
-    let script = read_script(alloc, bytes.as_bytes())?;
-    Ok(run_threads::<WordRam, FreeGate, T>(rt, alloc, &script, &FreeGate)?)
-}
-
 #[test]
-fn no_change_of_three_rivals_is_lost(rt: HostRuntime) -> Result<(), Fail> {
-    let outcome = outcome_of_rivals(&rt, rt.alloc())?;
+fn no_change_of_three_rivals_is_lost(rt: HostRuntime) {
+    let script = script_of_rivals(&rt, rt.alloc());
+    let outcome = outcome_of(&rt, rt.alloc(), script.as_slice());
     holds(&rt, counts_in_turn(&outcome.if1, true));
     holds(&rt, counts_in_turn(&outcome.if2, false));
     same(&rt, outcome.bus.len(), usize::from(LINES) + 1);
@@ -109,5 +116,4 @@ fn no_change_of_three_rivals_is_lost(rt: HostRuntime) -> Result<(), Fail> {
     let last = outcome.last;
     let counts = counts_in(&last.records[0]);
     same(&rt, counts, (u32::from(LINES), u32::from(LINES)));
-    Ok(())
 }

@@ -1,0 +1,47 @@
+//! Each law, called once.
+use crate::ladder::Ladder;
+use ccan_outcomes::{place_laws, quiet_laws, same, seat_laws};
+use ccan_process::{line_process_laws, machine_laws, process_laws, undisturbed_laws, wait_laws};
+use ccan_run::laws;
+
+#[test]
+fn laws_of_runs_hold() {
+    ccan_script::laws::one_meaning();
+    ccan_script::laws::what_was_read_has_a_meaning();
+    laws::one_text();
+    laws::what_was_printed_is_the_text();
+    laws::no_line_is_busy();
+    laws::answers_have_events();
+    laws::last_lines_are_finals();
+    laws::no_word_runs();
+    laws::run_runs();
+    laws::threads_means_threads();
+    laws::other_words_are_refused();
+}
+
+#[test]
+fn laws_of_outcomes_hold() {
+    seat_laws::hosts_begin_as_processes();
+    seat_laws::host_steps_are_acts();
+    seat_laws::steps_stay_within();
+    seat_laws::hosts_notice_as_processes();
+    seat_laws::hosts_end_as_processes();
+    seat_laws::steps_are_own();
+    seat_laws::own_are_found();
+    place_laws::stages_tell_places();
+    process_laws::steps_are_the_whole();
+    line_process_laws::host_lines_are_processes();
+    line_process_laws::bus_lines_are_processes();
+    line_process_laws::ports_are_processes();
+    same::equal_records_are_the_same();
+    same::equal_answers_are_the_same();
+    machine_laws::all_outcomes_are_reached();
+    machine_laws::walks_are_histories();
+    undisturbed_laws::no_end_is_lost();
+    wait_laws::waits_look_once();
+    quiet_laws::hosts_leave_alone();
+    quiet_laws::hosts_have_done();
+    quiet_laws::bus_leaves_alone();
+    ccan_search::laws::trails_are_walks(&Ladder);
+    ccan_search::laws::closed_states_stand_for_all(&Ladder);
+}

@@ -1,0 +1,143 @@
+//! The outcomes of scripts in which two hosts race, worked by hand. Lists of outcomes are held to what can come of a script with the
+//! program that prints them.
+use crate::expect::{holds, same};
+use crate::runs::read;
+use ccan_object::ObjectNo;
+use ccan_outcomes::{
+    Ending, HistoryKind, HistoryStep, Outcomes, Watch, all_outcomes, history_of, kept_ending,
+    observed_history, observed_outcomes, states_along,
+};
+use ccan_script::Script;
+use ccan_search::Untold;
+use std::alloc::Global;
+use std::process::Abort;
+
+/// Both hosts write object 1.
+const TWO_WRITES: &str = r#"{
+    "if1":[{"op":"transfer","request":"0001","set":{"cmask":"0082","dataa1":"1111"}}],
+    "if2":[{"op":"transfer","request":"0001","set":{"cmask":"0082","dataa1":"2222"}}]
+}"#;
+
+/// One host writes object 1, and the other reads it twice.
+const TWO_READS: &str = r#"{
+    "if1":[{"op":"transfer","request":"0001","set":{"cmask":"0082","dataa1":"1111"}}],
+    "if2":[{"op":"transfer","request":"0001","set":{"cmask":"0002"}},
+           {"op":"transfer","request":"0001","set":{"cmask":"0002"}}]
+}"#;
+
+/// Holds a history to four steps, each of line 1 at object 1, of which the last writes.
+fn writes_at_last(rt: &impl Abort, history: &[HistoryStep]) {
+    same(rt, history.len(), 4);
+    let mut is_write = false;
+    for step in history {
+        same(rt, step.line, 1);
+        same(rt, step.object, ObjectNo::new(1));
+        is_write = matches!(step.kind, HistoryKind::Writes);
+    }
+    holds(rt, is_write);
+}
+
+/// How many states a history leads through.
+fn states(rt: &impl Abort, alloc: Global, script: &Script, history: &[HistoryStep]) -> usize {
+    match states_along(alloc, script, history) {
+        Ok(states) => states.len(),
+        Err(_) => panic!(rt; "no memory"),
+    }
+}
+
+/// How many outcomes a script has. Each has to have such a history, through five states.
+fn races(rt: &impl Abort, alloc: Global, script: &Script) -> usize {
+    let Ok(Some(found)) = all_outcomes(alloc, script, 1000, &Untold) else {
+        panic!(rt; "not all outcomes")
+    };
+    let endings = found.listing.endings.len();
+    for place in 0..endings {
+        let Ok(history) = history_of(alloc, script, &found, place) else {
+            panic!(rt; "no memory")
+        };
+        writes_at_last(rt, history.as_slice());
+        same(rt, states(rt, alloc, script, history.as_slice()), 5);
+    }
+    endings
+}
+
+#[test]
+fn answers_a_history_of_each_outcome(rt: HostRuntime) {
+    // A look and a change of each host lead to an end, so four steps after the start. Either host may write last.
+    let script = read(&rt, rt.alloc(), TWO_WRITES);
+    same(&rt, races(&rt, rt.alloc(), &script), 2);
+}
+
+/// What can be seen by the answers to these lines of IF2. Each has to have a history of four steps: a look and the write, and a look
+/// for each read.
+fn seen(rt: &impl Abort, alloc: Global, script: &Script, watch: &Watch) -> Outcomes {
+    let Ok(Some(found)) = observed_outcomes(alloc, script, watch, 1000, &Untold) else {
+        panic!(rt; "not all outcomes")
+    };
+    for place in 0..found.listing.endings.len() {
+        match observed_history(alloc, script, watch, &found, place) {
+            Ok(history) => same(rt, history.len(), 4),
+            Err(_) => panic!(rt; "no memory"),
+        }
+    }
+    found
+}
+
+/// How many endings and how many states a search has found.
+fn counted(found: &Outcomes) -> (usize, usize) {
+    (found.listing.endings.len(), found.reached.states.len())
+}
+
+/// A look at these lines of IF2, and no other.
+fn watching(rt: &impl Abort, alloc: Global, if2: &[bool]) -> Watch {
+    match Vec::from_slice(alloc, if2) {
+        Ok(if2) => Watch {
+            if1: Vec::new(alloc),
+            if2,
+            bus: Vec::new(alloc),
+        },
+        Err(_) => panic!(rt; "no memory"),
+    }
+}
+
+/// What is kept of an ending by what is looked at.
+fn kept(rt: &impl Abort, alloc: Global, watch: &Watch, ending: &Ending) -> Ending {
+    match kept_ending(alloc, watch, ending) {
+        Ok(kept) => kept,
+        Err(_) => panic!(rt; "no memory"),
+    }
+}
+
+/// How many endings and states are found in all. What is kept of each ending has to be among what is seen.
+fn whole(
+    rt: &impl Abort,
+    alloc: Global,
+    script: &Script,
+    watch: &Watch,
+    found: &Outcomes,
+) -> (usize, usize) {
+    let Ok(Some(all)) = all_outcomes(alloc, script, 1000, &Untold) else {
+        panic!(rt; "not all outcomes")
+    };
+    for ending in all.listing.endings.as_slice() {
+        let kept = kept(rt, alloc, watch, ending);
+        holds(rt, found.listing.endings.contains(&kept));
+    }
+    counted(&all)
+}
+
+#[test]
+fn tells_apart_what_is_looked_at(rt: HostRuntime) {
+    // The two reads show what stood before the write, what it left, or one of each: three outcomes, whose objects are the same
+    // at the end. By the second read alone there are two, and by no answer one.
+    let script = read(&rt, rt.alloc(), TWO_READS);
+    let second = watching(&rt, rt.alloc(), &[false, true]);
+    let found = seen(&rt, rt.alloc(), &script, &second);
+    same(&rt, counted(&found).0, 2);
+    let (endings, most) = whole(&rt, rt.alloc(), &script, &second, &found);
+    same(&rt, endings, 3);
+    let nothing = watching(&rt, rt.alloc(), &[]);
+    let (endings, states) = counted(&seen(&rt, rt.alloc(), &script, &nothing));
+    same(&rt, endings, 1);
+    holds(&rt, states < most);
+}
