@@ -1,0 +1,777 @@
+/* The calls of the library, one after the other in one thread: what each answers, and what it gives. Each test begins with two
+ * chips that are closed, and what it leaves open is ended behind it. Where something is not so, the program prints the test, the
+ * line and what is not so, and ends with status 1. */
+#include <ccan.h>
+#include <stdio.h>
+#include <stdlib.h>
+#include <string.h>
+
+#define EXPECT(holds) \
+    do { if (!(holds)) { printf("%s, line %d: not so: %s\n", running, __LINE__, #holds); exit(1); } } while (0)
+#define COUNT(array) (sizeof (array) / sizeof (array)[0])
+
+/* The test that runs, and its two chips. */
+static const char *running = "no test";
+static ccan_chip chip, other;
+
+/* A record of which no bit is set. */
+static const ccan_record no_record;
+
+/* A place for final records. */
+static ccan_final nothing(void) { return (ccan_final){ .objects = 0 }; }
+
+/* ---- a chip */
+
+/* Opens a chip of this profile, whose bus has so many other nodes. */
+static void opened(ccan_chip *closed, uint32_t profile, uint32_t nodes)
+{
+    EXPECT(ccan_open(closed, profile, nodes, 100) == CCAN_DONE);
+}
+
+/* Opens a chip with 32 objects and one other node, as after a reset, with this layout. */
+static void reset(ccan_chip *closed, uint32_t layout) { EXPECT(ccan_open_reset(closed, 1, 1, 100, layout) == CCAN_DONE); }
+
+/* ---- a host */
+
+/* A register, by its number or by its offset, and what it is set to. */
+struct setting { uint32_t at; uint16_t value; };
+
+/* Sets registers, each by its number. */
+static void set_all(ccan_host *host, const struct setting *settings, size_t count)
+{
+    for (size_t i = 0; i < count; i++)
+        EXPECT(ccan_set(host, settings[i].at, settings[i].value) == CCAN_DONE);
+}
+
+/* The register of this number as a host reads it. */
+static uint16_t shown(ccan_host *host, uint32_t reg)
+{
+    uint16_t value = 7;
+    EXPECT(ccan_get(host, reg, &value) == CCAN_DONE);
+    return value;
+}
+
+/* The register at this offset as a host reads it. */
+static uint16_t reads(ccan_host *host, uint32_t offset)
+{
+    uint16_t value = 7;
+    EXPECT(ccan_read16(host, offset, &value) == CCAN_DONE);
+    return value;
+}
+
+/* Writes registers, each by its offset. */
+static void write_all(ccan_host *host, const struct setting *settings, size_t count)
+{
+    for (size_t i = 0; i < count; i++)
+        EXPECT(ccan_write16(host, settings[i].at, settings[i].value) == CCAN_DONE);
+}
+
+/* Whether the interrupt line is pulled, as a host sees it. */
+static uint32_t pulls(ccan_host *host)
+{
+    uint32_t pulled = 7;
+    EXPECT(ccan_line(host, &pulled) == CCAN_DONE);
+    return pulled;
+}
+
+/* ---- the tests */
+
+static void a_chip_opens_and_ends(void)
+{
+    ccan_final last = nothing();
+    EXPECT(ccan_end(&chip, &last) == CCAN_CLOSED);
+    EXPECT(ccan_open(&chip, 3, 0, 100) == CCAN_PROFILE_RANGE);
+    EXPECT(ccan_open(&chip, 1, 9, 100) == CCAN_NODES_RANGE);
+    EXPECT(ccan_open(&chip, 2, 8, 0) == CCAN_TRIES_RANGE);
+    EXPECT(!ccan_is_open(&chip));
+    EXPECT(ccan_open(&chip, 2, 8, 1000) == CCAN_DONE);
+    EXPECT(ccan_is_open(&chip));
+    EXPECT(ccan_end(&chip, &last) == CCAN_DONE);
+    EXPECT(last.objects == 64);
+    EXPECT(!ccan_is_open(&chip));
+}
+
+/* Writes object 5: what its arbitration, its control and its first two bytes are set to. */
+static const struct setting message[] = {
+    { CCAN_CMASK, 0x00f3 }, { CCAN_ARB2, 0xa48c }, { CCAN_CTRL, 0x2088 }, { CCAN_DATAA1, 0x2211 } };
+
+static void what_one_host_writes_the_other_reads(void)
+{
+    opened(&chip, 1, 0);
+    set_all(&chip.if1, message, COUNT(message));
+    EXPECT(ccan_request(&chip.if1, 5) == CCAN_DONE);
+    EXPECT(ccan_set(&chip.if2, CCAN_CMASK, 0x007f) == CCAN_DONE);
+    EXPECT(ccan_request(&chip.if2, 5) == CCAN_DONE);
+    EXPECT(shown(&chip.if2, CCAN_ARB2) == 0xa48c);
+    EXPECT(shown(&chip.if2, CCAN_DATAA1) == 0x2211);
+}
+
+static void registers_are_set_by_their_numbers(void)
+{
+    EXPECT(ccan_set(&chip.if1, CCAN_CMASK, 0x00f3) == CCAN_CLOSED);
+    opened(&chip, 1, 0);
+    EXPECT(ccan_set(&chip.if1, 10, 0x00f3) == CCAN_REGISTER_RANGE);
+    EXPECT(ccan_set(&chip.if1, CCAN_DATAB2, 0x00f3) == CCAN_DONE);
+}
+
+/* The other host has read object 5 and cleared its IntPnd, which was the only one. */
+static void a_host_sees_flags_and_waits(void)
+{
+    uint64_t word = 0;
+    uint16_t value = 7;
+    uint32_t shows = 7;
+    opened(&chip, 1, 0);
+    set_all(&chip.if1, message, COUNT(message));
+    EXPECT(ccan_request(&chip.if1, 5) == CCAN_DONE);
+    EXPECT(ccan_set(&chip.if2, CCAN_CMASK, 0x007f) == CCAN_DONE);
+    EXPECT(ccan_request(&chip.if2, 5) == CCAN_DONE);
+    EXPECT(ccan_flags(&chip.if1, CCAN_MSGVAL, &word) == CCAN_DONE);
+    EXPECT(word == 0x10);
+    EXPECT(ccan_flags(&chip.if1, 5, &word) == CCAN_FLAG_RANGE);
+    EXPECT(ccan_interrupt(&chip.if2, &value) == CCAN_DONE);
+    EXPECT(value == 0);
+    EXPECT(ccan_until(&chip.if2, 5, CCAN_MSGVAL, 1, &shows) == CCAN_DONE);
+    EXPECT(shows == 1);
+    EXPECT(ccan_until(&chip.if2, 33, CCAN_MSGVAL, 1, &shows) == CCAN_OBJECT_RANGE);
+    EXPECT(ccan_until(&chip.if2, 5, CCAN_MSGVAL, 0, &shows) == CCAN_TURNS_RANGE);
+}
+
+static void a_look_shows_the_record_and_leaves_the_registers(void)
+{
+    static const struct setting settings[] = { { CCAN_CMASK, 0x00f3 }, { CCAN_ARB2, 0xa48c }, { CCAN_DATAA1, 0x2211 } };
+    ccan_record seen = no_record;
+    EXPECT(ccan_peek(&chip.if1, 5, &seen) == CCAN_CLOSED);
+    opened(&chip, 1, 0);
+    set_all(&chip.if1, settings, COUNT(settings));
+    EXPECT(ccan_request(&chip.if1, 5) == CCAN_DONE);
+    EXPECT(ccan_peek(&chip.if2, 33, &seen) == CCAN_OBJECT_RANGE);
+    EXPECT(seen.arbitration == 0);
+    EXPECT(ccan_peek(&chip.if2, 5, &seen) == CCAN_DONE);
+    EXPECT(seen.arbitration == 0xa48c0000);
+    EXPECT(seen.bytes[0] == 0x11);
+    EXPECT(shown(&chip.if2, CCAN_ARB2) == 0);
+}
+
+/* Here the chip as a whole is called between calls on its handles. */
+static void the_ports_of_a_chip_meet(void)
+{
+    uint64_t word = 0;
+    EXPECT(ccan_meet(&chip) == CCAN_CLOSED);
+    EXPECT(ccan_open(&chip, 1, 0, 100) == CCAN_DONE);
+    EXPECT(ccan_set(&chip.if1, CCAN_CMASK, 0x0090) == CCAN_DONE);
+    EXPECT(ccan_set(&chip.if1, CCAN_CTRL, 0x8000) == CCAN_DONE);
+    EXPECT(ccan_request(&chip.if1, 5) == CCAN_DONE);
+    EXPECT(ccan_meet(&chip) == CCAN_DONE);
+    EXPECT(ccan_is_open(&chip));
+    EXPECT(ccan_bus_flags(&chip.bus, CCAN_NEWDAT, &word) == CCAN_DONE);
+    EXPECT(word == 0x10);
+    EXPECT(shown(&chip.if1, CCAN_CTRL) == 0x8000);
+}
+
+static void an_open_chip_opens_anew(void)
+{
+    ccan_final last = nothing();
+    opened(&chip, 2, 0);
+    EXPECT(ccan_open(&chip, 1, 0, 100) == CCAN_DONE);
+    EXPECT(ccan_end(&chip, &last) == CCAN_DONE);
+    EXPECT(last.objects == 32);
+}
+
+static void a_chip_that_ended_is_closed(void)
+{
+    ccan_final last = nothing();
+    EXPECT(ccan_open(&chip, 1, 0, 1) == CCAN_DONE);
+    EXPECT(ccan_set(&chip.if1, CCAN_CMASK, 0x0090) == CCAN_DONE);
+    EXPECT(ccan_request(&chip.if1, 1) == CCAN_DONE);
+    EXPECT(ccan_end(&chip, &last) == CCAN_DONE);
+    EXPECT(ccan_request(&chip.if1, 1) == CCAN_CLOSED);
+}
+
+/* The frame 0x123 with two bytes, from a node. */
+static ccan_offer offer(uint8_t node)
+{
+    return (ccan_offer){ .id = 0x123, .node = node, .xtd = 0, .rtr = 0, .dlc = 2, .bytes = { 0x11, 0x22 } };
+}
+
+/* The frames of a round in which no other node sends. */
+static const ccan_offer nobody[1];
+
+/* A place for an outcome. */
+static ccan_outcome no_outcome(void) { return (ccan_outcome){ .kind = 77, .loaded = 77, .refused = 77, .winner = 77 }; }
+
+/* What comes of a round with these frames and this fault. No step of it is refused: that takes another port at the same object
+ * meanwhile, which one thread can't have. */
+static ccan_outcome played(ccan_bus *bus, const ccan_offer *offers, size_t count, uint32_t fault)
+{
+    ccan_outcome outcome = no_outcome();
+    EXPECT(ccan_round(bus, offers, count, fault, &outcome) == CCAN_DONE);
+    return outcome;
+}
+
+/* What comes of a round in which no other node sends, and nothing is spoiled. */
+static ccan_outcome played_alone(ccan_bus *bus) { return played(bus, nobody, 0, CCAN_QUIET); }
+
+/* What comes of a round with this frame alone, which nothing spoils. */
+static ccan_outcome played_with(ccan_bus *bus, ccan_offer sent) { return played(bus, &sent, 1, CCAN_QUIET); }
+
+/* Receives frames 0x123 in object 5, with RxIE. */
+static void receives(ccan_host *host)
+{
+    static const struct setting settings[] = { { CCAN_CMASK, 0x00f3 }, { CCAN_ARB2, 0x848c }, { CCAN_CTRL, 0x0488 } };
+    set_all(host, settings, COUNT(settings));
+    EXPECT(ccan_request(host, 5) == CCAN_DONE);
+}
+
+static void a_closed_chip_plays_no_round(void)
+{
+    ccan_outcome outcome = no_outcome();
+    EXPECT(ccan_round(&chip.bus, nobody, 0, CCAN_QUIET, &outcome) == CCAN_CLOSED);
+    EXPECT(outcome.kind == 77);
+}
+
+static void a_frame_is_stored(void)
+{
+    uint16_t word = 0;
+    uint64_t newdat = 0;
+    opened(&chip, 1, 1);
+    receives(&chip.if1);
+    const ccan_outcome outcome = played_with(&chip.bus, offer(1));
+    EXPECT(outcome.kind == CCAN_RECEIVED);
+    EXPECT(outcome.stored == 5);
+    EXPECT(outcome.stored_record.control == 0xa482);
+    EXPECT(ccan_status(&chip.bus, &word) == CCAN_DONE);
+    EXPECT(word == 0x0010);
+    EXPECT(ccan_bus_interrupt(&chip.bus, &word) == CCAN_DONE);
+    EXPECT(word == 5);
+    EXPECT(ccan_bus_flags(&chip.bus, CCAN_NEWDAT, &newdat) == CCAN_DONE);
+    EXPECT(newdat == 0x10);
+}
+
+static void a_frame_is_stored_and_one_is_sent(void)
+{
+    static const struct setting sends[] = { { CCAN_CMASK, 0x00f3 }, { CCAN_ARB2, 0xa400 }, { CCAN_CTRL, 0x0981 } };
+    ccan_loaded loaded = { .kind = 77, .object = 0, .held = no_record };
+    opened(&chip, 1, 1);
+    receives(&chip.if1);
+    EXPECT(played_with(&chip.bus, offer(1)).stored == 5);
+    set_all(&chip.if2, sends, COUNT(sends));
+    EXPECT(ccan_request(&chip.if2, 2) == CCAN_DONE);
+    EXPECT(ccan_load(&chip.bus, &loaded) == CCAN_DONE);
+    EXPECT(loaded.kind == CCAN_LOAD_LOADED);
+    EXPECT(loaded.object == 2);
+    const ccan_outcome outcome = played_alone(&chip.bus);
+    EXPECT(outcome.kind == CCAN_SENT);
+    EXPECT(outcome.object == 2);
+    EXPECT(outcome.finished.control == 0x2881);
+}
+
+/* Asks for the frame 0x100 with one byte to be sent, in object 2. */
+static void asks_to_send(ccan_host *host)
+{
+    static const struct setting settings[] = {
+        { CCAN_CMASK, 0x00f3 }, { CCAN_ARB2, 0xa400 }, { CCAN_CTRL, 0x0981 }, { CCAN_DATAA1, 0x0077 } };
+    set_all(host, settings, COUNT(settings));
+    EXPECT(ccan_request(host, 2) == CCAN_DONE);
+}
+
+/* The load of the controller's next frame. */
+static uint32_t loads(ccan_bus *bus)
+{
+    ccan_loaded loaded = { .kind = CCAN_LOAD_NOTHING, .object = 0, .held = no_record };
+    EXPECT(ccan_load(bus, &loaded) == CCAN_DONE);
+    return loaded.object;
+}
+
+/* Whether an outcome tells this beside its kind: the object that the round itself loaded, the step that was refused, and the
+ * node whose frame was on the bus. */
+static bool beside(const ccan_outcome *outcome, uint32_t loaded, uint32_t refused, uint32_t winner)
+{
+    return outcome->loaded == loaded && outcome->refused == refused && outcome->winner == winner;
+}
+
+/* Whether a frame has this identifier and these switches. */
+static bool is_named(const ccan_frame *frame, uint32_t id, uint8_t xtd, uint8_t rtr)
+{
+    return frame->id == id && frame->xtd == xtd && frame->rtr == rtr;
+}
+
+/* Whether the data of a frame is these two bytes, and 0 past them. */
+static bool has_data(const ccan_frame *frame, uint8_t first, uint8_t second)
+{
+    const uint8_t bytes[8] = { first, second };
+    return memcmp(frame->bytes, bytes, sizeof bytes) == 0;
+}
+
+static void a_round_tells_that_the_controllers_frame_was_on_the_bus(void)
+{
+    const ccan_offer theirs = offer(1);
+    opened(&chip, 1, 1);
+    asks_to_send(&chip.if1);
+    /* Spoiled, and loaded by the round itself. */
+    const ccan_outcome spoiled = played(&chip.bus, &theirs, 1, CCAN_STUFF);
+    EXPECT(spoiled.kind == CCAN_FAULT);
+    EXPECT(beside(&spoiled, 2, CCAN_STEP_NONE, 0));
+    EXPECT(spoiled.frame.id == 0x100);
+    EXPECT(spoiled.frame.dlc == 1);
+    EXPECT(has_data(&spoiled.frame, 0x77, 0));
+    /* Sent, and loaded by an earlier load. */
+    EXPECT(loads(&chip.bus) == 2);
+    const ccan_outcome sent = played_alone(&chip.bus);
+    EXPECT(sent.kind == CCAN_SENT);
+    EXPECT(beside(&sent, 0, CCAN_STEP_NONE, 0));
+    EXPECT(sent.frame.id == 0x100);
+}
+
+static void a_round_tells_which_frame_nobody_acknowledged(void)
+{
+    opened(&chip, 1, 0);
+    asks_to_send(&chip.if1);
+    const ccan_outcome unheard = played_alone(&chip.bus);
+    EXPECT(unheard.kind == CCAN_NO_ACK);
+    EXPECT(beside(&unheard, 2, CCAN_STEP_NONE, 0));
+    EXPECT(unheard.frame.id == 0x100);
+}
+
+/* An extended remote frame from node 2, whose first eleven bits are those of the standard frame 0x123. */
+static ccan_offer remote(void)
+{
+    ccan_offer asks = offer(2);
+    asks.id = 0x123 << 18;
+    asks.xtd = 7;
+    asks.rtr = 7;
+    return asks;
+}
+
+static void an_idle_round_tells_of_no_frame(void)
+{
+    opened(&chip, 1, 2);
+    const ccan_outcome idle = played_alone(&chip.bus);
+    EXPECT(idle.kind == CCAN_IDLE);
+    EXPECT(beside(&idle, 0, CCAN_STEP_NONE, CCAN_NO_NODE));
+    EXPECT(idle.frame.id == 0);
+}
+
+static void a_round_tells_which_nodes_frame_was_on_the_bus(void)
+{
+    const ccan_offer both[] = { remote(), offer(1) };
+    opened(&chip, 1, 2);
+    /* The standard frame goes on. */
+    const ccan_outcome received = played(&chip.bus, both, COUNT(both), CCAN_QUIET);
+    EXPECT(received.kind == CCAN_RECEIVED);
+    EXPECT(beside(&received, 0, CCAN_STEP_NONE, 1));
+    EXPECT(is_named(&received.frame, 0x123, 0, 0));
+    EXPECT(received.frame.dlc == 2);
+    EXPECT(has_data(&received.frame, 0x11, 0x22));
+}
+
+static void a_round_tells_which_remote_frame_was_on_the_bus(void)
+{
+    opened(&chip, 1, 2);
+    const ccan_outcome asked = played_with(&chip.bus, remote());
+    EXPECT(asked.winner == 2);
+    EXPECT(is_named(&asked.frame, 0x48c0000, 1, 1));
+    EXPECT(asked.frame.dlc == 2);
+    EXPECT(has_data(&asked.frame, 0, 0));
+}
+
+static void a_collision_tells_of_no_frame(void)
+{
+    const ccan_offer both[] = { offer(1), offer(2) };
+    opened(&chip, 1, 2);
+    EXPECT(played_with(&chip.bus, remote()).winner == 2);
+    const ccan_outcome collided = played(&chip.bus, both, COUNT(both), CCAN_QUIET);
+    EXPECT(collided.kind == CCAN_COLLISION);
+    EXPECT(collided.winner == CCAN_NO_NODE);
+    EXPECT(collided.frame.id == 0);
+}
+
+static void frames_out_of_range_are_refused(void)
+{
+    ccan_outcome outcome = no_outcome();
+    ccan_offer wide = offer(1);
+    const ccan_offer first = offer(1), second = offer(2);
+    const ccan_offer nine[9] = { first, first, first, first, first, first, first, first, first };
+    opened(&chip, 2, 1);
+    EXPECT(ccan_round(&chip.bus, nine, COUNT(nine), CCAN_QUIET, &outcome) == CCAN_FRAMES_RANGE);
+    wide.id = 0x800;
+    EXPECT(ccan_round(&chip.bus, &wide, 1, CCAN_QUIET, &outcome) == CCAN_FRAME_RANGE);
+    EXPECT(ccan_round(&chip.bus, &first, 1, 6, &outcome) == CCAN_FAULT_RANGE);
+    EXPECT(ccan_round(&chip.bus, &second, 1, CCAN_QUIET, &outcome) == CCAN_SENDERS);
+    EXPECT(outcome.kind == 77);
+}
+
+/* Whether a node's counters and state are these. */
+static bool counted(const ccan_counts *counts, uint32_t tec, uint32_t rec, uint32_t state)
+{
+    return counts->tec == tec && counts->rec == rec && counts->state == state;
+}
+
+static void numbers_out_of_range_are_refused(void)
+{
+    ccan_counts counts = { .tec = 9, .rec = 9, .state = 9 };
+    uint32_t state = 9;
+    opened(&chip, 2, 1);
+    EXPECT(ccan_counters(&chip.bus, 2, &counts) == CCAN_NODE_RANGE);
+    EXPECT(ccan_counters(&chip.bus, 1, &counts) == CCAN_DONE);
+    EXPECT(counted(&counts, 0, 0, CCAN_ACTIVE));
+    EXPECT(ccan_recessive(&chip.bus, 0, &state) == CCAN_GROUPS_RANGE);
+    EXPECT(ccan_recessive(&chip.bus, 128, &state) == CCAN_DONE);
+    EXPECT(state == CCAN_ACTIVE);
+}
+
+/* ---- registers by their offsets */
+
+/* Control, Bit Timing, and of IF1 Command Request and both masks, whose reserved bit reads 0. */
+static void a_chip_opens_as_after_a_reset(void)
+{
+    EXPECT(ccan_open_reset(&other, 1, 1, 0, 3) == CCAN_TRIES_RANGE);
+    EXPECT(ccan_open_reset(&other, 1, 1, 100, 3) == CCAN_LAYOUT_RANGE);
+    EXPECT(!ccan_is_open(&other));
+    reset(&chip, CCAN_LAYOUT_C_CAN);
+    EXPECT(reads(&chip.if1, CCAN_OFFSET_CONTROL) == 0x0001);
+    EXPECT(reads(&chip.if1, CCAN_OFFSET_BIT_TIMING) == 0x2301);
+    EXPECT(reads(&chip.if1, CCAN_OFFSET_IF1_COMMAND_REQUEST) == 0x0001);
+    EXPECT(reads(&chip.if1, CCAN_OFFSET_IF1_MASK_1) == 0xffff);
+    EXPECT(reads(&chip.if1, CCAN_OFFSET_IF1_MASK_2) == 0xdfff);
+}
+
+/* Bit Timing stands at twice its offset, and at 0x0c with D_CAN. */
+static void a_layout_has_its_offsets(void)
+{
+    ccan_chip *wide = &chip, *dcan = &other;
+    uint16_t value = 7;
+    reset(wide, CCAN_LAYOUT_C_CAN_32);
+    EXPECT(reads(&wide->if1, 0x0c) == 0x2301);
+    reset(dcan, CCAN_LAYOUT_D_CAN);
+    EXPECT(reads(&dcan->if1, 0x0c) == 0x2301);
+    EXPECT(ccan_read16(&dcan->if1, 0x02, &value) == CCAN_OFFSET_RANGE);
+    EXPECT(ccan_write16(&wide->if1, 0x0e, 0) == CCAN_OFFSET_RANGE);
+    EXPECT(value == 7);
+}
+
+static void another_interface_is_refused(void)
+{
+    uint16_t value = 7;
+    reset(&chip, CCAN_LAYOUT_C_CAN);
+    EXPECT(ccan_read16(&chip.if1, CCAN_OFFSET_IF2_COMMAND_REQUEST, &value) == CCAN_OTHER_INTERFACE);
+    EXPECT(ccan_write16(&chip.if2, CCAN_OFFSET_IF1_COMMAND_MASK, 0x00f3) == CCAN_OTHER_INTERFACE);
+    EXPECT(ccan_bus_read16(&chip.bus, CCAN_OFFSET_IF1_COMMAND_REQUEST, &value) == CCAN_OTHER_INTERFACE);
+    EXPECT(ccan_bus_write16(&chip.bus, CCAN_OFFSET_IF2_DATA_B2, 1) == CCAN_OTHER_INTERFACE);
+    EXPECT(value == 7);
+    EXPECT(ccan_read16(&other.if1, CCAN_OFFSET_CONTROL, &value) == CCAN_CLOSED);
+    EXPECT(ccan_write16(&other.if1, CCAN_OFFSET_CONTROL, 0) == CCAN_CLOSED);
+}
+
+/* Bit Timing takes a write while Init and CCE are 1, and keeps what it has without CCE. */
+static void bit_timing_is_written_while_it_is_configured(void)
+{
+    static const struct setting early[] = { { CCAN_OFFSET_BIT_TIMING, 0x1c00 } };
+    static const struct setting settings[] = {
+        { CCAN_OFFSET_CONTROL, 0x0041 }, { CCAN_OFFSET_BIT_TIMING, 0x9c00 }, { CCAN_OFFSET_BRP_EXTENSION, 0x00f5 } };
+    reset(&chip, CCAN_LAYOUT_C_CAN);
+    write_all(&chip.if1, early, COUNT(early));
+    EXPECT(reads(&chip.if2, CCAN_OFFSET_BIT_TIMING) == 0x2301);
+    write_all(&chip.if1, settings, COUNT(settings));
+    EXPECT(reads(&chip.if2, CCAN_OFFSET_BIT_TIMING) == 0x1c00);
+    EXPECT(reads(&chip.if2, CCAN_OFFSET_BRP_EXTENSION) == 0x0005);
+}
+
+/* Writes Control. */
+static void write_control(ccan_host *host, uint16_t value)
+{
+    EXPECT(ccan_write16(host, CCAN_OFFSET_CONTROL, value) == CCAN_DONE);
+}
+
+/* Sets object 5 up, which then receives frames 0x123 with RxIE, and starts with IE, SIE and EIE. */
+static void starts(ccan_host *host)
+{
+    static const struct setting settings[] = {
+        { CCAN_OFFSET_IF1_COMMAND_MASK, 0x00f3 }, { CCAN_OFFSET_IF1_ARBITRATION_2, 0x848c },
+        { CCAN_OFFSET_IF1_MESSAGE_CONTROL, 0x0488 }, { CCAN_OFFSET_IF1_COMMAND_REQUEST, 5 } };
+    write_all(host, settings, COUNT(settings));
+    write_control(host, 0x000e);
+}
+
+static void a_frame_is_received_by_interrupt(void)
+{
+    static const struct setting fetches[] = {
+        { CCAN_OFFSET_IF1_COMMAND_MASK, 0x007f }, { CCAN_OFFSET_IF1_COMMAND_REQUEST, 5 } };
+    reset(&chip, CCAN_LAYOUT_C_CAN);
+    starts(&chip.if1);
+    EXPECT(pulls(&chip.if1) == 0);
+    EXPECT(played_with(&chip.bus, offer(1)).stored == 5);
+    EXPECT(pulls(&chip.if1) == 1);
+    EXPECT(reads(&chip.if1, CCAN_OFFSET_INTERRUPT) == 0x8000);
+    EXPECT(reads(&chip.if1, CCAN_OFFSET_STATUS) == 0x0010);
+    EXPECT(reads(&chip.if1, CCAN_OFFSET_INTERRUPT) == 5);
+    EXPECT(reads(&chip.if2, CCAN_OFFSET_INTERRUPT_PENDING_1) == 0x0010);
+    write_all(&chip.if1, fetches, COUNT(fetches));
+    EXPECT(reads(&chip.if1, CCAN_OFFSET_IF1_DATA_A1) == 0x2211);
+    EXPECT(pulls(&chip.if1) == 0);
+}
+
+/* While Init is 1 nobody acknowledges what node 1 sends. */
+static void the_bus_reads_and_writes_registers(void)
+{
+    uint16_t value = 7;
+    uint32_t pulled = 7;
+    reset(&chip, CCAN_LAYOUT_C_CAN);
+    EXPECT(ccan_bus_read16(&chip.bus, CCAN_OFFSET_CONTROL, &value) == CCAN_DONE);
+    EXPECT(value == 0x0001);
+    EXPECT(played_with(&chip.bus, offer(1)).kind == CCAN_NO_ACK);
+    EXPECT(ccan_bus_write16(&chip.bus, CCAN_OFFSET_CONTROL, 0x0006) == CCAN_DONE);
+    EXPECT(ccan_bus_line(&chip.bus, &pulled) == CCAN_DONE);
+    EXPECT(pulled == 0);
+    EXPECT(played_with(&chip.bus, offer(1)).kind == CCAN_RECEIVED);
+    EXPECT(ccan_bus_line(&chip.bus, &pulled) == CCAN_DONE);
+    EXPECT(pulled == 1);
+}
+
+/* A read of Status leaves the flags of a C_CAN. */
+static void a_read_of_status_leaves_its_flags(void)
+{
+    reset(&chip, CCAN_LAYOUT_C_CAN);
+    write_control(&chip.if1, 0);
+    EXPECT(played_with(&chip.bus, offer(1)).kind == CCAN_RECEIVED);
+    EXPECT(reads(&chip.if1, CCAN_OFFSET_STATUS) == 0x0010);
+    EXPECT(reads(&chip.if2, CCAN_OFFSET_STATUS) == 0x0010);
+    EXPECT(ccan_write16(&chip.if1, CCAN_OFFSET_STATUS, 0xffef) == CCAN_DONE);
+    EXPECT(reads(&chip.if1, CCAN_OFFSET_STATUS) == 0x000f);
+}
+
+/* A read of Status clears those of a D_CAN, and sets LEC 7. */
+static void a_read_of_status_clears_a_dcan(void)
+{
+    reset(&chip, CCAN_LAYOUT_D_CAN);
+    write_control(&chip.if1, 0);
+    EXPECT(played_with(&chip.bus, offer(1)).kind == CCAN_RECEIVED);
+    EXPECT(reads(&chip.if1, 0x04) == 0x0010);
+    EXPECT(reads(&chip.if2, 0x04) == 0x0007);
+}
+
+/* Receives frames 0x123 in object 5 of a D_CAN: Arbitration, Message Control, and the command with its mask above. */
+static const struct { uint32_t offset, value; } receives_32[] = {
+    { 0x108, 0x848c0000 }, { 0x10c, 0x00000488 }, { 0x100, 0x00f30005 }, { 0x000, 0 } };
+
+static void a_frame_is_received_by_words_of_32_bits(void)
+{
+    uint32_t word = 7;
+    reset(&chip, CCAN_LAYOUT_D_CAN);
+    for (size_t i = 0; i < COUNT(receives_32); i++)
+        EXPECT(ccan_write32(&chip.if1, receives_32[i].offset, receives_32[i].value) == CCAN_DONE);
+    EXPECT(played_with(&chip.bus, offer(1)).stored == 5);
+    EXPECT(ccan_write32(&chip.if1, 0x100, 0x007f0005) == CCAN_DONE);
+    EXPECT(ccan_read32(&chip.if1, 0x110, &word) == CCAN_DONE);
+    EXPECT(word == 0x00002211);
+}
+
+/* Bit Timing is the lower half of its word, and BRP Extension the upper one. */
+static void the_bus_reads_and_writes_words_of_32_bits(void)
+{
+    uint32_t word = 7;
+    reset(&chip, CCAN_LAYOUT_D_CAN);
+    EXPECT(ccan_bus_write32(&chip.bus, 0x000, 0xffff0041) == CCAN_DONE);
+    EXPECT(ccan_bus_read32(&chip.bus, 0x000, &word) == CCAN_DONE);
+    EXPECT(word == 0x00000041);
+    EXPECT(ccan_bus_write32(&chip.bus, 0x00c, 0x00051c00) == CCAN_DONE);
+    EXPECT(ccan_bus_read32(&chip.bus, 0x00c, &word) == CCAN_DONE);
+    EXPECT(word == 0x00051c00);
+}
+
+/* At no multiple of 4, where neither half is a register, and where the lower or the upper half is another port's. */
+static void words_out_of_range_are_refused(void)
+{
+    uint32_t word = 7;
+    reset(&chip, CCAN_LAYOUT_D_CAN);
+    EXPECT(ccan_read32(&chip.if1, 0x00e, &word) == CCAN_OFFSET_RANGE);
+    EXPECT(ccan_write32(&chip.if1, 0x102, 0x00f30001) == CCAN_OFFSET_RANGE);
+    EXPECT(ccan_read32(&chip.if1, 0xfffffffc, &word) == CCAN_OFFSET_RANGE);
+    EXPECT(ccan_write32(&chip.if1, 0x800, 0) == CCAN_OFFSET_RANGE);
+    EXPECT(ccan_read32(&chip.if1, 0x120, &word) == CCAN_OTHER_INTERFACE);
+    EXPECT(ccan_write32(&chip.if1, 0x120, 1) == CCAN_OTHER_INTERFACE);
+    EXPECT(ccan_bus_read32(&chip.bus, 0x100, &word) == CCAN_OTHER_INTERFACE);
+    EXPECT(ccan_bus_write32(&chip.bus, 0x100, 1) == CCAN_OTHER_INTERFACE);
+    EXPECT(word == 7);
+}
+
+/* SIE is set once the frame was there: the status interrupt was raised all the same. */
+static void an_enable_shows_what_was_raised(void)
+{
+    uint16_t word = 7;
+    opened(&chip, 1, 1);
+    EXPECT(played_with(&chip.bus, offer(1)).kind == CCAN_RECEIVED);
+    EXPECT(ccan_bus_interrupt(&chip.bus, &word) == CCAN_DONE);
+    EXPECT(word == 0);
+    EXPECT(ccan_control(&chip.bus, 1, 0) == CCAN_DONE);
+    EXPECT(reads(&chip.if1, CCAN_OFFSET_CONTROL) == 0x0004);
+    EXPECT(ccan_bus_interrupt(&chip.bus, &word) == CCAN_DONE);
+    EXPECT(word == 0x8000);
+    EXPECT(ccan_status(&chip.bus, &word) == CCAN_DONE);
+    EXPECT(ccan_bus_interrupt(&chip.bus, &word) == CCAN_DONE);
+    EXPECT(word == 0);
+}
+
+static void loop_back_mode_is_in_the_registers(void)
+{
+    opened(&chip, 1, 0);
+    asks_to_send(&chip.if1);
+    EXPECT(ccan_loop_back(&chip.bus, 1) == CCAN_DONE);
+    EXPECT(reads(&chip.if2, CCAN_OFFSET_CONTROL) == 0x0080);
+    EXPECT(reads(&chip.if2, CCAN_OFFSET_TEST) == 0x0010);
+    EXPECT(played_alone(&chip.bus).kind == CCAN_LOOPED);
+    EXPECT(ccan_loop_back(&chip.bus, 0) == CCAN_DONE);
+    EXPECT(reads(&chip.if2, CCAN_OFFSET_CONTROL) == 0);
+    EXPECT(played_alone(&chip.bus).kind == CCAN_IDLE);
+}
+
+/* Init is set while an object is loaded: it is dropped, and sent once Init is cleared. */
+static void init_keeps_the_controller_out(void)
+{
+    opened(&chip, 1, 1);
+    asks_to_send(&chip.if1);
+    EXPECT(loads(&chip.bus) == 2);
+    write_control(&chip.if1, 0x0001);
+    EXPECT(loads(&chip.bus) == 0);
+    EXPECT(played_alone(&chip.bus).kind == CCAN_IDLE);
+    EXPECT(ccan_init(&chip.bus) == CCAN_DONE);
+    EXPECT(reads(&chip.if1, CCAN_OFFSET_CONTROL) == 0);
+    EXPECT(loads(&chip.bus) == 2);
+    EXPECT(played_alone(&chip.bus).kind == CCAN_SENT);
+}
+
+/* The controller's frames are spoiled 32 times, 8 for TEC each time: 256, bus off. */
+static void goes_off(ccan_bus *bus)
+{
+    for (int i = 0; i < 32; i++)
+        EXPECT(played(bus, nobody, 0, CCAN_BIT1).kind == CCAN_FAULT);
+}
+
+/* The controller's state after 128 groups of recessive bits. */
+static uint32_t after_groups(ccan_bus *bus)
+{
+    uint32_t state = 9;
+    EXPECT(ccan_recessive(bus, 128, &state) == CCAN_DONE);
+    return state;
+}
+
+static void going_off_sets_init(void)
+{
+    ccan_counts counts = { .tec = 9, .rec = 9, .state = 9 };
+    opened(&chip, 1, 1);
+    asks_to_send(&chip.if1);
+    goes_off(&chip.bus);
+    EXPECT(reads(&chip.if2, CCAN_OFFSET_CONTROL) == 0x0001);
+    EXPECT(reads(&chip.if2, CCAN_OFFSET_ERROR_COUNTER) == 0x00ff);
+    EXPECT(ccan_counters(&chip.bus, 0, &counts) == CCAN_DONE);
+    EXPECT(counted(&counts, 256, 0, CCAN_OFF));
+    EXPECT(after_groups(&chip.bus) == CCAN_OFF);
+    write_control(&chip.if2, 0);
+    EXPECT(after_groups(&chip.bus) == CCAN_ACTIVE);
+}
+
+/* A chip is saved and opened again from its bytes. Others are refused, and leave the place as it is. */
+static void a_saved_chip_opens_again(void)
+{
+    ccan_saved text, later;
+    memset(&text, 7, sizeof text);
+    opened(&chip, 1, 1);
+    EXPECT(ccan_save(&other, &text) == CCAN_CLOSED);
+    EXPECT(ccan_restore(&other, &text) == CCAN_NO_SAVED_CHIP);
+    EXPECT(ccan_set(&chip.if1, CCAN_CMASK, 0x00f3) == CCAN_DONE);
+    EXPECT(ccan_set(&chip.if1, CCAN_ARB2, 0xa400) == CCAN_DONE);
+    EXPECT(ccan_set(&chip.if1, CCAN_CTRL, 0x0981) == CCAN_DONE);
+    EXPECT(ccan_request(&chip.if1, 2) == CCAN_DONE);
+    EXPECT(ccan_save(&chip, &text) == CCAN_DONE);
+    later = text;
+    later.bytes[8] = 2;
+    EXPECT(ccan_restore(&other, &later) == CCAN_NO_SAVED_CHIP);
+    EXPECT(!ccan_is_open(&other));
+    EXPECT(ccan_restore(&other, &text) == CCAN_DONE);
+    EXPECT(shown(&other.if1, CCAN_ARB2) == 0xa400);
+    EXPECT(loads(&other.bus) == 2);
+    EXPECT(played_alone(&other.bus).kind == CCAN_SENT);
+}
+
+/* The registers have the values of a reset, and object 2 is still as it was written. */
+static void a_reset_leaves_the_message_ram(void)
+{
+    ccan_record seen = no_record;
+    EXPECT(ccan_reset(&chip) == CCAN_CLOSED);
+    opened(&chip, 1, 1);
+    EXPECT(ccan_set(&chip.if1, CCAN_CMASK, 0x00f3) == CCAN_DONE);
+    EXPECT(ccan_set(&chip.if1, CCAN_ARB2, 0xa400) == CCAN_DONE);
+    EXPECT(ccan_request(&chip.if1, 2) == CCAN_DONE);
+    EXPECT(ccan_reset(&chip) == CCAN_DONE);
+    EXPECT(shown(&chip.if1, CCAN_ARB2) == 0);
+    EXPECT(reads(&chip.if1, CCAN_OFFSET_CONTROL) == 0x0001);
+    EXPECT(reads(&chip.if2, CCAN_OFFSET_IF2_MASK_1) == 0xffff);
+    EXPECT(ccan_peek(&chip.if2, 2, &seen) == CCAN_DONE);
+    EXPECT(seen.arbitration == 0xa4000000);
+}
+
+static void the_version_is_that_of_the_header(void) { EXPECT(ccan_version() == CCAN_VERSION); }
+
+/* ---- running them */
+
+#define TEST(name) { #name, name }
+
+static const struct { const char *name; void (*run)(void); } tests[] = {
+    TEST(a_chip_opens_and_ends),
+    TEST(what_one_host_writes_the_other_reads),
+    TEST(registers_are_set_by_their_numbers),
+    TEST(a_host_sees_flags_and_waits),
+    TEST(a_look_shows_the_record_and_leaves_the_registers),
+    TEST(the_ports_of_a_chip_meet),
+    TEST(an_open_chip_opens_anew),
+    TEST(a_chip_that_ended_is_closed),
+    TEST(a_closed_chip_plays_no_round),
+    TEST(a_frame_is_stored),
+    TEST(a_frame_is_stored_and_one_is_sent),
+    TEST(a_round_tells_that_the_controllers_frame_was_on_the_bus),
+    TEST(a_round_tells_which_frame_nobody_acknowledged),
+    TEST(an_idle_round_tells_of_no_frame),
+    TEST(a_round_tells_which_nodes_frame_was_on_the_bus),
+    TEST(a_round_tells_which_remote_frame_was_on_the_bus),
+    TEST(a_collision_tells_of_no_frame),
+    TEST(frames_out_of_range_are_refused),
+    TEST(numbers_out_of_range_are_refused),
+    TEST(a_chip_opens_as_after_a_reset),
+    TEST(a_layout_has_its_offsets),
+    TEST(another_interface_is_refused),
+    TEST(bit_timing_is_written_while_it_is_configured),
+    TEST(a_frame_is_received_by_interrupt),
+    TEST(the_bus_reads_and_writes_registers),
+    TEST(a_read_of_status_leaves_its_flags),
+    TEST(a_read_of_status_clears_a_dcan),
+    TEST(a_frame_is_received_by_words_of_32_bits),
+    TEST(the_bus_reads_and_writes_words_of_32_bits),
+    TEST(words_out_of_range_are_refused),
+    TEST(an_enable_shows_what_was_raised),
+    TEST(loop_back_mode_is_in_the_registers),
+    TEST(init_keeps_the_controller_out),
+    TEST(going_off_sets_init),
+    TEST(a_saved_chip_opens_again),
+    TEST(a_reset_leaves_the_message_ram),
+    TEST(the_version_is_that_of_the_header) };
+
+/* Ends a chip that a test has left open. */
+static void let_go(ccan_chip *left)
+{
+    ccan_final last = nothing();
+    if (ccan_is_open(left))
+        EXPECT(ccan_end(left, &last) == CCAN_DONE);
+}
+
+int main(void)
+{
+    for (size_t i = 0; i < COUNT(tests); i++) {
+        running = tests[i].name;
+        ccan_chip_init(&chip);
+        ccan_chip_init(&other);
+        tests[i].run();
+        let_go(&chip);
+        let_go(&other);
+    }
+    printf("the calls of the library: %zu tests\n", COUNT(tests));
+    return 0;
+}
