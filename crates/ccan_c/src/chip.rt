@@ -49,7 +49,7 @@ impl Chip {
     }
 
     /// A place for a chip.
-    pub(crate) fn closed(alloc: Global) -> Chip
+    pub fn closed(alloc: Global) -> Chip
         ensures { IsClosed result }
     {
         Chip::of(
@@ -60,7 +60,7 @@ impl Chip {
     }
 
     /// Whether all three handles are open.
-    pub(crate) fn is_open(&self) -> bool
+    pub fn is_open(&self) -> bool
         ensures { result ≡ are_open self.now }
     {
         self.if1.handle.is_open() && self.if2.handle.is_open() && self.bus.handle.is_open()

@@ -6,55 +6,55 @@ use ccan_bus::{LoadAnswer, RoundAnswer};
 use ccan_line::LineAnswer;
 
 /// Done.
-pub(crate) const DONE: u32 = 0;
+pub const DONE: u32 = 0;
 /// The handle is closed.
-pub(crate) const CLOSED: u32 = 1;
+pub const CLOSED: u32 = 1;
 /// Each try was lost to a change of another port.
-pub(crate) const BUSY: u32 = 2;
+pub const BUSY: u32 = 2;
 /// The port has made all the changes that the memory numbers, see `ccan_endless::MOST`.
-pub(crate) const SPENT: u32 = 3;
+pub const SPENT: u32 = 3;
 /// Memory ran out.
-pub(crate) const NO_MEMORY: u32 = 4;
+pub const NO_MEMORY: u32 = 4;
 /// Somebody else holds the memory.
-pub(crate) const SHARED: u32 = 5;
+pub const SHARED: u32 = 5;
 /// There is no such profile.
-pub(crate) const PROFILE_RANGE: u32 = 6;
+pub const PROFILE_RANGE: u32 = 6;
 /// There are too many nodes.
-pub(crate) const NODES_RANGE: u32 = 7;
+pub const NODES_RANGE: u32 = 7;
 // 8 is no code any more: it was that of a quota out of its range.
 /// A change may not be tried so seldom or so often.
-pub(crate) const TRIES_RANGE: u32 = 9;
+pub const TRIES_RANGE: u32 = 9;
 /// There is no such register.
-pub(crate) const REGISTER_RANGE: u32 = 10;
+pub const REGISTER_RANGE: u32 = 10;
 /// The chip has no such object.
-pub(crate) const OBJECT_RANGE: u32 = 11;
+pub const OBJECT_RANGE: u32 = 11;
 /// There is no such flag.
-pub(crate) const FLAG_RANGE: u32 = 12;
+pub const FLAG_RANGE: u32 = 12;
 /// An object may not be looked at so seldom or so often.
-pub(crate) const TURNS_RANGE: u32 = 13;
+pub const TURNS_RANGE: u32 = 13;
 /// The bus has no such node.
-pub(crate) const NODE_RANGE: u32 = 14;
+pub const NODE_RANGE: u32 = 14;
 /// So few or so many groups of recessive bits may not pass in one call.
-pub(crate) const GROUPS_RANGE: u32 = 15;
+pub const GROUPS_RANGE: u32 = 15;
 /// There are too many frames.
-pub(crate) const FRAMES_RANGE: u32 = 16;
+pub const FRAMES_RANGE: u32 = 16;
 /// The identifier or the length of a frame is out of its range.
-pub(crate) const FRAME_RANGE: u32 = 17;
+pub const FRAME_RANGE: u32 = 17;
 /// There is no such fault.
-pub(crate) const FAULT_RANGE: u32 = 18;
+pub const FAULT_RANGE: u32 = 18;
 /// A sender is none of the other nodes, or sends twice.
-pub(crate) const SENDERS: u32 = 19;
+pub const SENDERS: u32 = 19;
 
 /// No register of the layout begins at this offset.
-pub(crate) const OFFSET_RANGE: u32 = 20;
+pub const OFFSET_RANGE: u32 = 20;
 /// The register is of another port's interface.
-pub(crate) const OTHER_INTERFACE: u32 = 21;
+pub const OTHER_INTERFACE: u32 = 21;
 /// There is no such layout.
-pub(crate) const MAP_RANGE: u32 = 22;
+pub const MAP_RANGE: u32 = 22;
 /// These bytes are no saved chip, or one of a version that is not known.
-pub(crate) const NO_SAVED_CHIP: u32 = 23;
+pub const NO_SAVED_CHIP: u32 = 23;
 /// No chip can be as the bytes say.
-pub(crate) const NO_CHIP: u32 = 24;
+pub const NO_CHIP: u32 = 24;
 
 /// Busy or spent where a step of the memory was, else done.
 pub(crate) fn code_of(answer: &LineAnswer) -> u32

@@ -21,12 +21,8 @@ mod bus;
 mod bus_handle;
 mod bus_lines;
 mod chip;
-mod code;
+pub mod code;
 mod ending;
-#[cfg(test)]
-mod expect;
-#[cfg(test)]
-mod from_c;
 mod handle;
 mod held;
 mod host;
@@ -49,10 +45,6 @@ mod shown_frame;
 mod shown_load;
 mod shown_outcome;
 mod shown_record;
-#[cfg(test)]
-mod table;
-#[cfg(test)]
-mod tests;
 mod version;
 
 pub use bus::{
@@ -70,15 +62,17 @@ pub use host::{
 };
 pub use host_handle::HostHandle;
 pub use meeting::ccan_meet;
-pub use offer::Offer;
+pub use numbers::{flag_numbered, register_numbered};
+pub use offer::{Offer, fault_numbered};
 pub use opening::{ccan_is_open, ccan_open, ccan_open_reset};
 pub use resetting::ccan_reset;
 pub use saved_chip::SavedChip;
 pub use saving::{ccan_restore, ccan_save};
-pub use shown_counters::ShownCounters;
+pub use settings::map_numbered;
+pub use shown_counters::{ShownCounters, state_number};
 pub use shown_final::ShownFinal;
 pub use shown_frame::ShownFrame;
 pub use shown_load::ShownLoad;
-pub use shown_outcome::ShownOutcome;
+pub use shown_outcome::{NO_NODE, NOT_NOTED, ShownOutcome, step_number};
 pub use shown_record::ShownRecord;
 pub use version::ccan_version;

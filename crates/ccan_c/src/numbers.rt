@@ -6,7 +6,7 @@ use ccan_object::Reg;
 use ccan_ram::Flag;
 
 /// The register of this number.
-pub(crate) fn register_numbered(number: u32) -> Option<Reg>
+pub fn register_numbered(number: u32) -> Option<Reg>
     ensures { result ≡ register_numbered number }
 {
     match number {
@@ -25,7 +25,7 @@ pub(crate) fn register_numbered(number: u32) -> Option<Reg>
 }
 
 /// The flag of this number.
-pub(crate) fn flag_numbered(number: u32) -> Option<Flag>
+pub fn flag_numbered(number: u32) -> Option<Flag>
     ensures { result ≡ flag_numbered number }
 {
     match number {

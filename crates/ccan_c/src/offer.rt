@@ -60,7 +60,7 @@ pub(crate) fn read_offers(offers: &[Offer]) -> Option<Sends>
 }
 
 /// The fault of this number.
-pub(crate) fn fault_numbered(number: u32) -> Option<Fault>
+pub fn fault_numbered(number: u32) -> Option<Fault>
     ensures { result ≡ fault_numbered number }
 {
     match number {

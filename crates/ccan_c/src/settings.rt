@@ -28,7 +28,7 @@ fn profile_numbered(number: u32) -> Option<Profile>
 }
 
 /// The layout of the registers of this number.
-pub(crate) fn map_numbered(number: u32) -> Option<Map>
+pub fn map_numbered(number: u32) -> Option<Map>
     ensures { result ≡ map_numbered number }
 {
     match number {

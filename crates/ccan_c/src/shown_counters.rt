@@ -16,7 +16,7 @@ pub struct ShownCounters {
 }
 
 /// The number of a state.
-pub(crate) fn state_number(state: NodeState) -> u32
+pub fn state_number(state: NodeState) -> u32
     ensures { result ≡ state_number state }
 {
     match state {

@@ -34,7 +34,7 @@ impl ShownFrame {
     }
 
     /// The frame that was on the bus, zero where no single one was.
-    pub(crate) fn of(winner: &Option<(u8, Frame)>) -> ShownFrame
+    pub fn of(winner: &Option<(u8, Frame)>) -> ShownFrame
         ensures { result ≡ frame_shown winner.now }
     {
         match winner {

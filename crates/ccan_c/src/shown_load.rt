@@ -30,7 +30,7 @@ impl ShownLoad {
     }
 
     /// What came of a load.
-    pub(crate) fn of(loading: &LoadAnswer) -> ShownLoad
+    pub fn of(loading: &LoadAnswer) -> ShownLoad
         ensures { result ≡ c_load loading.now }
     {
         let zero = Record::zero();

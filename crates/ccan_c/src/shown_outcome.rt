@@ -15,10 +15,10 @@ use ccan_line::LineAnswer;
 use ccan_object::{ObjectNo, Record};
 
 /// The number that stands for no node.
-pub(crate) const NO_NODE: u32 = 255;
+pub const NO_NODE: u32 = 255;
 
 /// The number that `refused` has where the round's event was not made at the controller.
-pub(crate) const NOT_NOTED: u32 = 4;
+pub const NOT_NOTED: u32 = 4;
 
 /// What came of a round.
 #[repr(C)]
@@ -128,7 +128,7 @@ fn loaded_by(loading: &LoadAnswer) -> u32
 }
 
 /// The step that was refused.
-pub(crate) fn step_number(refused: Option<MemoryStep>) -> u32
+pub fn step_number(refused: Option<MemoryStep>) -> u32
     ensures { result ≡ step_number refused }
 {
     match refused {
@@ -193,7 +193,7 @@ pub(crate) fn code_of_round(told: &ChipReport) -> u32
 
 impl ShownOutcome {
     /// What came of a round as C sees it.
-    pub(crate) fn of(told: &ChipReport) -> ShownOutcome
+    pub fn of(told: &ChipReport) -> ShownOutcome
         ensures { result ≡ c_outcome told.now }
     {
         let report = &told.report;

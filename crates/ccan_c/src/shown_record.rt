@@ -19,7 +19,7 @@ pub struct ShownRecord {
 
 impl ShownRecord {
     /// A record as C sees it.
-    pub(crate) fn of(found: &Record) -> ShownRecord
+    pub fn of(found: &Record) -> ShownRecord
         ensures { result ≡ c_record found.now }
     {
         ShownRecord {

@@ -36,15 +36,18 @@ pub record IsSeenListing (script : ScriptFields) (watch : Watch) (marks : List B
       (length endings) outcomes
   pub text_is : text ≡ seen_heading (first_count (observed_texts marks endings) (length endings)) states ++ outcomes
 
--- the text lists what is kept of the outcomes that the promise allows, where the places of these names are looked at
-pub record TellsSeen (names : List (List ℕ)) (script : ScriptFields) (text : List ℕ) : Type 0 where
-  pub watch : Watch
-  pub is_watch : IsWatch script (marks_of names script) watch
+-- the text lists what is kept of the outcomes that the promise allows, where these answers are looked at
+pub record TellsWatched (script : ScriptFields) (watch : Watch) (marks : List Bool) (text : List ℕ) : Type 0 where
   pub outcomes : Outcomes
   pub found : AreFoundSeen script watch outcomes
   pub are : AreObserved script watch outcomes.listing.endings.keys
-  pub lists : IsSeenListing script watch (marks_of names script) outcomes.listing.endings.keys
-      (length outcomes.reached.states.keys) text
+  pub lists : IsSeenListing script watch marks outcomes.listing.endings.keys (length outcomes.reached.states.keys) text
+
+-- the same, where the places of these names are looked at
+pub record TellsSeen (names : List (List ℕ)) (script : ScriptFields) (text : List ℕ) : Type 0 where
+  pub watch : Watch
+  pub is_watch : IsWatch script (marks_of names script) watch
+  pub tells : TellsWatched script watch (marks_of names script) text
 
 -- where the places of these names are looked at, the ports can come to more states than so many, of which no two look the same
 pub record HasMoreAsNamed (names : List (List ℕ)) (script : ScriptFields) (eq : AllPorts → AllPorts → Bool) (most : ℕ) : Type 0

@@ -43,24 +43,22 @@ fn none_found(alloc: Global, outcomes: usize, begin: &str) -> Result<String, All
     Ok(text)
 }
 
-/// What is told of a search that came to this outcome, or to none.
+/// What is told of the search for an outcome that has a line that begins so.
 fn search_text(
     alloc: Global,
     script: &Script,
     outcomes: &Outcomes,
     all: &[Rows],
     begin: &str,
-    found: Option<usize>,
 ) -> Result<String, AllocError>
     requires rows { all.now ≡ map rows_of outcomes.now.listing.endings.keys }
-    requires is { found ≡ first_with begin.now outcomes.now.listing.endings.keys }
     requires found { AreFound (fields_of script.now) outcomes.now }
     ensures { IfOk result (λ text. IsSearchText (fields_of script.now)
-        outcomes.now.listing.endings.keys (length outcomes.now.reached.states.keys) begin.now found
-        (string_bytes text)) }
+        outcomes.now.listing.endings.keys (length outcomes.now.reached.states.keys) begin.now
+        (first_with begin.now outcomes.now.listing.endings.keys) (string_bytes text)) }
 {
     let count = outcomes.listing.endings.len();
-    let Some(number) = found else {
+    let Some(number) = first_with(all, begin) else {
         return none_found(alloc, count, begin);
     };
     let mut text = String::new(alloc);
@@ -68,6 +66,43 @@ fn search_text(
     let lines = different_lines(alloc, all, number)?;
     add_outcome(alloc, &mut text, script, outcomes, lines.as_str(), number)?;
     Ok(text)
+}
+
+/// What is told of the list of all outcomes, by their rows, to what is asked.
+fn text_of(
+    alloc: Global,
+    script: &Script,
+    outcomes: &Outcomes,
+    all: &[Rows],
+    asked: Asked<'_>,
+) -> Result<String, AllocError>
+    requires rows { all.now ≡ map rows_of outcomes.now.listing.endings.keys }
+    requires found { AreFound (fields_of script.now) outcomes.now }
+    requires of_all { IsOfAll asked }
+    ensures { IfOk result (λ text. Answers (fields_of script.now)
+        outcomes.now.listing.endings.keys (length outcomes.now.reached.states.keys) asked.entry
+        (string_bytes text)) }
+{
+    match asked {
+        Asked::Summary => summary(alloc, outcomes, all),
+        Asked::All => listing(alloc, script, outcomes, all),
+        Asked::Can(begin) => search_text(alloc, script, outcomes, all, begin),
+        Asked::Never(begin) => search_text(alloc, script, outcomes, all, begin),
+        Asked::AllObserved(names) => observed_listing(alloc, script, outcomes, all, names),
+        Asked::Observed(_) => unreachable!(),
+    }
+}
+
+/// Whether the outcomes are as asked, by their rows.
+fn holds_of(outcomes: &Outcomes, all: &[Rows], asked: Asked<'_>) -> bool
+    requires { all.now ≡ map rows_of outcomes.now.listing.endings.keys }
+    ensures { result ≡ holds_of outcomes.now.listing.endings.keys asked.entry }
+{
+    match asked {
+        Asked::Can(begin) => first_with(all, begin).is_some(),
+        Asked::Never(begin) => first_with(all, begin).is_none(),
+        _ => true,
+    }
 }
 
 /// What is answered to a question about the list of all outcomes of a script.
@@ -86,34 +121,7 @@ pub fn answer_of(
         answer.holds ≡ holds_of outcomes.now.listing.endings.keys asked.entry) }
 {
     let all = all_rows(alloc, outcomes.listing.endings.as_slice())?;
-    let all = all.as_slice();
-    match asked {
-        Asked::Summary => Ok(Answer {
-            text: summary(alloc, outcomes, all)?,
-            holds: true,
-        }),
-        Asked::All => Ok(Answer {
-            text: listing(alloc, script, outcomes, all)?,
-            holds: true,
-        }),
-        Asked::Can(begin) => {
-            let found = first_with(all, begin);
-            Ok(Answer {
-                text: search_text(alloc, script, outcomes, all, begin, found)?,
-                holds: found.is_some(),
-            })
-        }
-        Asked::Never(begin) => {
-            let found = first_with(all, begin);
-            Ok(Answer {
-                text: search_text(alloc, script, outcomes, all, begin, found)?,
-                holds: found.is_none(),
-            })
-        }
-        Asked::AllObserved(names) => Ok(Answer {
-            text: observed_listing(alloc, script, outcomes, all, names)?,
-            holds: true,
-        }),
-        Asked::Observed(_) => unreachable!(),
-    }
+    let text = text_of(alloc, script, outcomes, all.as_slice(), asked)?;
+    let holds = holds_of(outcomes, all.as_slice(), asked);
+    Ok(Answer { text, holds })
 }

@@ -1,5 +1,7 @@
 //! The question `ccan-lab draw`: its words, and the picture.
 ghost use Rattle.std.specs.Prelude.{◌<◌, length};
+ghost use Rattle.ccan_line.specs.Script.{fields_of};
+ghost use Rattle.ccan_outcomes.specs.Outcomes.{AreFound};
 
 use crate::command_words::{command, file, number, with};
 use crate::explaining::print_text;
@@ -10,7 +12,7 @@ use crate::outcomes::DEFAULT_MOST;
 use crate::progress_line::ProgressLine;
 use ccan_draw::{Picture, picture_of_run, svg_of};
 use ccan_explain::tell;
-use ccan_outcomes::{all_outcomes, looking_once};
+use ccan_outcomes::{Outcomes, all_outcomes, looking_once};
 use ccan_script::Script;
 use ccan_search::Progress;
 use clap::{ArgMatches, Command};
@@ -63,6 +65,22 @@ pub fn draw_question<'a>(words: &ArgMatches<'a>) -> DrawQuestion<'a> {
     }
 }
 
+/// The picture of a history of the outcome of this number, from 1, of those that were found.
+fn listed_drawn(
+    alloc: Global,
+    script: &Script,
+    outcomes: &Outcomes,
+    number: usize,
+) -> Result<Picture, LabError>
+    requires { AreFound (fields_of script.now) outcomes.now }
+{
+    let listed = outcomes.listing.endings.len();
+    if number == 0 || number > listed {
+        return Err(LabError::NoOutcome(number, listed));
+    }
+    Ok(picture_of_outcome(alloc, script, outcomes, number - 1)?)
+}
+
 /// The picture of a history of the outcome of this number, from 1, as `ccan-lab outcomes --all` lists it.
 fn outcome_drawn<P: Progress>(
     alloc: Global,
@@ -71,14 +89,10 @@ fn outcome_drawn<P: Progress>(
     most: usize,
     progress: &P,
 ) -> Result<Picture, LabError> {
-    let Some(outcomes) = all_outcomes(alloc, script, most, progress)? else {
-        return Err(LabError::More(most));
-    };
-    let listed = outcomes.listing.endings.len();
-    if number == 0 || number > listed {
-        return Err(LabError::NoOutcome(number, listed));
+    match all_outcomes(alloc, script, most, progress)? {
+        Some(outcomes) => listed_drawn(alloc, script, &outcomes, number),
+        None => Err(LabError::More(most)),
     }
-    Ok(picture_of_outcome(alloc, script, &outcomes, number - 1)?)
 }
 
 /// The picture of the run in the script's order.

@@ -2,11 +2,11 @@
 ghost use Rattle.std.specs.Prelude.{◌≡◌, ◌<◌, ◌≤◌, ◌++◌, List, ℕ, IfOk, IfSome, IfNone, OnOk, drop, length, map, not, take};
 ghost use Rattle.std.specs.Prelude.{string_bytes};
 ghost use Rattle.ccan_line.specs.Script.{fields_of};
-ghost use Rattle.ccan_outcomes.specs.Observed.{AreFoundSeen, IsHistorySeen};
+ghost use Rattle.ccan_outcomes.specs.Observed.{AreFoundSeen, HasMoreSeen, IsHistorySeen};
 ghost use Rattle.ccan_lab.specs.Observed.{AreFirstTexts, IsFirstText, first_count, is_repeat, names_in, text_at};
 ghost use Rattle.ccan_lab.specs.Replay.{ReplaysSeen};
 ghost use Rattle.ccan_lab.specs.Report.{IsTextWith};
-ghost use Rattle.ccan_lab.specs.Seen.{HasMoreAsNamed, IsSeenListing, IsSeenText, IsWatch, TellsSeen, seen_heading};
+ghost use Rattle.ccan_lab.specs.Seen.{HasMoreAsNamed, IsSeenListing, IsSeenText, IsWatch, TellsSeen, TellsWatched, seen_heading};
 
 use crate::observed::{is_repeat, marks_of, observed_texts};
 use crate::replay::order_to_kept;
@@ -169,6 +169,27 @@ fn seen_listing(
     Ok(text)
 }
 
+/// The list of what of the outcomes of a script can be told apart where these answers are looked at, by the marks of all
+/// places. `None`: the ports can come to more states than `most` that look different.
+fn watched_text<P: Progress>(
+    alloc: Global,
+    script: &Script,
+    watch: &Watch,
+    marks: &[bool],
+    most: usize,
+    progress: &P,
+) -> Result<Option<String>, AllocError>
+    ensures text { IfOk result (λ found. IfSome found (λ text.
+        TellsWatched (fields_of script.now) watch.now marks.now (string_bytes text))) }
+    ensures more { IfOk result (λ found. IfNone found
+        (HasMoreSeen (fields_of script.now) watch.now ⟦<AllPorts as PartialEq>⟧.eq most)) }
+{
+    match observed_outcomes(alloc, script, watch, most, progress)? {
+        Some(outcomes) => Ok(Some(seen_listing(alloc, script, watch, marks, &outcomes)?)),
+        None => Ok(None),
+    }
+}
+
 /// The list of what of the outcomes of a script can be told apart by the lines and objects of these names, each with a history
 /// that leads to such an outcome. `None`: the ports can come to more states than `most` that look different.
 ///
@@ -188,8 +209,5 @@ pub fn seen_text<P: Progress>(
 {
     let marks = marks_of(alloc, script, list)?;
     let watch = watch_of(alloc, script, marks.as_slice())?;
-    let Some(outcomes) = observed_outcomes(alloc, script, &watch, most, progress)? else {
-        return Ok(None);
-    };
-    Ok(Some(seen_listing(alloc, script, &watch, marks.as_slice(), &outcomes)?))
+    watched_text(alloc, script, &watch, marks.as_slice(), most, progress)
 }

@@ -1,29 +1,14 @@
 //! The calls of C without their promises: a test that makes many of them has then no more to prove than its own lines.
-use crate::bus::{
-    ccan_bus_flags, ccan_bus_interrupt, ccan_bus_line, ccan_bus_read16, ccan_bus_read32,
-    ccan_bus_write16, ccan_bus_write32, ccan_control, ccan_counters, ccan_init, ccan_load,
-    ccan_loop_back, ccan_recessive, ccan_round, ccan_status,
-};
-use crate::bus_handle::BusHandle;
-use crate::chip::Chip;
-use crate::ending::ccan_end;
 use crate::expect::same;
-use crate::host::{
-    ccan_flags, ccan_get, ccan_interrupt, ccan_line, ccan_peek, ccan_read16, ccan_read32,
-    ccan_request, ccan_set, ccan_until, ccan_write16, ccan_write32,
+use ccan_c::{
+    BusHandle, Chip, HostHandle, Offer, SavedChip, ShownCounters, ShownFinal, ShownLoad,
+    ShownOutcome, ShownRecord, ccan_bus_flags, ccan_bus_interrupt, ccan_bus_line, ccan_bus_read16,
+    ccan_bus_read32, ccan_bus_write16, ccan_bus_write32, ccan_control, ccan_counters, ccan_end,
+    ccan_flags, ccan_get, ccan_init, ccan_interrupt, ccan_is_open, ccan_line, ccan_load,
+    ccan_loop_back, ccan_meet, ccan_open, ccan_open_reset, ccan_peek, ccan_read16, ccan_read32,
+    ccan_recessive, ccan_request, ccan_reset, ccan_restore, ccan_round, ccan_save, ccan_set,
+    ccan_status, ccan_until, ccan_write16, ccan_write32,
 };
-use crate::host_handle::HostHandle;
-use crate::meeting::ccan_meet;
-use crate::offer::Offer;
-use crate::opening::{ccan_is_open, ccan_open, ccan_open_reset};
-use crate::resetting::ccan_reset;
-use crate::saved_chip::SavedChip;
-use crate::saving::{ccan_restore, ccan_save};
-use crate::shown_counters::ShownCounters;
-use crate::shown_final::ShownFinal;
-use crate::shown_load::ShownLoad;
-use crate::shown_outcome::ShownOutcome;
-use crate::shown_record::ShownRecord;
 use std::alloc::Global;
 use std::process::Abort;
 

@@ -1,25 +1,16 @@
-//! The calls of C, from here.
-use crate::bus_handle::BusHandle;
-use crate::chip::Chip;
-use crate::expect::{holds, same};
-use crate::from_c::{
+//! What the calls of C come to, each once. `tools/c/calls.c` has more of them, from C, with ranges and refusals.
+use super::calls::{
     bus_flags, bus_interrupt, bus_line, bus_read16, bus_read32, bus_write16, bus_write32, control,
     counters, end, flags, init, interrupt, is_open, load, loop_back, meet, open, open_reset,
-    opened, peek, pulls, read16, read32, reads, recessive, request, reset, reset_in_place, restore,
-    round, save, set, set_all, shown, status, until, write_all, write16, write32,
+    opened, peek, pulls, read32, reads, recessive, request, reset, reset_in_place, restore, round,
+    save, set, set_all, shown, status, until, write_all, write32,
 };
-use crate::host::{ccan_request, ccan_set};
-use crate::host_handle::HostHandle;
-use crate::offer::Offer;
-use crate::saved_chip::SavedChip;
-use crate::shown_counters::ShownCounters;
-use crate::shown_final::ShownFinal;
-use crate::shown_frame::ShownFrame;
-use crate::shown_load::ShownLoad;
-use crate::shown_outcome::ShownOutcome;
-use crate::shown_record::ShownRecord;
-use crate::version::ccan_version;
+use crate::expect::{holds, same};
 use ccan_bus::LoadAnswer;
+use ccan_c::{
+    BusHandle, Chip, HostHandle, Offer, SavedChip, ShownCounters, ShownFinal, ShownFrame,
+    ShownLoad, ShownOutcome, ShownRecord, ccan_request, ccan_set, ccan_version,
+};
 use ccan_object::Record;
 use std::process::Abort;
 
@@ -65,15 +56,6 @@ fn what_one_host_writes_the_other_reads(rt: HostRuntime) {
     same(&rt, request(&mut chip.if2, 5), 0);
     same(&rt, shown(&rt, &mut chip.if2, 4), 0xa48c);
     same(&rt, shown(&rt, &mut chip.if2, 6), 0x2211);
-}
-
-#[test]
-fn registers_are_set_by_their_numbers(rt: HostRuntime) {
-    let mut closed = Chip::closed(rt.alloc());
-    same(&rt, set(&mut closed.if1, 0, 0x00f3), 1);
-    let mut chip = opened(&rt, rt.alloc(), 1, 0);
-    same(&rt, set(&mut chip.if1, 10, 0x00f3), 10);
-    same(&rt, set(&mut chip.if1, 9, 0x00f3), 0);
 }
 
 /// The other host has read object 5 and cleared its IntPnd, which was the only one.
@@ -133,28 +115,6 @@ fn the_ports_of_a_chip_meet(rt: HostRuntime) {
     same(&rt, shown(&rt, &mut chip.if1, 5), 0x8000);
 }
 
-#[test]
-fn an_open_chip_opens_anew(rt: HostRuntime) {
-    let alloc = rt.alloc();
-    let mut chip = opened(&rt, alloc, 2, 0);
-    let mut last = nothing();
-    same(&rt, open(alloc, &mut chip, 1, 0, 100), 0);
-    same(&rt, end(alloc, &mut chip, &mut last), 0);
-    same(&rt, last.objects, 32);
-}
-
-#[test]
-fn a_chip_that_ended_is_closed(rt: HostRuntime) {
-    let alloc = rt.alloc();
-    let mut chip = Chip::closed(alloc);
-    same(&rt, open(alloc, &mut chip, 1, 0, 1), 0);
-    same(&rt, ccan_set(&mut chip.if1, 0, 0x0090), 0);
-    same(&rt, ccan_request(&mut chip.if1, 1), 0);
-    let mut last = nothing();
-    same(&rt, end(alloc, &mut chip, &mut last), 0);
-    same(&rt, request(&mut chip.if1, 1), 1);
-}
-
 /// The frame 0x123 with two bytes, from a node.
 fn offer(node: u8) -> Offer {
     Offer {
@@ -194,14 +154,6 @@ fn played(rt: &impl Abort, bus: &mut BusHandle, offers: &[Offer], fault: u32) ->
 fn receives(rt: &impl Abort, host: &mut HostHandle) {
     set_all(rt, host, &[(0, 0x00f3), (4, 0x848c), (5, 0x0488)]);
     same(rt, request(host, 5), 0);
-}
-
-#[test]
-fn a_closed_chip_plays_no_round(rt: HostRuntime) {
-    let mut chip = Chip::closed(rt.alloc());
-    let mut outcome = no_outcome();
-    same(&rt, round(&mut chip.bus, &[], 0, &mut outcome), 1);
-    same(&rt, outcome.kind, 77);
 }
 
 #[test]
@@ -282,101 +234,6 @@ fn a_round_tells_that_the_controllers_frame_was_on_the_bus(rt: HostRuntime) {
     same(&rt, sent.frame.id, 0x100);
 }
 
-#[test]
-fn a_round_tells_which_frame_nobody_acknowledged(rt: HostRuntime) {
-    let mut chip = opened(&rt, rt.alloc(), 1, 0);
-    asks_to_send(&rt, &mut chip.if1);
-    let unheard = played(&rt, &mut chip.bus, &[], 0);
-    same(&rt, unheard.kind, 5);
-    same(&rt, beside(&unheard), (2, 0, 0));
-    same(&rt, unheard.frame.id, 0x100);
-}
-
-/// An extended remote frame from node 2, whose first eleven bits are those of the standard frame 0x123.
-fn remote() -> Offer {
-    Offer {
-        id: 0x123 << 18,
-        xtd: 7,
-        rtr: 7,
-        ..offer(2)
-    }
-}
-
-#[test]
-fn an_idle_round_tells_of_no_frame(rt: HostRuntime) {
-    let mut chip = opened(&rt, rt.alloc(), 1, 2);
-    let idle = played(&rt, &mut chip.bus, &[], 0);
-    same(&rt, idle.kind, 0);
-    same(&rt, beside(&idle), (0, 0, 255));
-    same(&rt, idle.frame.id, 0);
-}
-
-#[test]
-fn a_round_tells_which_nodes_frame_was_on_the_bus(rt: HostRuntime) {
-    let mut chip = opened(&rt, rt.alloc(), 1, 2);
-    // The standard frame goes on.
-    let received = played(&rt, &mut chip.bus, &[remote(), offer(1)], 0);
-    same(&rt, received.kind, 2);
-    same(&rt, beside(&received), (0, 0, 1));
-    let frame = received.frame;
-    same(&rt, (frame.id, frame.xtd, frame.rtr), (0x123, 0, 0));
-    same(&rt, frame.dlc, 2);
-    same(&rt, frame.bytes, [0x11, 0x22, 0, 0, 0, 0, 0, 0]);
-}
-
-#[test]
-fn a_round_tells_which_remote_frame_was_on_the_bus(rt: HostRuntime) {
-    let mut chip = opened(&rt, rt.alloc(), 1, 2);
-    let asked = played(&rt, &mut chip.bus, &[remote()], 0);
-    same(&rt, asked.winner, 2);
-    let frame = asked.frame;
-    same(&rt, (frame.id, frame.xtd, frame.rtr), (0x48c0000, 1, 1));
-    same(&rt, frame.dlc, 2);
-    same(&rt, frame.bytes, [0; 8]);
-}
-
-#[test]
-fn a_collision_tells_of_no_frame(rt: HostRuntime) {
-    let mut chip = opened(&rt, rt.alloc(), 1, 2);
-    same(&rt, played(&rt, &mut chip.bus, &[remote()], 0).winner, 2);
-    let collided = played(&rt, &mut chip.bus, &[offer(1), offer(2)], 0);
-    same(&rt, collided.kind, 4);
-    same(&rt, collided.winner, 255);
-    same(&rt, collided.frame.id, 0);
-}
-
-#[test]
-fn frames_out_of_range_are_refused(rt: HostRuntime) {
-    let mut chip = opened(&rt, rt.alloc(), 2, 1);
-    let mut outcome = no_outcome();
-    let bus = &mut chip.bus;
-    same(&rt, round(bus, &[offer(1); 9], 0, &mut outcome), 16);
-    let mut wide = offer(1);
-    wide.id = 0x800;
-    same(&rt, round(bus, &[wide], 0, &mut outcome), 17);
-    same(&rt, round(bus, &[offer(1)], 6, &mut outcome), 18);
-    same(&rt, round(bus, &[offer(2)], 0, &mut outcome), 19);
-    same(&rt, outcome.kind, 77);
-}
-
-#[test]
-fn numbers_out_of_range_are_refused(rt: HostRuntime) {
-    let mut chip = opened(&rt, rt.alloc(), 2, 1);
-    let bus = &mut chip.bus;
-    let mut counts = ShownCounters {
-        tec: 9,
-        rec: 9,
-        state: 9,
-    };
-    same(&rt, counters(bus, 2, &mut counts), 14);
-    same(&rt, counters(bus, 1, &mut counts), 0);
-    same(&rt, (counts.tec, counts.rec, counts.state), (0, 0, 0));
-    let mut state = 9;
-    same(&rt, recessive(bus, 0, &mut state), 15);
-    same(&rt, recessive(bus, 128, &mut state), 0);
-    same(&rt, state, 0);
-}
-
 // ---- registers by their offsets
 
 /// Control, Bit Timing, and of IF1 Command Request and both masks, whose reserved bit reads 0.
@@ -393,45 +250,6 @@ fn a_chip_opens_as_after_a_reset(rt: HostRuntime) {
     same(&rt, reads(&rt, &mut chip.if1, 0x10), 0x0001);
     same(&rt, reads(&rt, &mut chip.if1, 0x14), 0xffff);
     same(&rt, reads(&rt, &mut chip.if1, 0x16), 0xdfff);
-}
-
-/// Bit Timing stands at twice its offset, and at 0x0c with D_CAN.
-#[test]
-fn a_layout_has_its_offsets(rt: HostRuntime) {
-    let mut wide = reset(&rt, rt.alloc(), 1);
-    same(&rt, reads(&rt, &mut wide.if1, 0x0c), 0x2301);
-    let mut dcan = reset(&rt, rt.alloc(), 2);
-    same(&rt, reads(&rt, &mut dcan.if1, 0x0c), 0x2301);
-    let mut value = 7;
-    same(&rt, read16(&mut dcan.if1, 0x02, &mut value), 20);
-    same(&rt, write16(&mut wide.if1, 0x0e, 0), 20);
-    same(&rt, value, 7);
-}
-
-#[test]
-fn another_interface_is_refused(rt: HostRuntime) {
-    let mut chip = reset(&rt, rt.alloc(), 0);
-    let mut value = 7;
-    same(&rt, read16(&mut chip.if1, 0x40, &mut value), 21);
-    same(&rt, write16(&mut chip.if2, 0x12, 0x00f3), 21);
-    same(&rt, bus_read16(&mut chip.bus, 0x10, &mut value), 21);
-    same(&rt, bus_write16(&mut chip.bus, 0x54, 1), 21);
-    same(&rt, value, 7);
-    let mut closed = Chip::closed(rt.alloc());
-    same(&rt, read16(&mut closed.if1, 0x00, &mut value), 1);
-    same(&rt, write16(&mut closed.if1, 0x00, 0), 1);
-}
-
-/// Bit Timing takes a write while Init and CCE are 1, and keeps what it has without CCE.
-#[test]
-fn bit_timing_is_written_while_it_is_configured(rt: HostRuntime) {
-    let mut chip = reset(&rt, rt.alloc(), 0);
-    write_all(&rt, &mut chip.if1, &[(0x06, 0x1c00)]);
-    same(&rt, reads(&rt, &mut chip.if2, 0x06), 0x2301);
-    let settings = [(0x00, 0x0041), (0x06, 0x9c00), (0x0c, 0x00f5)];
-    write_all(&rt, &mut chip.if1, &settings);
-    same(&rt, reads(&rt, &mut chip.if2, 0x06), 0x1c00);
-    same(&rt, reads(&rt, &mut chip.if2, 0x0c), 0x0005);
 }
 
 /// Receives frames 0x123 in object 5, with RxIE.
@@ -476,28 +294,6 @@ fn the_bus_reads_and_writes_registers(rt: HostRuntime) {
     same(&rt, pulled, 1);
 }
 
-/// A read of Status leaves the flags of a C_CAN.
-#[test]
-fn a_read_of_status_leaves_its_flags(rt: HostRuntime) {
-    let mut chip = reset(&rt, rt.alloc(), 0);
-    write_all(&rt, &mut chip.if1, &[(0x00, 0)]);
-    same(&rt, played(&rt, &mut chip.bus, &[offer(1)], 0).kind, 2);
-    same(&rt, reads(&rt, &mut chip.if1, 0x02), 0x0010);
-    same(&rt, reads(&rt, &mut chip.if2, 0x02), 0x0010);
-    write_all(&rt, &mut chip.if1, &[(0x02, 0xffef)]);
-    same(&rt, reads(&rt, &mut chip.if1, 0x02), 0x000f);
-}
-
-/// A read of Status clears those of a D_CAN, and sets LEC 7.
-#[test]
-fn a_read_of_status_clears_a_dcan(rt: HostRuntime) {
-    let mut chip = reset(&rt, rt.alloc(), 2);
-    write_all(&rt, &mut chip.if1, &[(0x00, 0)]);
-    same(&rt, played(&rt, &mut chip.bus, &[offer(1)], 0).kind, 2);
-    same(&rt, reads(&rt, &mut chip.if1, 0x04), 0x0010);
-    same(&rt, reads(&rt, &mut chip.if2, 0x04), 0x0007);
-}
-
 /// Receives frames 0x123 in object 5 of a D_CAN: Arbitration, Message Control, and the command with its mask above.
 const RECEIVES_32: [(u32, u32); 4] = [
     (0x108, 0x848c_0000),
@@ -530,22 +326,6 @@ fn the_bus_reads_and_writes_words_of_32_bits(rt: HostRuntime) {
     same(&rt, bus_write32(&mut chip.bus, 0x00c, 0x0005_1c00), 0);
     same(&rt, bus_read32(&mut chip.bus, 0x00c, &mut word), 0);
     same(&rt, word, 0x0005_1c00);
-}
-
-/// At no multiple of 4, where neither half is a register, and where the lower or the upper half is another port's.
-#[test]
-fn words_out_of_range_are_refused(rt: HostRuntime) {
-    let mut chip = reset(&rt, rt.alloc(), 2);
-    let mut word = 7;
-    same(&rt, read32(&mut chip.if1, 0x00e, &mut word), 20);
-    same(&rt, write32(&mut chip.if1, 0x102, 0x00f3_0001), 20);
-    same(&rt, read32(&mut chip.if1, 0xffff_fffc, &mut word), 20);
-    same(&rt, write32(&mut chip.if1, 0x800, 0), 20);
-    same(&rt, read32(&mut chip.if1, 0x120, &mut word), 21);
-    same(&rt, write32(&mut chip.if1, 0x120, 1), 21);
-    same(&rt, bus_read32(&mut chip.bus, 0x100, &mut word), 21);
-    same(&rt, bus_write32(&mut chip.bus, 0x100, 1), 21);
-    same(&rt, word, 7);
 }
 
 /// SIE is set once the frame was there: the status interrupt was raised all the same.
@@ -676,8 +456,8 @@ fn the_version_is_that_of_the_header(rt: HostRuntime) {
 
 #[test]
 fn laws_hold() {
-    crate::handle::handles_may_cross();
-    crate::laws::calls_keep_the_choice();
-    crate::laws::calls_fit_one_history();
-    crate::laws::turns_run_in_order();
+    ccan_c::handles_may_cross();
+    ccan_c::laws::calls_keep_the_choice();
+    ccan_c::laws::calls_fit_one_history();
+    ccan_c::laws::turns_run_in_order();
 }

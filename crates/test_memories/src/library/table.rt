@@ -1,22 +1,12 @@
 //! The numbers and sizes of `include/ccan.h`, as the library has them. `tools/c_table` reads the lines of this file that end
 //! in a name, and holds the header to them, so each is one line of the form `same(&rt, LIBRARY, NUMBER); // NAME`.
-use crate::bus_handle::BusHandle;
-use crate::chip::Chip;
-use crate::code;
 use crate::expect::same;
-use crate::host_handle::HostHandle;
-use crate::numbers::{flag_numbered, register_numbered};
-use crate::offer::{Offer, fault_numbered};
-use crate::saved_chip::SavedChip;
-use crate::settings::map_numbered;
-use crate::shown_counters::{ShownCounters, state_number};
-use crate::shown_final::ShownFinal;
-use crate::shown_frame::ShownFrame;
-use crate::shown_load::ShownLoad;
-use crate::shown_outcome::{NO_NODE, NOT_NOTED, ShownOutcome, step_number};
-use crate::shown_record::ShownRecord;
-use crate::version::ccan_version;
 use ccan_bus::{Fault, LoadAnswer, MemoryStep, RoundAnswer, RoundEnd, RoundReport};
+use ccan_c::{
+    BusHandle, Chip, HostHandle, NO_NODE, NOT_NOTED, Offer, SavedChip, ShownCounters, ShownFinal,
+    ShownFrame, ShownLoad, ShownOutcome, ShownRecord, ccan_version, code, fault_numbered,
+    flag_numbered, map_numbered, register_numbered, state_number, step_number,
+};
 use ccan_chip::ChipReport;
 use ccan_confine::{Controller, NodeState};
 use ccan_map::{FlagPart, Interface, Map, Register};
