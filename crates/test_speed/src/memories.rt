@@ -17,10 +17,10 @@ use std::time::Instant;
 const STEPS: u32 = 100_000;
 
 /// How often that is done.
-const RUNS: u32 = 21;
+const RUNS: usize = 21;
 
 /// How many memories are opened for changes, each of which takes as many as its quota.
-const MEMORIES: u32 = 63;
+const MEMORIES: usize = 63;
 
 /// The quota that a memory is opened with: its greatest, or this where it has no end that could be reached.
 pub fn quota_of<R: SharedRam>() -> u64 {
@@ -155,55 +155,79 @@ fn time_changes<A: Access>(
     Ok(time)
 }
 
-/// The median over several memories of the time of a change.
-fn changes<R: SharedRam + Drop>(clock: &impl Clock, alloc: Global, change: &Change) -> Result<u64> {
-    let mut times = Vec::new(alloc);
-    for _ in 0..MEMORIES {
-        let quota = quota_of::<R>();
-        let Ok((ram, if1, _if2, _bus)) = R::open_ram(alloc, Profile::One, quota) else {
-            bail!("no memory")
-        };
-        let mut host = On::new(&ram, if1);
-        times.push(time_changes(clock, &mut host, change, quota)?)?;
-    }
-    Ok(median(times)?)
+/// The time of a change in a memory that was just opened.
+fn time_changes_of<R: SharedRam + Drop>(
+    clock: &impl Clock,
+    alloc: Global,
+    change: &Change,
+) -> Result<u64> {
+    let quota = quota_of::<R>();
+    let Ok((ram, if1, _if2, _bus)) = R::open_ram(alloc, Profile::One, quota) else {
+        bail!("no memory")
+    };
+    let mut host = On::new(&ram, if1);
+    time_changes(clock, &mut host, change, quota)
 }
 
-/// The medians of the times of a look, of a read into the registers, of a wait that one look ends, of a flag word, and of one
-/// of one moment.
+/// The median over several memories of the time of a change.
+fn changes<R: SharedRam + Drop>(clock: &impl Clock, alloc: Global, change: &Change) -> Result<u64> {
+    let mut times = [0; MEMORIES];
+    for time in &mut times {
+        *time = time_changes_of::<R>(clock, alloc, change)?;
+    }
+    Ok(median(times))
+}
+
+/// Writes the message into each of 32 objects.
+fn fill<A: Access>(access: &mut A) -> Result<()> {
+    let Some(once) = Tries::new(1) else {
+        bail!("one try is allowed")
+    };
+    for request in 1..=32u16 {
+        let object = ObjectNo::from_request(access.profile(), request);
+        if access.change(object, &write_all(), once).is_err() {
+            bail!("a change was not made");
+        }
+    }
+    Ok(())
+}
+
+/// The times of a look, of a read into the registers, of a wait that one look ends, of a flag word, and of one of one moment.
+fn time_each<A: Access>(clock: &impl Clock, access: &mut A) -> Result<[u64; 5]> {
+    let look = time_looks(clock, access)?;
+    let read = time_reads(clock, access)?;
+    let wait = time_waits(clock, access)?;
+    let word = time_flags(clock, access)?;
+    let moment = time_moments(clock, access)?;
+    Ok([look, read, wait, word, moment])
+}
+
+/// The medians of these times.
+fn medians<A: Access>(clock: &impl Clock, access: &mut A) -> Result<[u64; 5]> {
+    let mut looks = [0; RUNS];
+    let mut reads = [0; RUNS];
+    let mut waits = [0; RUNS];
+    let mut words = [0; RUNS];
+    let mut moments = [0; RUNS];
+    for run in 0..RUNS {
+        let [look, read, wait, word, moment] = time_each(clock, access)?;
+        looks[run] = look;
+        reads[run] = read;
+        waits[run] = wait;
+        words[run] = word;
+        moments[run] = moment;
+    }
+    Ok([looks, reads, waits, words, moments].map(median))
+}
+
+/// The medians of these times, in a memory whose objects all have the message.
 fn reads<R: SharedRam + Drop>(clock: &impl Clock, alloc: Global) -> Result<[u64; 5]> {
     let Ok((ram, if1, _if2, _bus)) = R::open_ram(alloc, Profile::One, quota_of::<R>()) else {
         bail!("no memory")
     };
     let mut host = On::new(&ram, if1);
-    let Some(once) = Tries::new(1) else {
-        bail!("one try is allowed")
-    };
-    for request in 1..=32u16 {
-        let object = ObjectNo::from_request(host.profile(), request);
-        if host.change(object, &write_all(), once).is_err() {
-            bail!("a change was not made");
-        }
-    }
-    let mut looks = Vec::new(alloc);
-    let mut fills = Vec::new(alloc);
-    let mut waits = Vec::new(alloc);
-    let mut words = Vec::new(alloc);
-    let mut moments = Vec::new(alloc);
-    for _ in 0..RUNS {
-        looks.push(time_looks(clock, &mut host)?)?;
-        fills.push(time_reads(clock, &mut host)?)?;
-        waits.push(time_waits(clock, &mut host)?)?;
-        words.push(time_flags(clock, &mut host)?)?;
-        moments.push(time_moments(clock, &mut host)?)?;
-    }
-    Ok([
-        median(looks)?,
-        median(fills)?,
-        median(waits)?,
-        median(words)?,
-        median(moments)?,
-    ])
+    fill(&mut host)?;
+    medians(clock, &mut host)
 }
 
 /// A line of the table: tenths of a nanosecond.
@@ -224,6 +248,30 @@ fn print_writers(rt: &impl Print, what: &str, (time, lost): (u64, u64)) -> Resul
     Ok(())
 }
 
+/// Times looks, reads, waits and flag words of a memory, and prints them.
+fn measure_reads<R: SharedRam + Drop>(rt: &(impl Clock + Print), alloc: Global) -> Result<()> {
+    let [look, read, wait, word, moment] = reads::<R>(rt, alloc)?;
+    for (what, time) in [
+        ("look", look),
+        ("read into registers", read),
+        ("wait of one look", wait),
+        ("32 looks of a flag", word),
+        ("32 flags of a moment", moment),
+    ] {
+        print_time(rt, what, time)?;
+    }
+    Ok(())
+}
+
+/// Times changes of a memory, and prints them.
+fn measure_changes<R: SharedRam + Drop>(rt: &(impl Clock + Print), alloc: Global) -> Result<()> {
+    let clear = Change::Clear(CommandMask::of(0x007f));
+    for (what, change) in [("full write", write_all()), ("clearing read", clear)] {
+        print_time(rt, what, changes::<R>(rt, alloc, &change)?)?;
+    }
+    Ok(())
+}
+
 /// Times the calls of a memory, and prints them in nanoseconds.
 pub fn measure_memory<R: SharedRam + Sync + Drop>(
     rt: &(impl Clock + Print + Threads + Sync),
@@ -231,18 +279,13 @@ pub fn measure_memory<R: SharedRam + Sync + Drop>(
     name: &str,
 ) -> Result<()> {
     println!(rt; "memory with {name}")?;
-    let [look, read, wait, word, moment] = reads::<R>(rt, alloc)?;
-    print_time(rt, "look", look)?;
-    print_time(rt, "read into registers", read)?;
-    print_time(rt, "wait of one look", wait)?;
-    print_time(rt, "32 looks of a flag", word)?;
-    print_time(rt, "32 flags of a moment", moment)?;
-    print_time(rt, "full write", changes::<R>(rt, alloc, &write_all())?)?;
-    let clear = Change::Clear(CommandMask::of(0x007f));
-    print_time(rt, "clearing read", changes::<R>(rt, alloc, &clear)?)?;
-    let apart = three_writers::<R, _>(rt, alloc, [1, 2, 3])?;
-    print_writers(rt, "three writers apart", apart)?;
-    let together = three_writers::<R, _>(rt, alloc, [1, 1, 1])?;
-    print_writers(rt, "three writers on one", together)?;
+    measure_reads::<R>(rt, alloc)?;
+    measure_changes::<R>(rt, alloc)?;
+    for (what, requests) in [
+        ("three writers apart", [1, 2, 3]),
+        ("three writers on one", [1, 1, 1]),
+    ] {
+        print_writers(rt, what, three_writers::<R, _>(rt, alloc, requests)?)?;
+    }
     Ok(())
 }

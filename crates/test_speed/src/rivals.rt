@@ -13,7 +13,7 @@ use std::thread::{Threads, join};
 use std::time::Instant;
 
 /// How many memories the three ports write into, one after another.
-const MEMORIES: u32 = 63;
+const MEMORIES: usize = 63;
 
 /// How often a thread looks whether the others are there, before it begins without them.
 const TURNS: u32 = 1_000_000;
@@ -97,19 +97,18 @@ pub fn three_writers<R: SharedRam + Sync + Drop, T: Threads + Clock + Sync>(
     alloc: Global,
     requests: [u16; 3],
 ) -> Result<(u64, u64)> {
-    let mut times = Vec::new(alloc);
+    let mut times = [0; 3 * MEMORIES];
     let mut lost = 0u64;
-    let mut made = 0u64;
-    for _ in 0..MEMORIES {
+    for run in 0..MEMORIES {
         let Some(works) = write_at_once::<R, T>(rt, alloc, requests) else {
             bail!("no memory or no clock")
         };
-        for work in works {
-            times.push(work.time)?;
-            lost = lost.saturating_add(work.lost);
-            made = made.saturating_add(quota_of::<R>());
+        for port in 0..3 {
+            times[3 * run + port] = works[port].time;
+            lost = lost.saturating_add(works[port].lost);
         }
     }
+    let made = quota_of::<R>().saturating_mul(3 * MEMORIES as u64);
     let share = lost.saturating_mul(1000) / lost.saturating_add(made).max(1);
-    Ok((median(times)?, share))
+    Ok((median(times), share))
 }
