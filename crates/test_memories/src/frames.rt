@@ -40,6 +40,103 @@ fn frames_have_ranges(rt: HostRuntime) {
     same(&rt, short.bytes(), [0x11, 0x22, 0x33, 0, 0, 0, 0, 0]);
 }
 
+/// Objects, by their arbitration, masks and Message Control, and which of six frames each accepts.
+const ACCEPTED: [(u32, u32, u16, [bool; 6]); 15] = [
+    // a standard object and an extended one, without a mask
+    (
+        0x848c0000,
+        0,
+        0x0080,
+        [true, false, false, false, false, false],
+    ),
+    (
+        0xc48c0001,
+        0,
+        0x0080,
+        [false, false, false, true, false, false],
+    ),
+    // an extended object with the whole mask, without MXtd and with it
+    (
+        0xc48c0001,
+        0x5fffffff,
+        0x1080,
+        [true, false, false, true, false, false],
+    ),
+    (
+        0xc48c0001,
+        0xdfffffff,
+        0x1080,
+        [false, false, false, true, false, false],
+    ),
+    // an extended object whose mask has place 0 alone, without MXtd and with it
+    (
+        0xc48c0001,
+        0x40000001,
+        0x1080,
+        [true, true, false, true, false, true],
+    ),
+    (
+        0xc48c0001,
+        0xc0000001,
+        0x1080,
+        [false, false, false, true, false, true],
+    ),
+    // a standard object with the whole mask, without MXtd
+    (
+        0x848c0000,
+        0x5fffffff,
+        0x1080,
+        [true, false, false, true, true, false],
+    ),
+    // a mask of zeros compares nothing
+    (0x848c0000, 0, 0x1080, [true, true, true, true, true, true]),
+    // an object that transmits, without a mask and with one without MDir
+    (
+        0xa48c0000,
+        0,
+        0x0080,
+        [false, false, true, false, false, false],
+    ),
+    (
+        0xa48c0000,
+        0x9fffffff,
+        0x1080,
+        [true, false, true, false, false, false],
+    ),
+    // new data in the last object of a buffer, no new data in another, and two locked objects
+    (
+        0x848c0000,
+        0,
+        0x8080,
+        [true, false, false, false, false, false],
+    ),
+    (
+        0x848c0000,
+        0,
+        0x0000,
+        [true, false, false, false, false, false],
+    ),
+    (
+        0x848c0000,
+        0,
+        0x8000,
+        [false, false, false, false, false, false],
+    ),
+    (
+        0xa48c0000,
+        0,
+        0x8000,
+        [false, false, false, false, false, false],
+    ),
+    // an object that takes no part
+    (
+        0x048c0000,
+        0,
+        0x0080,
+        [false, false, false, false, false, false],
+    ),
+];
+
 #[test]
 fn accepts_by_width_kind_and_mask(rt: HostRuntime) {
     let frames = [
@@ -50,101 +147,7 @@ fn accepts_by_width_kind_and_mask(rt: HostRuntime) {
         frame(0x048c0000, true, false, 0, [0; 8]),
         frame(0x04880001, true, false, 0, [0; 8]),
     ];
-    for (arbitration, masks, control, wanted) in [
-        // a standard object and an extended one, without a mask
-        (
-            0x848c0000,
-            0,
-            0x0080,
-            [true, false, false, false, false, false],
-        ),
-        (
-            0xc48c0001,
-            0,
-            0x0080,
-            [false, false, false, true, false, false],
-        ),
-        // an extended object with the whole mask, without MXtd and with it
-        (
-            0xc48c0001,
-            0x5fffffff,
-            0x1080,
-            [true, false, false, true, false, false],
-        ),
-        (
-            0xc48c0001,
-            0xdfffffff,
-            0x1080,
-            [false, false, false, true, false, false],
-        ),
-        // an extended object whose mask has place 0 alone, without MXtd and with it
-        (
-            0xc48c0001,
-            0x40000001,
-            0x1080,
-            [true, true, false, true, false, true],
-        ),
-        (
-            0xc48c0001,
-            0xc0000001,
-            0x1080,
-            [false, false, false, true, false, true],
-        ),
-        // a standard object with the whole mask, without MXtd
-        (
-            0x848c0000,
-            0x5fffffff,
-            0x1080,
-            [true, false, false, true, true, false],
-        ),
-        // a mask of zeros compares nothing
-        (0x848c0000, 0, 0x1080, [true, true, true, true, true, true]),
-        // an object that transmits, without a mask and with one without MDir
-        (
-            0xa48c0000,
-            0,
-            0x0080,
-            [false, false, true, false, false, false],
-        ),
-        (
-            0xa48c0000,
-            0x9fffffff,
-            0x1080,
-            [true, false, true, false, false, false],
-        ),
-        // new data in the last object of a buffer, no new data in another, and two locked objects
-        (
-            0x848c0000,
-            0,
-            0x8080,
-            [true, false, false, false, false, false],
-        ),
-        (
-            0x848c0000,
-            0,
-            0x0000,
-            [true, false, false, false, false, false],
-        ),
-        (
-            0x848c0000,
-            0,
-            0x8000,
-            [false, false, false, false, false, false],
-        ),
-        (
-            0xa48c0000,
-            0,
-            0x8000,
-            [false, false, false, false, false, false],
-        ),
-        // an object that takes no part
-        (
-            0x048c0000,
-            0,
-            0x0080,
-            [false, false, false, false, false, false],
-        ),
-    ] {
+    for (arbitration, masks, control, wanted) in ACCEPTED {
         let object = record(arbitration, masks, control, [0; 8]);
         for (sent, want) in frames.iter().zip(wanted.iter()) {
             same(

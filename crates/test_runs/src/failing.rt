@@ -18,8 +18,8 @@ fn told(fault: Fault) -> RunError {
 }
 
 /// Runs a script whose reader meets a fault after so many calls. The fault is told and not met again, and nothing is written;
-/// one that comes after the last byte and gives nothing is the end of the input. Up to the fault each call works, so with one that
-/// comes last, the whole script is read in steps of so many bytes.
+/// one that comes after the last byte and gives nothing is the end of the input. Up to the fault each call works, so with one
+/// that comes last, the whole script is read in steps of so many bytes.
 fn fails_to_read(
     rt: &impl Abort,
     alloc: Global,

@@ -1,5 +1,5 @@
-//! The outcomes of scripts in which two hosts race, worked by hand. Lists of outcomes are held to what can come of a script with the
-//! program that prints them.
+//! The outcomes of scripts in which two hosts race, worked by hand. Lists of outcomes are held to what can come of a script with
+//! the program that prints them.
 use crate::expect::{holds, same};
 use crate::runs::read;
 use ccan_object::ObjectNo;
@@ -68,8 +68,8 @@ fn answers_a_history_of_each_outcome(rt: HostRuntime) {
     same(&rt, races(&rt, rt.alloc(), &script), 2);
 }
 
-/// What can be seen by the answers to these lines of IF2. Each has to have a history of four steps: a look and the write, and a look
-/// for each read.
+/// What can be seen by the answers to these lines of IF2. Each has to have a history of four steps: a look and the write, and a
+/// look for each read.
 fn seen(rt: &impl Abort, alloc: Global, script: &Script, watch: &Watch) -> Outcomes {
     let Ok(Some(found)) = observed_outcomes(alloc, script, watch, 1000, &Untold) else {
         panic!(rt; "not all outcomes")

@@ -1,6 +1,6 @@
-//! Searches of a ladder, worked by hand. From the ground the moves lead by levels to 3 and 6, then to 2 and 5, then to 1 and 4, and
-//! from there to what was found before. With two moves ahead a search goes from the ground by 3 and 2 to 1, and by 6 and 5 to 4;
-//! from 1 to the ground, and from 4 by 3 and 2 to 1 again.
+//! Searches of a ladder, worked by hand. From the ground the moves lead by levels to 3 and 6, then to 2 and 5, then to 1 and 4,
+//! and from there to what was found before. With two moves ahead a search goes from the ground by 3 and 2 to 1, and by 6 and 5
+//! to 4; from 1 to the ground, and from 4 by 3 and 2 to 1 again.
 use crate::expect::{holds, same};
 use crate::ladder::Ladder;
 use ccan_search::{Progress, Untold, reachable, tale, way};

@@ -5,6 +5,6 @@ mod callers;
 mod gates;
 mod tests;
 
-use callers::run_gated_by_callers;
+use callers::{run_by_callers, run_gated_by_callers};
 use gates::{AllTogether, HeldFrom, Meeting, Together};
 pub use tests::outcome_of;

@@ -31,7 +31,7 @@ fn stale_drafts<R: SharedRam + Drop>(rt: &impl Abort, alloc: Global, beside: boo
     same(rt, (number(&made), is_lost), want);
 }
 
-/// What another port sees of a write of the last object, which the request 0 names, and what is left.
+/// What another port sees of a write of the last object, which a Command Request of 0 names, and what is left.
 fn write_is_seen<R: SharedRam + Drop>(
     rt: &impl Abort,
     alloc: Global,

@@ -48,6 +48,33 @@ fn come_to<R: SharedRam + Sync, G: Gate + Copy + Send + Drop, T: Threads + Abort
     prints(rt, alloc, &outcome, want);
 }
 
+/// What all lines of a script come to, where a caller runs the ports in threads without a gate.
+fn run_whole<R: SharedRam + Sync, T: Threads + Abort + Sync>(
+    rt: &T,
+    alloc: Global,
+    script: &Script,
+) -> Outcome {
+    let Ok(all) = R::open_ram(alloc, script.profile, script.quota) else {
+        panic!(rt; "no memory")
+    };
+    let logs = (
+        room(rt, alloc, script.if1.len()),
+        room(rt, alloc, script.if2.len()),
+        room(rt, alloc, script.bus.len()),
+    );
+    run_by_callers(rt, all, script, logs)
+}
+
+/// Holds what is printed of such a run to this.
+fn come_to_all<R: SharedRam + Sync, T: Threads + Abort + Sync>(
+    rt: &T,
+    alloc: Global,
+    (script, want): (&str, &str),
+) {
+    let script = read(rt, alloc, script);
+    prints(rt, alloc, &run_whole::<R, T>(rt, alloc, &script), want);
+}
+
 /// A line more for IF1 and the bus than in the script whose text this comes to where each port is held from its second line on.
 const MORE_LINES: &str = r#"{
     "if1":[{"op":"transfer","request":"0001","set":{"cmask":"0090","ctrl":"8000"}},
@@ -59,7 +86,7 @@ const MORE_LINES: &str = r#"{
 fn callers_come_to_the_lines_that_ran(rt: HostRuntime) {
     let all = each_port();
     come_to::<WordRam, FreeGate, HostRuntime>(&rt, rt.alloc(), all, FreeGate, [None; 3]);
-    come_to::<RootRam, FreeGate, HostRuntime>(&rt, rt.alloc(), all, FreeGate, [None; 3]);
+    come_to_all::<RootRam, HostRuntime>(&rt, rt.alloc(), all);
     let gate = HeldFrom {
         port: None,
         line: 1,
