@@ -2,7 +2,7 @@
 //! places where it is.
 
 /// Where a scan of a text stands.
-#[derive(Clone, Copy, PartialEq, Eq, PartialOrd, Ord, Hash, Debug)]
+#[derive(Clone, Copy, PartialEq, Eq, Debug)]
 enum Inside {
     Nothing,
     Text,
@@ -11,7 +11,7 @@ enum Inside {
 }
 
 /// A member of an object or an item of a list, in the text: offsets from the text's begin.
-#[derive(Clone, Copy, PartialEq, Eq, PartialOrd, Ord, Hash, Debug)]
+#[derive(Clone, Copy, Debug)]
 pub(crate) struct Child {
     /// Where its name begins, with the quote; of an item where its value does.
     pub(crate) begin: usize,
@@ -35,11 +35,11 @@ pub(crate) fn after_spaces(text: &[u8], offset: usize) -> usize {
 
 /// How a text goes on after a byte of it.
 fn inside_after(inside: Inside, byte: u8) -> Inside {
-    match (inside, byte) {
-        (Inside::Text, b'\\') => Inside::Escape,
-        (Inside::Text, b'"') => Inside::Nothing,
-        (Inside::Nothing, b'"') | (Inside::Text | Inside::Escape, _) => Inside::Text,
-        (Inside::Nothing, _) => Inside::Nothing,
+    match inside {
+        Inside::Text if byte == b'\\' => Inside::Escape,
+        Inside::Text if byte == b'"' => Inside::Nothing,
+        Inside::Nothing if byte != b'"' => Inside::Nothing,
+        _ => Inside::Text,
     }
 }
 
@@ -66,6 +66,14 @@ pub(crate) fn value_end(text: &[u8], offset: usize) -> usize {
         }
     }
     text.len()
+}
+
+/// Where the value of the item that follows an offset begins, and where the item ends; the offset for both, where none follows.
+pub(crate) fn item_after(text: &[u8], offset: usize) -> (usize, usize) {
+    match child_after(text, offset) {
+        Some(child) => (child.value, child.end),
+        None => (offset, offset),
+    }
 }
 
 /// The member or item that follows an offset, after a comma or an opening bracket.

@@ -1,7 +1,7 @@
 ghost use Rattle.std.specs.Prelude.{◌≤◌};
 ghost use Rattle.ccan_line.specs.Limits.{most_nodes};
 
-use crate::json_text::child_after;
+use crate::json_text::item_after;
 use crate::member::{FRAME, Kind, Member};
 use crate::member_remark::{range_remark, remark_on, remark_on_name, shape_remark};
 use crate::report::Remark;
@@ -92,6 +92,12 @@ fn members_remark(
     ranges_remark(alloc, path, line, members, context)
 }
 
+/// A remark on an offset: a path and what is wrong there.
+fn remark_at(alloc: Global, path: &str, wrong: &str, offset: usize) -> Result<Remark, AllocError> {
+    let text = joined(alloc, &[path, wrong])?;
+    Ok(Remark { offset, text })
+}
+
 /// A remark on a frame at fault. Where each member alone is right, the length of its data is not.
 fn frame_remark(
     alloc: Global,
@@ -99,19 +105,11 @@ fn frame_remark(
     frame: Spot<'_>,
     context: LineContext,
 ) -> Result<Remark, AllocError> {
-    match members_remark(alloc, path, frame, &FRAME, context)? {
-        Some(remark) => Ok(remark),
-        None => Ok(Remark {
-            offset: frame.offset,
-            text: joined(
-                alloc,
-                &[
-                    path,
-                    ": \"data\" has not as many bytes as \"dlc\" says, or any in a remote frame",
-                ],
-            )?,
-        }),
+    if let Some(remark) = members_remark(alloc, path, frame, &FRAME, context)? {
+        return Ok(remark);
     }
+    let wrong = ": \"data\" has not as many bytes as \"dlc\" says, or any in a remote frame";
+    remark_at(alloc, path, wrong, frame.offset)
 }
 
 /// A remark on the first frame of a round that is at fault.
@@ -131,23 +129,20 @@ fn frames_remark(
     };
     let mut offset = send.offset;
     for (index, value) in frames.iter().enumerate() {
-        let child = child_after(line.text, offset);
+        let (begin, end) = item_after(line.text, offset);
         let frame = Spot {
             value,
             text: line.text,
-            offset: child.map_or(offset, |child| child.value),
+            offset: begin,
         };
         if read_frame(value, context.nodes).is_err() {
             let path = format!(in alloc; "{path}.send[{index}]")?;
             return Ok(Some(frame_remark(alloc, path.as_str(), frame, context)?));
         }
-        offset = child.map_or(offset, |child| child.end);
+        offset = end;
     }
-    let text = joined(alloc, &[path, ".send: a node sends twice in one round"])?;
-    Ok(Some(Remark {
-        offset: send.offset,
-        text,
-    }))
+    let twice = ".send: a node sends twice in one round";
+    Ok(Some(remark_at(alloc, path, twice, send.offset)?))
 }
 
 /// A remark on a line at fault whose operation has these members.
@@ -186,9 +181,6 @@ pub(crate) fn operation_remark(
             let path = joined(alloc, &[path, ".op"])?;
             remark_on(alloc, path.as_str(), op, wrong)
         }
-        None => Ok(Remark {
-            offset: line.offset,
-            text: joined(alloc, &[path, ": \"op\" is missing"])?,
-        }),
+        None => remark_at(alloc, path, ": \"op\" is missing", line.offset),
     }
 }

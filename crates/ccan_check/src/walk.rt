@@ -1,7 +1,7 @@
 ghost use Rattle.std.specs.Prelude.{◌≤◌, IfOk, true};
 ghost use Rattle.ccan_line.specs.Limits.{most_nodes};
 
-use crate::json_text::child_after;
+use crate::json_text::item_after;
 use crate::member_remark::{remark_on, remark_on_name};
 use crate::report::{Fault, Remark, Report};
 use crate::spot::{Spot, joined};
@@ -82,6 +82,29 @@ fn add_number(
     Ok(greatest)
 }
 
+/// Adds the fault of a line of a list, or what is rarely meant in it.
+fn add_line<L: ToldLine>(
+    alloc: Global,
+    list: ListName,
+    index: usize,
+    line: Spot<'_>,
+    context: LineContext,
+    report: &mut Report,
+) -> Result<(), AllocError>
+    requires { context.nodes ≤ most_nodes }
+{
+    let path = format!(in alloc; "{list}[{index}]")?;
+    match L::read(line.value, context) {
+        Ok(read) => read.warn(alloc, path.as_str(), line, context, &mut report.warnings)?,
+        Err(fault) => {
+            let remark = L::remark(alloc, path.as_str(), line, context)?;
+            let error = fault.at(list, index);
+            report.faults.push(Fault { error, remark })?;
+        }
+    }
+    warn_of_twice(alloc, path.as_str(), line, &mut report.warnings)
+}
+
 /// Adds the faults of the lines of a list, and what is rarely meant in the others.
 fn add_lines<L: ToldLine>(
     alloc: Global,
@@ -95,25 +118,14 @@ fn add_lines<L: ToldLine>(
 {
     let mut offset = spot.offset;
     for (index, value) in values.iter().enumerate() {
-        let child = child_after(spot.text, offset);
+        let (begin, end) = item_after(spot.text, offset);
         let line = Spot {
             value,
             text: spot.text,
-            offset: child.map_or(offset, |child| child.value),
+            offset: begin,
         };
-        let path = format!(in alloc; "{list}[{index}]")?;
-        match L::read(value, context) {
-            Ok(read) => read.warn(alloc, path.as_str(), line, context, &mut report.warnings)?,
-            Err(fault) => {
-                let remark = L::remark(alloc, path.as_str(), line, context)?;
-                report.faults.push(Fault {
-                    error: fault.at(list, index),
-                    remark,
-                })?;
-            }
-        }
-        warn_of_twice(alloc, path.as_str(), line, &mut report.warnings)?;
-        offset = child.map_or(offset, |child| child.end);
+        add_line::<L>(alloc, list, index, line, context, report)?;
+        offset = end;
     }
     Ok(())
 }

@@ -1,5 +1,5 @@
 use crate::json_text::{Child, child_after};
-use crate::member_remark::{remark_on, remark_on_name};
+use crate::member_remark::{member_path, remark_on, remark_on_name};
 use crate::report::Remark;
 use crate::spot::{Spot, joined};
 use ccan_object::{ObjectNo, Reg};
@@ -12,6 +12,21 @@ const MOST_COMPARED: usize = 64;
 /// Whether a word of Arbitration 2 is that of a standard identifier, and has a bit of an extended one.
 fn forgets_shift(word: u16) -> bool {
     word & 0x4000 == 0 && word & 0x0003 != 0
+}
+
+/// Adds a warning of a value that stands in a member, or in a member of a member, of what has this path.
+fn warn_of_member(
+    alloc: Global,
+    path: &str,
+    member: &str,
+    spot: Spot<'_>,
+    words: &str,
+    warnings: &mut Vec<Remark>,
+) -> Result<(), AllocError> {
+    let path = member_path(alloc, path, member)?;
+    let remark = remark_on(alloc, path.as_str(), spot, words)?;
+    warnings.push(remark)?;
+    Ok(())
 }
 
 /// Adds a warning where the request means an object of another number.
@@ -30,10 +45,8 @@ fn warn_of_request(
     let Some(spot) = line.member("request") else {
         return Ok(());
     };
-    let path = joined(alloc, &[path, ".request"])?;
     let means = format!(in alloc; "means object {object}")?;
-    warnings.push(remark_on(alloc, path.as_str(), spot, means.as_str())?)?;
-    Ok(())
+    warn_of_member(alloc, path, "request", spot, means.as_str(), warnings)
 }
 
 /// Adds a warning where a standard identifier wasn't shifted to its place.
@@ -50,10 +63,8 @@ fn warn_of_shift(
     let Some(spot) = line.member("set").and_then(|set| set.member("arb2")) else {
         return Ok(());
     };
-    let path = joined(alloc, &[path, ".set.arb2"])?;
     let wrong = "has bits of an extended identifier: a standard one is shifted left by 2";
-    warnings.push(remark_on(alloc, path.as_str(), spot, wrong)?)?;
-    Ok(())
+    warn_of_member(alloc, path, "set.arb2", spot, wrong, warnings)
 }
 
 /// The name of a member, as it is written between its quotes.
