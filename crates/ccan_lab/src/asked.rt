@@ -1,5 +1,5 @@
 /// What is asked about the outcomes of a script.
-#[derive(Clone, Copy, Debug)]
+#[derive(Clone, Copy)]
 pub enum Asked<'a> {
     /// What each line may be.
     Summary,

@@ -83,7 +83,7 @@ pub fn check_question<'a>(
 /// All bytes of the file of this name.
 fn bytes_in<T: AllocGlobal + Files>(rt: &T, file: &str) -> Result<Vec<u8>, LabError> {
     match fs::open(rt, file) {
-        Ok(mut opened) => Ok(read_all(rt.alloc(), &mut opened)?),
+        Ok(mut opened) => read_all(rt.alloc(), &mut opened).map_err(LabError::from),
         Err(_) => Err(LabError::Open),
     }
 }

@@ -1,5 +1,5 @@
 /// What came of a check of scripts, the worst last.
-#[derive(Clone, Copy, PartialEq, Eq, PartialOrd, Ord, Hash, Debug)]
+#[derive(Clone, Copy, PartialEq, Eq, PartialOrd, Ord)]
 pub enum CheckEnd {
     /// Nothing is said of them.
     Clean,

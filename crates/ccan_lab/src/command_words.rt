@@ -18,6 +18,11 @@ pub fn over<'a>(command: Command<'a>, subcommand: Command<'a>) -> Result<Command
     command.subcommand(subcommand)
 }
 
+/// The option, beside which the one of this name can't stand.
+pub fn apart_from<'a>(option: Arg<'a>, other: &'a str) -> Result<Arg<'a>, AllocError> {
+    option.conflicts_with(other)
+}
+
 /// An option that is on or off.
 pub fn switch<'a>(alloc: Global, name: &'a str, help: &'a str) -> Arg<'a> {
     Arg::new(alloc, name)

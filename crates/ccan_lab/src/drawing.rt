@@ -15,13 +15,13 @@ use ccan_explain::tell;
 use ccan_outcomes::{Outcomes, all_outcomes, looking_once};
 use ccan_script::Script;
 use ccan_search::Progress;
-use clap::{ArgMatches, Command};
+use clap::{Arg, ArgMatches, Command};
 use std::alloc::{AllocError, Global};
 use std::fs::Files;
 use std::io::Input;
 
 /// Of what a picture is asked.
-#[derive(Clone, Copy, PartialEq, Eq, Debug)]
+#[derive(Clone, Copy)]
 pub struct DrawQuestion<'a> {
     /// The number of the outcome, from 1. None: the run in the script's order.
     pub outcome: Option<usize>,
@@ -31,6 +31,18 @@ pub struct DrawQuestion<'a> {
     pub file: Option<&'a str>,
 }
 
+/// The option that the number of an outcome is given by.
+fn outcome_option<'a>(alloc: Global) -> Arg<'a> {
+    let help = "Draw a history of outcome N of outcomes --all; exit status 9 where there is none";
+    number(alloc, "outcome", help)
+}
+
+/// The option that a number of states is given by, where an outcome is asked.
+fn most_option<'a>(alloc: Global) -> Result<Arg<'a>, AllocError> {
+    let help = "The greatest number of states to keep [default: 1000000]";
+    number(alloc, "most", help).requires_arg("outcome")
+}
+
 /// The command that draws a run.
 pub fn draw_command<'a>(alloc: Global) -> Result<Command<'a>, AllocError> {
     let drawn = command(
@@ -38,18 +50,8 @@ pub fn draw_command<'a>(alloc: Global) -> Result<Command<'a>, AllocError> {
         "draw",
         "Draws one picture of a run of a script in its order, as SVG",
     );
-    let outcome = number(
-        alloc,
-        "outcome",
-        "Draw a history of outcome N of outcomes --all; exit status 9 where there is none",
-    );
-    let drawn = with(drawn, outcome)?;
-    let most = number(
-        alloc,
-        "most",
-        "The greatest number of states to keep [default: 1000000]",
-    );
-    let drawn = with(drawn, most.requires_arg("outcome")?)?;
+    let drawn = with(drawn, outcome_option(alloc))?;
+    let drawn = with(drawn, most_option(alloc)?)?;
     with(
         drawn,
         file(alloc, "FILE", "The script; left out or -: standard input"),

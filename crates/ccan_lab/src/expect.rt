@@ -3,7 +3,7 @@
 ghost use Rattle.std.specs.Prelude.{◌≡◌, ◌≢◌, ◌<◌, ◌≤◌, IfOk, IfSome, IfNone, length, option_map, slice_index, string_bytes, take};
 ghost use Rattle.ccan_line.specs.Script.{fields_of};
 ghost use Rattle.ccan_run.specs.Ordered.{HasText};
-ghost use Rattle.ccan_lab.specs.Expect.{ComparesRun, IsFirstDifference, TellsDifference};
+ghost use Rattle.ccan_lab.specs.Expect.{ComparesRun, IsFirstDifference, TellsDifference, TellsOf};
 
 use crate::lab_error::LabError;
 use ccan_check::{Place, Remark, remark_line};
@@ -135,6 +135,22 @@ fn told_at(
     remark_line(alloc, file, expected, "", &Remark { offset, text })
 }
 
+/// What is told of two texts that differ. `None` where they are the same.
+fn told_difference(
+    alloc: Global,
+    file: &str,
+    expected: &[u8],
+    printed: &[u8],
+) -> Result<Option<String>, AllocError>
+    ensures { IfOk result (λ told. TellsOf file.now expected.now printed.now
+        (option_map string_bytes told)) }
+{
+    match first_difference(expected, printed) {
+        Some(offset) => Ok(Some(told_at(alloc, file, expected, printed, offset)?)),
+        None => Ok(None),
+    }
+}
+
 /// Runs the script in its order, and tells the first line that is not as expected. `None` where all of the text is.
 ///
 /// What is expected stands in the file of this name.
@@ -148,9 +164,5 @@ pub fn compare_run(
         (option_map string_bytes told)) }
 {
     let printed = text_of_run(alloc, script)?;
-    let printed = printed.as_slice();
-    match first_difference(expected, printed) {
-        Some(offset) => Ok(Some(told_at(alloc, file, expected, printed, offset)?)),
-        None => Ok(None),
-    }
+    Ok(told_difference(alloc, file, expected, printed.as_slice())?)
 }

@@ -1,19 +1,19 @@
 //! The questions about one run of a script in its order: what each line came to, and the frames on its bus; and the way back,
 //! from a log of a bus to a script.
-use crate::command_words::{command, file, switch, with};
+use crate::command_words::{apart_from, command, file, switch, with};
 use crate::input::script_asked;
 use crate::lab_error::LabError;
 use ccan_explain::{FromLog, LogError, json_of, log_of, script_of_log, tell, text_of};
 use ccan_run::RunError;
 use ccan_script::Script;
-use clap::{ArgMatches, Command};
+use clap::{Arg, ArgMatches, Command};
 use std::alloc::{AllocError, Global};
 use std::fs::Files;
 use std::io::{ErrorKind, Input, Read, Write};
 use std::{fs, io};
 
 /// The form in which a run is told.
-#[derive(Clone, Copy, PartialEq, Eq, Debug)]
+#[derive(Clone, Copy)]
 pub enum Form {
     /// Lines for people.
     People,
@@ -24,12 +24,17 @@ pub enum Form {
 }
 
 /// What is asked about a run of a script.
-#[derive(Clone, Copy, PartialEq, Eq, Debug)]
+#[derive(Clone, Copy)]
 pub struct ExplainQuestion<'a> {
     /// The form in which the run is told.
     pub form: Form,
     /// The file of the script: `None` or `-` means standard input.
     pub file: Option<&'a str>,
+}
+
+/// The flag that asks for JSON.
+fn json_flag<'a>(alloc: Global) -> Result<Arg<'a>, AllocError> {
+    apart_from(switch(alloc, "json", "A JSON object a line"), "candump")
 }
 
 /// The command that tells a run.
@@ -39,8 +44,7 @@ pub fn explain_command<'a>(alloc: Global) -> Result<Command<'a>, AllocError> {
         "explain",
         "Runs a script in its order and tells each line decoded",
     );
-    let json = switch(alloc, "json", "A JSON object a line");
-    let told = with(told, json.conflicts_with("candump")?)?;
+    let told = with(told, json_flag(alloc)?)?;
     let candump = switch(
         alloc,
         "candump",

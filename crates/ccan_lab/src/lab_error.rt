@@ -3,7 +3,7 @@ use std::alloc::AllocError;
 use thiserror::Error;
 
 /// Why a question has no answer. It prints as the line that the program writes on standard error.
-#[derive(Clone, Copy, PartialEq, Eq, PartialOrd, Ord, Hash, Debug, Error)]
+#[derive(Clone, Copy, Debug, Error)]
 pub enum LabError {
     /// The words of the command line can't be had.
     #[error("ccan-lab: command line")]

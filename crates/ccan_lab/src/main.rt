@@ -73,6 +73,16 @@ where
     }
 }
 
+/// The exit status of an answer that is as asked, or isn't.
+fn status_of(is_so: bool) -> u8 {
+    if is_so { 0 } else { NOT_SO }
+}
+
+/// The exit status where all is told.
+fn status_told(_told: ()) -> u8 {
+    0
+}
+
 /// Answers a question, and gives the exit status. A long search tells on a terminal how far it is.
 fn answer_question<T: AllocGlobal + Input + Files + Print + Eprint>(
     rt: &T,
@@ -83,26 +93,13 @@ where
     T::Reader: IsTerminal,
 {
     match question {
-        Question::Outcomes(question) => {
-            let is_so = answer_outcomes(rt, question, progress)?;
-            Ok(if is_so { 0 } else { NOT_SO })
-        }
-        Question::Check(question) => {
-            let end = answer_check(rt, question)?;
-            Ok(end.status(question.is_strict))
-        }
-        Question::Explain(question) => {
-            answer_explain(rt, question)?;
-            Ok(0)
-        }
-        Question::Draw(question) => {
-            answer_draw(rt, question, progress)?;
-            Ok(0)
-        }
-        Question::FromCandump(file) => {
-            answer_log(rt, *file)?;
-            Ok(0)
-        }
+        Question::Outcomes(question) => answer_outcomes(rt, question, progress).map(status_of),
+        Question::Check(question) => answer_check(rt, question).map(|end| end.status(
+            question.is_strict,
+        )),
+        Question::Explain(question) => answer_explain(rt, question).map(status_told),
+        Question::Draw(question) => answer_draw(rt, question, progress).map(status_told),
+        Question::FromCandump(file) => answer_log(rt, *file).map(status_told),
     }
 }
 

@@ -116,10 +116,10 @@ fn add_observed_line(
     ensures { OnOk result (string_bytes text.new
         ≡ string_bytes text.old ++ observed_line marks.now rows.now place) }
 {
-    if marks.get(place).copied().unwrap_or(false) {
-        text.push_str(rows.line(place))?;
+    match marks.get(place) {
+        Some(true) => text.push_str(rows.line(place)),
+        _ => Ok(()),
     }
-    Ok(())
 }
 
 /// Adds the lines of an outcome that are looked at.
@@ -252,6 +252,37 @@ fn add_observed_heading(
     text.push_str(" as observed\n")
 }
 
+/// The lines of each outcome that the names in a list with commas between them have looked at.
+fn named_texts(
+    alloc: Global,
+    script: &Script,
+    all: &[Rows],
+    list: &str,
+) -> Result<Vec<String>, AllocError>
+    ensures { IfOk result (λ texts. map string_bytes texts.items
+        ≡ map (observed_lines (marks_of (names_in list.now) (fields_of script.now))) all.now) }
+{
+    let marks = marks_of(alloc, script, list)?;
+    observed_texts(alloc, marks.as_slice(), all)
+}
+
+/// The first line, and these outcomes below it.
+fn below_heading(
+    alloc: Global,
+    outcomes: usize,
+    states: usize,
+    apart: usize,
+    told: &str,
+) -> Result<String, AllocError>
+    ensures { IfOk result (λ text. string_bytes text
+        ≡ observed_heading outcomes states apart ++ told.now) }
+{
+    let mut text = String::new(alloc);
+    add_observed_heading(&mut text, outcomes, states, apart)?;
+    text.push_str(told)?;
+    Ok(text)
+}
+
 /// The list of the outcomes that can be told apart by the lines and objects of these names: of each kind the first, with these
 /// lines, and with a history that leads to it.
 ///
@@ -270,19 +301,12 @@ pub fn observed_listing(
         outcomes.now.listing.endings.keys (length outcomes.now.reached.states.keys)
         (string_bytes text)) }
 {
-    let marks = marks_of(alloc, script, list)?;
-    let texts = observed_texts(alloc, marks.as_slice(), all)?;
+    let texts = named_texts(alloc, script, all, list)?;
     let mut firsts = String::new(alloc);
     let apart = add_firsts(alloc, &mut firsts, script, outcomes, texts.as_slice())?;
-    let mut text = String::new(alloc);
-    add_observed_heading(
-        &mut text,
-        outcomes.listing.endings.len(),
-        outcomes.reached.states.len(),
-        apart,
-    )?;
-    text.push_str(firsts.as_str())?;
-    Ok(text)
+    let endings = outcomes.listing.endings.len();
+    let states = outcomes.reached.states.len();
+    below_heading(alloc, endings, states, apart, firsts.as_str())
 }
 
 /// Whether a word stands for all lines of a port, or for all objects.

@@ -51,7 +51,7 @@ fn add_answers(
 
 /// Whether a step is a look of a line that asks for flags, a look of a scan, or the first of a change.
 fn is_look(step: &HistoryStep) -> bool {
-    matches!(step.kind, HistoryKind::Looks | HistoryKind::LooksLast)
+    step.kind == HistoryKind::Looks || step.kind == HistoryKind::LooksLast
 }
 
 /// Whether the step of this place and the next one are looks of one line.
@@ -65,7 +65,7 @@ fn goes_on(steps: &[HistoryStep], place: usize) -> bool {
 }
 
 /// Steps of a history that stand in one row: looks of one line without a break, or one step.
-#[derive(Clone, Copy, PartialEq, Eq, Debug)]
+#[derive(Clone, Copy)]
 struct Run {
     /// The first of them.
     first: HistoryStep,

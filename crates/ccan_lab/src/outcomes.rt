@@ -8,7 +8,7 @@ ghost use Rattle.ccan_lab.specs.Question.{AreKnown, AreKnownNames, AsksAllBy, As
 
 use crate::answer::{Answer, answer_of};
 use crate::asked::Asked;
-use crate::command_words::{command, file, number, option, switch, with};
+use crate::command_words::{apart_from, command, file, number, option, switch, with};
 use crate::input::script_asked;
 use crate::lab_error::LabError;
 use crate::observed::first_unknown;
@@ -27,7 +27,7 @@ use std::io::{Input, Write};
 pub const DEFAULT_MOST: usize = 1_000_000;
 
 /// What is asked about the outcomes of a script.
-#[derive(Clone, Copy, Debug)]
+#[derive(Clone, Copy)]
 pub struct OutcomesQuestion<'a> {
     /// The greatest number of states to list.
     pub most: usize,
@@ -45,24 +45,23 @@ fn most_option<'a>(alloc: Global) -> Arg<'a> {
 /// The flag that asks for the whole list.
 fn all_flag<'a>(alloc: Global) -> Result<Arg<'a>, AllocError> {
     let help = "Show each outcome, with a history that leads to it";
-    switch(alloc, "all", help)
-        .conflicts_with("can")?
-        .conflicts_with("never")
+    apart_from(apart_from(switch(alloc, "all", help), "can")?, "never")
 }
 
 /// The option that asks for the outcomes that can be told apart by some lines.
 fn observe_option<'a>(alloc: Global) -> Result<Arg<'a>, AllocError> {
     let help =
         "Show each outcome that differs in these, as if1[2],bus,final: lines, all of a port, objects at the end";
-    option(alloc, "observe", "NAMES", help)
-        .conflicts_with("can")?
-        .conflicts_with("never")
+    apart_from(
+        apart_from(option(alloc, "observe", "NAMES", help), "can")?,
+        "never",
+    )
 }
 
 /// The option that asks whether an outcome has a line.
 fn can_option<'a>(alloc: Global) -> Result<Arg<'a>, AllocError> {
     let help = "Ask whether an outcome has a line that begins so; exit status 6 where none has";
-    option(alloc, "can", "LINE", help).conflicts_with("never")
+    apart_from(option(alloc, "can", "LINE", help), "never")
 }
 
 /// The option that asks whether no outcome has a line.
@@ -176,7 +175,7 @@ fn answer_of_all<P: Progress>(
     let Some(outcomes) = all_outcomes(alloc, script, most, progress)? else {
         return Err(LabError::More(most));
     };
-    Ok(answer_of(alloc, script, &outcomes, asked)?)
+    answer_of(alloc, script, &outcomes, asked).map_err(LabError::from)
 }
 
 /// What is answered to the question what of the outcomes of a script can be told apart by the lines and objects of these

@@ -9,7 +9,7 @@ use std::alloc::AllocError;
 
 /// How many lines each port has. The places of an outcome are those of IF1's lines, of IF2's, of the bus's, and then a place
 /// for each object.
-#[derive(Clone, Copy, PartialEq, Eq, Debug)]
+#[derive(Clone, Copy)]
 pub struct LineCounts {
     /// The lines of IF1.
     pub if1: usize,

@@ -24,10 +24,15 @@ pub enum Question<'a> {
     FromCandump(Option<&'a str>),
 }
 
+/// The command, with the version of the program.
+fn versioned<'a>(command: Command<'a>) -> Command<'a> {
+    command.version("0.2.0")
+}
+
 /// The command line without its questions, and what it is for.
 fn program<'a>(alloc: Global) -> Command<'a> {
     let about = "Answers questions about scripts of the C_CAN model";
-    words::command(alloc, "ccan-lab", about).version("0.2.0")
+    versioned(words::command(alloc, "ccan-lab", about))
 }
 
 /// The command, which wants one of those under it and has no other that tells help.

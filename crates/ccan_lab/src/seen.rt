@@ -3,9 +3,10 @@ ghost use Rattle.std.specs.Prelude.{◌≡◌, ◌<◌, ◌≤◌, ◌++◌, Lis
 ghost use Rattle.std.specs.Prelude.{string_bytes};
 ghost use Rattle.ccan_line.specs.Script.{fields_of};
 ghost use Rattle.ccan_outcomes.specs.Observed.{AreFoundSeen, HasMoreSeen, IsHistorySeen};
-ghost use Rattle.ccan_lab.specs.Observed.{AreFirstTexts, IsFirstText, first_count, is_repeat, names_in, text_at};
+ghost use Rattle.ccan_lab.specs.Observed.{AreFirstTexts, IsFirstText, first_count, is_repeat, names_in, observed_lines, text_at};
 ghost use Rattle.ccan_lab.specs.Replay.{ReplaysSeen};
 ghost use Rattle.ccan_lab.specs.Report.{IsTextWith};
+ghost use Rattle.ccan_lab.specs.Rows.{rows_of};
 ghost use Rattle.ccan_lab.specs.Seen.{HasMoreAsNamed, IsSeenListing, IsSeenText, IsWatch, TellsSeen, TellsWatched, seen_heading};
 
 use crate::observed::{is_repeat, marks_of, observed_texts};
@@ -146,6 +147,30 @@ fn add_all_seen(
     Ok(count)
 }
 
+/// The lines of each kept ending that are looked at.
+fn kept_texts(alloc: Global, marks: &[bool], outcomes: &Outcomes) -> Result<Vec<String>, AllocError>
+    ensures { IfOk result (λ texts. map string_bytes texts.items
+        ≡ map (observed_lines marks.now) (map rows_of outcomes.now.listing.endings.keys)) }
+{
+    let all = all_rows(alloc, outcomes.listing.endings.as_slice())?;
+    observed_texts(alloc, marks, all.as_slice())
+}
+
+/// The first line, and these endings below it.
+fn below_heading(
+    alloc: Global,
+    apart: usize,
+    states: usize,
+    told: &str,
+) -> Result<String, AllocError>
+    ensures { IfOk result (λ text. string_bytes text ≡ seen_heading apart states ++ told.now) }
+{
+    let mut text = String::new(alloc);
+    add_seen_heading(&mut text, apart, states)?;
+    text.push_str(told)?;
+    Ok(text)
+}
+
 /// The list of these endings by what is looked at: of those that show the same the first.
 fn seen_listing(
     alloc: Global,
@@ -159,14 +184,10 @@ fn seen_listing(
         outcomes.now.listing.endings.keys (length outcomes.now.reached.states.keys)
         (string_bytes text)) }
 {
-    let all = all_rows(alloc, outcomes.listing.endings.as_slice())?;
-    let texts = observed_texts(alloc, marks, all.as_slice())?;
+    let texts = kept_texts(alloc, marks, outcomes)?;
     let mut told = String::new(alloc);
     let apart = add_all_seen(alloc, &mut told, script, watch, outcomes, texts.as_slice())?;
-    let mut text = String::new(alloc);
-    add_seen_heading(&mut text, apart, outcomes.reached.states.len())?;
-    text.push_str(told.as_str())?;
-    Ok(text)
+    below_heading(alloc, apart, outcomes.reached.states.len(), told.as_str())
 }
 
 /// The list of what of the outcomes of a script can be told apart where these answers are looked at, by the marks of all
