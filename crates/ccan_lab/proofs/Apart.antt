@@ -14,7 +14,8 @@ use Rattle.std.proofs.lemmas.List.{take-map}
 use Rattle.clap.proofs.WalkLemmas.{list_any-map}
 
 -- the marks of the places so far, and that of one more
-pub marks_more : (names : List (List ℕ)) (if1 if2 bus place : ℕ) → map (is_observed names if1 if2 bus) (range_with_len 0 (place + 1))
+pub marks_more : (names : List (List ℕ)) (if1 if2 bus place : ℕ)
+    → map (is_observed names if1 if2 bus) (range_with_len 0 (place + 1))
     ≡ map (is_observed names if1 if2 bus) (range_with_len 0 place) ++ is_observed names if1 if2 bus place ∷ []
 marks_more names if1 if2 bus place = map-range_with_len_more (is_observed names if1 if2 bus) 0 place place (omega arith)
 

@@ -9,4 +9,5 @@ abbrev pub invariant-loop-number : goal.invariant-loop-number
 invariant-loop-number l =
     (l.count ≤ l.number) × (l.count ≡ first_count (map string_bytes l.texts) l.number)
     × ((added : List ℕ) × (string_bytes l.text ≡ string_bytes l.initial.text ++ added)
-    × AreFirstTexts (IsOutcomeText (fields_of l.script) l.outcomes.listing.endings.keys) (map string_bytes l.texts) l.number added)
+    × AreFirstTexts (IsOutcomeText (fields_of l.script) l.outcomes.listing.endings.keys) (map string_bytes l.texts)
+    l.number added)

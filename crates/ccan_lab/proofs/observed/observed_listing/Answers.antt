@@ -31,6 +31,8 @@ returns c =
       outcomes = added;
       are = subst (λ told. is_told told added) texts_are are;
       text_is = subst (λ texts. string_bytes text ≡ heading (first_count texts count) ++ added) texts_are
-          (told ∙ ap (λ (t : List ℕ). t ++ c.as_str.result.now) headed ∙ ap (λ (t : List ℕ). heading c.in_ok-apart.apart ++ t) firsts ∙ ap (λ (n : ℕ). heading n ++ added) apart);
+          (told ∙ ap (λ (t : List ℕ). t ++ c.as_str.result.now) headed
+          ∙ ap (λ (t : List ℕ). heading c.in_ok-apart.apart ++ t) firsts
+          ∙ ap (λ (n : ℕ). heading n ++ added) apart);
     })
     c.below_heading.ensures

@@ -17,7 +17,8 @@ returns c =
     let steps = c.in_ok-history.history.items in
     let order = names_in c.in_ok-order.order in
     let shown = c.index-as_slice-number.result in
-    let found : IfSome order (Replays script shown) = names_lead (Replays script shown) c.in_ok-order.order c.in_ok-order.ensures in
+    let found : IfSome order (Replays script shown) =
+    names_lead (Replays script shown) c.in_ok-order.order c.in_ok-order.ensures in
     let it_is : (ending : Ending) → slice_get keys number ≡ Some ending → shown ≡ ending =
     λ ending is. c.index-as_slice-number.is ∙ ap (λ (es : List Ending). get_or es number shown) c.as_slice.ensures.keys
     ∙ get_or_from_slice_get keys number ending shown is in

@@ -24,7 +24,8 @@ returns-clause-text c =
     let lines_are : c.as_str-lines.result.now ≡ lines =
     c.as_str-lines.ensures.value ∙ ap string_bytes c.index-texts-place.is ∙ sym (text_in texts place shown within) in
     let is_text : List ℕ → ℕ → Type 0 =
-    λ shown_lines number. IsTextWith (IsHistorySeen script watch) (ReplaysSeen script watch) keys place shown_lines number added in
+    λ shown_lines number.
+    IsTextWith (IsHistorySeen script watch) (ReplaysSeen script watch) keys place shown_lines number added in
     let told : IsSeenText script watch keys (map string_bytes texts) lines place added =
     subst (λ (n : ℕ). is_text lines n) c.requires.counts
     (subst (λ (l : List ℕ). is_text l c.args.number) lines_are c.in_ok-add_seen.ensures.2) in (

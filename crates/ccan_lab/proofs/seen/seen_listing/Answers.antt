@@ -30,7 +30,8 @@ returns c =
       outcomes = added;
       are = subst (λ told. is_told told added) texts_are are;
       text_is = subst (λ texts. string_bytes text ≡ seen_heading (first_count texts count) states ++ added) texts_are
-          (told ∙ ap (λ (t : List ℕ). t ++ c.as_str.result.now) headed ∙ ap (λ (t : List ℕ). seen_heading c.in_ok-apart.apart states ++ t) firsts
+          (told ∙ ap (λ (t : List ℕ). t ++ c.as_str.result.now) headed
+          ∙ ap (λ (t : List ℕ). seen_heading c.in_ok-apart.apart states ++ t) firsts
           ∙ ap (λ (n : ℕ). seen_heading n states ++ added) apart);
     })
     c.below_heading.ensures
