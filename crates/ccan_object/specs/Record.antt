@@ -1,5 +1,7 @@
 -- The record of a message object. Source: C_CAN User's Manual 1.2, section 3.3.4 (Message Object in the Message Memory);
--- that a record opens as zero is this project's own.
+-- that a record opens as zero is this project's own. What a reset leaves of it: the summary of registers there (the reset value of
+-- Transmission Request, New Data, Interrupt Pending and Message Valid is 0) and "Hardware Reset Description" (the data in the
+-- Message RAM is not affected).
 use Rattle.std.specs.Prelude.{◌≡◌, ◌≤◌, ◌<◌, ◌^◌, false, All, length, replicate}
 use Rattle.ccan_object.specs.declared.record.Record.{Record}
 
@@ -34,3 +36,7 @@ zero_record =
       dlc = 0;
       bytes = replicate 8 0;
     }
+
+-- after a hardware reset the object is not valid, has no new data, requests nothing and has no interrupt pending; all else stays
+abbrev pub reset_record : Record → Record
+reset_record r = record r { valid = false; newdat = false; intpnd = false; txrqst = false }

@@ -48,7 +48,7 @@ pub struct Record {
 }
 
 impl Record {
-    ghost use Rattle.ccan_object.specs.Record.{zero_record};
+    ghost use Rattle.ccan_object.specs.Record.{reset_record, zero_record};
     ghost use Rattle.ccan_object.specs.Register.{arbitration, masks, control};
 
     /// The record of an object that nobody has written.
@@ -74,6 +74,21 @@ impl Record {
             eob: false,
             dlc: DataLength::zero(),
             bytes: [0; 8],
+        }
+    }
+
+    /// The record as a hardware reset leaves it: MsgVal, NewDat, IntPnd and TxRqst are 0, and all else stays (User's Manual,
+    /// "Hardware Reset Description").
+    #[must_use]
+    pub fn reset(&self) -> Record
+        ensures { result ≡ reset_record self.now }
+    {
+        Record {
+            valid: false,
+            newdat: false,
+            intpnd: false,
+            txrqst: false,
+            ..*self
         }
     }
 
