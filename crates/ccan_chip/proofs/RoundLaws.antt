@@ -21,6 +21,7 @@ use Rattle.ccan_endless.proofs.ChipLaws.{levels_stay}
 use Rattle.ccan_endless.proofs.Onward.{goes_through}
 use Rattle.ccan_chip.specs.Laws.{RoundsFindTheirCounters}
 use Rattle.ccan_chip.specs.Round.{Notes}
+use Rattle.ccan_chip.proofs.Ports.{before_same}
 
 one_more : (own : Bool) (e : ControllerEvent) (xs ys : List ControllerEvent) (n : ℕ) → length ys ≡ length xs + n
     → length (cond own (e ∷ ys) ys) ≡ length (cond own (e ∷ xs) xs) + n
@@ -80,4 +81,7 @@ made_of (Some own) tries old new (Some (Err busy)) made h is = absurd cc
 pub rounds_find : RoundsFindTheirCounters
 rounds_find terms line tries old new past after told made port round is =
     let m = made_of told.own most_tries round.between new told.noted made round.notes is in
-    found_again old round.looked round.between new told.found _ made.before port round.looks round.rests m.1
+    let came = round.arrives in
+    let same = before_same old round.looked round.first told.found came in
+    found_again came.before round.looked round.between new told.found _ made.before (same.port ∙ port) came.looks.adds
+    round.rests m.1

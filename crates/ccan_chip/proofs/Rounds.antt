@@ -24,7 +24,8 @@ use Rattle.ccan_bus.specs.Load.{Loads}
 use Rattle.ccan_bus.specs.Past.{BusPast, hears_itself, is_on}
 use Rattle.ccan_bus.specs.Round.{refusal_of_round}
 use Rattle.ccan_bus.specs.RoundReport.{RunsOn, RunsSteps}
-use Rattle.ccan_chip.specs.Round.{as_found, loops_back, own_in, takes_part}
+use Rattle.ccan_chip.specs.Arrival.{may_take_part, takes_part}
+use Rattle.ccan_chip.specs.Round.{as_found, loops_back, own_in}
 use Rattle.ccan_chip.proofs.Owns.{decides_off, decides_on, stays}
 
 -- the past is as it was but for what is loaded
@@ -83,6 +84,10 @@ on_by : (events : List NodeEvent) (loops off : Bool) (past : BusPast) → is_off
 unfolding is_on events_with
 on_by events loops off past is = let there : nat_le 0 past.others ≡ true = grind (arith, nat_tests) in rw there (ap not is)
 
+first : (a b : Bool) → (a && b) ≡ true → a ≡ true
+first true b h = refl
+first false b h = absurd cc
+
 second : (a b : Bool) → (a && b) ≡ true → b ≡ true
 second true b h = h
 second false b h = absurd cc
@@ -95,7 +100,8 @@ found_by : (c : Controller) (events : List NodeEvent) (past : BusPast) → AreAf
     → (takes : Bool) → takes_part c ≡ takes → is_on (as_found c events past) 0 ≡ takes
 found_by c events past after true is =
     let off : is_off (levels_after_all true events) ≡ false =
-    ap is_off (sym (listed_levels true events c.counters after)) ∙ not_off _ (second (not c.control.init) _ is) in
+    ap is_off (sym (listed_levels true events c.counters after))
+    ∙ not_off _ (second (not c.control.init) _ (first (may_take_part c) _ is)) in
     rw is (on_by events (loops_back c) false past off)
 found_by c events past after false is =
     rw is (still_on (with_controller faults_to_off false past) None ∙ on_by faults_to_off false true past off_levels)

@@ -1,3 +1,4 @@
+pub mod Arrival
 pub mod Round
 pub mod Load
 pub mod Laws

@@ -1,7 +1,7 @@
 -- Rounds of a chip whose controller's registers stand beside its objects, where any port may change them at any time. Source:
 -- C_CAN User's Manual 1.2, "CAN Control Register" (Init), "Test Register" (LBack) and section 4.2 (message handling). That a
--- round looks at the controller once, before all else, and makes its event there after the memory steps, is this project's own.
-use Rattle.std.specs.Prelude.{ℕ, ◌≡◌, ◌==◌, Bool, false, ◌&&◌, not, List, ◌++◌, Option, Some, None, Result, Ok, Err, if◌then◌else◌}
+-- round looks at the controller before all else, and makes its event there after the memory steps, is (own).
+use Rattle.std.specs.Prelude.{ℕ, ◌≡◌, ◌==◌, Bool, false, ◌&&◌, List, ◌++◌, Option, Some, None, Result, if◌then◌else◌}
 use Rattle.ccan_ram.specs.declared.event.Event.{Event}
 use Rattle.ccan_ram.specs.SharedRam.{CanSee}
 use Rattle.ccan_ram.specs.Terms.{Terms}
@@ -14,7 +14,7 @@ use Rattle.ccan_confine.specs.declared.status_event.StatusEvent.{StatusEvent}
 use Rattle.ccan_confine.specs.declared.status_event.StatusEvent.TheVariants as status
 use Rattle.ccan_confine.specs.Controller.{controller_after}
 use Rattle.ccan_confine.specs.ControllerLaws.{node_events}
-use Rattle.ccan_confine.specs.Counters.{NodeEvent, faults_to_off, is_off}
+use Rattle.ccan_confine.specs.Counters.{NodeEvent, faults_to_off}
 use Rattle.ccan_bus.specs.declared.decision.Decision.{Decision}
 use Rattle.ccan_bus.specs.declared.decision.Decision.TheVariants as decision
 use Rattle.ccan_bus.specs.declared.round_line.RoundLine.{RoundLine}
@@ -23,17 +23,14 @@ use Rattle.ccan_bus.specs.declared.bus.Bus.{Bus}
 use Rattle.ccan_bus.specs.Bus.{GoesOn}
 use Rattle.ccan_bus.specs.Past.{BusPast, recovers}
 use Rattle.ccan_bus.specs.RoundReport.{RunsSteps}
-use Rattle.ccan_endless.specs.declared.chip.ControllerStep.TheVariants.{Look, Make}
+use Rattle.ccan_endless.specs.declared.chip.ControllerStep.TheVariants.{Make}
 use Rattle.ccan_endless.specs.declared.controller_changed.ControllerChanged.{ControllerChanged}
 use Rattle.ccan_endless.specs.declared.controller_changed.ControllerBusy.{ControllerBusy}
 use Rattle.ccan_endless.specs.Chip.{ChipHistory, controller_at}
 use Rattle.ccan_endless.specs.ChipLaws.{changes_in}
 use Rattle.ccan_endless.specs.ChipPort.{AddsController, AddsNoEvent, AddsNone, ChipPass, HasChanges}
+use Rattle.ccan_chip.specs.Arrival.{Arrives, IsMade, left_behind, takes_part, unloaded}
 use Rattle.ccan_chip.specs.declared.chip_report.ChipReport.{ChipReport}
-
--- the controller takes part in what is on the bus: its software initialization is over, and it is not bus off
-abbrev pub takes_part : Controller → Bool
-takes_part c = not c.control.init && not (is_off c.counters.levels)
 
 -- loop back mode: LBack of the Test register counts where Test of the Control register is 1
 abbrev pub loops_back : Controller → Bool
@@ -44,7 +41,7 @@ loops_back c = c.control.test && c.test.lback
 abbrev pub as_found : Controller → List NodeEvent → BusPast → BusPast
 as_found c events past =
     if takes_part c then with_controller events (loops_back c) past
-    else record (with_controller faults_to_off false past) { loaded = None }
+    else unloaded (with_controller faults_to_off false past)
 
 -- what the controller's error counters went through
 abbrev pub events_in : ChipHistory → List NodeEvent
@@ -75,40 +72,30 @@ abbrev pub own_in : Bool → Option Decision → ℕ → Option (BusEvent × Sta
 own_in takes None lec = None
 own_in takes (Some decided) lec = if takes then own_of decided lec else None
 
--- the round's event is made at the controller as it is then, or each try was lost to a change of another port; no step is made at
--- an object
-abbrev pub IsNoted : (BusEvent × StatusEvent) → ℕ → ChipPass → ChipPass → Result ControllerChanged ControllerBusy → Type 0
-IsNoted own tries old new (Ok made) =
-    AddsController old new (Make (Frame own.0 own.1)) made.before
-    × (made.after ≡ controller_after (Frame own.0 own.1) made.before)
-    × AddsNoEvent old new
-IsNoted own tries old new (Err busy) =
-    AddsNone old new × HasChanges tries old.whole new.whole × (busy.tries ≡ tries)
-    × (busy.controller ≡ controller_at new.whole) × AddsNoEvent old new
-
 -- the end of a round at the controller: its event, if it has one
 abbrev pub Notes : Option (BusEvent × StatusEvent) → ℕ → ChipPass → ChipPass → Option (Result ControllerChanged ControllerBusy)
     → Type 0
 Notes None tries old new told = AddsNone old new × (told ≡ None) × AddsNoEvent old new
 Notes (Some own) tries old new None = ⊥
-Notes (Some own) tries old new (Some outcome) = IsNoted own tries old new outcome
+Notes (Some own) tries old new (Some outcome) = IsMade (Frame own.0 own.1) tries old new outcome
 
--- A round: a look at the controller; then a load, a decision and the memory steps that are due, as the bus is with that
--- controller; and last what all this was to the controller, as one change of it. Between, its port makes no other step there.
--- What was on the bus can't be played again, so this change has as many tries as one may have, however few the steps have.
+-- A round: the port comes to the bus, and what was loaded is dropped where the controller has left it; then a load, a decision and
+-- the memory steps that are due, as the bus is with the controller that was found; and last what all this was to the controller, as
+-- one change of it. Between, its port makes no other step there. What was on the bus can't be played again, so this change has as
+-- many tries as one may have, however few the steps have.
 pub record ChipRound (terms : Terms) (line : RoundLine) (tries : ℕ) (old new : ChipPass) (past after : BusPast)
     (told : ChipReport) : Type 0 where
   pub looked : ChipPass
-  pub looks : AddsController old looked Look told.found
-  pub quiet : AddsNoEvent old looked
+  pub first : Controller
+  pub arrives : Arrives old looked first told.found
   pub between : ChipPass
   pub rests : AddsNone looked between
   pub sees : CanSee between.pass
   pub added : List Event
   pub adds : between.pass.seen ≡ added ++ looked.pass.seen
-  pub runs : RunsSteps terms line tries looked.pass.seen added (as_found told.found (events_in looked.whole) past) after
+  pub runs : RunsSteps terms line tries looked.pass.seen added (as_found told.found (events_in looked.whole) (left_behind first past)) after
       told.report
-  pub own : WasTo told.own (as_found told.found (events_in looked.whole) past) after
+  pub own : WasTo told.own (as_found told.found (events_in looked.whole) (left_behind first past)) after
   pub notes : Notes told.own most_tries between new told.noted
 
 -- groups of recessive bits: one change of the controller, and every other node has them

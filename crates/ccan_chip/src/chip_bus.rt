@@ -2,7 +2,6 @@ ghost use Rattle.std.specs.Prelude.{◌≡◌, ◌≤◌, true, false, List, Non
 ghost use Rattle.ccan_ram.specs.declared.port.PortName.{PortName};
 ghost use Rattle.ccan_ram.specs.declared.port.PortName.TheVariants.{Bus as BusPort};
 ghost use Rattle.ccan_ram.specs.SharedRam.{CanSee, passes_of, terms_of};
-ghost use Rattle.ccan_ram.specs.Tries.{most_tries};
 ghost use Rattle.ccan_confine.specs.Counters.{AreAfter, NodeEvent};
 ghost use Rattle.ccan_bus.specs.Bus.{GoesOnWith, IsSameBus, LedTo};
 ghost use Rattle.ccan_bus.specs.Load.{Loads};
@@ -11,13 +10,15 @@ ghost use Rattle.ccan_bus.specs.RoundReport.{RunsSteps};
 ghost use Rattle.ccan_endless.specs.ChipPort.{AddsNone, SeesOne};
 ghost use Rattle.ccan_endless.specs.Layout.{same_object};
 ghost use Rattle.ccan_chip.specs.Load.{ChipLoad};
-ghost use Rattle.ccan_chip.specs.Round.{ChipRound, IsRecessive, IsRecessiveLost, as_found, loops_back, takes_part};
+ghost use Rattle.ccan_chip.specs.Arrival.{left_behind, takes_part, unloaded};
+ghost use Rattle.ccan_chip.specs.Round.{ChipRound, IsRecessive, IsRecessiveLost, as_found, loops_back};
 
+use crate::arrival::{arrive, own_tries, takes_part};
 use crate::chip_report::ChipReport;
 use crate::objects::{Earlier, Objects};
 use crate::own_event::own_in;
 use ccan_bus::{Bus, LoadAnswer, RoundLine, RoundReport};
-use ccan_confine::{Controller, ControllerChange, Counters, NodeState};
+use ccan_confine::{Controller, ControllerChange, Counters};
 use ccan_endless::{ControllerBusy, ControllerChanged, EndlessRam, Port};
 use ccan_object::{ObjectNo, Profile, Record};
 use ccan_ram::Tries;
@@ -30,32 +31,11 @@ pub struct ChipBus {
     bus: Bus,
 }
 
-/// Whether a controller takes part in what is on the bus: Init is 0, and it is not bus off.
-fn takes_part(controller: &Controller) -> bool
-    ensures { result ≡ takes_part controller.now }
-{
-    !controller.control.init && !matches!(controller.counters.state(), NodeState::Off)
-}
-
-/// Whether it is in loop back mode: Test of the Control register and LBack of the Test register are 1.
+/// Whether a controller is in loop back mode: Test of the Control register and LBack of the Test register are 1.
 fn loops_back(controller: &Controller) -> bool
     ensures { result ≡ loops_back controller.now }
 {
     controller.control.test && controller.test.lback
-}
-
-/// How often the event of a round is tried at the controller: as often as a change may be, since the round is over, and can't be
-/// played again.
-const EVENT_TRIES: u16 = 1000;
-
-/// The tries of a round's event.
-fn event_tries() -> Tries
-    ensures { result ≡ most_tries }
-{
-    match Tries::new(EVENT_TRIES) {
-        Some(tries) => tries,
-        None => unreachable!(),
-    }
 }
 
 /// The steps of a round that are made at the objects.
@@ -138,6 +118,26 @@ impl ChipBus {
         self.bus.loaded()
     }
 
+    /// Drops what is loaded, as a reset does. Its object stays requested, so that a later load may start it anew.
+    pub fn unload(&mut self)
+        ensures same { IsSameBus self.old.bus self.new.bus }
+        ensures drops { (past : BusPast) → LedTo past self.old.bus
+            → LedTo (unloaded past) self.new.bus }
+    {
+        self.bus.unload();
+    }
+
+    /// Drops what is loaded where the controller has left the bus.
+    fn leave_behind(&mut self, first: &Controller)
+        ensures same { IsSameBus self.old.bus self.new.bus }
+        ensures drops { (past : BusPast) → LedTo past self.old.bus
+            → LedTo (left_behind first.now past) self.new.bus }
+    {
+        if first.has_left {
+            self.unload();
+        }
+    }
+
     /// Takes the controller that a look found.
     fn take(&mut self, found: &Controller)
         ensures same { IsSameBus self.old.bus self.new.bus }
@@ -153,8 +153,10 @@ impl ChipBus {
         }
     }
 
-    /// Chooses and starts an object, where nothing is loaded. The controller takes part as its registers are at the first look;
-    /// where it takes none, nothing is loaded afterwards. The answer comes with the controller that the look found.
+    /// Chooses and starts an object, where nothing is loaded. What was loaded is dropped first where the controller has left the
+    /// bus since: where Init was 1, be it but for a moment, or it was reset or went off. The controller takes part as its
+    /// registers are at the last look; where it takes none, nothing is loaded afterwards. The answer comes with the controller
+    /// that this look found.
     pub fn load(
         &mut self,
         ram: &EndlessRam,
@@ -174,13 +176,15 @@ impl ChipBus {
             × ChipLoad (terms_of same_object port.pass.memory BusPort) tries
             port result.2 past after result.0 result.1 }
     {
-        let controller = ram.look_controller(&mut port);
+        let (first, controller) = arrive(ram, &mut port);
+        self.leave_behind(&first);
         self.take(&controller);
         let (answer, port) = load_over::<Brand>(&mut self.bus, ram, port, tries);
         (controller, answer, port)
     }
 
-    /// A round. The controller takes part as its registers are at the first look; what the round was to it is made there last,
+    /// A round. What was loaded is dropped first where the controller has left the bus since. The controller takes part as its
+    /// registers are at the look before all steps at objects; what the round was to it is made there last,
     /// so that whoever is woken by it finds the object done, unless the step that is due there was refused. It is tried 1,000
     /// times, however few tries the other steps have.
     pub fn round(
@@ -204,7 +208,8 @@ impl ChipBus {
             × ChipRound (terms_of same_object port.pass.memory BusPort) line.now tries
             port result.1 past after result.0 }
     {
-        let found = ram.look_controller(&mut port);
+        let (first, found) = arrive(ram, &mut port);
+        self.leave_behind(&first);
         self.take(&found);
         let (report, mut port) = steps::<Brand>(&mut self.bus, ram, port, line, tries);
         let own = own_in(takes_part(&found), &report.decision, self.bus.last_error());
@@ -212,7 +217,7 @@ impl ChipBus {
             None => None,
             Some((event, status)) => {
                 let change = ControllerChange::Frame(event, status);
-                Some(ram.change_controller(&mut port, &change, event_tries()))
+                Some(ram.change_controller(&mut port, &change, own_tries()))
             }
         };
         (

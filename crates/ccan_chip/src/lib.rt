@@ -23,6 +23,7 @@
 //! and the event, in that order, and no other step of the bus at the controller between (`specs/Round.antt`).
 #![tactic(auto)]
 
+mod arrival;
 mod chip_bus;
 mod chip_report;
 pub mod laws;

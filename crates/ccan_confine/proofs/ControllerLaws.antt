@@ -1,7 +1,8 @@
 -- The laws of the controller's registers.
-use Rattle.std.proofs.Common.{◌≡◌, ℕ, ◌+◌, Bool, true, false, ◌&&◌, ◌||◌, not, cond, nat_le, List, [], ◌∷◌, refl, sym}
+use Rattle.std.proofs.Common.{◌≡◌, ℕ, ◌+◌, Bool, true, false, ◌&&◌, ◌||◌, not, cond, nat_le, List, [], ◌∷◌, ◌++◌, refl, sym}
+use Rattle.std.specs.List.{list_any}
 use Rattle.std.proofs.Common.{ap, ◌∙◌, inl, inr, Some, None, unwrap_or}
-use Rattle.std.proofs.lemmas.Bool.{or_right, and_from}
+use Rattle.std.proofs.lemmas.Bool.{or_left, or_right, or_parts, and_from}
 use Rattle.std.proofs.lemmas.Bool.Decides.{leb_tells}
 use Rattle.ccan_confine.specs.declared.controller.Controller.{Controller}
 use Rattle.ccan_confine.specs.declared.controller_change.ControllerChange.{ControllerChange}
@@ -11,10 +12,10 @@ use Rattle.ccan_confine.specs.StatusEvent.{is_sent, is_received}
 use Rattle.ccan_confine.specs.Counters.{Counts, Levels, NodeEvent, Groups, ClearInit, AreAfter, AddsEvent, counts_after}
 use Rattle.ccan_confine.specs.Counters.{counts_cleared, is_recovering, new_counts, is_off}
 use Rattle.ccan_confine.specs.RegisterWords.{control_with}
-use Rattle.ccan_confine.specs.Controller.{controller_after, counts_grouped, clears_init_of, is_handlers}
+use Rattle.ccan_confine.specs.Controller.{changed_by, controller_after, counts_grouped, clears_init_of, is_handlers}
 use Rattle.ccan_confine.specs.ControllerLaws.{controller_of, add_event, node_events, CountersAreAsDefined, HostsLeaveTheCounters}
 use Rattle.ccan_confine.specs.ControllerLaws.{GoingOffSetsInit, StatusReadsClear, MasksLoseNothing, FlagsAreGivenLast}
-use Rattle.ccan_confine.specs.ControllerLaws.{tx_ok_given, rx_ok_given, newest_given}
+use Rattle.ccan_confine.specs.ControllerLaws.{tx_ok_given, rx_ok_given, newest_given, is_joining, HasLeftUntilJoining}
 use Rattle.ccan_confine.proofs.Calls.{listed_after, listed_clear, listed_ignored, listed_counted, listed_back, adds_result}
 use Rattle.ccan_confine.proofs.Steps.{counts-none}
 
@@ -66,6 +67,7 @@ change_adds (change.WriteTest test) c events e = e
 change_adds (change.WriteBitTiming word) c events e = e
 change_adds (change.WriteExtension word) c events e = e
 change_adds change.Reset c events e = sym (counts-none true)
+change_adds change.Join c events e = e
 
 pub counters_defined : CountersAreAsDefined
 unfolding controller_of node_events
@@ -91,6 +93,7 @@ hosts_leave (change.WriteTest test) c host = refl
 hosts_leave (change.WriteBitTiming word) c host = refl
 hosts_leave (change.WriteExtension word) c host = refl
 hosts_leave change.Reset c host = absurd cc
+hosts_leave change.Join c host = absurd cc
 
 -- Init after new counters
 init_with : (init before after : Bool) → before ≡ false → after ≡ true → (init || (not before && after)) ≡ true
@@ -117,6 +120,37 @@ off_sets_init (change.WriteTest test) c on off = stays (change.WriteTest test) c
 off_sets_init (change.WriteBitTiming word) c on off = stays (change.WriteBitTiming word) c refl on off
 off_sets_init (change.WriteExtension word) c on off = stays (change.WriteExtension word) c refl on off
 off_sets_init change.Reset c on off = refl
+off_sets_init change.Join c on off = let both : false ≡ true = sym on ∙ off in absurd cc
+
+-- a step that is no joining leaves a controller that has left as one
+still_left : (z : ControllerChange) (c : Controller) → is_joining z ≡ false → c.has_left ≡ true
+    → (controller_after z c).has_left ≡ true
+still_left (change.Frame event noted) c other left = or_left c.has_left _ left
+still_left (change.Recessive n) c other left = or_left c.has_left _ left
+still_left change.ReadStatus c other left = or_left c.has_left _ left
+still_left change.ReadAndClearStatus c other left = or_left c.has_left _ left
+still_left (change.WriteStatus flags) c other left = or_left c.has_left _ left
+still_left (change.WriteControl control) c other left = or_left c.has_left _ left
+still_left (change.WriteControlBits which to) c other left = or_left c.has_left _ left
+still_left (change.WriteTest test) c other left = or_left c.has_left _ left
+still_left (change.WriteBitTiming word) c other left = or_left c.has_left _ left
+still_left (change.WriteExtension word) c other left = or_left c.has_left _ left
+still_left change.Reset c other left = refl
+still_left change.Join c other left = absurd cc
+
+-- Init is 1 only where the controller has left
+init_left : (changes : List ControllerChange) → (controller_of changes).control.init ≡ true
+    → (controller_of changes).has_left ≡ true
+unfolding controller_of
+init_left [] on = absurd cc
+init_left (z ∷ earlier) on = or_right (changed_by z (controller_of earlier)).has_left _ on
+
+pub left_until_joining : HasLeftUntilJoining
+unfolding controller_of
+left_until_joining [] earlier on none = init_left earlier on
+left_until_joining (z ∷ later) earlier on none =
+    let parts = or_parts (is_joining z) (list_any is_joining later) none in
+    still_left z (controller_of (later ++ earlier)) parts.0 (left_until_joining later earlier on parts.1)
 
 masked : (a b : Bool) → ((a && false) || (b && false)) ≡ false
 masked true true = refl
@@ -139,6 +173,7 @@ masks_keep (change.WriteTest test) c control = (refl, refl)
 masks_keep (change.WriteBitTiming word) c control = (refl, refl)
 masks_keep (change.WriteExtension word) c control = (refl, refl)
 masks_keep change.Reset c control = (refl, refl)
+masks_keep change.Join c control = (refl, refl)
 
 -- a flag that is set or stays
 set_by : (b before : Bool) → (before || b) ≡ unwrap_or (cond b (Some true) None) before
@@ -171,6 +206,7 @@ tx_step (change.WriteTest test) c = refl
 tx_step (change.WriteBitTiming word) c = refl
 tx_step (change.WriteExtension word) c = refl
 tx_step change.Reset c = refl
+tx_step change.Join c = refl
 
 rx_step : (z : ControllerChange) (c : Controller) → (controller_after z c).status.rx_ok ≡ unwrap_or (rx_ok_given z) c.status.rx_ok
 rx_step (change.Frame event noted) c = set_by (is_received noted) c.status.rx_ok
@@ -184,6 +220,7 @@ rx_step (change.WriteTest test) c = refl
 rx_step (change.WriteBitTiming word) c = refl
 rx_step (change.WriteExtension word) c = refl
 rx_step change.Reset c = refl
+rx_step change.Join c = refl
 
 pub given_last : FlagsAreGivenLast
 unfolding controller_of newest_given

@@ -1,5 +1,5 @@
 -- A controller is read back from its word.
-use Rattle.std.proofs.Common.{ℕ, ◌≡◌, ◌≤◌, ◌<◌, ◌+◌, ◌^◌, ◌/◌, Bool, true, refl, sym, ap, ◌∙◌, arith, min}
+use Rattle.std.proofs.Common.{ℕ, ◌≡◌, ◌≤◌, ◌<◌, ◌+◌, ◌^◌, Bool, true, refl, sym, ap, ◌∙◌, arith, min}
 use Rattle.std.specs.Int.{bit_at}
 use Rattle.ccan_confine.specs.declared.controller.Controller.{Controller}
 use Rattle.ccan_confine.specs.Bits.{bit, part, flag}
@@ -48,8 +48,14 @@ module _ (c : Controller) (w : ℕ) (is : IsController c) (word : packed c ≡ w
   high : flags_part w ≡ packed_flags c
   high = omega (arith, word, small, few)
 
-  timing : w / 2 ^ 42 ≡ packed_timing c
-  timing = omega (arith, word, small, few)
+  timely : packed_timing c < 2 ^ 19
+  timely = omega (arith, is.register, is.extension)
+
+  timing : part w 42 19 ≡ packed_timing c
+  timing = omega (arith, word, small, few, timely)
+
+  left_is : bit w 61 ≡ c.has_left
+  left_is = bit-flag w 61 c.has_left (let most = flag-le c.has_left in omega (arith, word, small, few, timely))
 
   register_is : register_in (part w 42 15) ≡ c.timing.register
   register_is = omega (arith, timing, is.register)
@@ -140,6 +146,7 @@ module _ (c : Controller) (w : ℕ) (is : IsController c) (word : packed c ≡ w
         level_pending = b3 i;
         test = record { basic = b12 i; silent = b13 i; lback = b14 i };
         timing = record { register = register_is i; extension = extension_is i };
+        has_left = left_is i;
       }
 
 -- a word tells its controller
@@ -196,3 +203,4 @@ host_after (change.WriteTest test) c is = is
 host_after (change.WriteBitTiming word) c is = is
 host_after (change.WriteExtension word) c is = is
 host_after change.Reset c is = refl
+host_after change.Join c is = is

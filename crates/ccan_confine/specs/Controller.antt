@@ -1,8 +1,9 @@
 -- The registers of a controller at one moment, what each step makes of them, and the word that they pack to. Source: C_CAN
 -- User's Manual 1.2, "CAN Control Register", "Status Register", "Error Counter", "Bit Timing Register", "BRP Extension
--- Register", "Test Register" and "Hardware Reset Description". That a status interrupt is raised whatever SIE and EIE say, and
--- the packed word, are this project's own. The clearing read: Texas
--- Instruments, AM335x Technical Reference Manual, D_CAN's "Error and Status Register".
+-- Register", "Test Register" and "Hardware Reset Description". (own): a status interrupt is raised whatever SIE and EIE say; groups
+-- of recessive bits count on the way back from bus off also while Init is 1 again; that a controller has left the bus is
+-- remembered until the message handler joins anew; and the packed word. The clearing read: Texas Instruments, AM335x Technical
+-- Reference Manual, D_CAN's "Error and Status Register".
 use Rattle.std.specs.Prelude.{ℕ, ◌≡◌, ◌+◌, ◌<◌, ◌≤◌, Bool, true, false, ◌&&◌, ◌||◌, not, nat_le, min, ◌^◌, if◌then◌else◌}
 use Rattle.ccan_confine.specs.declared.status_event.StatusEvent.{StatusEvent}
 use Rattle.ccan_confine.specs.declared.status_event.StatusEvent.TheVariants.{Recovery, Level}
@@ -88,41 +89,53 @@ new_controller =
       level_pending = false;
       test = no_test;
       timing = no_timing;
+      has_left = false;
     }
 
--- as a hardware reset leaves it: Init is 1, and the Bit Timing register has its value of that
-abbrev pub reset_controller : Controller
-reset_controller = record new_controller { control = record no_control { init = true }; timing = reset_timing }
+-- A controller has left the bus where Init is 1, be it but for a moment: setting Init stops all transfer of messages.
+abbrev pub leaving : Controller → Controller
+leaving c = record c { has_left = c.has_left || c.control.init }
 
--- what a step makes of a controller
-abbrev pub controller_after : ControllerChange → Controller → Controller
-controller_after (change.Frame event noted) c = counted noted (counts_after event c.counters) c
-controller_after (change.Recessive groups) c = counted (recovery_of groups c.counters) (counts_grouped groups c.counters) c
-controller_after change.ReadStatus c = record c { transfer_pending = false; level_pending = false }
-controller_after change.ReadAndClearStatus c =
+-- as a hardware reset leaves it: Init is 1, so it has left the bus, and the Bit Timing register has its value of that
+abbrev pub reset_controller : Controller
+reset_controller =
+    record new_controller { control = record no_control { init = true }; timing = reset_timing; has_left = true }
+
+-- what a step makes of its registers
+abbrev pub changed_by : ControllerChange → Controller → Controller
+changed_by (change.Frame event noted) c = counted noted (counts_after event c.counters) c
+changed_by (change.Recessive groups) c = counted (recovery_of groups c.counters) (counts_grouped groups c.counters) c
+changed_by change.ReadStatus c = record c { transfer_pending = false; level_pending = false }
+changed_by change.ReadAndClearStatus c =
     record c {
       status = record { tx_ok = false; rx_ok = false; lec = 7 };
       transfer_pending = false;
       level_pending = false;
     }
-controller_after (change.WriteStatus flags) c = record c { status = flags }
-controller_after (change.WriteControl control) c = controlled control c
-controller_after (change.WriteControlBits which to) c = controlled (control_with which to c.control) c
-controller_after (change.WriteTest test) c = record c { test = (if c.control.test then test else c.test) }
-controller_after (change.WriteBitTiming word) c = timed (timing_of word c.timing.extension) c
-controller_after (change.WriteExtension word) c = timed (timing_of c.timing.register word) c
-controller_after change.Reset c = reset_controller
+changed_by (change.WriteStatus flags) c = record c { status = flags }
+changed_by (change.WriteControl control) c = controlled control c
+changed_by (change.WriteControlBits which to) c = controlled (control_with which to c.control) c
+changed_by (change.WriteTest test) c = record c { test = (if c.control.test then test else c.test) }
+changed_by (change.WriteBitTiming word) c = timed (timing_of word c.timing.extension) c
+changed_by (change.WriteExtension word) c = timed (timing_of c.timing.register word) c
+changed_by change.Reset c = reset_controller
+changed_by change.Join c = record c { has_left = false }
+
+-- what a step makes of a controller: the message handler joins the bus, or the controller leaves it where Init is then 1
+abbrev pub controller_after : ControllerChange → Controller → Controller
+controller_after change c = leaving (changed_by change c)
 
 -- the event has a code that the register can show
 abbrev pub CanMake : ControllerChange → Type 0
 CanMake (change.Frame event noted) = HasFaultCode noted
 CanMake _ = Unit {0}
 
--- the ends of frames, the groups of recessive bits and a reset are the message handler's side's, all else is a host's
+-- the ends of frames, the groups of recessive bits, a reset and a joining are the message handler's side's, all else is a host's
 abbrev pub is_handlers : ControllerChange → Bool
 is_handlers (change.Frame event noted) = true
 is_handlers (change.Recessive groups) = true
 is_handlers change.Reset = true
+is_handlers change.Join = true
 is_handlers _ = false
 
 -- the Interrupt register shows a status interrupt: one that was raised, and is not masked
@@ -133,7 +146,7 @@ shows_interrupt c = (c.control.sie && c.transfer_pending) || (c.control.eie && c
 abbrev pub status_word : Controller → ℕ
 status_word c = word_of c.status.tx_ok c.status.rx_ok c.status.lec c.counters.levels
 
--- it is a controller, and its numbers are in their ranges
+-- it is a controller, its numbers are in their ranges, and where Init is 1 it has left the bus
 pub record IsController (c : Controller) : Type 0 where
   pub host : c.counters.host ≡ true
   pub tec : c.counters.levels.tec < off_limit + send_fault_step
@@ -142,6 +155,7 @@ pub record IsController (c : Controller) : Type 0 where
   pub lec : c.status.lec ≤ highest_code
   pub register : c.timing.register < 2 ^ register_bits
   pub extension : c.timing.extension < 2 ^ extension_bits
+  pub out : c.control.init ≡ true → c.has_left ≡ true
 
 -- REC at bits 0 to 7, TEC at 8 to 16, the groups at 17 to 23, LEC at 24 to 26
 abbrev pub packed_numbers : Controller → ℕ
@@ -160,9 +174,13 @@ packed_flags c =
 abbrev pub packed_timing : Controller → ℕ
 packed_timing c = at 15 c.timing.extension + c.timing.register
 
+-- at bit 61 that it has left the bus
+abbrev pub packed_left : Controller → ℕ
+packed_left c = at 61 (flag c.has_left)
+
 -- the word
 abbrev pub packed : Controller → ℕ
-packed c = at 42 (packed_timing c) + at 27 (packed_flags c) + packed_numbers c
+packed c = packed_left c + at 42 (packed_timing c) + at 27 (packed_flags c) + packed_numbers c
 
 -- the flags in a word
 abbrev pub flags_part : ℕ → ℕ
@@ -200,4 +218,5 @@ unpacked word =
             lback = bit (flags_part word) 14;
           };
       timing = timing_of (part word 42 15) (part word 57 4);
+      has_left = bit word 61;
     }

@@ -1,6 +1,7 @@
 -- Laws of the controller's registers over every list of changes, the newest first. Source: C_CAN User's Manual 1.2, "CAN
 -- Control Register", "Status Register" and "Interrupt Register"; CAN Specification 2.0, "Fault Confinement".
-use Rattle.std.specs.Prelude.{◌≡◌, Bool, true, false, Option, Some, None, unwrap_or, List, [], ◌∷◌, if◌then◌else◌}
+use Rattle.std.specs.Prelude.{◌≡◌, Bool, true, false, Option, Some, None, unwrap_or, List, [], ◌∷◌, ◌++◌, if◌then◌else◌}
+use Rattle.std.specs.List.{list_any}
 use Rattle.ccan_confine.specs.declared.controller.Controller.{Controller}
 use Rattle.ccan_confine.specs.declared.control_register.ControlRegister.{ControlRegister}
 use Rattle.ccan_confine.specs.declared.controller_change.ControllerChange.{ControllerChange}
@@ -50,6 +51,17 @@ abbrev pub GoingOffSetsInit : Type 0
 GoingOffSetsInit =
     (z : ControllerChange) (c : Controller) → is_off c.counters.levels ≡ false
     → is_off (controller_after z c).counters.levels ≡ true → (controller_after z c).control.init ≡ true
+
+-- a joining of the message handler
+abbrev pub is_joining : ControllerChange → Bool
+is_joining change.Join = true
+is_joining _ = false
+
+-- from Init 1 on the controller has left the bus, whatever else changes, until the message handler joins
+abbrev pub HasLeftUntilJoining : Type 0
+HasLeftUntilJoining =
+    (later earlier : List ControllerChange) → (controller_of earlier).control.init ≡ true
+    → list_any is_joining later ≡ false → (controller_of (later ++ earlier)).has_left ≡ true
 
 -- after a read of the Status register no status interrupt is shown before the next change
 abbrev pub StatusReadsClear : Type 0

@@ -1,7 +1,8 @@
 ghost use Rattle.std.specs.Prelude.{◌≡◌, ◌<◌, ◌^◌, false};
 ghost use Rattle.ccan_confine.specs.declared.controller.Controller.{Controller};
 ghost use Rattle.ccan_confine.specs.StatusEvent.{HasFaultCode};
-ghost use Rattle.ccan_confine.specs.Controller.{CanMake, IsController, changes_level, controller_after, counted};
+ghost use Rattle.ccan_confine.specs.Controller.{CanMake, IsController, changed_by, changes_level, controller_after, counted};
+ghost use Rattle.ccan_confine.specs.Controller.{leaving};
 ghost use Rattle.ccan_confine.specs.Controller.{controlled, new_controller, packed, packed_flags, packed_numbers, packed_timing};
 ghost use Rattle.ccan_confine.specs.Controller.{recovery_of, reset_controller, shows_interrupt, status_word, timed, unpacked};
 ghost use Rattle.ccan_confine.specs.RegisterWords.{error_counter_word};
@@ -37,7 +38,8 @@ const BIT_TIMING_AT_RESET: u16 = 0x2301;
 /// | 31 | Init was cleared since it went off | 41 | LBack |
 /// | 32 | Init | 42 to 56 | Bit Timing |
 /// | | | 57 to 60 | BRP Extension |
-/// | | | 61 to 63 | 0 |
+/// | | | 61 | the controller has left the bus |
+/// | | | 62 and 63 | 0 |
 #[derive(Clone, Copy, Debug, PartialEq, Eq, Hash)]
 pub struct Controller {
     /// The error counters, with what the way back from bus off needs.
@@ -54,6 +56,9 @@ pub struct Controller {
     pub test: TestRegister,
     /// The Bit Timing and the BRP Extension register.
     pub timing: BitTiming,
+    /// The controller has left the bus: Init was 1 at some moment since the message handler joined last (own). So a frame
+    /// that was loaded before that moment is not sent after it.
+    pub has_left: bool,
 }
 
 impl Controller {
@@ -70,6 +75,7 @@ impl Controller {
             level_pending: false,
             test: TestRegister::default(),
             timing: BitTiming::new(0, 0),
+            has_left: false,
         }
     }
 
@@ -84,6 +90,7 @@ impl Controller {
         Controller {
             control,
             timing: BitTiming::new(BIT_TIMING_AT_RESET, 0),
+            has_left: true,
             ..Controller::new()
         }
     }
@@ -96,7 +103,7 @@ impl Controller {
         ensures changed { result ≡ controller_after change.now self }
         ensures is { IsController self → IsController result }
     {
-        let after = self.changed(change);
+        let after = self.changed(change).leaving();
         // What these answer is in its range.
         let _ = after.counters.numbers();
         let _ = after.status.lec();
@@ -138,13 +145,14 @@ impl Controller {
         (flag(rec >= u64::from(PASSIVE), 15) + ((rec % (1 << 7)) << 8) + tec.min(255)) as u16
     }
 
-    /// The registers in one word, below 2^61.
+    /// The registers in one word, below 2^62.
     #[inline(always)]
     pub fn pack(&self) -> u64
         ensures word { result ≡ packed self.now }
-        ensures small { result < 2 ^ 61 }
+        ensures small { result < 2 ^ 62 }
     {
-        (self.pack_timing() << 42) + (self.pack_flags() << 27) + self.pack_numbers()
+        let left = flag(self.has_left, 61);
+        left + (self.pack_timing() << 42) + (self.pack_flags() << 27) + self.pack_numbers()
     }
 
     /// The controller that packs to this word; some controller where none does.
@@ -228,13 +236,25 @@ impl Controller {
                 lback: bit(flags, 14),
             },
             timing: BitTiming::new(register, extension),
+            has_left: bit(word, 61),
+        }
+    }
+
+    // The controller, which has left the bus where Init is 1.
+    #[inline(always)]
+    fn leaving(self) -> Controller
+        ensures { result ≡ leaving self }
+    {
+        Controller {
+            has_left: self.has_left || self.control.init,
+            ..self
         }
     }
 
     #[inline(always)]
     fn changed(self, change: &ControllerChange) -> Controller
         requires { CanMake change.now }
-        ensures { result ≡ controller_after change.now self }
+        ensures { result ≡ changed_by change.now self }
     {
         match *change {
             ControllerChange::Frame(event, noted) => self.counted(
@@ -254,6 +274,10 @@ impl Controller {
             ControllerChange::WriteBitTiming(word) => self.timed(self.timing.with_register(word)),
             ControllerChange::WriteExtension(word) => self.timed(self.timing.with_extension(word)),
             ControllerChange::Reset => Controller::reset(),
+            ControllerChange::Join => Controller {
+                has_left: false,
+                ..self
+            },
         }
     }
 
@@ -280,7 +304,7 @@ impl Controller {
     // After groups of recessive bits.
     #[inline(always)]
     fn grouped(self, groups: u16) -> Controller
-        ensures { result ≡ controller_after (ControllerChange.Recessive groups) self }
+        ensures { result ≡ changed_by (ControllerChange.Recessive groups) self }
     {
         let event = recovery_of(groups, self.counters);
         self.counted(event, self.counters.recessive_groups(groups))

@@ -8,7 +8,7 @@ ghost use Rattle.ccan_confine.specs.Laws.{EnablingMakesNothingPending, GroupsCou
 ghost use Rattle.ccan_confine.specs.Laws.{NotBackBeforeTheGroups, NotBackBeforeTheGroupsAfterInit, OffNodesKeepTheirCounters};
 ghost use Rattle.ccan_confine.specs.Laws.{OnWithoutSendFaults, OnlySendFaultsLeadOff, OnlyTheFirstClearingCounts, ReadsClear};
 ghost use Rattle.ccan_confine.specs.ControllerLaws.{CountersAreAsDefined, FlagsAreGivenLast, GoingOffSetsInit};
-ghost use Rattle.ccan_confine.specs.ControllerLaws.{HostsLeaveTheCounters, MasksLoseNothing, OneWord, StatusReadsClear};
+ghost use Rattle.ccan_confine.specs.ControllerLaws.{HasLeftUntilJoining, HostsLeaveTheCounters, MasksLoseNothing, OneWord, StatusReadsClear};
 
 /// No counter leaves its range, and TEC of a node that is on is below 256.
 pub fn counters_are_bounded()
@@ -121,4 +121,10 @@ pub fn masks_lose_nothing()
 /// TxOk and RxOk are what the newest transfer, write, clearing read or reset made of them.
 pub fn flags_are_given_last()
     ensures { FlagsAreGivenLast }
+{}
+
+/// From the moment at which Init is 1 the controller has left the bus, whatever else changes, until the message handler joins it
+/// anew: also where Init is 0 again.
+pub fn has_left_until_joining()
+    ensures { HasLeftUntilJoining }
 {}

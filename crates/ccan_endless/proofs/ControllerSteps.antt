@@ -50,6 +50,7 @@ new_is = record {
   lec = lit≤ tt;
   register = lit< tt;
   extension = lit< tt;
+  out = λ on. absurd cc;
 }
 
 -- what a legal history leaves is a controller

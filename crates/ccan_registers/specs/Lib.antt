@@ -4,3 +4,4 @@ pub mod Objects
 pub mod InterfaceSet
 pub mod Register
 pub mod Rounds
+pub mod Resetting

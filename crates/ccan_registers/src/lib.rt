@@ -26,6 +26,7 @@ mod interface_set;
 mod objects;
 mod port_holder;
 mod registers;
+mod resetting;
 mod rounds;
 mod words;
 
@@ -37,5 +38,6 @@ pub use port_holder::PortHolder;
 pub use registers::{
     interrupt_value, line, read, read_at, read_status, write, write_at, write_controller,
 };
+pub use resetting::reset;
 pub use rounds::{load, recessive, round};
 pub use words::{read_word, write_word};

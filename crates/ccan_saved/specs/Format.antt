@@ -52,7 +52,7 @@ format_name = 0x657661736e616363
 
 -- word 1, at byte 8: the version of the format
 abbrev pub format_version : ℕ
-format_version = 1
+format_version = 2
 
 -- An interface, five words: what Command Request reads, the Command Mask register, and the message buffer as a record of three
 -- words. IF1 is at byte 56, IF2 at byte 96.

@@ -68,7 +68,7 @@ fn groups_of(controller: &Controller) -> u16 {
 }
 
 /// The changes, one after another, from a controller after its reset.
-pub(crate) fn plan(controller: &Controller) -> [Step; 16]
+pub(crate) fn plan(controller: &Controller) -> [Step; 17]
     ensures { All (λ step. MayMake Bus step.change) result }
 {
     let last = last_event(controller.counters);
@@ -114,6 +114,8 @@ pub(crate) fn plan(controller: &Controller) -> [Step; 16]
         // what a host can write at any time
         once(ControllerChange::WriteStatus(controller.status)),
         once(ControllerChange::WriteControl(controller.control)),
+        // a chip after its reset has left the bus
+        times(u16::from(!controller.has_left), ControllerChange::Join),
     ]
 }
 

@@ -20,7 +20,7 @@ use ccan_registers::InterfaceSet;
 /// The text `ccansave`, the first letter lowest.
 pub(crate) const NAME: u64 = 0x657661736e616363;
 /// The version of the format.
-pub(crate) const VERSION: u64 = 1;
+pub(crate) const VERSION: u64 = 2;
 /// How many words a saved chip has.
 pub(crate) const WORDS: usize = 209;
 /// How many of them stand before the objects.

@@ -5,12 +5,14 @@ use Rattle.ccan_ram.specs.declared.port.PortName.{PortName}
 use Rattle.ccan_ram.specs.SharedRam.{Memory, terms_of}
 use Rattle.ccan_ram.specs.Tries.{most_tries}
 use Rattle.ccan_confine.specs.declared.bus_event.BusEvent.{BusEvent}
+use Rattle.ccan_confine.specs.declared.controller_change.ControllerChange.TheVariants.{Frame}
 use Rattle.ccan_confine.specs.declared.status_event.StatusEvent.{StatusEvent}
 use Rattle.ccan_bus.specs.Controller.{WasTo}
 use Rattle.ccan_bus.specs.RoundReport.{RunsSteps}
 use Rattle.ccan_endless.specs.Layout.{same_object}
+use Rattle.ccan_chip.specs.Arrival.{left_behind}
 use Rattle.ccan_chip.specs.Round.{as_found, events_in}
-use Rattle.ccan_chip.proofs.Ports.{counters_found, no_event_yet, none_yet, noted_of, notes_some, one_after, sees_on}
+use Rattle.ccan_chip.proofs.Ports.{came_same, counters_found, is_made, no_event_yet, none_yet, notes_some, one_after, sees_on}
 use Rattle.ccan_chip.proofs.Rounds.{found_on, runs_to}
 use Rattle.ccan_chip.proofs.chip_bus.ChipBus.round.Goals.{in-None, in-Some}
 use Rattle.ccan_chip.proofs.chip_bus.ChipBus.round.Goals as goal
@@ -20,8 +22,8 @@ own_in-own-requires c = c.last_error.ensures.in_range
 
 pub returns-clause-sees : goal.returns-clause-sees
 returns-clause-sees c can =
-    let goes = c.steps-report.ensures.goes_on.each c.look_controller-found.new.port.pass.seen
-    (refl, c.look_controller-found.ensures.objects.sees) in
+    let goes = c.steps-report.ensures.goes_on.each c.arrive-first.new.port.pass.seen
+    (refl, c.arrive-first.ensures.arrives.looks.quiet.sees) in
     let between = sees_on c.steps-report.result.1.pass _ goes.1 in
     elim c.match-own.branch [
       | in-None w ↦ rw w.port-is between
@@ -40,35 +42,38 @@ returns-clause-one c =
 
 pub returns-clause-round : goal.returns-clause-round
 returns-clause-round c past led =
-    let looks = c.look_controller-found.ensures.looks in
-    let looked = c.look_controller-found.new.port in
-    let found = c.look_controller-found.result in
+    let came = c.arrive-first.ensures.arrives in
+    let looks = came.looks.adds in
+    let first = c.arrive-first.result.0 in
+    let same = came_same c.args.port c.arrive-first.new.port first c.arrive-first.result.1 came in
+    let looked = c.arrive-first.new.port in
+    let found = c.arrive-first.result.1 in
     let between = c.steps-report.result.1 in
     let report = c.steps-report.result.0 in
     let events = events_in looked.whole in
-    let counts = counters_found c.args.port looked found looks in
-    let there = c.take.ensures.takes past events led counts in
-    let goes = c.steps-report.ensures.goes_on.each looked.pass.seen (refl, c.look_controller-found.ensures.objects.sees) in
-    let ran = goes.2.each (as_found found events past) there in
+    let counts = counters_found came.before looked found looks in
+    let there = c.take.ensures.takes (left_behind first past) events (c.leave_behind.ensures.drops past led) counts in
+    let goes = c.steps-report.ensures.goes_on.each looked.pass.seen (refl, c.arrive-first.ensures.arrives.looks.quiet.sees) in
+    let ran = goes.2.each (as_found found events (left_behind first past)) there in
     let runs = subst (λ (u : Memory × PortName). RunsSteps (terms_of same_object u.0 u.1) c.args.line.now c.args.tries
-    looked.pass.seen goes.0 (as_found found events past) ran.0 report)
-    (λ i. (looks.same.memory i, (looks.same.port ∙ c.requires.bus) i)) ran.2 in
-    let was = runs_to _ c.args.line.now c.args.tries looked.pass.seen goes.0 (as_found found events past) ran.0 report
-    c.last_error.result (c.last_error.ensures.listed ran.0 ran.1) runs c.takes_part.result
-    (found_on found events past counts ∙ sym c.takes_part.ensures) in (
+    looked.pass.seen goes.0 (as_found found events (left_behind first past)) ran.0 report)
+    (λ i. (same.memory i, (same.port ∙ c.requires.bus) i)) ran.2 in
+    let was = runs_to _ c.args.line.now c.args.tries looked.pass.seen goes.0 (as_found found events (left_behind first past))
+    ran.0 report c.last_error.result (c.last_error.ensures.listed ran.0 ran.1) runs c.takes_part.result
+    (found_on found events (left_behind first past) counts ∙ sym c.takes_part.ensures) in (
       ran.0,
       ran.1,
       record {
         looked = looked;
-        looks = looks;
-        quiet = c.look_controller-found.ensures.objects;
+        first = first;
+        arrives = came;
         between = between;
         rests = c.steps-report.ensures.none;
         sees = sees_on between.pass _ goes.1;
         added = goes.0;
         adds = sym goes.1.0;
         runs = runs;
-        own = subst (λ o. WasTo o (as_found found events past) ran.0) (sym c.own_in-own.ensures.is) was;
+        own = subst (λ o. WasTo o (as_found found events (left_behind first past)) ran.0) (sym c.own_in-own.ensures.is) was;
         notes = elim c.match-own.branch [
           | in-None w ↦
               rw (w.in-None.is, w.port-is, w.noted-is)
@@ -77,9 +82,9 @@ returns-clause-round c past led =
               let e = w.change_controller.ensures in
               let own : BusEvent × StatusEvent = (w.in-Some.event, w.in-Some.status) in
               let new = w.change_controller.new.port in
-              notes_some own w.event_tries.result most_tries between new _ w.change_controller.result _ _
-              w.event_tries.ensures w.in-Some.is w.port-is w.noted-is
-              (noted_of own w.event_tries.result between new w.change_controller.result e.made e.after e.busy e.lost
+              notes_some own w.own_tries.result most_tries between new _ w.change_controller.result _ _
+              w.own_tries.ensures w.in-Some.is w.port-is w.noted-is
+              (is_made (Frame own.0 own.1) w.own_tries.result between new w.change_controller.result e.made e.after e.busy e.lost
               e.objects)
         ];
       },

@@ -1,7 +1,7 @@
 use Rattle.std.proofs.Common.{sym, subst, ◌∙◌, ◌≡◌, false}
 use Rattle.ccan_confine.specs.Counters.{faults_to_off}
 use Rattle.ccan_bus.specs.Bus.{LedTo}
-use Rattle.ccan_chip.specs.Round.{takes_part}
+use Rattle.ccan_chip.specs.Arrival.{takes_part}
 use Rattle.ccan_chip.proofs.chip_bus.ChipBus.take.Goals as goal
 
 pub returns-else-takes_part-clause-takes : goal.returns-else-takes_part-clause-takes

@@ -1,4 +1,5 @@
 use Rattle.std.proofs.Common.{◌∙◌, ap, arith}
+use Rattle.std.proofs.lemmas.Bool.{or_right}
 use Rattle.ccan_confine.specs.declared.controller.Controller.{Controller}
 use Rattle.ccan_confine.proofs.Controllers.{host_after}
 use Rattle.ccan_confine.proofs.controller.Controller.after.Goals as goal
@@ -16,12 +17,13 @@ returns-clause-is c is =
     let extension = c.extension.ensures in
     record {
       host =
-          ap (λ (z : Controller). z.counters.host) c.changed-after.ensures
-          ∙ host_after c.args.change.now c.args.self is.host;
+          ap (λ (z : Controller). z.counters.host) c.leaving-after.ensures
+          ∙ (ap (λ (z : Controller). z.counters.host) c.changed.ensures ∙ host_after c.args.change.now c.args.self is.host);
       tec = (let a = tec.0 in let b = tec.1 in omega arith);
       rec = (let a = rec'.0 in let b = rec'.1 in omega arith);
       groups = (let a = groups.0 in let b = groups.1 in omega arith);
       lec = omega arith;
       register = (let a = register.value in let b = register.in_range in omega arith);
       extension = (let a = extension.value in let b = extension.in_range in omega arith);
+      out = rw c.leaving-after.ensures (λ on. or_right c.changed.result.has_left _ on);
     }
