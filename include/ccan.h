@@ -1,26 +1,31 @@
-/* libccan 0.4: a Bosch C_CAN controller (User's Manual 1.2) as a proved library for C11 and C++11.
+/* libccan 0.5: a Bosch C_CAN controller (User's Manual 1.2) as a proved library for C11 and C++11.
  *
  * A chip is the message RAM and the controller's registers, with three ports: the hosts behind the interface registers IF1 and
  * IF2, and the bus. A ccan_chip has a handle for each, and each handle may be used by a thread of its own, without a lock.
  * Every handle reads and writes the registers of the chip by their offsets, as a driver does, while the bus plays rounds.
  * docs/EMBEDDING.md shows how, from ccan_open to a running example and to a device of an emulator.
  *
- * What is proved, for each call as it is written here:
- *  - It is safe for every number that it is given, and it ends by returning, whatever the other threads do: it waits for
- *    nobody.
+ * What is proved of each call of the library. No proof reads this header; that it has the library's numbers, structs and
+ * functions is tested.
+ *  - It is safe for every number that it is given, and it ends by returning, whatever the other threads do. It isn't wait-free:
+ *    a look begins anew where another port changed what it looks at, and that it ends rests on the 2^47 - 1 changes that a port
+ *    may make.
  *  - There is one history of the chip from its opening to ccan_end, of its objects and of its controller, in which the steps of
  *    each port stand in the order of the calls on its handle. What a call answers is what a memory of one thread answers at its
- *    place there. How many places that is:
+ *    place there. How many places that is, besides those of its tries that were lost, each of which has looks at places of its
+ *    own:
  *      one     at the objects: ccan_request where it is done, and a write of Command Request; ccan_flags, ccan_interrupt,
  *              ccan_peek, ccan_bus_flags, and a read of a register of a flag. At the controller: ccan_status, ccan_control,
- *              ccan_init, ccan_reset, ccan_recessive and ccan_counters of node 0 where they are done; a read or a write of
+ *              ccan_init, ccan_recessive and ccan_counters of node 0 where they are done; a read or a write of
  *              Control, Status, Bit Timing, Test and BRP Extension, and a read of Error Counter; ccan_loop_back, to switch it
  *              off.
  *      two     ccan_bus_interrupt, ccan_line, ccan_bus_line and a read of Interrupt: a look at the controller, and then, where
  *              no status interrupt is shown, all objects in one moment. ccan_loop_back, to switch it on.
- *      more    ccan_until: its looks. ccan_load: a look at the controller, then the choice of what is sent, and its start.
- *              ccan_round: these three, then the finish, the store or both, and last the round's event at the controller.
- *              ccan_save: a look at the controller and one at each object.
+ *      more    ccan_until: its looks. ccan_load: a look at the controller, then the choice of what is sent, and its start; where
+ *              the look finds that the controller comes back (Init was 1 and is 0 again), a change by which the bus joins it, and
+ *              another look, come before the choice. ccan_round: what ccan_load does, then the finish, the store or both, and last
+ *              the round's event at the controller. ccan_save: a look at the controller and one at each object. ccan_reset: a
+ *              change of the controller and one of each object.
  *      none    ccan_set, ccan_get, ccan_meet, ccan_counters of another node; reads and writes of the other registers of an
  *              interface, and writes of registers that can only be read.
  *      A word of 32 bits: one, where a read is of two registers of a flag; else those of its two halves, in the order in which
@@ -30,13 +35,15 @@
  *    was. ccan_end gives the records that the whole history leaves. All this holds however the chip was opened: ccan_restore begins
  *    as ccan_open_reset does, and the steps by which it puts the chip back are the bus's.
  *  - ccan_round takes part as the controller is at its look, and its event is made of the controller as it is then; the error
- *    counters are still those of the look. The event is tried 1000 times, however few tries the chip was opened with. It also
- *    tells what came of its steps: whether it loaded an object itself, whose frame was on the bus and which one, and which step
+ *    counters are still those of the look. It also
+ *    reports what came of its steps: whether it loaded an object itself, whose frame was on the bus and which one, and which step
  *    was refused.
- *  - It answers the numbers below, in just the cases that are said at each call. Where a call is refused, that is for each
- *    number but CCAN_DONE, CCAN_BUSY, CCAN_SPENT and CCAN_SHARED, handle and output stay as they were.
- * Read off the sources: that a call takes no lock, but for those of malloc, realloc and free in ccan_open, ccan_open_reset,
- * ccan_restore and ccan_end. Only tested: that no call but the three that open takes memory, that a call needs at most 16 KiB of
+ *  - It answers the numbers below, in exactly the cases that are said at each call; of CCAN_NO_MEMORY and CCAN_SHARED that is
+ *    only tested. If a call is refused, that is for each number but CCAN_DONE, CCAN_BUSY, CCAN_SPENT and CCAN_SHARED, handle and
+ *    output stay as they were.
+ * Read off the sources: that a call takes no lock, except those of malloc, realloc and free in ccan_open, ccan_open_reset,
+ * ccan_restore and ccan_end; and that a round's event, like a write of Control, is tried 1000 times, however few tries the chip
+ * was opened with. Only tested: that no call but the three that open takes memory, that a call needs at most 16 KiB of
  * stack, that CCAN_SHARED never comes where C keeps its promises, and that this header has the numbers, sizes and offsets of the
  * library.
  * Not proved, and not claimed: how long a call takes, and that a thread is ever run. A look at objects begins anew where another
@@ -48,8 +55,8 @@
  *  - A status interrupt is raised whatever SIE and EIE are, and these mask it only where it is shown: one that was raised while
  *    its enable was 0 is shown once the enable is 1, unless Status was read in between.
  *  - Going bus off sets Init. ccan_init, or a write of Control with Init 0, then starts the way back, as a script's line init does.
- *  - Init that is set by a write of Control keeps the controller out of rounds. What was loaded is dropped then, and stays
- *    requested.
+ *  - Init that is set by a write of Control keeps the controller out of rounds. The next load or round drops what was loaded, also
+ *    if Init is 0 again by then, and its object stays requested.
  *  - Flags and interrupt values are of one moment, and what is sent is chosen at one, as on the part; a script's lines go on
  *    object after object.
  *
@@ -104,7 +111,7 @@ typedef struct { bool ccan_private_full; void *ccan_private_at; } ccan_host;
 /* The bus's handle. */
 typedef struct { bool ccan_private_full; void *ccan_private_at; } ccan_bus;
 
-/* A chip, in memory of the caller's. Handles of different threads lie on cache lines of their own. */
+/* The three handles of a chip, in memory of the caller's, each on cache lines of its own; the chip itself is memory of malloc's. */
 typedef struct {
     ccan_host if1;
     uint64_t ccan_private_apart[14];
@@ -138,7 +145,7 @@ enum ccan_code {
     CCAN_CLOSED = 1,         /* the handle is closed, or a handle of the chip is */
     CCAN_BUSY = 2,           /* each try of a change was lost to a change of the same object, or of the controller, by another
                                 port; it never comes where no other port changes it meanwhile */
-    CCAN_SPENT = 3,          /* the port has made all the changes that it can: 2^47 - 1, some 1.4 * 10^14 */
+    CCAN_SPENT = 3,          /* the port has made all the changes of objects that it can: 2^47 - 1, some 1.4 * 10^14 */
     CCAN_NO_MEMORY = 4,      /* malloc refused */
     CCAN_SHARED = 5,         /* C has broken its promises: somebody else holds the memory */
     CCAN_PROFILE_RANGE = 6,  /* the profile is neither 1 nor 2 */
@@ -199,9 +206,9 @@ CCAN_HOLDS(sizeof(ccan_final) == 1284 && offsetof(ccan_final, records) == 4);
 
 /* Opens a chip whose records and registers are all zero, all of it or nothing: Init too, so that it takes part at once. (The
  * Command Request registers read 1.) Its layout is CCAN_LAYOUT_C_CAN. `profile` is 1 for 32 message objects, 2 for 64; `nodes`
- * how many other nodes are on the bus, 0 to 8; `tries` how often a change may be tried, 1 to 1000. Answers the first of
- * CCAN_PROFILE_RANGE, CCAN_NODES_RANGE and CCAN_TRIES_RANGE that applies; else CCAN_NO_MEMORY or CCAN_DONE. A chip that was open
- * ends, without its records, where it answers CCAN_DONE. */
+ * how many other nodes are on the bus, 0 to 8; `tries` how often a change of an object may be tried, 1 to 1000. Answers the first
+ * of CCAN_PROFILE_RANGE, CCAN_NODES_RANGE and CCAN_TRIES_RANGE that applies; else CCAN_NO_MEMORY or CCAN_DONE. A chip that was
+ * open ends, without its records, where it answers CCAN_DONE. */
 CCAN_CODE ccan_open(ccan_chip *chip, uint32_t profile, uint32_t nodes, uint32_t tries);
 
 /* How the registers lie, in bytes from where the chip begins. All have the same registers of 16 bits, with the bits of C_CAN. */
@@ -255,13 +262,15 @@ CCAN_CODE ccan_save(ccan_chip *chip, ccan_saved *out);
 CCAN_CODE ccan_restore(ccan_chip *chip, const ccan_saved *saved);
 
 /* Resets an open chip in its place, without memory, as the reset of a part does: the controller's registers, its error counters
- * among them, and those of IF1 and IF2 have their reset values, Init 1, and the message objects stay as they are. So a driver that
- * forgets to make its unused objects invalid meets the old ones. A frame that is loaded is dropped by the next load or round, and
- * its object stays requested. The layout and the tries stay, and the other nodes with their error counters. The three ports meet,
- * the bus's makes one change of the controller, and they meet again: so it is behind all that was done on the three handles, and
+ * among them, and those of IF1 and IF2 have their reset values, Init 1; and MsgVal, NewDat, IntPnd and TxRqst of each message
+ * object become 0. All else of the objects stays, as the data in the message RAM of a part does. What was loaded is dropped. The
+ * layout and the tries stay, and the other nodes with their error counters. The three ports meet, the bus's makes a change of the
+ * controller and one of each object, and they meet again: so the reset is behind all that was done on the three handles, and
  * before all that comes. For a chip as after power-on: ccan_open_reset.
- * CCAN_CLOSED where the chip isn't open. CCAN_BUSY, after which the ports have met and nothing else has happened: another call
- * changed the controller meanwhile, which promise 3 rules out; that is not proved. Else CCAN_DONE. */
+ * CCAN_CLOSED where the chip isn't open. CCAN_BUSY: another call changed the controller or an object meanwhile, which promise 3
+ * rules out; that is not proved. Nothing was reset, or the controller and the objects before that one were; the call may be made
+ * again.
+ * CCAN_SPENT, of an object, in the same way. Else CCAN_DONE. */
 CCAN_CODE ccan_reset(ccan_chip *chip);
 
 /* ---- registers by their offsets: each call answers CCAN_CLOSED first, where its handle is closed */
@@ -410,20 +419,33 @@ CCAN_CODE ccan_until(ccan_host *host, uint32_t object, uint32_t flag, uint32_t t
 
 /* ---- the bus: each call answers CCAN_CLOSED first, where its handle is closed */
 
+/* A frame that was on the bus, or is to be. A switch is 0 for no, and 1 for yes. */
+typedef struct {
+    uint32_t id;      /* of 11 bits, or of 29 where it is extended */
+    uint8_t xtd;      /* switch: an extended identifier */
+    uint8_t rtr;      /* switch: a remote frame */
+    uint8_t dlc;      /* the data length code, 0 to 15; from 8 on it means eight bytes */
+    uint8_t bytes[8]; /* the data, byte 0 first; zero past its end */
+} ccan_frame;
+CCAN_HOLDS(sizeof(ccan_frame) == 16 && offsetof(ccan_frame, xtd) == 4 && offsetof(ccan_frame, rtr) == 5);
+CCAN_HOLDS(offsetof(ccan_frame, dlc) == 6 && offsetof(ccan_frame, bytes) == 7);
+
 enum ccan_load_kind { CCAN_LOAD_NOTHING, CCAN_LOAD_LOADED, CCAN_LOAD_HELD, CCAN_LOAD_BUSY, CCAN_LOAD_SPENT };
 
 typedef struct {
     uint32_t kind;    /* an enum ccan_load_kind */
     uint32_t object;  /* the object, 0 with CCAN_LOAD_NOTHING */
-    ccan_record held; /* its record after the start with CCAN_LOAD_LOADED, else zero */
+    ccan_record held; /* the record after its start of the object that is loaded; zero where none is */
+    ccan_frame frame; /* the frame that is to be sent of it; zero where nothing is loaded */
 } ccan_loaded;
-CCAN_HOLDS(sizeof(ccan_loaded) == 28 && offsetof(ccan_loaded, object) == 4 && offsetof(ccan_loaded, held) == 8);
+CCAN_HOLDS(sizeof(ccan_loaded) == 44 && offsetof(ccan_loaded, object) == 4 && offsetof(ccan_loaded, held) == 8);
+CCAN_HOLDS(offsetof(ccan_loaded, frame) == 28);
 
-/* Looks at the controller; where Init is 1 or it is bus off, it takes no part: CCAN_LOAD_NOTHING, and what was loaded is dropped,
- * and stays requested. Else it chooses the object to send, and starts it, where it has none. It chooses in one moment: of the
- * objects that are valid and requested then it starts the lowest; where a host has changed that one since, so that it is ready
- * no more, the next one. CCAN_BUSY and CCAN_SPENT go with the kinds of that name: `object` wasn't started; after CCAN_BUSY the
- * call may be made again. */
+/* Looks at the controller. What was loaded is dropped, and stays requested, where Init was 1 since the last load or round, even
+ * only for a moment, or the chip was reset or went bus off. Where Init is 1 or it is bus off, it takes no part: CCAN_LOAD_NOTHING.
+ * Else it chooses the object to send, and starts it, where it has none. It chooses in one moment: of the objects that are valid
+ * and requested then it starts the lowest; where a host has changed that one since, so that it is ready no more, the next one.
+ * CCAN_BUSY and CCAN_SPENT go with the kinds of that name: `object` wasn't started; after CCAN_BUSY the call may be made again. */
 CCAN_CODE ccan_load(ccan_bus *bus, ccan_loaded *out);
 
 /* What another node sends. A switch is 0 for no, and each other number is yes. */
@@ -466,17 +488,6 @@ enum ccan_step {
 /* The node of no frame. */
 enum { CCAN_NO_NODE = 255 };
 
-/* A frame that was on the bus. A switch is 0 for no, and 1 for yes. */
-typedef struct {
-    uint32_t id;      /* of 11 bits, or of 29 where it is extended */
-    uint8_t xtd;      /* switch: an extended identifier */
-    uint8_t rtr;      /* switch: a remote frame */
-    uint8_t dlc;      /* the data length code, 0 to 15; from 8 on it means eight bytes */
-    uint8_t bytes[8]; /* the data, byte 0 first; zero past its end */
-} ccan_frame;
-CCAN_HOLDS(sizeof(ccan_frame) == 16 && offsetof(ccan_frame, xtd) == 4 && offsetof(ccan_frame, rtr) == 5);
-CCAN_HOLDS(offsetof(ccan_frame, dlc) == 6 && offsetof(ccan_frame, bytes) == 7);
-
 typedef struct {
     uint32_t kind;             /* an enum ccan_round_kind */
     uint32_t object;           /* the object that was sent, or at which a step was given up; else 0 */
@@ -498,16 +509,16 @@ CCAN_HOLDS(offsetof(ccan_outcome, winner) == 60 && offsetof(ccan_outcome, frame)
 /* Plays a round: looks at the controller and loads, as ccan_load does; then the frames of all nodes that are on contend, and
  * `fault` spoils the winner's where it isn't CCAN_QUIET; then the object that was sent is finished, or the frame that was
  * received is stored; and last the event is made at the controller: its error counters, TxOk, RxOk and LEC, its status
- * interrupts, and Init where it goes off. A host that is woken by the event finds the object done. The lowest identifier wins,
- * by its first 11 bits and then by the 18 others; with the same first 11 bits a standard frame beats an extended one, and with
- * the same identifier a data frame beats a remote frame. `offers` are `count` frames, not null even for 0. The first of
- * CCAN_FRAMES_RANGE, CCAN_FRAME_RANGE, CCAN_FAULT_RANGE and CCAN_SENDERS that applies; else `out` is written. CCAN_BUSY where
- * `refused` is CCAN_STEP_EVENT; else CCAN_BUSY and CCAN_SPENT go with the kinds of that name. With both a step was given up,
- * and is not made later; `refused` says which. With CCAN_STEP_LOAD no frame was on the bus. With CCAN_STEP_FINISH and
- * CCAN_STEP_STORE `frame` was: the error counters and the Status register have it, but the object that was sent is not
- * finished, or no object stored the frame. With CCAN_STEP_EVENT `frame` was, and `kind` tells what came of it at the objects,
- * but the controller's registers have nothing of it: each try was lost to a write of Control, Status, Bit Timing, BRP
- * Extension or Test, or a read of Status, by a host. A second call plays a second round. */
+ * interrupts, and Init where it goes off. A host whose call finds the event finds the object done, unless that step was refused
+ * (CCAN_STEP_FINISH, CCAN_STEP_STORE). The lowest identifier wins, by its first 11 bits and then by the 18 others; with the same
+ * first 11 bits a standard frame beats an extended one, and with the same identifier a data frame beats a remote frame. `offers`
+ * are `count` frames, not null even for 0. The first of CCAN_FRAMES_RANGE, CCAN_FRAME_RANGE, CCAN_FAULT_RANGE and CCAN_SENDERS
+ * that applies; else `out` is written. CCAN_BUSY where `refused` is CCAN_STEP_EVENT; else CCAN_BUSY and CCAN_SPENT go with the
+ * kinds of that name. With both a step was given up, and is not made later; `refused` says which. With CCAN_STEP_LOAD no frame
+ * was on the bus. With CCAN_STEP_FINISH and CCAN_STEP_STORE `frame` was: the error counters and the Status register have it, but
+ * the object that was sent is not finished, or no object stored the frame. With CCAN_STEP_EVENT `frame` was, and `kind` tells
+ * what came of it at the objects, but the controller's registers have nothing of it: each try was lost to a write of Control,
+ * Status, Bit Timing, BRP Extension or Test, or a read of Status, by a host. A second call plays a second round. */
 CCAN_CODE ccan_round(ccan_bus *bus, const ccan_offer *offers, size_t count, uint32_t fault, ccan_outcome *out);
 
 /* The Status register, as it is read on a C_CAN, in each layout: BOff 7, EWarn 6, EPass 5, RxOk 4, TxOk 3, the last error code in

@@ -252,6 +252,8 @@ static void a_frame_is_stored_and_one_is_sent(void)
     static const struct setting sends[] = { { CCAN_CMASK, 0x00f3 }, { CCAN_ARB2, 0xa400 }, { CCAN_CTRL, 0x0981 } };
     ccan_loaded loaded = { .kind = 77, .object = 0, .held = no_record };
     opened(&chip, 1, 1);
+    EXPECT(ccan_load(&chip.bus, &loaded) == CCAN_DONE);
+    EXPECT(loaded.kind == CCAN_LOAD_NOTHING && loaded.frame.id == 0 && loaded.frame.dlc == 0);
     receives(&chip.if1);
     EXPECT(played_with(&chip.bus, offer(1)).stored == 5);
     set_all(&chip.if2, sends, COUNT(sends));
@@ -259,6 +261,12 @@ static void a_frame_is_stored_and_one_is_sent(void)
     EXPECT(ccan_load(&chip.bus, &loaded) == CCAN_DONE);
     EXPECT(loaded.kind == CCAN_LOAD_LOADED);
     EXPECT(loaded.object == 2);
+    EXPECT(loaded.held.control == 0x0981);
+    EXPECT(loaded.frame.id == 0x100 && loaded.frame.xtd == 0 && loaded.frame.rtr == 0 && loaded.frame.dlc == 1);
+    memset(&loaded, 7, sizeof loaded);
+    EXPECT(ccan_load(&chip.bus, &loaded) == CCAN_DONE);
+    EXPECT(loaded.kind == CCAN_LOAD_HELD && loaded.object == 2);
+    EXPECT(loaded.held.control == 0x0981 && loaded.frame.id == 0x100 && loaded.frame.dlc == 1);
     const ccan_outcome outcome = played_alone(&chip.bus);
     EXPECT(outcome.kind == CCAN_SENT);
     EXPECT(outcome.object == 2);
@@ -639,6 +647,50 @@ static void init_keeps_the_controller_out(void)
     EXPECT(played_alone(&chip.bus).kind == CCAN_SENT);
 }
 
+/* Writes a byte into object 2, and asks for its frame to be sent. */
+static void asks_again(ccan_host *host, uint16_t arbitration, uint16_t byte)
+{
+    const struct setting settings[] = {
+        { CCAN_CMASK, 0x00f3 }, { CCAN_ARB2, arbitration }, { CCAN_CTRL, 0x8981 }, { CCAN_DATAA1, byte } };
+    set_all(host, settings, COUNT(settings));
+    EXPECT(ccan_request(host, 2) == CCAN_DONE);
+}
+
+/* Init is set and cleared again while an object is loaded, and the bus looks only then: what was loaded is dropped all the same, and
+ * its object is chosen anew, with what it holds now. One frame goes out. */
+static void init_set_and_cleared_drops_what_is_loaded(void)
+{
+    opened(&chip, 1, 1);
+    asks_to_send(&chip.if1);
+    EXPECT(loads(&chip.bus) == 2);
+    write_control(&chip.if1, 0x0001);
+    write_control(&chip.if1, 0);
+    asks_again(&chip.if2, 0xa400, 0x0099);
+    const ccan_outcome outcome = played_alone(&chip.bus);
+    EXPECT(outcome.kind == CCAN_SENT);
+    EXPECT(beside(&outcome, 2, CCAN_STEP_NONE, 0));
+    EXPECT(has_data(&outcome.frame, 0x99, 0));
+    EXPECT(played_alone(&chip.bus).kind == CCAN_IDLE);
+}
+
+/* The chip is reset while an object is loaded: the frame is gone, and so is the request. What the object sends later is what it was
+ * given later. */
+static void a_reset_drops_what_is_loaded(void)
+{
+    reset(&chip, CCAN_LAYOUT_C_CAN);
+    write_control(&chip.if1, 0);
+    asks_to_send(&chip.if1);
+    EXPECT(loads(&chip.bus) == 2);
+    EXPECT(ccan_reset(&chip) == CCAN_DONE);
+    write_control(&chip.if1, 0);
+    EXPECT(played_alone(&chip.bus).kind == CCAN_IDLE);
+    asks_again(&chip.if1, 0xa800, 0x0099);
+    const ccan_outcome outcome = played_alone(&chip.bus);
+    EXPECT(outcome.kind == CCAN_SENT);
+    EXPECT(is_named(&outcome.frame, 0x200, 0, 0) && has_data(&outcome.frame, 0x99, 0));
+    EXPECT(played_alone(&chip.bus).kind == CCAN_IDLE);
+}
+
 /* The controller's frames are spoiled 32 times, 8 for TEC each time: 256, bus off. */
 static void goes_off(ccan_bus *bus)
 {
@@ -683,7 +735,7 @@ static void a_saved_chip_opens_again(void)
     EXPECT(ccan_request(&chip.if1, 2) == CCAN_DONE);
     EXPECT(ccan_save(&chip, &text) == CCAN_DONE);
     later = text;
-    later.bytes[8] = 2;
+    later.bytes[8] = 3;
     EXPECT(ccan_restore(&other, &later) == CCAN_NO_SAVED_CHIP);
     EXPECT(!ccan_is_open(&other));
     EXPECT(ccan_restore(&other, &text) == CCAN_DONE);
@@ -692,21 +744,30 @@ static void a_saved_chip_opens_again(void)
     EXPECT(played_alone(&other.bus).kind == CCAN_SENT);
 }
 
-/* The registers have the values of a reset, and object 2 is still as it was written. */
-static void a_reset_leaves_the_message_ram(void)
+/* The registers have the values of a reset, those of the flags among them; what else object 2 holds is as it was written. */
+static void a_reset_leaves_the_data_of_the_message_ram(void)
 {
+    static const struct setting settings[] = {
+        { CCAN_CMASK, 0x00f3 }, { CCAN_ARB2, 0xa400 }, { CCAN_CTRL, 0xf981 }, { CCAN_DATAA1, 0x0077 } };
     ccan_record seen = no_record;
     EXPECT(ccan_reset(&chip) == CCAN_CLOSED);
     opened(&chip, 1, 1);
-    EXPECT(ccan_set(&chip.if1, CCAN_CMASK, 0x00f3) == CCAN_DONE);
-    EXPECT(ccan_set(&chip.if1, CCAN_ARB2, 0xa400) == CCAN_DONE);
+    set_all(&chip.if1, settings, COUNT(settings));
     EXPECT(ccan_request(&chip.if1, 2) == CCAN_DONE);
+    EXPECT(reads(&chip.if1, CCAN_OFFSET_INTERRUPT) == 2);
     EXPECT(ccan_reset(&chip) == CCAN_DONE);
+    EXPECT(reads(&chip.if1, CCAN_OFFSET_TRANSMISSION_REQUEST_1) == 0);
+    EXPECT(reads(&chip.if1, CCAN_OFFSET_NEW_DATA_1) == 0);
+    EXPECT(reads(&chip.if1, CCAN_OFFSET_INTERRUPT_PENDING_1) == 0);
+    EXPECT(reads(&chip.if1, CCAN_OFFSET_MESSAGE_VALID_1) == 0);
+    EXPECT(reads(&chip.if1, CCAN_OFFSET_INTERRUPT) == 0);
     EXPECT(shown(&chip.if1, CCAN_ARB2) == 0);
     EXPECT(reads(&chip.if1, CCAN_OFFSET_CONTROL) == 0x0001);
     EXPECT(reads(&chip.if2, CCAN_OFFSET_IF2_MASK_1) == 0xffff);
     EXPECT(ccan_peek(&chip.if2, 2, &seen) == CCAN_DONE);
-    EXPECT(seen.arbitration == 0xa4000000);
+    EXPECT(seen.arbitration == 0x24000000);
+    EXPECT(seen.control == 0x5881);
+    EXPECT(seen.bytes[0] == 0x77);
 }
 
 static void the_version_is_that_of_the_header(void) { EXPECT(ccan_version() == CCAN_VERSION); }
@@ -751,7 +812,9 @@ static const struct { const char *name; void (*run)(void); } tests[] = {
     TEST(init_keeps_the_controller_out),
     TEST(going_off_sets_init),
     TEST(a_saved_chip_opens_again),
-    TEST(a_reset_leaves_the_message_ram),
+    TEST(init_set_and_cleared_drops_what_is_loaded),
+    TEST(a_reset_drops_what_is_loaded),
+    TEST(a_reset_leaves_the_data_of_the_message_ram),
     TEST(the_version_is_that_of_the_header) };
 
 /* Ends a chip that a test has left open. */

@@ -67,6 +67,7 @@ static void rounds(void)
     EXPECT(ccan_load(&chip.bus, &loaded.out) == CCAN_DONE && INTACT(loaded));
     EXPECT(loaded.out.kind == CCAN_LOAD_LOADED && loaded.out.object == 3);
     EXPECT(is_written(&loaded.out.held, 0xe48c89abu, 0x0188));
+    EXPECT(is_frame(&loaded.out.frame, 0x048c89abu, 1, 0, 8, ours));
     EXPECT(ccan_round(&chip.bus, &offer, 1, CCAN_QUIET, &outcome.out) == CCAN_DONE && INTACT(outcome));
     EXPECT(outcome.out.kind == CCAN_RECEIVED && outcome.out.object == 0 && outcome.out.stored == 5);
     EXPECT(outcome.out.stored_record.control == 0xa483 && outcome.out.stored_record.bytes[2] == 0x33);

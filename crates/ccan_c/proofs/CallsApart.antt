@@ -37,6 +37,7 @@ use Rattle.ccan_bus.specs.Past.{BusPast}
 use Rattle.ccan_bus.specs.Round.{refusal_of_round}
 use Rattle.ccan_bus.specs.RoundReport.{RunsOn, RunsSteps}
 use Rattle.ccan_chip.specs.declared.chip_report.ChipReport.{ChipReport}
+use Rattle.ccan_chip.specs.Arrival.{left_behind}
 use Rattle.ccan_chip.specs.Round.{as_found, events_in}
 use Rattle.ccan_endless.specs.declared.chip.ControllerStep.TheVariants.{Look}
 use Rattle.ccan_endless.specs.declared.controller_changed.ControllerBusy.{ControllerBusy}
@@ -385,12 +386,13 @@ module _ (terms : Terms) (tries : ℕ) (some : 1 ≤ tries) where
       → LoadsOnChip single tries past seen added after found loading
   load_apart past after found loading seen added alone h =
       let parts = alone_in_parts terms.port h.later h.looked added h.whole alone in
-      let from : BusPast = as_found found (events_in (h.looked ++ seen)) past in
+      let from : BusPast = as_found found (events_in (h.looked ++ seen)) (left_behind h.first past) in
       record {
         looked = h.looked;
         later = h.later;
         whole = h.whole;
-        look = h.look;
+        first = h.first;
+        arrives = h.arrives;
         loads =
             objects_apart _ _ (h.looked ++ seen) h.later parts.0
             (λ s a only. loads_apart terms tries some s a from after loading only) h.loads;
@@ -402,13 +404,14 @@ module _ (terms : Terms) (tries : ℕ) (some : 1 ≤ tries) where
   round_apart round past after told seen added alone h =
       let outer = alone_in_parts terms.port h.last (h.steps ++ h.looked) added h.whole alone in
       let inner = alone_in_parts terms.port h.steps h.looked (h.steps ++ h.looked) refl outer.1 in
-      let from : BusPast = as_found told.found (events_in (h.looked ++ seen)) past in
+      let from : BusPast = as_found told.found (events_in (h.looked ++ seen)) (left_behind h.first past) in
       record {
         looked = h.looked;
         steps = h.steps;
         last = h.last;
         whole = h.whole;
-        look = h.look;
+        first = h.first;
+        arrives = h.arrives;
         runs =
             objects_apart _ _ (h.looked ++ seen) h.steps inner.0
             (λ s a only. steps_apart round s a from after told.report only) h.runs;

@@ -24,7 +24,8 @@ use Rattle.ccan_bus.specs.Load.{Loads}
 use Rattle.ccan_bus.specs.Decide.{Decides}
 use Rattle.ccan_bus.specs.Round.{refusal_of_round}
 use Rattle.ccan_bus.specs.RoundReport.{RunsOn, RunsSteps}
-use Rattle.ccan_chip.specs.Round.{as_found, events_in, loops_back, takes_part}
+use Rattle.ccan_chip.specs.Arrival.{left_behind, takes_part, unloaded}
+use Rattle.ccan_chip.specs.Round.{as_found, events_in, loops_back}
 use Rattle.ccan_endless.specs.declared.controller_changed.ControllerBusy.{ControllerBusy}
 use Rattle.ccan_endless.specs.declared.controller_changed.ControllerChanged.{ControllerChanged}
 use Rattle.ccan_endless.specs.Chip.{ChipHistory, ram_of}
@@ -94,7 +95,11 @@ either_keeps false p q past h k = k
 found_keeps : (c : Controller) (events : List NodeEvent) (past : BusPast) → (as_found c events past).choice ≡ past.choice
 found_keeps c events past =
     either_keeps (takes_part c) (with_controller events (loops_back c) past)
-    (record (with_controller faults_to_off false past) { loaded = None }) past refl refl
+    (unloaded (with_controller faults_to_off false past)) past refl refl
+
+-- where the controller has left the bus
+left_keeps : (first : Controller) (past : BusPast) → (left_behind first past).choice ≡ past.choice
+left_keeps first past = either_keeps first.has_left (unloaded past) past past refl refl
 
 recovery_keeps : (terms : Terms) (groups tries : ℕ) (past after : BusPast) (seen added : ChipHistory)
     (outcome : Result ControllerChanged ControllerBusy) → RecoversOnChip terms groups tries past seen added after outcome
@@ -108,8 +113,8 @@ tried_keeps : (terms : Terms) (tries nodes : ℕ) (offers : List Offer) (fault :
 tried_keeps terms tries nodes offers fault past after seen added result out (inl h) =
     let events = events_in (h.runs.looked ++ seen) in
     steps_keep terms h.round tries (ram_of (h.runs.looked ++ seen)) (ram_of h.runs.steps)
-    (as_found h.report.found events past) after h.report.report h.runs.runs.means
-    ∙ found_keeps h.report.found events past
+    (as_found h.report.found events (left_behind h.runs.first past)) after h.report.report h.runs.runs.means
+    ∙ (found_keeps h.report.found events (left_behind h.runs.first past) ∙ left_keeps h.runs.first past)
 tried_keeps terms tries nodes offers fault past after seen added result out (inr (none, rests)) =
     same_choice after past rests.leaves
 
@@ -126,8 +131,8 @@ passed_or_not false P Q R f g h = g h
 pub calls_keep : CallsKeepTheChoice
 calls_keep terms tries nodes layout (bus.load result out) past after seen added (found, loading, h, _, _) =
     load_keeps terms tries (ram_of (h.looked ++ seen)) (ram_of h.later)
-    (as_found found (events_in (h.looked ++ seen)) past) after loading h.loads.means
-    ∙ found_keeps found (events_in (h.looked ++ seen)) past
+    (as_found found (events_in (h.looked ++ seen)) (left_behind h.first past)) after loading h.loads.means
+    ∙ (found_keeps found (events_in (h.looked ++ seen)) (left_behind h.first past) ∙ left_keeps h.first past)
 calls_keep terms tries nodes layout (bus.status result out) past after seen added h = same_choice after past h.1
 calls_keep terms tries nodes layout (bus.control sie eie result) past after seen added h = same_choice after past h.1
 calls_keep terms tries nodes layout (bus.init result) past after seen added h = same_choice after past h.1

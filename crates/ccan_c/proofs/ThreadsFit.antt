@@ -5,7 +5,6 @@ use Rattle.std.specs.Prelude.{Result, Ok, Err}
 use Rattle.std.specs.declared.option.Option.{Option}
 use Rattle.ccan_object.specs.declared.profile.Profile.{Profile}
 use Rattle.ccan_object.specs.Profile.{objects_in}
-use Rattle.ccan_confine.specs.declared.controller_change.ControllerChange.TheVariants.{Reset}
 use Rattle.ccan_ram.specs.declared.port.PortName.{PortName}
 use Rattle.ccan_ram.specs.declared.port.PortName.TheVariants.{If1, If2, Bus}
 use Rattle.ccan_ram.specs.Ending.{final_records}
@@ -24,7 +23,8 @@ use Rattle.ccan_registers.specs.declared.access_error.AccessError.{AccessError}
 use Rattle.ccan_registers.specs.declared.interface_set.InterfaceSet.{InterfaceSet}
 use Rattle.ccan_registers.specs.ChipSteps.{SeesChip, terms_at}
 use Rattle.ccan_registers.specs.InterfaceSet.{reset_set}
-use Rattle.ccan_registers.specs.Register.{Makes}
+use Rattle.ccan_chip.specs.Arrival.{unloaded}
+use Rattle.ccan_registers.specs.Resetting.{ResetsChip}
 use Rattle.ccan_saved.specs.declared.saved.Saved.{Saved}
 use Rattle.ccan_saved.specs.Format.{text_of}
 use Rattle.ccan_saved.specs.Looks.{LooksAtAll}
@@ -113,6 +113,7 @@ sees_reset memory = record {
           lec = omega arith;
           register = omega arith;
           extension = omega arith;
+          out = λ on. refl;
         };
       },
       tt,
@@ -290,48 +291,52 @@ module _ (memory : Memory) (set : Set) where
         )
 
     abbrev making : Result (Unit {0}) AccessError → Terms → ChipHistory → ChipHistory → Type 0
-    making told u seen added = Makes u Reset l.tries seen added told
+    making told u seen added = ResetsChip u l.tries seen added told
 
     by_tries : (told : Result (Unit {0}) AccessError) (seen added : ChipHistory) → making told (terms Bus) seen added
-        → Makes (terms Bus) Reset set.tries seen added told
-    by_tries told seen added m = subst (λ n. Makes (terms Bus) Reset n seen added told) t.bus_at.tries_are m
+        → ResetsChip (terms Bus) set.tries seen added told
+    by_tries told seen added m = subst (λ n. ResetsChip (terms Bus) n seen added told) t.bus_at.tries_are m
 
     abbrev LeftReset : ℕ → Held → Held → Held → Type 0
     LeftReset code h' k' l' =
-        ThreeAt h' k' l' past × ResetsAll terms set code (all_places h k l past) (all_places h' k' l' past)
+        (after : BusPast) × ThreeAt h' k' l' after
+        × ResetsAll terms set code (all_places h k l past) (all_places h' k' l' after)
 
-    -- a reset: the bus's port makes a change, and then the three meet
+    -- a reset: the bus's port resets the controller and the objects, nothing is loaded, and then the three meet
     reset_at : (code : ℕ) (h' k' l' : Held) → code ≡ code_told (Ok tt) → IsReset h k l h' k' l' → LeftReset code h' k' l'
     reset_at code h' k' l' code_is r =
         let g = r.goes.each t.bus_at.sees in
         let mean = subst (λ (u : Terms). making (Ok tt) u (port_of l).whole g.0) (terms_are Bus l t.bus_at) g.3 in
-        let met = have_met_all reset_set reset_set past (port_of h) (port_of k) r.put h' k' l'
+        let after = unloaded past in
+        let met = have_met_all reset_set reset_set after (port_of h) (port_of k) r.put h' k' l'
         t.if1_at.port_is t.if2_at.port_is (r.goes.same.port ∙ t.bus_at.port_is) r.if1.own r.if2.own r.met in (
+          after,
           record {
             if1_at = at_meeting If1 _ _ _ (port_of h) h h' t.if1_at (same_itself (port_of h)) r.if1.works r.met.if1_met;
             if2_at = at_meeting If2 _ _ _ (port_of k) k k' t.if2_at (same_itself (port_of k)) r.if2.works r.met.if2_met;
             bus_at = at_meeting Bus _ _ _ r.put l l' t.bus_at r.goes.same r.bus.works r.met.bus_met;
-            led = subst (λ (b : ChipBus). LedTo past b.bus) (sym r.bus.bus) t.led;
+            led = r.bus.drops past t.led;
           },
           record {
             told = Ok tt;
             code_is = code_is;
             added = g.0;
-            makes = by_tries (Ok tt) (port_of l).whole g.0 mean;
+            resets = by_tries (Ok tt) (port_of l).whole g.0 mean;
             leaves =
                 subst (λ (seen : ChipHistory). HaveMetAll (record {
                   if1 = record { state = reset_set; seen = (port_of h).whole };
                   if2 = record { state = reset_set; seen = (port_of k).whole };
-                  bus = record { state = past; seen = seen };
-                }) (all_places h' k' l' past)) g.2 met;
+                  bus = record { state = after; seen = seen };
+                }) (all_places h' k' l' after)) g.2 met;
           },
         )
 
-    -- or it made none
+    -- or it was refused
     not_reset : (code : ℕ) (why : AccessError) (h' k' l' : Held) → code ≡ code_told (Err why) → h' ≡ h → k' ≡ k
         → Steps (making (Err why)) l l' → LeftReset code h' k' l'
     not_reset code why h' k' l' code_is first second steps =
         let m = steps_mean (making (Err why)) l l' t.bus_at steps in (
+          past,
           record {
             if1_at = subst (λ (x : Held). IsAt memory If1 set x) (sym first) t.if1_at;
             if2_at = subst (λ (x : Held). IsAt memory If2 set x) (sym second) t.if2_at;
@@ -342,7 +347,7 @@ module _ (memory : Memory) (set : Set) where
             told = Err why;
             code_is = code_is;
             added = m.0;
-            makes = by_tries (Err why) (port_of l).whole m.0 m.2;
+            resets = by_tries (Err why) (port_of l).whole m.0 m.2;
             leaves = λ i. record {
               if1 = place (first i);
               if2 = place (second i);
@@ -419,7 +424,7 @@ module _ (memory : Memory) (set : Set) where
       × ResetsHeld h k l h' k' l' told)) old c does in
       let m = met_at c.first c.second c.third r.if1 r.if2 r.bus c.past (three_of old c) r.meet in
       let d = reset_as_told r.if1 r.if2 r.bus c.past m.0 told code h k l code_is r.resets in
-      (chip_of new h k l c.past e f g d.0, (all_places r.if1 r.if2 r.bus c.past, m.1, d.1))
+      (chip_of new h k l d.0 e f g d.1, (all_places r.if1 r.if2 r.bus c.past, m.1, d.2))
 
   parts_done : (parts : List Part) (old new : Chip) (c : ChipAt old) → PartsDo parts old new
       → (d : ChipAt new) × PartsMean terms set parts (places c) (places d)

@@ -32,13 +32,14 @@ use Rattle.ccan_c.specs.declared.offer.Offer.{Offer}
 use Rattle.ccan_c.specs.declared.shown_counters.ShownCounters.{ShownCounters}
 use Rattle.ccan_c.specs.declared.shown_load.ShownLoad.{ShownLoad}
 use Rattle.ccan_c.specs.declared.shown_outcome.ShownOutcome.{ShownOutcome}
-use Rattle.ccan_c.specs.Answer.{c_counters, c_load, code_of, state_number}
+use Rattle.ccan_c.specs.Answer.{c_counters, code_of, state_number}
 use Rattle.ccan_c.specs.Bus.{enabling, is_on, looping, starting, testing}
 use Rattle.ccan_c.specs.Call.{IsCall}
 use Rattle.ccan_c.specs.Codes.{busy, done, fault_range, flag_range, frame_range, frames_range, groups_range, node_range, senders}
 use Rattle.ccan_c.specs.Held.{IsOpenAs, WorksAsBefore, port_of}
 use Rattle.ccan_c.specs.Host.{flag_numbered, number_of}
 use Rattle.ccan_c.specs.HostCall.{IsRead, ReadsAtOffset, ReadsWordAtOffset, WritesAtOffset, WritesWordAtOffset, code_of_access}
+use Rattle.ccan_c.specs.Load.{c_load}
 use Rattle.ccan_c.specs.Outcome.{c_outcome, code_of_round}
 use Rattle.ccan_c.specs.Round.{IsRound, fault_numbered, is_frame, sending_of}
 use Rattle.ccan_c.specs.Settings.{is_from_one_to}
@@ -151,7 +152,7 @@ RoundTried terms tries nodes offers fault past seen added after result out =
 abbrev pub BusCallMeans : Terms → ℕ → ℕ → Map → BusCall → BusPast → ChipHistory → ChipHistory → BusPast → Type 0
 BusCallMeans terms tries nodes map (load result out) past seen added after =
     (found : Controller) × (loading : LoadAnswer) × LoadsOnChip terms tries past seen added after found loading
-    × (result ≡ code_of (answer.Load loading)) × (out ≡ c_load loading)
+    × (result ≡ code_of (answer.Load loading)) × (out ≡ c_load loading after.loaded)
 BusCallMeans terms tries nodes map (status result out) past seen added after =
     TellsStatus terms tries seen added result out × (after ≡ past)
 BusCallMeans terms tries nodes map (control sie eie result) past seen added after =

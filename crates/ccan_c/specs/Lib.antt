@@ -15,6 +15,7 @@ pub mod Host
 pub mod Lending
 pub mod Bus
 pub mod Outcome
+pub mod Load
 pub mod Round
 pub mod Steps
 pub mod Step

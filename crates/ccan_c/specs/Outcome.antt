@@ -104,8 +104,12 @@ c_frame frame =
       bytes = frame.bytes;
     }
 
+-- no frame, which C sees as zero
+abbrev pub no_frame : ShownFrame
+no_frame = record { id = 0; xtd = 0; rtr = 0; dlc = 0; bytes = replicate 8 0 }
+
 abbrev pub frame_shown : Option (ℕ × Frame) → ShownFrame
-frame_shown None = record { id = 0; xtd = 0; rtr = 0; dlc = 0; bytes = replicate 8 0 }
+frame_shown None = no_frame
 frame_shown (Some won) = c_frame won.1
 
 -- ---- what it was to the controller

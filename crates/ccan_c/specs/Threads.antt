@@ -3,7 +3,6 @@
 use Rattle.std.specs.Prelude.{ℕ, ◌≡◌, List, [], ◌∷◌, ◌++◌, map, Result, Ok, Err, Some}
 use Rattle.ccan_object.specs.declared.profile.Profile.{Profile}
 use Rattle.ccan_object.specs.Profile.{objects_in}
-use Rattle.ccan_confine.specs.declared.controller_change.ControllerChange.TheVariants.{Reset}
 use Rattle.ccan_ram.specs.declared.port.PortName.{PortName}
 use Rattle.ccan_ram.specs.declared.port.PortName.TheVariants.{If1, If2, Bus}
 use Rattle.ccan_ram.specs.Ending.{final_records}
@@ -17,7 +16,8 @@ use Rattle.ccan_bus.specs.Past.{BusPast, opened_at_once}
 use Rattle.ccan_registers.specs.declared.access_error.AccessError.{AccessError}
 use Rattle.ccan_registers.specs.declared.interface_set.InterfaceSet.{InterfaceSet}
 use Rattle.ccan_registers.specs.InterfaceSet.{reset_set}
-use Rattle.ccan_registers.specs.Register.{Makes}
+use Rattle.ccan_chip.specs.Arrival.{unloaded}
+use Rattle.ccan_registers.specs.Resetting.{ResetsChip}
 use Rattle.ccan_saved.specs.declared.saved.Saved.{Saved}
 use Rattle.ccan_saved.specs.Format.{text_of}
 use Rattle.ccan_saved.specs.Looks.{LooksAtAll}
@@ -100,6 +100,11 @@ abbrev pub bus_adds : ChipHistory → Places → Places
 bus_adds added all =
     record { if1 = all.if1; if2 = all.if2; bus = record { state = all.bus.state; seen = added ++ all.bus.seen } }
 
+-- nothing is loaded
+abbrev pub bus_unloads : Places → Places
+bus_unloads all =
+    record { if1 = all.if1; if2 = all.if2; bus = record { state = unloaded all.bus.state; seen = all.bus.seen } }
+
 -- the hosts have these interface registers
 abbrev pub hosts_have : InterfaceSet → InterfaceSet → Places → Places
 hosts_have first second all =
@@ -144,17 +149,18 @@ pub record SavesAll (terms : PortName → Terms) (set : Set) (text : List ℕ) (
   pub looks : LooksAtAll (terms Bus) saved.controller saved.records old.bus.seen added
   pub leaves : new ≡ bus_adds added old
 
--- after a reset the hosts have the registers of one, and the three have met; a reset that lost its tries leaves all as it is
+-- after a reset the hosts have the registers of one, nothing is loaded, and the three have met; a reset that was refused leaves all
+-- but its steps as it is
 abbrev pub LeavesReset : Result (Unit {0}) AccessError → Places → Places → Type 0
-LeavesReset (Ok done) old new = HaveMetAll (hosts_have reset_set reset_set old) new
+LeavesReset (Ok done) old new = HaveMetAll (hosts_have reset_set reset_set (bus_unloads old)) new
 LeavesReset (Err why) old new = new ≡ old
 
--- the reset is one change of the controller by the bus's port
+-- the reset is one change of the controller by the bus's port, and one of each object
 pub record ResetsAll (terms : PortName → Terms) (set : Set) (code : ℕ) (old new : Places) : Type 0 where
   pub told : Result (Unit {0}) AccessError
   pub code_is : code ≡ code_of_access (Some told)
   pub added : ChipHistory
-  pub makes : Makes (terms Bus) Reset set.tries old.bus.seen added told
+  pub resets : ResetsChip (terms Bus) set.tries old.bus.seen added told
   pub leaves : LeavesReset told (bus_adds added old) new
 
 abbrev pub PartMeans : (PortName → Terms) → Set → Part → Places → Places → Type 0

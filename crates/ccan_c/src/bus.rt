@@ -29,8 +29,8 @@ pub extern "C" fn ccan_load(bus: &mut BusHandle, out: &mut ShownLoad) -> u32
     if !bus.handle.is_open() {
         return CLOSED;
     }
-    let (_, loading) = bus.handle.seal.as_mut().load();
-    *out = ShownLoad::of(&loading);
+    let (_, loading, loaded) = bus.handle.seal.as_mut().load();
+    *out = ShownLoad::of(&loading, &loaded);
     code_of(&LineAnswer::Load(loading))
 }
 

@@ -10,7 +10,10 @@ use ccan_chip::ChipReport;
 use ccan_confine::{ControlRegister, Controller, ControllerChange, Counters, TestRegister};
 use ccan_endless::{ControllerBusy, ControllerChanged};
 use ccan_map::Map;
-use ccan_registers::{AccessError, load, look, read_status, recessive, round, write_controller};
+use ccan_object::{ObjectNo, Record};
+use ccan_registers::{
+    AccessError, load, look, read_status, recessive, reset, round, write_controller,
+};
 
 impl Held {
     ghost use Rattle.std.specs.Prelude.{◌≤◌, false, Some, IfNone, IfSome};
@@ -25,22 +28,42 @@ impl Held {
     ghost use Rattle.ccan_endless.specs.Chip.{MayMake};
     ghost use Rattle.ccan_registers.specs.ChipSteps.{AtController};
     ghost use Rattle.ccan_registers.specs.Register.{Makes, ReadsStatus};
+    ghost use Rattle.ccan_registers.specs.Resetting.{ResetsChip};
     ghost use Rattle.ccan_registers.specs.Rounds.{LoadsOnChip, RecoversOnChip, RoundOnChip};
     ghost use Rattle.ccan_c.specs.Answer.{c_counters};
     ghost use Rattle.ccan_c.specs.BusCall.{Counts0, LoopsBack};
     ghost use Rattle.ccan_c.specs.Codes.{done};
-    ghost use Rattle.ccan_c.specs.Held.{pass_of};
+    ghost use Rattle.ccan_c.specs.Held.{pass_of, port_of};
     ghost use Rattle.ccan_c.specs.HostCall.{code_of_access};
+    ghost use Rattle.ccan_c.specs.Resetting.{DropsLoaded};
     ghost use Rattle.ccan_c.specs.Steps.{BusSteps, Steps};
 
     /// Chooses an object to send, and starts it. With the controller that was found.
-    pub(crate) fn load(&mut self) -> (Controller, LoadAnswer)
+    fn load_next(&mut self) -> (Controller, LoadAnswer)
         requires { (pass_of self.old).port ≡ Bus }
         ensures { BusSteps (λ terms past seen added after.
             LoadsOnChip terms self.old.tries past seen added after result.0 result.1)
             self.old self.new }
     {
         load(&mut self.bus, &self.ram, &mut self.port, self.tries)
+    }
+
+    /// What is loaded.
+    fn loaded(&self) -> Option<(ObjectNo, Record)>
+        ensures { (past : BusPast) → LedTo past self.now.bus.bus → result ≡ past.loaded }
+    {
+        self.bus.loaded()
+    }
+
+    /// Chooses an object to send, and starts it. With the controller that was found, and with what is loaded then.
+    pub(crate) fn load(&mut self) -> (Controller, LoadAnswer, Option<(ObjectNo, Record)>)
+        requires { (pass_of self.old).port ≡ Bus }
+        ensures { BusSteps (λ terms past seen added after.
+            LoadsOnChip terms self.old.tries past seen added after result.0 result.1
+            × (result.2 ≡ after.loaded)) self.old self.new }
+    {
+        let (found, loading) = self.load_next();
+        (found, loading, self.loaded())
     }
 
     /// Plays the round of a line.
@@ -94,6 +117,23 @@ impl Held {
             Makes terms change.now self.old.tries seen added result) self.old self.new }
     {
         write_controller(&self.ram, &mut self.port, change, self.tries)
+    }
+
+    /// Resets the controller, and then each object.
+    pub(crate) fn reset(&mut self) -> Result<(), AccessError>
+        requires { (pass_of self.old).port ≡ Bus }
+        ensures { Steps (λ terms seen added. ResetsChip terms self.old.tries seen added result)
+            self.old self.new }
+    {
+        reset(&self.ram, &mut self.port, self.tries)
+    }
+
+    /// Drops what is loaded.
+    pub(crate) fn unload(&mut self)
+        ensures port { port_of self.new ≡ port_of self.old }
+        ensures drops { DropsLoaded self.old self.new }
+    {
+        self.bus.unload();
     }
 
     /// The controller, by one look.

@@ -11,20 +11,21 @@ use crate::code::CLOSED;
 use crate::handle::Handle;
 use crate::held::Held;
 use crate::meeting::meet_held;
-use ccan_confine::ControllerChange;
 use ccan_registers::{AccessError, InterfaceSet};
 use std::alloc::Global;
 use std::mem::replace;
 
-/// The bus's port of three that have met resets the controller, each interface has its reset values, and the ports meet again.
+/// The bus's port of three that have met resets the controller and each object, what is loaded is dropped, each interface has its
+/// reset values, and the ports meet again.
 fn reset_met(if1: &mut Held, if2: &mut Held, bus: &mut Held) -> Result<(), AccessError>
     requires { AreThree if1.old if2.old bus.old }
     ensures reset { ResetsMet if1.old if2.old bus.old if1.new if2.new bus.new result }
     ensures three { AreThree if1.new if2.new bus.new }
 {
-    if let Err(busy) = bus.change(&ControllerChange::Reset) {
-        return Err(busy);
+    if let Err(why) = bus.reset() {
+        return Err(why);
     }
+    bus.unload();
     if1.own = InterfaceSet::reset();
     if2.own = InterfaceSet::reset();
     meet_held(if1, if2, bus);
@@ -42,7 +43,8 @@ fn reset_held(if1: &mut Held, if2: &mut Held, bus: &mut Held) -> Result<(), Acce
 }
 
 /// Resets a chip in its place, as the reset of a part does (User's Manual, "Hardware Reset Description"): the registers of the
-/// controller and of both interfaces have their reset values, and the message RAM stays. A chip that is not open stays as it is.
+/// controller and of both interfaces have their reset values; MsgVal, NewDat, IntPnd and TxRqst of each object become 0, and all
+/// else of the objects stays; and what was loaded is dropped. A chip that is not open stays as it is.
 #[unsafe(no_mangle)]
 pub extern "C" fn ccan_reset(alloc: Global, chip: &mut Chip) -> u32
     ensures resets { are_open chip.old ≡ true → Resets chip.old chip.new result }

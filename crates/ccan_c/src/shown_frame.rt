@@ -1,9 +1,11 @@
 ghost use Rattle.std.specs.Prelude.{◌≡◌};
-ghost use Rattle.ccan_c.specs.Outcome.{c_frame, frame_shown};
+ghost use Rattle.ccan_c.specs.Load.{loaded_frame};
+ghost use Rattle.ccan_c.specs.Outcome.{c_frame, frame_shown, no_frame};
 
-use ccan_accept::Frame;
+use ccan_accept::{Frame, frame_of};
+use ccan_object::{ObjectNo, Record};
 
-/// A frame that was on the bus.
+/// A frame that was on the bus, or is to be.
 #[repr(C)]
 #[derive(Clone, Copy, PartialEq, Eq, Debug)]
 pub struct ShownFrame {
@@ -20,6 +22,19 @@ pub struct ShownFrame {
 }
 
 impl ShownFrame {
+    /// No frame.
+    fn none() -> ShownFrame
+        ensures { result ≡ no_frame }
+    {
+        ShownFrame {
+            id: 0,
+            xtd: 0,
+            rtr: 0,
+            dlc: 0,
+            bytes: [0; 8],
+        }
+    }
+
     /// A frame as C sees it.
     fn of_frame(frame: &Frame) -> ShownFrame
         ensures { result ≡ c_frame frame.now }
@@ -39,13 +54,17 @@ impl ShownFrame {
     {
         match winner {
             Some((_, frame)) => ShownFrame::of_frame(frame),
-            None => ShownFrame {
-                id: 0,
-                xtd: 0,
-                rtr: 0,
-                dlc: 0,
-                bytes: [0; 8],
-            },
+            None => ShownFrame::none(),
+        }
+    }
+
+    /// The frame that is to be sent of what is loaded, zero where nothing is.
+    pub fn of_loaded(loaded: &Option<(ObjectNo, Record)>) -> ShownFrame
+        ensures { result ≡ loaded_frame loaded.now }
+    {
+        match loaded {
+            Some((_, started)) => ShownFrame::of_frame(&frame_of(started)),
+            None => ShownFrame::none(),
         }
     }
 }

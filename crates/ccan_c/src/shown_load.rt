@@ -1,9 +1,10 @@
 ghost use Rattle.std.specs.Prelude.{◌≡◌};
-ghost use Rattle.ccan_c.specs.Answer.{c_load, c_load_with};
+ghost use Rattle.ccan_c.specs.Load.{c_load, load_kind, load_object, loaded_record};
 
+use crate::shown_frame::ShownFrame;
 use crate::shown_record::ShownRecord;
 use ccan_bus::LoadAnswer;
-use ccan_object::Record;
+use ccan_object::{ObjectNo, Record};
 
 /// What came of a load.
 #[repr(C)]
@@ -13,37 +14,58 @@ pub struct ShownLoad {
     pub kind: u32,
     /// The object, 0 where there is none.
     pub object: u32,
-    /// Its record after the start, zero where none was started.
+    /// The record after its start of the object that is loaded, zero where none is.
     pub held: ShownRecord,
+    /// The frame that is to be sent of it, zero where nothing is loaded.
+    pub frame: ShownFrame,
+}
+
+/// Which kind of answer it is.
+fn kind_of(loading: &LoadAnswer) -> u32
+    ensures { result ≡ load_kind loading.now }
+{
+    match loading {
+        LoadAnswer::Nothing => 0,
+        LoadAnswer::Loaded(_, _) => 1,
+        LoadAnswer::Held(_) => 2,
+        LoadAnswer::Busy(_) => 3,
+        LoadAnswer::Spent(_) => 4,
+    }
+}
+
+/// The object that it speaks of, 0 where there is none.
+fn object_of(loading: &LoadAnswer) -> u32
+    ensures { result ≡ load_object loading.now }
+{
+    match loading {
+        LoadAnswer::Nothing => 0,
+        LoadAnswer::Loaded(object, _)
+        | LoadAnswer::Held(object)
+        | LoadAnswer::Busy(object)
+        | LoadAnswer::Spent(object) => u32::from(object.get()),
+    }
+}
+
+/// The record of what is loaded.
+fn record_of(loaded: &Option<(ObjectNo, Record)>) -> Record
+    ensures { result ≡ loaded_record loaded.now }
+{
+    match loaded {
+        Some((_, started)) => *started,
+        None => Record::zero(),
+    }
 }
 
 impl ShownLoad {
-    /// An answer of this kind.
-    fn with(kind: u32, object: u32, found: &Record) -> ShownLoad
-        ensures { result ≡ c_load_with kind object found.now }
+    /// What came of a load, after which this is loaded.
+    pub fn of(loading: &LoadAnswer, loaded: &Option<(ObjectNo, Record)>) -> ShownLoad
+        ensures { result ≡ c_load loading.now loaded.now }
     {
         ShownLoad {
-            kind,
-            object,
-            held: ShownRecord::of(found),
-        }
-    }
-
-    /// What came of a load.
-    pub fn of(loading: &LoadAnswer) -> ShownLoad
-        ensures { result ≡ c_load loading.now }
-    {
-        let zero = Record::zero();
-        match loading {
-            LoadAnswer::Nothing => ShownLoad::with(0, 0, &zero),
-            LoadAnswer::Loaded(object, started) => ShownLoad::with(
-                1,
-                u32::from(object.get()),
-                started,
-            ),
-            LoadAnswer::Held(object) => ShownLoad::with(2, u32::from(object.get()), &zero),
-            LoadAnswer::Busy(object) => ShownLoad::with(3, u32::from(object.get()), &zero),
-            LoadAnswer::Spent(object) => ShownLoad::with(4, u32::from(object.get()), &zero),
+            kind: kind_of(loading),
+            object: object_of(loading),
+            held: ShownRecord::of(&record_of(loaded)),
+            frame: ShownFrame::of_loaded(loaded),
         }
     }
 }

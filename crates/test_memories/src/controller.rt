@@ -4,7 +4,7 @@ ghost use Rattle.ccan_confine.specs.Controller.{CanMake};
 
 use crate::expect::{holds, same};
 use ccan_confine::ControllerChange::{
-    Frame, ReadAndClearStatus, ReadStatus, Recessive, Reset, WriteBitTiming, WriteControl,
+    Frame, Join, ReadAndClearStatus, ReadStatus, Recessive, Reset, WriteBitTiming, WriteControl,
     WriteControlBits, WriteExtension, WriteStatus, WriteTest,
 };
 use ccan_confine::{
@@ -163,6 +163,20 @@ fn control_is_written_bit_by_bit(rt: HostRuntime) {
 }
 
 #[test]
+fn init_that_was_set_is_remembered_until_the_handler_joins(rt: HostRuntime) {
+    let opened = Controller::new();
+    holds(&rt, !opened.has_left);
+    let set = controlled(opened, 0x01);
+    // The handler joins nobody while Init is 1.
+    holds(&rt, set.has_left && after(set, Join).has_left);
+    let cleared = controlled(set, 0x00);
+    holds(&rt, cleared.has_left);
+    holds(&rt, !after(cleared, Join).has_left);
+    holds(&rt, after(opened, Reset).has_left);
+    holds(&rt, after_send_faults(32).has_left);
+}
+
+#[test]
 fn a_reset_gives_the_values_of_the_manual(rt: HostRuntime) {
     let busy = after(
         controlled(after_send_faults(32), 0xff),
@@ -172,7 +186,7 @@ fn a_reset_gives_the_values_of_the_manual(rt: HostRuntime) {
     same(&rt, words(&reset), (0x0001, 0x0000, 0x0000));
     same(&rt, timing_of(&reset), (0x2301, 0x0000));
     same(&rt, reset.test.word(), 0x0000);
-    same(&rt, reset.pack(), (0x2301 << 42) + (1 << 32));
+    same(&rt, reset.pack(), LEFT + (0x2301 << 42) + (1 << 32));
 }
 
 #[test]
@@ -217,6 +231,9 @@ fn registers_have_their_words(rt: HostRuntime) {
     }
 }
 
+/// That the controller has left the bus, at bit 61.
+const LEFT: u64 = 1 << 61;
+
 /// A controller is this word.
 fn packs(rt: &impl Abort, controller: Controller, word: u64) {
     same(rt, controller.pack(), word);
@@ -225,8 +242,9 @@ fn packs(rt: &impl Abort, controller: Controller, word: u64) {
 
 #[test]
 fn each_register_has_its_bits_of_the_word(rt: HostRuntime) {
+    // Where Init is 1, the controller has left the bus.
     for (bits, word) in [
-        (0x01, 1 << 32),
+        (0x01, LEFT + (1 << 32)),
         (0x02, 1 << 33),
         (0x04, 1 << 34),
         (0x08, 1 << 35),
@@ -246,8 +264,8 @@ fn each_register_has_its_bits_of_the_word(rt: HostRuntime) {
     }
     // Bit Timing from bit 42 on, BRP Extension from bit 57 on, beside Init and CCE.
     for (register, extension, word) in [
-        (0x7fff, 0, (0x7fff << 42) + (0x21 << 32)),
-        (0, 0x000f, (15 << 57) + (0x21 << 32)),
+        (0x7fff, 0, LEFT + (0x7fff << 42) + (0x21 << 32)),
+        (0, 0x000f, LEFT + (15 << 57) + (0x21 << 32)),
     ] {
         packs(&rt, timed(0x41, register, extension), word);
     }
@@ -259,9 +277,9 @@ fn each_register_has_its_bits_of_the_word(rt: HostRuntime) {
     );
     // TEC 8 from bit 8 on, LEC 4 from bit 24 on, and the transfer pending at bit 29.
     packs(&rt, after_send_faults(1), (1 << 29) + (4 << 24) + (8 << 8));
-    // TEC 256, 100 groups, LEC 5, both interrupts pending, Init cleared, and every bit of Control but Init.
+    // TEC 256, 100 groups, LEC 5, both interrupts pending, Init cleared, every bit of Control but Init, and left.
     let begun = controlled(after_send_faults(32), 0xee);
-    let word = (0x7e << 32) + (0b111 << 29) + (5 << 24) + (100 << 17) + (256 << 8);
+    let word = LEFT + (0x7e << 32) + (0b111 << 29) + (5 << 24) + (100 << 17) + (256 << 8);
     packs(&rt, after(begun, Recessive(100)), word);
 }
 
@@ -275,4 +293,5 @@ fn laws_of_the_controller_stand(_rt: HostRuntime) {
     laws::status_reads_clear();
     laws::masks_lose_nothing();
     laws::flags_are_given_last();
+    laws::has_left_until_joining();
 }

@@ -41,7 +41,7 @@ fn next(seed: u32) -> u32 {
 fn event(kind: u32, word: u16) -> ControllerChange
     ensures { MayMake Bus result }
 {
-    match kind % 24 {
+    match kind % 25 {
         0..=4 => ControllerChange::Frame(BusEvent::SendFault, StatusEvent::Fault(4)),
         5..=8 => ControllerChange::Frame(BusEvent::Sent, StatusEvent::Sent),
         9..=12 => ControllerChange::Frame(BusEvent::ReceiveFault, StatusEvent::Fault(1)),
@@ -53,6 +53,7 @@ fn event(kind: u32, word: u16) -> ControllerChange
         20 => ControllerChange::WriteStatus(StatusFlags::of_word(word)),
         21 => ControllerChange::WriteTest(TestRegister::of_word(word)),
         22 => ControllerChange::WriteBitTiming(word),
+        23 => ControllerChange::Join,
         _ => ControllerChange::WriteExtension(word),
     }
 }
@@ -166,7 +167,7 @@ fn climb(rt: &impl Abort, alloc: Global, event: BusEvent, times: u32) {
 
 #[test]
 fn a_saved_chip_comes_back(rt: HostRuntime) {
-    walk(&rt, rt.alloc(), Profile::One, 24, 4000);
+    walk(&rt, rt.alloc(), Profile::One, 25, 4000);
     walk(&rt, rt.alloc(), Profile::One, 15, 2000);
     walk(&rt, rt.alloc(), Profile::Two, 9, 1000);
     climb(&rt, rt.alloc(), BusEvent::ReceiveFault, 258);

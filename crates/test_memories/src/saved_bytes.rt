@@ -16,7 +16,7 @@ fn put(bytes: &mut [u8; LENGTH], place: usize, word: u64)
 fn plain() -> [u8; LENGTH] {
     let mut bytes = [0u8; LENGTH];
     bytes[..8].copy_from_slice(b"ccansave");
-    put(&mut bytes, 8, 1);
+    put(&mut bytes, 8, 2);
     put(&mut bytes, 16, 32);
     put(&mut bytes, 32, 1);
     put(&mut bytes, 56, 1);
@@ -56,12 +56,12 @@ fn bytes_are_read_by_their_table(rt: HostRuntime) {
     holds(&rt, told(&plain()[..24]) == Some(FormatError::Length(24)));
     holds(&rt, told(&plain()[..15]) == Some(FormatError::Length(15)));
     refuses(&rt, 0, 0x6576_6173_6e61_6364, FormatError::Name);
-    refuses(&rt, 8, 2, FormatError::Version(2));
+    refuses(&rt, 8, 1, FormatError::Version(1));
     refuses(&rt, 16, 33, FormatError::Range(Field::Objects));
     refuses(&rt, 24, 3, FormatError::Range(Field::Map));
     refuses(&rt, 32, 1001, FormatError::Range(Field::Tries));
     refuses(&rt, 40, 9, FormatError::Range(Field::Others));
-    refuses(&rt, 48, 1 << 61, FormatError::Range(Field::Controller));
+    refuses(&rt, 48, 1 << 62, FormatError::Range(Field::Controller));
     refuses(&rt, 56, 33, FormatError::Range(Field::If1));
     refuses(&rt, 64, 256, FormatError::Range(Field::If1));
     refuses(&rt, 96, 0, FormatError::Range(Field::If2));

@@ -181,14 +181,11 @@ fn a_frame_is_stored_and_one_is_sent(rt: HostRuntime) {
     same(&rt, played(&rt, &mut chip.bus, &[offer(1)], 0).stored, 5);
     set_all(&rt, &mut chip.if2, &[(0, 0x00f3), (4, 0xa400), (5, 0x0981)]);
     same(&rt, request(&mut chip.if2, 2), 0);
-    let mut loaded = ShownLoad {
-        kind: 77,
-        object: 0,
-        held: no_record(),
-    };
+    let mut loaded = ShownLoad::of(&LoadAnswer::Nothing, &None);
     same(&rt, load(&mut chip.bus, &mut loaded), 0);
     same(&rt, loaded.kind, 1);
     same(&rt, loaded.object, 2);
+    same(&rt, loaded.frame.id, 0x100);
     let outcome = played(&rt, &mut chip.bus, &[], 0);
     same(&rt, outcome.kind, 1);
     same(&rt, outcome.object, 2);
@@ -204,7 +201,7 @@ fn asks_to_send(rt: &impl Abort, host: &mut HostHandle) {
 
 /// The load of the controller's next frame.
 fn loads(rt: &impl Abort, bus: &mut BusHandle) -> u32 {
-    let mut loaded = ShownLoad::of(&LoadAnswer::Nothing);
+    let mut loaded = ShownLoad::of(&LoadAnswer::Nothing, &None);
     same(rt, load(bus, &mut loaded), 0);
     loaded.object
 }

@@ -226,7 +226,7 @@ fn faults_and_states(rt: HostRuntime) {
 
 /// The kind of a load.
 fn load(came: LoadAnswer) -> u32 {
-    ShownLoad::of(&came).kind
+    ShownLoad::of(&came, &None).kind
 }
 
 #[test]
@@ -291,7 +291,7 @@ fn sizes(rt: HostRuntime) {
     same(&rt, size_of::<Chip>(), 272); // sizeof(ccan_chip)
     same(&rt, size_of::<ShownRecord>(), 20); // sizeof(ccan_record)
     same(&rt, size_of::<ShownFinal>(), 1284); // sizeof(ccan_final)
-    same(&rt, size_of::<ShownLoad>(), 28); // sizeof(ccan_loaded)
+    same(&rt, size_of::<ShownLoad>(), 44); // sizeof(ccan_loaded)
     same(&rt, size_of::<Offer>(), 16); // sizeof(ccan_offer)
     same(&rt, size_of::<ShownFrame>(), 16); // sizeof(ccan_frame)
     same(&rt, size_of::<ShownOutcome>(), 80); // sizeof(ccan_outcome)

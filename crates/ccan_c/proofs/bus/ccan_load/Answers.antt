@@ -2,6 +2,7 @@ use Rattle.std.proofs.Common.{ap, ◌∙◌}
 use Rattle.std.specs.Prelude.{is_some}
 use Rattle.ccan_c.specs.BusCall as bus_call
 use Rattle.ccan_c.specs.Bus.{held_on}
+use Rattle.ccan_c.specs.Load.{c_load}
 use Rattle.ccan_c.proofs.Calls.{bus_did, on_open, still_named}
 use Rattle.ccan_c.proofs.bus.ccan_load.Goals as goal
 
@@ -20,4 +21,5 @@ returns-clause-call c =
     let run = c.load-loading in
     on_open _ _ _ _ _ c.as_mut.ensures.value
     (bus_did (bus_call.load c.code_of.result c.of.result) c.as_mut.result.now run.new.self _ run.ensures
-    (λ past after seen added h. (run.result.0, run.result.1, h, c.code_of.ensures, c.of.ensures)))
+    (λ past after seen added h.
+    (run.result.0, run.result.1, h.0, c.code_of.ensures, c.of.ensures ∙ ap (c_load run.result.1) h.1)))
