@@ -1,5 +1,6 @@
 /* Each request for memory of ccan_open, of ccan_open_reset and of ccan_restore is refused in turn: it answers CCAN_NO_MEMORY, the
- * chip stays as it was, closed or open, and nothing is lost. No other call asks for memory, and ccan_end gives all of it back.
+ * chip stays as it was, closed or open, and nothing is lost; nor is it where ccan_restore refuses a chip that can't be. No other
+ * call asks for memory, and ccan_end gives all of it back.
  * Link with -Wl,--wrap=malloc,--wrap=realloc,--wrap=free. */
 #include <ccan.h>
 #include <stdio.h>
@@ -105,6 +106,21 @@ static long open_refused(ccan_chip *chip, bool was_open, enum how how, const cca
     return -1;
 }
 
+/* Bytes that no chip can be, since groups of recessive bits count while the controller is on: they are refused once all memory was
+ * given, and none of it stays. Whether so, on a chip that is open and on one that is closed. */
+static bool no_chip_is_refused(ccan_chip *chip)
+{
+    static ccan_saved saved;
+    static ccan_chip closed;
+    long before = live;
+    ccan_chip_init(&closed);
+    if (ccan_save(chip, &saved) != CCAN_DONE)
+        return false;
+    saved.bytes[50] |= 0x02;
+    return ccan_restore(chip, &saved) == CCAN_NO_CHIP && ccan_is_open(chip) && live == before
+        && ccan_restore(&closed, &saved) == CCAN_NO_CHIP && !ccan_is_open(&closed) && live == before;
+}
+
 int main(void)
 {
     static ccan_final last;
@@ -121,6 +137,10 @@ int main(void)
         return 1;
     if (live != blocks) {
         printf("an open chip that is opened again: %ld blocks instead of %ld\n", live, blocks);
+        return 1;
+    }
+    if (!no_chip_is_refused(chip)) {
+        printf("a chip that can't be: %ld blocks instead of %ld\n", live, blocks);
         return 1;
     }
     left = 0;

@@ -1,5 +1,5 @@
 -- A chip that is saved, and one that is opened from what was saved. Source: this project's own.
-use Rattle.std.specs.Prelude.{ℕ, ◌≡◌, List, Ok}
+use Rattle.std.specs.Prelude.{ℕ, ◌≡◌, ◌⊎◌, List, Ok}
 use Rattle.ccan_ram.specs.declared.port.PortName.TheVariants.{Bus, If1, If2}
 use Rattle.ccan_ram.specs.SharedRam.{IsMemoryOf, Memory}
 use Rattle.ccan_endless.specs.ChipPort.{ChipPass}
@@ -14,6 +14,7 @@ use Rattle.ccan_saved.specs.PutBack.{PutsBack}
 use Rattle.ccan_c.specs.declared.chip.Chip.{Chip}
 use Rattle.ccan_c.specs.declared.held.Held.{Held}
 use Rattle.ccan_c.specs.Chip.{AllOpen}
+use Rattle.ccan_c.specs.Codes.{busy, no_chip, no_memory, spent}
 use Rattle.ccan_c.specs.Held.{IsHolding, pass_of}
 use Rattle.ccan_c.specs.Meeting.{HaveMet, MeetHeld}
 use Rattle.ccan_c.specs.Opening.{after_reset, begins_as}
@@ -62,3 +63,11 @@ pub record RestoresAs (saved : Saved) (chip : Chip) : Type 0 where
 -- the same for a text
 abbrev pub Restores : List ℕ → Chip → Type 0
 Restores text chip = (saved : Saved) × (text_of saved ≡ text) × RestoresAs saved chip
+
+-- why the chip of a text is not opened: memory ran out, the last looks found another chip, or a step was refused
+abbrev pub IsNotRestored : ℕ → Type 0
+IsNotRestored code = (code ≡ no_memory) ⊎ ((code ≡ no_chip) ⊎ ((code ≡ busy) ⊎ (code ≡ spent)))
+
+-- these bytes are the text of a saved chip
+abbrev pub IsText : List ℕ → Type 0
+IsText bytes = (saved : Saved) × (text_of saved ≡ bytes)

@@ -1,12 +1,12 @@
 //! Saving a chip, and opening one from what was saved.
-ghost use Rattle.std.specs.Prelude.{◌≡◌, ◌≢◌, ◌≤◌, true, false, IfErr, IfOk};
+ghost use Rattle.std.specs.Prelude.{◌≡◌, ◌≢◌, ◌≤◌, ◌⊎◌, true, false, IfErr, IfOk};
 ghost use Rattle.ccan_line.specs.Limits.{most_nodes};
 ghost use Rattle.ccan_saved.specs.declared.saved.Saved.{Saved};
 ghost use Rattle.ccan_saved.specs.Format.{AreWords, IsSaved, text_of, words_of};
 ghost use Rattle.ccan_c.specs.Chip.{are_open};
 ghost use Rattle.ccan_c.specs.Codes.{closed, done, no_saved_chip};
 ghost use Rattle.ccan_c.specs.Meeting.{AreThree};
-ghost use Rattle.ccan_c.specs.Saving.{IsSavedOf, Restores, RestoresAs, Saves, SavesHeld};
+ghost use Rattle.ccan_c.specs.Saving.{IsNotRestored, IsSavedOf, IsText, Restores, RestoresAs, Saves, SavesHeld};
 
 use crate::begin::Begin;
 use crate::chip::Chip;
@@ -83,8 +83,7 @@ pub extern "C" fn ccan_save(alloc: Global, chip: &mut Chip, out: &mut SavedChip)
 
 /// The code of a chip that was not put back.
 fn code_of_failure(why: &NotRestored) -> u32
-    ensures fails { result ≢ done }
-    ensures text { result ≢ no_saved_chip }
+    ensures fails { IsNotRestored result }
 {
     match why {
         NotRestored::OtherProfile | NotRestored::NotAChip => NO_CHIP,
@@ -97,7 +96,7 @@ fn code_of_failure(why: &NotRestored) -> u32
 fn restored(alloc: Global, saved: &Saved) -> Result<Chip, u32>
     requires { saved.now.others ≤ most_nodes }
     ensures restored { IfOk result (RestoresAs saved.now) }
-    ensures fails { IfErr result (λ code. (code ≢ done) × (code ≢ no_saved_chip)) }
+    ensures fails { IfErr result IsNotRestored }
 {
     let Ok((ram, mut if1, mut if2, mut bus)) = EndlessRam::open_reset(alloc, saved.profile, MOST)
     else {
@@ -138,6 +137,8 @@ pub extern "C" fn ccan_restore(alloc: Global, chip: &mut Chip, saved: &SavedChip
     ensures refused { result ≢ done → chip.new ≡ chip.old }
     ensures text { (was : Saved) → IsSaved was → AreWords (words_of was)
         → text_of was ≡ saved.now.bytes → result ≢ no_saved_chip }
+    ensures none { result ≢ no_saved_chip → IsText saved.now.bytes }
+    ensures code { (result ≡ done) ⊎ ((result ≡ no_saved_chip) ⊎ IsNotRestored result) }
 {
     let Ok(saved) = from_bytes(&saved.bytes) else {
         return NO_SAVED_CHIP;
