@@ -23,6 +23,7 @@ prove:
 wrong:
 	@tools/build ccan_lab
 	@tools/build ccan_c
+	@tools/libraries --of-gate ccan_lab ccan_c
 	tools/refuse_wrong
 
 test:
