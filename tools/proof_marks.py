@@ -5,6 +5,7 @@ crate and of those below it, their lines of crates.txt, HANDLES and the toolchai
 that was built: the program, the library, or the library for C. A crate is proved as it stands exactly when its mark is the one
 that would be made now, so a change that is undone leaves it proved, and an older file that is put in the place of a newer one
 does not."""
+import functools
 import hashlib
 import os
 import subprocess
@@ -14,6 +15,7 @@ TOP = os.path.dirname(os.path.dirname(os.path.realpath(__file__)))
 PARTS = ("src", "specs", "proofs")
 
 
+@functools.cache
 def said_by(*words):
     """What a command prints."""
     return subprocess.run(words, capture_output=True, text=True, check=True, cwd=TOP).stdout
