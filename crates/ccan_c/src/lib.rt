@@ -1,9 +1,9 @@
 //! A C_CAN controller for programs in C: what `include/ccan.h` declares.
 //!
-//! A chip lies in memory of C's and has three handles, one for each port. A handle is a mark and a pointer that says
-//! nothing of what it leads to: a port of the memory without a lock with a share of that memory, interface registers, and
-//! a bus. A call makes steps on these, at the objects and at the controller, and its contract says what these steps are; all
-//! of them are in one history of all three handles.
+//! A chip has three handles, one for each port, which lie in memory of C's; what they lead to is of `malloc`. A handle is a mark
+//! and a pointer that says nothing of what it leads to: a port of the memory without a lock with a share of that memory,
+//! interface registers, and a bus. A call makes steps on these, at the objects and at the controller, and its contract says
+//! what these steps are; all of them are in one history of all three handles.
 //!
 //! ```text
 //!  thread A     thread B     thread C

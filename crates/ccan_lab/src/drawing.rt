@@ -25,7 +25,7 @@ use std::io::Input;
 pub struct DrawQuestion<'a> {
     /// The number of the outcome, from 1. None: the run in the script's order.
     pub outcome: Option<usize>,
-    /// The greatest number of states to list, where an outcome is asked.
+    /// How many states the search follows at most, if an outcome is asked. If there are more, nothing is drawn.
     pub most: usize,
     /// The file of the script: `None` or `-` means standard input.
     pub file: Option<&'a str>,

@@ -23,13 +23,13 @@ use std::fs::Files;
 use std::io;
 use std::io::{Input, Write};
 
-/// How many states are listed where the command line doesn't say.
+/// How many states are followed at most if the command line doesn't say.
 pub const DEFAULT_MOST: usize = 1_000_000;
 
 /// What is asked about the outcomes of a script.
 #[derive(Clone, Copy)]
 pub struct OutcomesQuestion<'a> {
-    /// The greatest number of states to list.
+    /// How many states the search follows at most. If there are more, nothing is answered.
     pub most: usize,
     /// The file of the script: `None` or `-` means standard input.
     pub file: Option<&'a str>,
