@@ -1,5 +1,5 @@
--- A list of what can be told apart by the lines that are looked at, of a search that keeps no other answers. Source: this
--- project's own.
+-- A list of what can be told apart by the lines that are looked at, of a search that keeps little of the other answers. Source:
+-- this project's own.
 use Rattle.std.specs.Prelude.{ℕ, ◌≡◌, ◌+◌, ◌++◌, Bool, List, take, drop, length, codes}
 use Rattle.ccan_line.specs.Script.{ScriptFields}
 use Rattle.ccan_outcomes.specs.declared.all_ports.AllPorts.{AllPorts}

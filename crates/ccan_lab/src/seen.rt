@@ -1,4 +1,4 @@
-//! A list of what can be told apart by some lines and objects, of a search that keeps no other answers.
+//! A list of what can be told apart by some lines and objects, of a search that keeps little of the other answers.
 ghost use Rattle.std.specs.Prelude.{◌≡◌, ◌<◌, ◌≤◌, ◌++◌, List, ℕ, IfOk, IfSome, IfNone, OnOk, drop, length, map, not, take};
 ghost use Rattle.std.specs.Prelude.{string_bytes};
 ghost use Rattle.ccan_line.specs.Script.{fields_of};
