@@ -1,0 +1,70 @@
+/* The calls of ccan.h, one line for each: what it takes, so that the checked library knows what to check.
+ *
+ *   CALL(result, name, (parameters), (arguments), what the arguments are)
+ *
+ * The parameters stand as in ccan.h, and the compiler compares them with it. What the arguments are is a list without commas, of
+ *   HOST(host)            a host's handle, which is in this call alone (promise 2)
+ *   BUS(bus)              the bus's handle, the same
+ *   CHIP(chip)            a whole chip: its three handles are in this call alone (promise 3)
+ *   READS(from, count)    `count` objects that the call reads
+ *   WRITES(to, count)     `count` objects that the call writes
+ * in this order: the handles and chips stand before the others, and numbers do not stand in it.
+ *
+ * To add a call of ccan.h, add its line here. tools/checked_library refuses to build while a line is missing. A call may have
+ * several handles and chips in its list, of one chip or of several: it then enters them in the order of the list. So a call
+ * between two handles has `HOST(host) BUS(bus)`, and a call over an array of chips has `CHIPS(chips, count)`. Where a call takes
+ * something of a new shape, such as an array of pointers to chips, it needs a new kind in argument.h, and a case in enter_argument
+ * and leave_argument of enter.c.
+ *
+ * This file is included several times, each time with another CALL. */
+
+CALL(uint32_t, ccan_version, (void), (), )
+
+/* ---- the whole chip */
+CALL(uint32_t, ccan_open, (ccan_chip *chip, uint32_t profile, uint32_t nodes, uint32_t tries),
+    (chip, profile, nodes, tries), CHIP(chip))
+CALL(uint32_t, ccan_open_reset, (ccan_chip *chip, uint32_t profile, uint32_t nodes, uint32_t tries, uint32_t layout),
+    (chip, profile, nodes, tries, layout), CHIP(chip))
+CALL(bool, ccan_is_open, (const ccan_chip *chip), (chip), CHIP(chip))
+CALL(uint32_t, ccan_end, (ccan_chip *chip, ccan_final *out), (chip, out), CHIP(chip) WRITES(out, 1))
+CALL(uint32_t, ccan_meet, (ccan_chip *chip), (chip), CHIP(chip))
+CALL(uint32_t, ccan_save, (ccan_chip *chip, ccan_saved *out), (chip, out), CHIP(chip) WRITES(out, 1))
+CALL(uint32_t, ccan_restore, (ccan_chip *chip, const ccan_saved *saved), (chip, saved), CHIP(chip) READS(saved, 1))
+CALL(uint32_t, ccan_reset, (ccan_chip *chip), (chip), CHIP(chip))
+
+/* ---- registers by their offsets */
+CALL(uint32_t, ccan_read16, (ccan_host *host, uint32_t offset, uint16_t *out), (host, offset, out), HOST(host) WRITES(out, 1))
+CALL(uint32_t, ccan_write16, (ccan_host *host, uint32_t offset, uint16_t value), (host, offset, value), HOST(host))
+CALL(uint32_t, ccan_read32, (ccan_host *host, uint32_t offset, uint32_t *out), (host, offset, out), HOST(host) WRITES(out, 1))
+CALL(uint32_t, ccan_write32, (ccan_host *host, uint32_t offset, uint32_t value), (host, offset, value), HOST(host))
+CALL(uint32_t, ccan_line, (ccan_host *host, uint32_t *out), (host, out), HOST(host) WRITES(out, 1))
+CALL(uint32_t, ccan_bus_read16, (ccan_bus *bus, uint32_t offset, uint16_t *out), (bus, offset, out), BUS(bus) WRITES(out, 1))
+CALL(uint32_t, ccan_bus_write16, (ccan_bus *bus, uint32_t offset, uint16_t value), (bus, offset, value), BUS(bus))
+CALL(uint32_t, ccan_bus_read32, (ccan_bus *bus, uint32_t offset, uint32_t *out), (bus, offset, out), BUS(bus) WRITES(out, 1))
+CALL(uint32_t, ccan_bus_write32, (ccan_bus *bus, uint32_t offset, uint32_t value), (bus, offset, value), BUS(bus))
+CALL(uint32_t, ccan_bus_line, (ccan_bus *bus, uint32_t *out), (bus, out), BUS(bus) WRITES(out, 1))
+
+/* ---- a host */
+CALL(uint32_t, ccan_set, (ccan_host *host, uint32_t reg, uint16_t value), (host, reg, value), HOST(host))
+CALL(uint32_t, ccan_get, (ccan_host *host, uint32_t reg, uint16_t *out), (host, reg, out), HOST(host) WRITES(out, 1))
+CALL(uint32_t, ccan_request, (ccan_host *host, uint16_t request), (host, request), HOST(host))
+CALL(uint32_t, ccan_flags, (ccan_host *host, uint32_t flag, uint64_t *out), (host, flag, out), HOST(host) WRITES(out, 1))
+CALL(uint32_t, ccan_interrupt, (ccan_host *host, uint16_t *out), (host, out), HOST(host) WRITES(out, 1))
+CALL(uint32_t, ccan_peek, (ccan_host *host, uint32_t object, ccan_record *out), (host, object, out), HOST(host) WRITES(out, 1))
+CALL(uint32_t, ccan_until, (ccan_host *host, uint32_t object, uint32_t flag, uint32_t turns, uint32_t *out),
+    (host, object, flag, turns, out), HOST(host) WRITES(out, 1))
+
+/* ---- the bus */
+CALL(uint32_t, ccan_load, (ccan_bus *bus, ccan_loaded *out), (bus, out), BUS(bus) WRITES(out, 1))
+CALL(uint32_t, ccan_round, (ccan_bus *bus, const ccan_offer *offers, size_t count, uint32_t fault, ccan_outcome *out),
+    (bus, offers, count, fault, out), BUS(bus) READS(offers, count <= 8 ? count : 0) WRITES(out, 1)) /* more are refused unread */
+CALL(uint32_t, ccan_status, (ccan_bus *bus, uint16_t *out), (bus, out), BUS(bus) WRITES(out, 1))
+CALL(uint32_t, ccan_counters, (ccan_bus *bus, uint32_t node, ccan_counts *out), (bus, node, out), BUS(bus) WRITES(out, 1))
+CALL(uint32_t, ccan_control, (ccan_bus *bus, uint32_t sie, uint32_t eie), (bus, sie, eie), BUS(bus))
+CALL(uint32_t, ccan_init, (ccan_bus *bus), (bus), BUS(bus))
+CALL(uint32_t, ccan_recessive, (ccan_bus *bus, uint32_t groups, uint32_t *out), (bus, groups, out), BUS(bus) WRITES(out, 1))
+CALL(uint32_t, ccan_loop_back, (ccan_bus *bus, uint32_t on), (bus, on), BUS(bus))
+CALL(uint32_t, ccan_bus_interrupt, (ccan_bus *bus, uint16_t *out), (bus, out), BUS(bus) WRITES(out, 1))
+CALL(uint32_t, ccan_bus_flags, (ccan_bus *bus, uint32_t flag, uint64_t *out), (bus, flag, out), BUS(bus) WRITES(out, 1))
+
+#undef CALL

@@ -1,0 +1,357 @@
+/* The checked library on each broken promise: a child breaks it, and has to report it on standard error in one line, and to
+ * abort. Link with -Wl,--wrap=malloc, so that a call that opens a chip can be held while it runs.
+ * Usage: checked_test [NAME..], the broken promises to try; all if left out. */
+#define _GNU_SOURCE
+#include <ccan.h>
+#include <fnmatch.h>
+#include <pthread.h>
+#include <signal.h>
+#include <stdatomic.h>
+#include <stdio.h>
+#include <stdlib.h>
+#include <string.h>
+#include <sys/time.h>
+#include <sys/wait.h>
+#include <time.h>
+#include <unistd.h>
+
+/* The chips of a child: the first one is open. */
+static ccan_chip chip, other;
+
+/* What a call answers is of no matter here. */
+static void ignore(uint32_t code) { (void)code; }
+
+static void sleep_a_little(void)
+{
+    const struct timespec time = { 0, 2000000 };
+    nanosleep(&time, NULL);
+}
+
+/* ---- a call that runs while another one is made */
+
+static atomic_bool holding, held;
+
+void *__real_malloc(size_t size);
+
+void *__wrap_malloc(size_t size)
+{
+    while (atomic_load(&holding)) {
+        atomic_store(&held, true);
+        sleep_a_little();
+    }
+    return __real_malloc(size);
+}
+
+static void *open_for_ever(void *argument)
+{
+    ignore(ccan_open(argument, 1, 0, 1));
+    return NULL;
+}
+
+/* From here on a thread is in ccan_open of the chip. */
+static void be_opening(void)
+{
+    pthread_t thread;
+    atomic_store(&holding, true);
+    if (pthread_create(&thread, NULL, open_for_ever, &chip))
+        exit(2);
+    while (!atomic_load(&held))
+        sleep_a_little();
+}
+
+static void wait_at(ccan_host *host)
+{
+    uint32_t shown;
+    ignore(ccan_until(host, 1, CCAN_NEWDAT, 1000000, &shown));
+}
+
+static void *wait_for_ever(void *host)
+{
+    for (;;)
+        wait_at(host);
+    return NULL;
+}
+
+/* From here on a thread is in ccan_until of this host, but for short moments: so a call that is to meet it is made again and
+ * again. */
+static void be_waiting(ccan_host *host)
+{
+    pthread_t thread;
+    if (pthread_create(&thread, NULL, wait_for_ever, host))
+        exit(2);
+}
+#define AGAIN_AND_AGAIN for (sleep_a_little(); true; sleep_a_little())
+
+/* ---- what breaks a promise */
+
+static void two_calls_on_a_handle(void)
+{
+    be_waiting(&chip.if1);
+    AGAIN_AND_AGAIN
+        ignore(ccan_set(&chip.if1, CCAN_CTRL, 0));
+}
+
+static void a_call_beside_an_opening(void)
+{
+    be_opening();
+    ignore(ccan_init(&chip.bus));
+}
+
+static void an_end_beside_a_call(void)
+{
+    static ccan_final last;
+    be_waiting(&chip.if2);
+    AGAIN_AND_AGAIN
+        ignore(ccan_end(&chip, &last));
+}
+
+static void two_calls_on_a_chip(void)
+{
+    be_opening();
+    ignore(ccan_meet(&chip));
+}
+
+static void set_in_a_signal(int number)
+{
+    (void)number;
+    ignore(ccan_set(&chip.if1, CCAN_CTRL, 0));
+}
+
+static void status_in_a_signal(int number)
+{
+    uint16_t status;
+    (void)number;
+    ignore(ccan_status(&chip.bus, &status));
+}
+
+/* Waits at the first host, while signals come. */
+static void wait_with_signals(void (*handler)(int))
+{
+    const struct itimerval often = { { 0, 5000 }, { 0, 5000 } };
+    signal(SIGALRM, handler);
+    setitimer(ITIMER_REAL, &often, NULL);
+    wait_for_ever(&chip.if1);
+}
+
+static void a_signal_on_the_same_handle(void) { wait_with_signals(set_in_a_signal); }
+static void a_signal_on_another_handle(void) { wait_with_signals(status_in_a_signal); }
+
+static void a_null_handle(void) { ignore(ccan_init(NULL)); }
+static void a_null_chip(void) { ignore(ccan_is_open(NULL)); }
+static void a_null_output(void) { ignore(ccan_status(&chip.bus, NULL)); }
+
+static void null_offers(void)
+{
+    ccan_outcome outcome;
+    ignore(ccan_round(&chip.bus, NULL, 0, CCAN_QUIET, &outcome));
+}
+
+static void a_pointer_between(void)
+{
+    static uint64_t words[2];
+    ignore(ccan_flags(&chip.if1, CCAN_NEWDAT, (void *)((char *)words + 4)));
+}
+
+static void offers_in_the_outcome(void)
+{
+    static ccan_outcome outcome;
+    ignore(ccan_round(&chip.bus, (ccan_offer *)&outcome, 1, CCAN_QUIET, &outcome));
+}
+
+static void an_output_in_the_chip(void) { ignore(ccan_line(&chip.if2, (uint32_t *)chip.ccan_private_apart)); }
+
+static void the_bus_as_a_host(void) { ignore(ccan_request((ccan_host *)&chip.bus, 1)); }
+static void a_host_as_the_bus(void) { ignore(ccan_init((ccan_bus *)&chip.if2)); }
+
+static void a_copied_chip(void)
+{
+    memcpy(&other, &chip, sizeof chip);
+    ignore(ccan_set(&other.if2, CCAN_CTRL, 0));
+}
+
+static void a_copied_chip_that_ends(void)
+{
+    static ccan_final last;
+    other = chip;
+    ignore(ccan_end(&other, &last));
+}
+
+static void a_chip_over_another(void)
+{
+    ignore(ccan_open(&other, 1, 0, 1));
+    memcpy(&other, &chip, sizeof chip);
+    ignore(ccan_init(&other.bus));
+}
+
+static void a_chip_of_rubbish(void)
+{
+    memset(&other, 0x5a, sizeof other);
+    ignore(ccan_open(&other, 1, 0, 1));
+}
+
+static void a_handle_of_rubbish(void)
+{
+    memset(&other, 1, sizeof other);
+    ignore(ccan_request(&other.if1, 1));
+}
+
+static void *do_nothing(void *nothing)
+{
+    pause();
+    return nothing;
+}
+
+static void a_call_after_a_fork(void)
+{
+    pthread_t thread;
+    int status;
+    if (pthread_create(&thread, NULL, do_nothing, NULL))
+        exit(2);
+    pid_t child = fork();
+    if (child == 0) {
+        ignore(ccan_set(&chip.if1, CCAN_CTRL, 0));
+        exit(0);
+    }
+    if (waitpid(child, &status, 0) == child && WIFSIGNALED(status) && WTERMSIG(status) == SIGABRT)
+        abort();
+}
+
+static void chips_without_end(void)
+{
+    ccan_chip *chips = calloc(6000, sizeof *chips);
+    for (size_t i = 0; chips != NULL && i < 6000; i++)
+        ignore(ccan_open(&chips[i], 1, 0, 1));
+}
+
+/* ---- what has to be reported */
+
+/* What breaks a promise, and its report: @ is the address of the first chip, # that of the other one, and * is any text. So many
+ * threads are named in it. */
+struct misuse {
+    const char *name;
+    void (*make)(void);
+    int threads;
+    const char *report;
+};
+#define MISUSE(name, threads, report) { #name, name, threads, report }
+
+static const struct misuse misuses[] = {
+    MISUSE(two_calls_on_a_handle, 2, "handle if1 of the chip at @ is in ccan_until in thread *, and thread * calls ccan_set on it"
+        " (promise 2 of ccan.h)"),
+    MISUSE(a_call_beside_an_opening, 2, "the chip at @ is in ccan_open in thread *, and thread * calls ccan_init on its handle bus"
+        " (promise 3 of ccan.h)"),
+    MISUSE(an_end_beside_a_call, 2, "handle if2 of the chip at @ is in ccan_until in thread *, and thread * calls ccan_end on the"
+        " whole chip (promise 3 of ccan.h)"),
+    MISUSE(two_calls_on_a_chip, 2, "the chip at @ is in ccan_open in thread *, and thread * calls ccan_meet on it"
+        " (promise 3 of ccan.h)"),
+    MISUSE(a_signal_on_the_same_handle, 1, "handle if1 of the chip at @ is in ccan_until in thread *, and the same thread calls"
+        " ccan_set on it before that call has returned, as from a signal handler (promise 6 of ccan.h)"),
+    MISUSE(a_signal_on_another_handle, 1, "handle if1 of the chip at @ is in ccan_until in thread *, and the same thread calls"
+        " ccan_status on handle bus of the chip at @ before that call has returned, as from a signal handler"
+        " (promise 6 of ccan.h)"),
+    MISUSE(a_null_handle, 1, "thread * calls ccan_init with bus, which is null (promise 5 of ccan.h)"),
+    MISUSE(a_null_chip, 1, "thread * calls ccan_is_open with chip, which is null (promise 5 of ccan.h)"),
+    MISUSE(a_null_output, 1, "thread * calls ccan_status with out, which is null (promise 5 of ccan.h)"),
+    MISUSE(null_offers, 1, "thread * calls ccan_round with offers, which is null (promise 5 of ccan.h)"),
+    MISUSE(a_pointer_between, 1, "thread * calls ccan_flags with out at 0x*4, which is not aligned to 8 (promise 5 of ccan.h)"),
+    MISUSE(offers_in_the_outcome, 1, "thread * calls ccan_round with offers at 0x* and out at 0x*, which overlap"
+        " (promise 5 of ccan.h)"),
+    MISUSE(an_output_in_the_chip, 1, "thread * calls ccan_line with host at 0x* and out at 0x*, which overlap"
+        " (promise 5 of ccan.h)"),
+    MISUSE(the_bus_as_a_host, 1, "thread * calls ccan_request on handle bus of the chip at @, passed as a host's handle"
+        " (promise 5 of ccan.h)"),
+    MISUSE(a_host_as_the_bus, 1, "thread * calls ccan_init on handle if2 of the chip at @, passed as handle bus"
+        " (promise 5 of ccan.h)"),
+    MISUSE(a_copied_chip, 1, "thread * calls ccan_set on a host's handle at 0x*, which is open, but no call opened it at this"
+        " address: it was copied or moved from handle if2 of the chip at @ (promise 1 of ccan.h)"),
+    MISUSE(a_copied_chip_that_ends, 1, "thread * calls ccan_end on handle if1 of the chip at #, which is open, but no call opened"
+        " it at this address: it was copied or moved from handle if1 of the chip at @ (promise 1 of ccan.h)"),
+    MISUSE(a_chip_over_another, 1, "thread * calls ccan_init on handle bus of the chip at #, whose insides changed after the last"
+        " call on it: they were written or copied over (promise 1 of ccan.h)"),
+    MISUSE(a_chip_of_rubbish, 1, "thread * calls ccan_open on handle if1 of the chip at #, whose memory never was a chip: the"
+        " first byte of the handle is 0x5a. A chip begins as CCAN_CHIP_CLOSED, or by ccan_chip_init (promise 1 of ccan.h)"),
+    MISUSE(a_handle_of_rubbish, 1, "thread * calls ccan_request on a host's handle at #, which is open, but no call opened it at"
+        " this address: it was copied or moved, or its memory never was a chip (promise 1 of ccan.h)"),
+    MISUSE(a_call_after_a_fork, 1, "thread * calls ccan_set in process *, which is the child of a fork of a process with several"
+        " threads (promise 6 of ccan.h)"),
+    MISUSE(chips_without_end, 1, "thread * calls ccan_open on handle * of the chip at 0x*, and the checked library has no room"
+        " for more handles. Too many chips are open for it, or were let go without ccan_end: compile it with a greater"
+        " CCAN_CHECKED_PLACES than 16384"),
+};
+
+/* ---- trying them */
+
+/* The report as a pattern, with the addresses. */
+static void fill(char *pattern, size_t room, const char *report)
+{
+    size_t length = (size_t)snprintf(pattern, room, "libccan_checked: ");
+    for (; *report != 0 && length < room - 20; report++) {
+        if (*report == '@' || *report == '#')
+            length += (size_t)sprintf(pattern + length, "%p", (void *)(*report == '@' ? &chip : &other));
+        else
+            pattern[length++] = *report;
+    }
+    pattern[length++] = '\n';
+    pattern[length] = 0;
+}
+
+/* How many threads a report names: one or two. */
+static int count_threads(const char *printed)
+{
+    const char *one = strstr(printed, "thread ");
+    const char *two = one == NULL ? NULL : strstr(one + 1, "thread ");
+    if (two == NULL || atol(two + 7) == 0)
+        return one != NULL;
+    return atol(one + 7) == atol(two + 7) ? 1 : 2;
+}
+
+/* The child's standard error goes to the pipe. */
+static void be_child(const struct misuse *misuse, int to)
+{
+    if (dup2(to, STDERR_FILENO) < 0 || close(to))
+        exit(2);
+    alarm(60);
+    ignore(ccan_open(&chip, 1, 0, 1));
+    misuse->make();
+    exit(0);
+}
+
+/* Whether a misuse is reported as it has to be. */
+static bool is_reported(const struct misuse *misuse)
+{
+    char printed[2000] = { 0 }, pattern[2000];
+    size_t length = 0;
+    ssize_t more;
+    int ends[2], status;
+    if (pipe(ends))
+        exit(2);
+    pid_t child = fork();
+    if (child == 0)
+        be_child(misuse, ends[1]);
+    close(ends[1]);
+    while ((more = read(ends[0], printed + length, sizeof printed - 1 - length)) > 0)
+        length += (size_t)more;
+    close(ends[0]);
+    fill(pattern, sizeof pattern, misuse->report);
+    bool aborted = waitpid(child, &status, 0) == child && WIFSIGNALED(status) && WTERMSIG(status) == SIGABRT;
+    bool is_one_line = length > 0 && strchr(printed, '\n') == printed + length - 1;
+    if (aborted && is_one_line && fnmatch(pattern, printed, 0) == 0 && count_threads(printed) == misuse->threads)
+        return true;
+    printf("%s: not so:\n%s%s: %s", misuse->name, pattern, aborted ? "it aborted" : "it did not abort", printed);
+    return false;
+}
+
+int main(int argc, char **argv)
+{
+    size_t tried = 0, bad = 0;
+    setvbuf(stdout, NULL, _IONBF, 0);
+    for (size_t i = 0; i < sizeof misuses / sizeof misuses[0]; i++) {
+        bool wanted = argc == 1;
+        for (int k = 1; k < argc; k++)
+            wanted = wanted || strcmp(argv[k], misuses[i].name) == 0;
+        tried += wanted;
+        bad += wanted && !is_reported(&misuses[i]);
+    }
+    printf("the checked library: %zu broken promises, %zu not reported as they have to be\n", tried, bad);
+    return tried == 0 || bad != 0;
+}
