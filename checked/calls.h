@@ -1,20 +1,21 @@
-/* The calls of ccan.h, one line for each: what it takes, so that the checked library knows what to check.
+/* The calls of ccan.h, one entry for each, with what the checked library checks of it:
  *
- *   CALL(result, name, (parameters), (arguments), what the arguments are)
+ *   CALL(result, name, (parameters), (arguments), pointers)
  *
- * The parameters stand as in ccan.h, and the compiler compares them with it. What the arguments are is a list without commas, of
- *   HOST(host)            a host's handle, which is in this call alone (promise 2)
- *   BUS(bus)              the bus's handle, the same
- *   CHIP(chip)            a whole chip: its three handles are in this call alone (promise 3)
- *   READS(from, count)    `count` objects that the call reads
- *   WRITES(to, count)     `count` objects that the call writes
- * in this order: the handles and chips stand before the others, and numbers do not stand in it.
+ * The parameters stand as in ccan.h, and the compiler compares them. `pointers` lists each pointer that the call is given,
+ * without commas, the handles and chips first:
  *
- * To add a call of ccan.h, add its line here. tools/checked_library refuses to build while a line is missing. A call may have
- * several handles and chips in its list, of one chip or of several: it then enters them in the order of the list. So a call
- * between two handles has `HOST(host) BUS(bus)`, and a call over an array of chips has `CHIPS(chips, count)`. Where a call takes
- * something of a new shape, such as an array of pointers to chips, it needs a new kind in argument.h, and a case in enter_argument
- * and leave_argument of enter.c.
+ *   HOST(host)            a host's handle, which no other call may use meanwhile (promise 2)
+ *   BUS(bus)              the same for a bus's handle
+ *   CHIP(chip)            a whole chip: no other call may use one of its handles meanwhile (promise 3)
+ *   CHIPS(chips, count)   the same for an array of chips
+ *   READS(from, count)    an array that the call reads
+ *   WRITES(to, count)     an array that the call writes
+ *
+ * To add a call of ccan.h, add its entry here: that is all, and tools/checked_library refuses to build while an entry is missing.
+ * A call may have several handles and chips, of one chip or of several. So a call between two handles has
+ * `HOST(host) BUS(bus)`. A pointer of a new kind, such as one to an array of pointers to chips, needs a macro and a kind in
+ * argument.h, and a case in enter_argument and in leave_argument of enter.c.
  *
  * This file is included several times, each time with another CALL. */
 

@@ -61,7 +61,7 @@ static void check_pointer(const struct user *user, const struct argument *argume
 
 static bool is_data(const struct argument *argument) { return argument->kind == KIND_READ || argument->kind == KIND_WRITTEN; }
 
-/* Where the memory of an argument begins and how long it is: for a handle, that of its chip, where it is known which. */
+/* Where the memory of an argument begins, and how many bytes it has: for a handle those of its chip, if it is known which. */
 static uintptr_t memory_of(const struct argument *argument, size_t *bytes)
 {
     bool is_handle = argument->kind == KIND_HOST || argument->kind == KIND_BUS;
@@ -84,8 +84,8 @@ static void check_apart(const struct user *user, const struct argument *one, con
         report_overlap(user, one, other);
 }
 
-/* Reads what the call reads, and writes what it writes, as it is. The sanitizers don't see what the proved library does, so that
- * they find here what is no memory, or what another thread uses. */
+/* Reads what the call reads, and writes what it writes, without a change. The sanitizers do not see what the proved library does,
+ * so it is here that they find a pointer to no memory, or to memory that another thread uses. */
 static void touch(const struct argument *argument)
 {
     volatile unsigned char *bytes = (volatile unsigned char *)argument->at;
@@ -120,8 +120,8 @@ static void know_port(struct place *place, enum port port)
     atomic_store_explicit(&place->port, (uint8_t)port, memory_order_relaxed);
 }
 
-/* Checks what a handle holds, against what it held when it was last left. Where it is closed it may be of a chip that was made
- * closed again without ccan_end (promise 7), so what the table knows of it is then old. */
+/* Compares what a handle holds with what it held when it was last left, and returns which handle it is, as far as that is known.
+ * If it is closed, what the table knows may be old: of a chip that was let go without ccan_end (promise 7). */
 static enum port check_held(const struct user *user, uintptr_t handle, enum port wanted, struct place *place)
 {
     struct held held = held_by(handle);

@@ -11,7 +11,7 @@
 #define LEAVING memory_order_release
 #endif
 
-/* A handle stands in one of so many places, from that of its hash on. */
+/* A handle stands in one of this many places, the first of which its hash gives. */
 enum { REACH = 128 };
 _Static_assert((CCAN_CHECKED_PLACES & (CCAN_CHECKED_PLACES - 1)) == 0 && CCAN_CHECKED_PLACES >= REACH, "places");
 _Static_assert(CALL_COUNT <= 1 << 16, "the number of a call fits its place in a user's number");
@@ -31,7 +31,7 @@ static struct user user_of(uint64_t number)
     return (struct user){ (uint32_t)(number >> 32), (enum call)(number >> 2 & 0xffff), (number & 2) != 0 };
 }
 
-/* The place that is so far from that of a handle's hash. */
+/* The index of the place at a distance from the first one of a handle. */
 static size_t place_at(uintptr_t handle, size_t distance)
 {
     uint64_t hash = (uint64_t)(handle >> 3) * 0x9e3779b97f4a7c15u;
@@ -57,8 +57,8 @@ static void free_place(size_t at)
     atomic_store_explicit(&places[at].use, 0, memory_order_release);
 }
 
-/* Whether a handle stands in a place other than this one. Two threads that give one handle a place, each at once, would both
- * find no place of it before: each looks again after it, and at least one of them finds the other's. */
+/* Whether a handle stands in a place other than this one. Where two threads give one handle a place at the same time, neither
+ * has found one before. So each looks again afterwards, and at least one of them finds the other's place. */
 static bool stands_elsewhere(uintptr_t handle, size_t here)
 {
     for (size_t distance = 0; distance < REACH; distance++) {
@@ -71,7 +71,7 @@ static bool stands_elsewhere(uintptr_t handle, size_t here)
 
 enum placing { PLACED, PLACED_BY_ANOTHER, PLACED_NOWHERE };
 
-/* Gives a handle that has no place a free one, in which this user is. */
+/* Gives a handle that has no place a free one, with this user in it. */
 static enum placing give_place(uintptr_t handle, enum port port, const struct user *user, struct place **out)
 {
     for (size_t distance = 0; distance < REACH; distance++) {
@@ -109,7 +109,7 @@ enum entry table_enter(uintptr_t handle, enum port port, const struct user *user
             out->place = place;
             return ENTERED;
         }
-        /* A call is in it, if it still stands there; else it was let go meanwhile. */
+        /* A call is in the handle, if it still stands there. Otherwise its place was freed meanwhile. */
         out->port = (enum port)atomic_load_explicit(&place->port, memory_order_relaxed);
         if ((use & 1) != 0 && place_of(handle) == place) {
             out->other = user_of(use);

@@ -238,8 +238,8 @@ struct misuse {
 static const struct misuse misuses[] = {
     MISUSE(two_calls_on_a_handle, 2, "handle if1 of the chip at @ is in ccan_until in thread *, and thread * calls ccan_set on it"
         " (promise 2 of ccan.h)"),
-    MISUSE(a_call_beside_an_opening, 2, "the chip at @ is in ccan_open in thread *, and thread * calls ccan_init on its handle bus"
-        " (promise 3 of ccan.h)"),
+    MISUSE(a_call_beside_an_opening, 2, "the chip at @ is in ccan_open in thread *, and thread * calls ccan_init on its handle"
+        " bus (promise 3 of ccan.h)"),
     MISUSE(an_end_beside_a_call, 2, "handle if2 of the chip at @ is in ccan_until in thread *, and thread * calls ccan_end on the"
         " whole chip (promise 3 of ccan.h)"),
     MISUSE(two_calls_on_a_chip, 2, "the chip at @ is in ccan_open in thread *, and thread * calls ccan_meet on it"
