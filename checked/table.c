@@ -12,7 +12,7 @@
 #endif
 
 /* A handle stands in one of this many places, the first of which its hash gives. */
-enum { REACH = 128 };
+enum { REACH = 256 };
 _Static_assert((CCAN_CHECKED_PLACES & (CCAN_CHECKED_PLACES - 1)) == 0 && CCAN_CHECKED_PLACES >= REACH, "places");
 _Static_assert(CALL_COUNT <= 1 << 16, "the number of a call fits its place in a user's number");
 

@@ -148,31 +148,36 @@ static void try_chips_let_go(void)
     }
 }
 
-/* So many chips are open at once, each at another place in each turn. */
-static void try_many_chips(size_t count)
+enum { MANY = 4000 };
+
+/* Many chips are open at once, between blocks of many sizes, so that their addresses are irregular. */
+static void try_many_chips(void)
 {
-    for (size_t turn = 0; turn < 8; turn++) {
-        char *memory = malloc(count * 512 + 512);
-        EXPECT(memory != NULL);
-        for (size_t i = 0; i < count; i++) {
-            ccan_chip *one = (ccan_chip *)(memory + turn * 8 + i * 512);
-            ccan_chip_init(one);
-            EXPECT(ccan_open(one, 1, 0, 1) == CCAN_DONE);
+    static ccan_chip *chips[MANY];
+    static void *blocks[MANY];
+    for (size_t turn = 1; turn < 9; turn++) {
+        for (size_t i = 0; i < MANY; i++) {
+            chips[i] = malloc(sizeof *chips[i]);
+            blocks[i] = malloc(i * turn * 7919 % 1009);
+            EXPECT(chips[i] != NULL && blocks[i] != NULL);
+            ccan_chip_init(chips[i]);
+            EXPECT(ccan_open(chips[i], 1, 0, 1) == CCAN_DONE);
         }
-        for (size_t i = 0; i < count; i++) {
-            ccan_chip *one = (ccan_chip *)(memory + turn * 8 + i * 512);
-            EXPECT(ccan_init(&one->bus) == CCAN_DONE && ccan_end(one, &last) == CCAN_DONE);
+        for (size_t i = 0; i < MANY; i++) {
+            EXPECT(ccan_init(&chips[i]->bus) == CCAN_DONE && ccan_end(chips[i], &last) == CCAN_DONE);
+            free(chips[i]);
+            free(blocks[i]);
         }
-        free(memory);
     }
 }
 
 static void try_chips(void)
 {
-    try_a_fork();
+    for (int times = 0; times < 100; times++)
+        try_a_fork();
     try_closed_handles();
     try_chips_let_go();
-    try_many_chips(4000);
+    try_many_chips();
     printf("chips that are closed, let go, forked, and four thousand at once: no report\n");
 }
 
