@@ -3,8 +3,9 @@
  *        checked_kept passing CALLS    two threads that pass a handle to and fro under a mutex
  *        checked_kept chips            chips that are closed, let go, forked, and open at once by thousands
  *        checked_kept time             prints nanoseconds a call
- * For a sanitizer, which has to report these two:
+ * For a sanitizer, which has to report these:
  *        checked_kept unordered        two threads call on a handle one after the other, and nothing orders them
+ *        checked_kept shared           two threads have one output
  *        checked_kept short            an output that is shorter than it has to be */
 #define _GNU_SOURCE
 #include <ccan.h>
@@ -240,6 +241,23 @@ static void call_unordered(void)
     pthread_join(thread, NULL);
 }
 
+static void *reads_flags(void *host)
+{
+    static uint64_t output;
+    for (int times = 0; times < 1000; times++)
+        EXPECT(ccan_flags(host, CCAN_NEWDAT, &output) == CCAN_DONE);
+    return NULL;
+}
+
+static void call_with_a_shared_output(void)
+{
+    pthread_t thread;
+    EXPECT(ccan_open(&chip, 1, 0, 100) == CCAN_DONE);
+    start(&thread, reads_flags, &chip.if1);
+    reads_flags(&chip.if2);
+    pthread_join(thread, NULL);
+}
+
 static void call_with_a_short_output(void)
 {
     uint64_t *output = malloc(sizeof *output / 2);
@@ -260,6 +278,8 @@ int main(int argc, char **argv)
         print_times();
     else if (strcmp(what, "unordered") == 0)
         call_unordered();
+    else if (strcmp(what, "shared") == 0)
+        call_with_a_shared_output();
     else if (strcmp(what, "short") == 0)
         call_with_a_short_output();
     else
