@@ -1,19 +1,17 @@
 /* The checked library on each broken promise: a child breaks it, and has to report it on standard error in one line, and to
- * abort. Link with -Wl,--wrap=malloc, so that a call that opens a chip can be held while it runs.
- * Usage: checked_test [NAME..], the broken promises to try; all if left out. */
+ * abort. Usage: checked_test [NAME..], the broken promises to try; all if left out. */
 #define _GNU_SOURCE
 #include <ccan.h>
 #include <fnmatch.h>
 #include <pthread.h>
+#include <sched.h>
 #include <signal.h>
 #include <stdatomic.h>
 #include <stdio.h>
 #include <stdlib.h>
 #include <string.h>
 #include <sys/mman.h>
-#include <sys/time.h>
 #include <sys/wait.h>
-#include <time.h>
 #include <unistd.h>
 
 /* The chips of a child: the first one is open. */
@@ -25,96 +23,78 @@ static _Atomic pid_t *second_thread;
 /* What a call answers is of no matter here. */
 static void ignore(uint32_t code) { (void)code; }
 
-static void sleep_a_little(void)
-{
-    const struct timespec time = { 0, 2000000 };
-    nanosleep(&time, NULL);
-}
-
 /* ---- a call that runs while another one is made */
 
-static atomic_bool holding, held;
+/* The output of a call that is to be held: it can't be written, so the call gets a signal there, in the handler of which it
+ * stays. */
+static void *held_output;
 
-void *__real_malloc(size_t size);
+static atomic_bool is_held;
 
-void *__wrap_malloc(size_t size)
+static void stay(int number)
 {
-    while (atomic_load(&holding)) {
-        atomic_store(&held, true);
-        sleep_a_little();
-    }
-    return __real_malloc(size);
+    (void)number;
+    atomic_store(&is_held, true);
+    for (;;)
+        pause();
 }
 
-static void *open_for_ever(void *argument)
+static void hold_by(void (*handler)(int))
+{
+    held_output = mmap(NULL, 4096, PROT_NONE, MAP_PRIVATE | MAP_ANONYMOUS, -1, 0);
+    if (held_output == MAP_FAILED || signal(SIGSEGV, handler) == SIG_ERR)
+        exit(2);
+}
+
+static void *call_in_second_thread(void *call)
 {
     *second_thread = gettid();
-    ignore(ccan_open(argument, 1, 0, 1));
+    ((void (*const *)(void))call)[0]();
     return NULL;
 }
 
-/* From here on a thread is in ccan_open of the chip. */
-static void be_opening(void)
+/* From here on a second thread is in this call, which writes the held output. */
+static void be_in(void (*call)(void))
 {
+    static void (*held_call)(void);
     pthread_t thread;
-    atomic_store(&holding, true);
-    if (pthread_create(&thread, NULL, open_for_ever, &chip))
+    held_call = call;
+    hold_by(stay);
+    if (pthread_create(&thread, NULL, call_in_second_thread, &held_call))
         exit(2);
-    while (!atomic_load(&held))
-        sleep_a_little();
+    while (!atomic_load(&is_held))
+        sched_yield();
 }
 
-static void *wait_for_ever(void *host)
-{
-    for (;;) {
-        uint32_t shown;
-        ignore(ccan_until(host, 1, CCAN_NEWDAT, 1000000, &shown));
-    }
-    return NULL;
-}
-
-static void *wait_in_second_thread(void *host)
-{
-    *second_thread = gettid();
-    return wait_for_ever(host);
-}
-
-/* From here on a thread is in ccan_until of this host, except for short moments: so a call that is to meet it is made again and
- * again. */
-static void be_waiting(ccan_host *host)
-{
-    pthread_t thread;
-    if (pthread_create(&thread, NULL, wait_in_second_thread, host))
-        exit(2);
-}
-#define AGAIN_AND_AGAIN for (sleep_a_little(); true; sleep_a_little())
+static void get_at_if1(void) { ignore(ccan_get(&chip.if1, CCAN_CTRL, held_output)); }
+static void peek_at_if2(void) { ignore(ccan_peek(&chip.if2, 1, held_output)); }
+static void save(void) { ignore(ccan_save(&chip, held_output)); }
+static void end(void) { ignore(ccan_end(&chip, held_output)); }
 
 /* ---- what breaks a promise */
 
 static void two_calls_on_a_handle(void)
 {
-    be_waiting(&chip.if1);
-    AGAIN_AND_AGAIN
-        ignore(ccan_set(&chip.if1, CCAN_CTRL, 0));
+    be_in(get_at_if1);
+    ignore(ccan_set(&chip.if1, CCAN_CTRL, 0));
 }
 
-static void a_call_beside_an_opening(void)
+static void a_call_beside_an_end(void)
 {
-    be_opening();
+    be_in(end);
     ignore(ccan_init(&chip.bus));
 }
 
 static void an_end_beside_a_call(void)
 {
     static ccan_final last;
-    be_waiting(&chip.if2);
-    AGAIN_AND_AGAIN
-        ignore(ccan_end(&chip, &last));
+    be_in(peek_at_if2);
+    ignore(ccan_end(&chip, &last));
 }
 
 static void two_calls_on_a_chip(void)
 {
-    be_opening();
+    be_in(save);
     ignore(ccan_meet(&chip));
 }
 
@@ -131,17 +111,17 @@ static void status_in_a_signal(int number)
     ignore(ccan_status(&chip.bus, &status));
 }
 
-/* Waits at the first host, while signals come. */
-static void wait_with_signals(void (*handler)(int))
+static void a_signal_on_the_same_handle(void)
 {
-    const struct itimerval often = { { 0, 5000 }, { 0, 5000 } };
-    signal(SIGALRM, handler);
-    setitimer(ITIMER_REAL, &often, NULL);
-    wait_for_ever(&chip.if1);
+    hold_by(set_in_a_signal);
+    get_at_if1();
 }
 
-static void a_signal_on_the_same_handle(void) { wait_with_signals(set_in_a_signal); }
-static void a_signal_on_another_handle(void) { wait_with_signals(status_in_a_signal); }
+static void a_signal_on_another_handle(void)
+{
+    hold_by(status_in_a_signal);
+    get_at_if1();
+}
 
 static void a_null_handle(void) { ignore(ccan_init(NULL)); }
 static void a_null_chip(void) { ignore(ccan_is_open(NULL)); }
@@ -242,17 +222,17 @@ struct misuse {
 #define MISUSE(name, report) { #name, name, report }
 
 static const struct misuse misuses[] = {
-    MISUSE(two_calls_on_a_handle, "handle if1 of the chip at @ is in ccan_until in thread >, and thread < calls ccan_set on it"
+    MISUSE(two_calls_on_a_handle, "handle if1 of the chip at @ is in ccan_get in thread >, and thread < calls ccan_set on it"
         " (promise 2 of ccan.h)"),
-    MISUSE(a_call_beside_an_opening, "the chip at @ is in ccan_open in thread >, and thread < calls ccan_init on its handle"
+    MISUSE(a_call_beside_an_end, "the chip at @ is in ccan_end in thread >, and thread < calls ccan_init on its handle"
         " bus (promise 3 of ccan.h)"),
-    MISUSE(an_end_beside_a_call, "handle if2 of the chip at @ is in ccan_until in thread >, and thread < calls ccan_end on the"
+    MISUSE(an_end_beside_a_call, "handle if2 of the chip at @ is in ccan_peek in thread >, and thread < calls ccan_end on the"
         " whole chip (promise 3 of ccan.h)"),
-    MISUSE(two_calls_on_a_chip, "the chip at @ is in ccan_open in thread >, and thread < calls ccan_meet on it"
+    MISUSE(two_calls_on_a_chip, "the chip at @ is in ccan_save in thread >, and thread < calls ccan_meet on it"
         " (promise 3 of ccan.h)"),
-    MISUSE(a_signal_on_the_same_handle, "handle if1 of the chip at @ is in ccan_until in thread <, and the same thread calls"
+    MISUSE(a_signal_on_the_same_handle, "handle if1 of the chip at @ is in ccan_get in thread <, and the same thread calls"
         " ccan_set on it before that call has returned, as from a signal handler (promise 6 of ccan.h)"),
-    MISUSE(a_signal_on_another_handle, "handle if1 of the chip at @ is in ccan_until in thread <, and the same thread calls"
+    MISUSE(a_signal_on_another_handle, "handle if1 of the chip at @ is in ccan_get in thread <, and the same thread calls"
         " ccan_status on handle bus of the chip at @ before that call has returned, as from a signal handler"
         " (promise 6 of ccan.h)"),
     MISUSE(a_null_handle, "thread < calls ccan_init with bus, which is null (promise 5 of ccan.h)"),
