@@ -25,9 +25,8 @@ static void ignore(uint32_t code) { (void)code; }
 
 /* ---- a call that runs while another one is made */
 
-/* The output of a call that is to be held: it can't be written, so the call gets a signal there, in the handler of which it
- * stays. */
-static void *held_output;
+/* Memory that can be neither read nor written. A call that is given it gets a signal there, and stays in the signal's handler. */
+static void *held_memory;
 
 static atomic_bool is_held;
 
@@ -41,35 +40,37 @@ static void stay(int number)
 
 static void hold_by(void (*handler)(int))
 {
-    held_output = mmap(NULL, 4096, PROT_NONE, MAP_PRIVATE | MAP_ANONYMOUS, -1, 0);
-    if (held_output == MAP_FAILED || signal(SIGSEGV, handler) == SIG_ERR)
+    held_memory = mmap(NULL, 4096, PROT_NONE, MAP_PRIVATE | MAP_ANONYMOUS, -1, 0);
+    if (held_memory == MAP_FAILED || signal(SIGSEGV, handler) == SIG_ERR)
         exit(2);
 }
 
-static void *call_in_second_thread(void *call)
+static void (*held_call)(void);
+
+static void *make_held_call(void *nothing)
 {
     *second_thread = gettid();
-    ((void (*const *)(void))call)[0]();
-    return NULL;
+    held_call();
+    return nothing;
 }
 
-/* From here on a second thread is in this call, which writes the held output. */
+/* From here on a second thread is in this call, which reads or writes the held memory. */
 static void be_in(void (*call)(void))
 {
-    static void (*held_call)(void);
     pthread_t thread;
     held_call = call;
     hold_by(stay);
-    if (pthread_create(&thread, NULL, call_in_second_thread, &held_call))
+    if (pthread_create(&thread, NULL, make_held_call, NULL))
         exit(2);
     while (!atomic_load(&is_held))
         sched_yield();
 }
 
-static void get_at_if1(void) { ignore(ccan_get(&chip.if1, CCAN_CTRL, held_output)); }
-static void peek_at_if2(void) { ignore(ccan_peek(&chip.if2, 1, held_output)); }
-static void save(void) { ignore(ccan_save(&chip, held_output)); }
-static void end(void) { ignore(ccan_end(&chip, held_output)); }
+static void get_at_if1(void) { ignore(ccan_get(&chip.if1, CCAN_CTRL, held_memory)); }
+static void peek_at_if2(void) { ignore(ccan_peek(&chip.if2, 1, held_memory)); }
+static void save(void) { ignore(ccan_save(&chip, held_memory)); }
+static void end(void) { ignore(ccan_end(&chip, held_memory)); }
+static void restore_other(void) { ignore(ccan_restore(&other, held_memory)); }
 
 /* ---- what breaks a promise */
 
@@ -83,6 +84,12 @@ static void a_call_beside_an_end(void)
 {
     be_in(end);
     ignore(ccan_init(&chip.bus));
+}
+
+static void a_call_beside_an_opening(void)
+{
+    be_in(restore_other);
+    ignore(ccan_set(&other.if2, CCAN_CTRL, 0));
 }
 
 static void an_end_beside_a_call(void)
@@ -226,6 +233,8 @@ static const struct misuse misuses[] = {
         " (promise 2 of ccan.h)"),
     MISUSE(a_call_beside_an_end, "the chip at @ is in ccan_end in thread >, and thread < calls ccan_init on its handle"
         " bus (promise 3 of ccan.h)"),
+    MISUSE(a_call_beside_an_opening, "the chip at # is in ccan_restore in thread >, and thread < calls ccan_set on its handle if2"
+        " (promise 3 of ccan.h)"),
     MISUSE(an_end_beside_a_call, "handle if2 of the chip at @ is in ccan_peek in thread >, and thread < calls ccan_end on the"
         " whole chip (promise 3 of ccan.h)"),
     MISUSE(two_calls_on_a_chip, "the chip at @ is in ccan_save in thread >, and thread < calls ccan_meet on it"
