@@ -197,6 +197,10 @@ def test_a_node_goes_bus_off(bus: CcanBus) -> None:
     assert states == [BusState.ACTIVE] * 15 + [BusState.PASSIVE] * 16 + [BusState.ERROR]
     assert bus.step().kind is RoundKind.IDLE
     assert len([None for _ in range(40) if bus.recv(0) is not None]) == 32
+    with CcanBus("bench") as other:
+        other.send(SIGNAL)
+        assert bus.step().winner == other.node
+        assert bus.recv(0) is None
     with pytest.raises(NotImplementedError):
         bus.state = BusState.ACTIVE
 

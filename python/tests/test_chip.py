@@ -4,6 +4,8 @@ from __future__ import annotations
 import copy
 import gc
 import pickle
+import resource
+import warnings
 from typing import Callable, List
 
 import pytest
@@ -157,6 +159,17 @@ def test_a_frame_of_the_chip(chip: ccan.Chip) -> None:
     assert outcome.refused is ccan.Step.NONE
 
 
+def test_loop_back(chip: ccan.Chip) -> None:
+    """As examples/loop_back.json: object 1 is sent and finished, and object 2 stores it."""
+    chip.if1.transfer(2, cmask=0x00F3, arb2=0x848C, ctrl=0x0088)
+    chip.if1.transfer(1, arb2=0xA48C, ctrl=0x0188, dataa1=0x2211)
+    chip.bus.loop_back(True)
+    outcome = chip.bus.round()
+    assert (outcome.kind, outcome.object, outcome.stored, outcome.winner) == (RoundKind.LOOPED, 1, 2, 0)
+    assert outcome.finished is not None and outcome.finished.control == 0x0088
+    assert outcome.stored_record is not None and outcome.stored_record.data[:2] == b"\x11\x22"
+
+
 def test_a_chip_with_init_takes_no_part() -> None:
     with ccan.Chip() as chip:
         receive_0x123(chip.if1, 1)
@@ -224,6 +237,17 @@ def test_a_chip_that_is_not_closed_is_told_of() -> None:
     with pytest.warns(ResourceWarning, match="was not closed"):
         ccan.Chip()
         gc.collect()
+
+
+def test_a_chip_that_is_not_closed_gives_its_memory_back() -> None:
+    """A chip has more than 16 KiB, so that 3,000 of them would have 48 MiB."""
+    with warnings.catch_warnings():
+        warnings.simplefilter("ignore", ResourceWarning)
+        before = resource.getrusage(resource.RUSAGE_SELF).ru_maxrss
+        for _ in range(3000):
+            ccan.Chip()
+        gc.collect()
+    assert resource.getrusage(resource.RUSAGE_SELF).ru_maxrss - before < 16 * 1024
 
 
 def test_a_chip_is_neither_copied_nor_pickled(chip: ccan.Chip) -> None:

@@ -14,7 +14,7 @@ from ccan import Flag, Frame, RoundKind
 Answer = TypeVar("Answer")
 
 #: How often each host makes a transfer in the stress tests.
-TURNS = 3000
+TURNS = 5000
 
 
 def in_thread(call: Callable[[], object]) -> List[BaseException]:
@@ -66,6 +66,7 @@ def wait_until(holds: Callable[[], bool]) -> None:
     end = time.monotonic() + 60
     while not holds():
         assert time.monotonic() < end
+        time.sleep(0)
 
 
 # ---- the rules
