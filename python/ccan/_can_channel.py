@@ -29,7 +29,10 @@ _FAULT_BYTES = {
 }
 
 def _went_over(outcome: Outcome) -> bool:
-    """Whether a frame went over the bus without a fault. A frame of the chip's that it was to store itself did not: that is loop back."""
+    """Whether a frame went over the bus without a fault.
+
+    A frame of the chip's that it was to store itself did not: that is loop back.
+    """
     if outcome.kind in (RoundKind.ROUND_BUSY, RoundKind.ROUND_SPENT):
         return outcome.refused is Step.FINISH or (outcome.refused is Step.STORE and outcome.winner != 0)
     return outcome.kind in (RoundKind.SENT, RoundKind.RECEIVED, RoundKind.PASSED)
@@ -179,7 +182,9 @@ def _drop_unused(channel: Channel) -> None:
         channel.close()
 
 
-def join(name: Any, chip: Optional[Chip], receives_own: bool, receives_errors: bool, period: Optional[float]) -> Tuple[Channel, Node]:
+def join(
+    name: Any, chip: Optional[Chip], receives_own: bool, receives_errors: bool, period: Optional[float]
+) -> Tuple[Channel, Node]:
     """Joins the channel of a name as a node of it."""
     with _channels_lock:
         channel = _channel_of(name, chip)

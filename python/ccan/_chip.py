@@ -24,8 +24,8 @@ SAVED_LENGTH = ctypes.sizeof(header.ccan_saved)
 class Chip:
     """A Bosch C_CAN controller: a message RAM and registers, with the ports IF1, IF2 and the bus.
 
-    It opens as a part is after its reset: Init is 1, so it takes part once a write of Control, or ``chip.bus.init()``, has cleared
-    it. A ``with`` block closes it at its end.
+    It opens as a part is after its reset: Init is 1. It takes part once a write of Control, or ``chip.bus.init()``, has cleared
+    Init. A ``with`` block closes it at its end.
 
     Parameters
     ----------
@@ -164,8 +164,11 @@ class Chip:
         self._layout = Layout(layout)
 
     def reset(self) -> None:
-        """Resets the chip in its place, as the reset of a part does: the registers have their reset values, and the message objects
-        stay as they are. So do the error counters of the other nodes."""
+        """Resets the chip in its place, as the reset of a part does.
+
+        The registers have their reset values. The message objects stay as they are, and so do the error counters of the other
+        nodes.
+        """
         self._whole("ccan_reset")
 
     def _meet(self) -> None:

@@ -1,4 +1,7 @@
-"""Questions about scripts, which the program ``ccan-lab`` answers. Its manual page and docs/FORMATS.md say what each answer is."""
+"""Questions about scripts, which the program ``ccan-lab`` answers.
+
+Its manual page and docs/FORMATS.md say what each answer is.
+"""
 from __future__ import annotations
 
 import dataclasses

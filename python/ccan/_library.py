@@ -14,7 +14,8 @@ import sys
 from ctypes import POINTER, c_bool, c_size_t, c_uint8, c_uint16, c_uint32, c_uint64, c_void_p
 from typing import Any, Dict, List, Tuple, Type
 
-#: The version of the header that this file mirrors: ten thousand times the first number, a hundred times the second, and the third.
+#: The version of the header that this file mirrors: ten thousand times the first number, a hundred times the second, and the
+#: third.
 VERSION = 400
 
 #: The soname of the library.
@@ -84,7 +85,10 @@ class Layout(enum.IntEnum):
 
 
 class Offset(enum.IntEnum):
-    """Where the registers of ``Layout.C_CAN`` begin, in bytes (``enum ccan_offset``). ``Layout.C_CAN_32`` has each at twice this."""
+    """Where the registers of ``Layout.C_CAN`` begin, in bytes (``enum ccan_offset``).
+
+    ``Layout.C_CAN_32`` has each at twice this.
+    """
 
     CONTROL = 0x00
     STATUS = 0x02

@@ -32,13 +32,15 @@ class Rules:
     def _check_owner(self) -> None:
         if not self.concurrent and threading.current_thread() is not self._owner:
             raise ThreadUseError(
-                f"this chip is used by the thread {self._owner.name!r} that opened it, and this is {threading.current_thread().name!r}; "
-                "open it with concurrent=True to use each port by a thread of its own"
+                f"this chip is used by the thread {self._owner.name!r} that opened it, and this is "
+                f"{threading.current_thread().name!r}; open it with concurrent=True to use each port by a thread of its own"
             )
 
     def _take(self, port: str, call: str) -> None:
         if not self._in_call[port].acquire(blocking=False):
-            raise ThreadUseError(f"{call}: {port} is in another call; each port is in one call at a time, and so is the whole chip")
+            raise ThreadUseError(
+                f"{call}: {port} is in another call; each port is in one call at a time, and so is the whole chip"
+            )
 
     @contextlib.contextmanager
     def at(self, port: str, call: str) -> Iterator[None]:

@@ -1,7 +1,7 @@
 """An interface of python-can: ``can.Bus(interface="ccan", channel=...)`` is another node on the bus of a chip.
 
-A channel is a chip within this process, by a name. Each bus object of the channel is one of the chip's other nodes, so programs of
-python-can exchange frames with the chip, and with one another. A round is one frame on the bus. Somebody has to play the rounds:
+A channel is a chip within this process, by a name. Each bus object of the channel is one of the chip's other nodes. So programs
+of python-can exchange frames with the chip, and with one another. A round is one frame on the bus. Somebody has to play them:
 
 - by hand, which is the default: :meth:`CcanBus.step` plays one, and a test is the same each time;
 - by a thread: with ``period=0.001`` a round is played each millisecond, as long as a bus of the channel is open.
@@ -35,8 +35,8 @@ class CcanBus(BusABC):
     channel : any
         The name of the channel. Buses of one name, in one process, are nodes of one chip.
     chip : Chip, optional
-        The chip of the channel. Left out, it is that of the channel, or else a new one as after its reset, with 32 objects, 8 other
-        nodes and ``concurrent=True``, which is closed with the last bus of the channel.
+        The chip of the channel. Left out, it is that of the channel, if there is one. Else a new chip opens, as after its reset,
+        with 32 objects, 8 other nodes and ``concurrent=True``, and it is closed with the last bus of the channel.
     receive_own_messages : bool
         Whether this bus also receives what it sent, with ``is_rx`` False.
     error_frames : bool

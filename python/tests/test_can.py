@@ -216,7 +216,9 @@ def test_messages_and_frames() -> None:
         assert Frame.from_message(frame.to_message()) == frame
 
 
-@pytest.mark.parametrize("message", [can.Message(is_fd=True), can.Message(is_error_frame=True), can.Message(arbitration_id=1 << 29)])
+@pytest.mark.parametrize(
+    "message", [can.Message(is_fd=True), can.Message(is_error_frame=True), can.Message(arbitration_id=1 << 29)]
+)
 def test_what_is_not_sent(message: object, bus: CcanBus) -> None:
     with pytest.raises(can.CanOperationError, match="no frame to send"):
         bus.send(message)  # type: ignore[arg-type]

@@ -1,4 +1,7 @@
-"""A chip from its opening to its end. Values are those of docs/FORMATS.md ("Registers by offset", "A saved chip") and of examples/."""
+"""A chip from its opening to its end.
+
+Values are those of docs/FORMATS.md ("Registers by offset", "A saved chip") and of examples/.
+"""
 from __future__ import annotations
 
 import copy

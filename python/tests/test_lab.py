@@ -15,7 +15,9 @@ from conftest import TOP
 pytestmark = pytest.mark.usefixtures("lab")
 
 LOST = TOP / "examples/questions/lost_message.json"
-SCRIPT: Dict[str, Any] = {"if1": [{"op": "transfer", "request": "0001", "set": {"cmask": "00f3", "arb2": "a48c", "ctrl": "0088"}}]}
+SCRIPT: Dict[str, Any] = {
+    "if1": [{"op": "transfer", "request": "0001", "set": {"cmask": "00f3", "arb2": "a48c", "ctrl": "0088"}}]
+}
 #: A standard identifier that was not shifted: docs/FORMATS.md, "The check of a script".
 UNSHIFTED: Dict[str, Any] = {"if1": [{"op": "transfer", "request": "0001", "set": {"cmask": "00f0", "arb2": "8123"}}]}
 
@@ -43,15 +45,15 @@ def test_the_whole_list() -> None:
 
 def test_questions() -> None:
     ccan.never_comes(LOST, "if1 busy")
-    assert "bus[1]" in ccan.can_come(LOST, "bus received none")
+    assert "bus received none" in ccan.can_come(LOST, "bus received none").splitlines()
 
 
 def test_a_run_told_line_by_line() -> None:
     script = TOP / "examples/explain/lost_arbitration.json"
     assert ccan.explain_text(script) == script.with_name("lost_arbitration.json.stdout").read_text()
     told = ccan.explain(script)
-    winner = next(line for line in told if line["port"] == "bus" and line["line"] == 2)
-    assert winner["answer"] == "received" and winner["lost"] == [0, 2]
+    winner = next(line for line in told if line.get("port") == "bus" and line["line"] == 2)
+    assert winner["answer"] == "received" and sorted(winner["lost"]) == [0, 2]
     assert winner["frame"] == {"node": 1, "id": 256, "xtd": 0, "rtr": 0, "dlc": 2, "data": "abcd"}
     assert winner["stored"]["number"] == 2
 

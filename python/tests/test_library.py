@@ -31,7 +31,12 @@ ENUMS: Dict[str, Type[enum.IntEnum]] = {
 }
 
 #: What stands before the names of an enum, where it is more than CCAN_.
-PREFIXES = {"ccan_layout": "CCAN_LAYOUT_", "ccan_offset": "CCAN_OFFSET_", "ccan_load_kind": "CCAN_LOAD_", "ccan_step": "CCAN_STEP_"}
+PREFIXES = {
+    "ccan_layout": "CCAN_LAYOUT_",
+    "ccan_offset": "CCAN_OFFSET_",
+    "ccan_load_kind": "CCAN_LOAD_",
+    "ccan_step": "CCAN_STEP_",
+}
 
 C_TYPES = {
     "bool": ctypes.c_bool,
