@@ -52,7 +52,7 @@ from ._outcomes import Counts, Loaded, Outcome
 from ._ports import BusPort, HostPort, Port, objects_in
 from ._records import Record
 
-__version__ = "0.4.0"
+__version__ = "0.5.0"
 
 __all__ = [
     "ArgumentError", "BusPort", "BusyError", "CcanError", "Chip", "ClosedError", "Code", "CommandMask", "Control", "Counts",

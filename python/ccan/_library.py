@@ -16,7 +16,7 @@ from typing import Any, Dict, List, Tuple, Type
 
 #: The version of the header that this file mirrors: ten thousand times the first number, a hundred times the second, and the
 #: third.
-VERSION = 400
+VERSION = 500
 
 #: The soname of the library.
 SONAME = "libccan.so.0"
@@ -265,10 +265,16 @@ class ccan_saved(ctypes.Structure):
     _fields_ = [("bytes", c_uint8 * 1672)]
 
 
+class ccan_frame(ctypes.Structure):
+    """A frame that was on the bus."""
+
+    _fields_ = [("id", c_uint32), ("xtd", c_uint8), ("rtr", c_uint8), ("dlc", c_uint8), ("bytes", c_uint8 * 8)]
+
+
 class ccan_loaded(ctypes.Structure):
     """What came of a load."""
 
-    _fields_ = [("kind", c_uint32), ("object", c_uint32), ("held", ccan_record)]
+    _fields_ = [("kind", c_uint32), ("object", c_uint32), ("held", ccan_record), ("frame", ccan_frame)]
 
 
 class ccan_offer(ctypes.Structure):
@@ -282,12 +288,6 @@ class ccan_offer(ctypes.Structure):
         ("dlc", c_uint8),
         ("bytes", c_uint8 * 8),
     ]
-
-
-class ccan_frame(ctypes.Structure):
-    """A frame that was on the bus."""
-
-    _fields_ = [("id", c_uint32), ("xtd", c_uint8), ("rtr", c_uint8), ("dlc", c_uint8), ("bytes", c_uint8 * 8)]
 
 
 class ccan_outcome(ctypes.Structure):
@@ -320,7 +320,7 @@ LAYOUT: Dict[Type[ctypes.Structure], Tuple[int, Dict[str, int]]] = {
     ccan_record: (20, {"arbitration": 4, "control": 8, "bytes": 10}),
     ccan_final: (1284, {"records": 4}),
     ccan_saved: (1672, {}),
-    ccan_loaded: (28, {"object": 4, "held": 8}),
+    ccan_loaded: (44, {"object": 4, "held": 8, "frame": 28}),
     ccan_offer: (16, {"node": 4, "xtd": 5, "rtr": 6, "dlc": 7, "bytes": 8}),
     ccan_frame: (16, {"xtd": 4, "rtr": 5, "dlc": 6, "bytes": 7}),
     ccan_outcome: (

@@ -20,12 +20,15 @@ class Loaded:
     object : int or None
         The object, none with ``LoadKind.NOTHING``.
     held : Record or None
-        Its record after the start, with ``LoadKind.LOADED``.
+        Its record after the start, with ``LoadKind.LOADED`` and ``LoadKind.HELD``.
+    frame : Frame or None
+        The frame that is to be sent of it, with the same kinds.
     """
 
     kind: LoadKind
     object: Optional[int]
     held: Optional[Record]
+    frame: Optional[Frame]
 
 
 @dataclasses.dataclass(frozen=True)
@@ -87,7 +90,13 @@ class Counts:
 def loaded_of(loaded: Any) -> Loaded:
     """What a ``ccan_loaded`` says."""
     kind = LoadKind(loaded.kind)
-    return Loaded(kind, loaded.object or None, record_of(loaded.held) if kind is LoadKind.LOADED else None)
+    is_loaded = kind in (LoadKind.LOADED, LoadKind.HELD)
+    return Loaded(
+        kind=kind,
+        object=loaded.object or None,
+        held=record_of(loaded.held) if is_loaded else None,
+        frame=frame_of(loaded.frame) if is_loaded else None,
+    )
 
 
 def outcome_of(outcome: Any) -> Outcome:

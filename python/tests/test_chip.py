@@ -173,6 +173,15 @@ def test_loop_back(chip: ccan.Chip) -> None:
     assert outcome.stored_record is not None and outcome.stored_record.data[:2] == b"\x11\x22"
 
 
+def test_a_load_has_the_frame_that_is_to_be_sent(chip: ccan.Chip) -> None:
+    chip.if1.transfer(5, cmask=0x00F3, arb2=0xA48C, ctrl=0x0182, dataa1=0x2211)
+    loaded, held = chip.bus.load(), chip.bus.load()
+    assert (loaded.kind, held.kind) == (ccan.LoadKind.LOADED, ccan.LoadKind.HELD)
+    for load in loaded, held:
+        assert load.object == 5 and load.held is not None and load.held.control == 0x0182
+        assert load.frame == Frame(0x123, b"\x11\x22")
+
+
 def test_a_chip_with_init_takes_no_part() -> None:
     with ccan.Chip() as chip:
         receive_0x123(chip.if1, 1)
@@ -185,7 +194,7 @@ def test_a_saved_chip_has_the_bytes_of_its_format(chip: ccan.Chip) -> None:
     chip.if1.transfer(3, cmask=0x00F3, arb2=0xA48C, ctrl=0x0088, dataa1=0x2211, dataa2=0x4433, datab1=0x6655, datab2=0x8877)
     saved = chip.save()
     assert len(saved) == 1672 and saved[:8] == b"ccansave"
-    assert [int.from_bytes(saved[at : at + 8], "little") for at in (8, 16, 24, 32, 40)] == [1, 32, 0, 1000, 2]
+    assert [int.from_bytes(saved[at : at + 8], "little") for at in (8, 16, 24, 32, 40)] == [2, 32, 0, 1000, 2]
     object3 = [int.from_bytes(saved[at : at + 8], "little") for at in range(136 + 48, 136 + 72, 8)]
     assert object3 == [0x00000000A48C0000, 0x0000000000000088, 0x8877665544332211]
 

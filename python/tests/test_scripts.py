@@ -79,7 +79,10 @@ class Player:
         loaded = self.chip.bus.load()
         if loaded.kind is ccan.LoadKind.NOTHING:
             return "loaded none"
-        return f"held {loaded.object:02}" if loaded.held is None else f"loaded {loaded.object:02} {shown(loaded.held)}"
+        if loaded.kind is ccan.LoadKind.HELD:
+            return f"held {loaded.object:02}"
+        assert loaded.held is not None
+        return f"loaded {loaded.object:02} {shown(loaded.held)}"
 
     def counters(self, node: int) -> str:
         counts = self.chip.bus.counters(node)
