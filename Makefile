@@ -3,7 +3,7 @@ SCRIPT ?= examples/first_write.json
 PREFIX ?= /usr/local
 export SCRIPT PREFIX
 
-.PHONY: help run try examples prove wrong test install bench sweep hostile soak c-test c-wrong schema clean
+.PHONY: help run try examples prove wrong test install bench sweep hostile soak c-test c-wrong python-test schema clean
 
 help:
 	@tools/targets
@@ -66,6 +66,9 @@ c-test:
 
 c-wrong:
 	@tools/c_wrong
+
+python-test:
+	@tools/check_python
 
 schema:
 	tools/check_documents

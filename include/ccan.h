@@ -60,7 +60,8 @@
  *  - Flags and interrupt values are of one moment, and what is sent is chosen at one, as on the part; a script's lines go on
  *    object after object.
  *
- * What C promises. The proofs assume it, and no call can check it:
+ * What C promises. The proofs assume it, and no call of the proved library can check it. The checked one, libccan_checked.a,
+ * has the same calls; it reports a broken promise that it sees, and aborts:
  *  1. A ccan_chip begins as CCAN_CHIP_CLOSED, or by ccan_chip_init. C neither reads nor writes the insides of a chip or a
  *     handle, and neither copies nor moves them. Only handles of such a chip are passed to a call.
  *  2. A handle is in one call at a time. Different handles of one chip may be in calls at the same time.
@@ -90,7 +91,7 @@ extern "C" {
 
 /* The version of this header: ten thousand times the first number, a hundred times the second, and the third. ccan_version
  * tells that of the library. */
-#define CCAN_VERSION 400
+#define CCAN_VERSION 500
 
 /* A call answers a code, which a program may not drop without a word. */
 #if defined(__GNUC__)
