@@ -26,7 +26,7 @@ pub enum Question<'a> {
 
 /// The command, with the version of the program.
 fn versioned<'a>(command: Command<'a>) -> Command<'a> {
-    command.version("0.4.0")
+    command.version("0.5.0")
 }
 
 /// The command line without its questions, and what it is for.

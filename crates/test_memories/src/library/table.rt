@@ -16,7 +16,7 @@ use std::mem::size_of;
 
 #[test]
 fn codes_of_opening(rt: HostRuntime) {
-    same(&rt, ccan_version(), 400); // CCAN_VERSION
+    same(&rt, ccan_version(), 500); // CCAN_VERSION
     same(&rt, code::DONE, 0); // CCAN_DONE
     same(&rt, code::CLOSED, 1); // CCAN_CLOSED
     same(&rt, code::BUSY, 2); // CCAN_BUSY
