@@ -261,7 +261,7 @@ def test_a_chip_that_is_never_idle(bus: CcanBus) -> None:
 def test_a_thread_plays_the_rounds(shared: ccan.Chip) -> None:
     with CcanBus("bench", chip=shared, period=0.001) as bus:
         sends(shared, 2, 0x100, b"\x05")
-        message = bus.recv(10)
+        message = bus.recv(300)
         assert message is not None and message.arbitration_id == 0x100
 
 
@@ -272,7 +272,7 @@ def test_notifier_and_periodic_messages(shared: ccan.Chip) -> None:
         heard: List[object] = []
         notifier = can.Notifier(bus, [heard.append], timeout=0.1)
         bus.send_periodic(SIGNAL, 0.005)
-        deadline = time.monotonic() + 30
+        deadline = time.monotonic() + 300
         while not shared.if1.until(1, ccan.Flag.NEWDAT) and time.monotonic() < deadline:
             time.sleep(0.001)
         assert shared.if1.peek(1).data[:2] == b"\x11\x22"
@@ -301,7 +301,7 @@ def test_rounds_that_end_are_told(shared: ccan.Chip) -> None:
             except ccan.ThreadUseError:
                 pass
         with pytest.raises(can.CanOperationError, match="the rounds ended"):
-            bus.recv(30)
+            bus.recv(300)
         with pytest.raises(can.CanOperationError, match="the rounds ended"):
             bus.send(SIGNAL)
 

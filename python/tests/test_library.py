@@ -11,6 +11,7 @@ from typing import Any, Dict, List, Type
 
 import pytest
 
+import ccan
 from ccan import _library
 from conftest import TOP
 
@@ -133,6 +134,12 @@ def test_the_version_of_the_library() -> None:
     for other in (_library.VERSION - 1, _library.VERSION + 100):
         with pytest.raises(ImportError, match=f"the library is of version {other}"):
             _library._check_version(other)
+
+
+def test_the_version_of_the_package() -> None:
+    first, second, third = (int(number) for number in ccan.__version__.split("."))
+    assert first * 10000 + second * 100 + third == _library.VERSION
+    assert f'\nversion = "{ccan.__version__}"\n' in (TOP / "python/pyproject.toml").read_text()
 
 
 def test_a_library_that_is_not_there() -> None:

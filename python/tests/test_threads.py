@@ -62,8 +62,8 @@ def again(call: Callable[..., Answer], *arguments: Any) -> Answer:
 
 
 def wait_until(holds: Callable[[], bool]) -> None:
-    """Waits until something holds, a minute at most."""
-    end = time.monotonic() + 60
+    """Waits until something holds, ten minutes at most: the machine may be busy."""
+    end = time.monotonic() + 600
     while not holds():
         assert time.monotonic() < end
         time.sleep(0)
