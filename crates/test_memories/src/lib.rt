@@ -37,3 +37,5 @@ mod saved_bytes;
 mod shared;
 #[cfg(test)]
 mod texts;
+#[cfg(test)]
+mod wire;

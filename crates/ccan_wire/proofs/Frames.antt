@@ -1,0 +1,21 @@
+-- Of two frames one precedes the other, or neither.
+use Rattle.std.proofs.Common.{ℕ, ◌≡◌, true, false, Option, Some, None, sym, ◌∙◌, arith}
+use Rattle.std.specs.Prelude.{nat_lt}
+use Rattle.std.proofs.lemmas.Bool.Decides.{nat_tests}
+use Rattle.ccan_accept.specs.declared.frame.Frame.{Frame}
+use Rattle.ccan_wire.specs.Arbitration.{beats}
+use Rattle.ccan_wire.specs.Packed.{packed}
+use Rattle.ccan_wire.proofs.Order.{packed-order}
+
+pub one_way : (f g : Frame) → beats f g ≡ true → beats g f ≡ false
+one_way f g h =
+    let less : nat_lt (packed f) (packed g) ≡ true = sym (packed-order f g) ∙ h in
+    let more : nat_lt (packed g) (packed f) ≡ false = grind (arith, nat_tests) in
+    packed-order g f ∙ more
+
+pub not_itself : (f : Frame) → beats f f ≡ true → ⊥
+not_itself f h = let no = one_way f f h in cc
+
+-- two frames of one member
+pub same_frame : (o : Option Frame) (f g : Frame) → o ≡ Some f → o ≡ Some g → f ≡ g
+same_frame o f g a b = cc

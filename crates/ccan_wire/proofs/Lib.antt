@@ -1,0 +1,9 @@
+pub mod Order
+pub mod Members
+pub mod Starting
+pub mod Frames
+pub mod Settled
+pub mod Ended
+pub mod Heard
+pub mod Listening
+pub mod Lone

@@ -1,0 +1,94 @@
+-- Laws of what is on a bus, of any members. Source: CAN Specification 2.0, part B, section 2 (arbitration), 3.1.1 (ACK field),
+-- "Error Detection", "Fault Confinement" (rule 3 with its first exception); C_CAN User's Manual 1.2, "Silent Mode".
+use Rattle.std.specs.Prelude.{ℕ, ◌≡◌, ◌≢◌, Bool, true, false, List, Option, Some, None}
+use Rattle.ccan_accept.specs.declared.frame.Frame.{Frame}
+use Rattle.ccan_confine.specs.declared.bus_event.BusEvent.{BusEvent}
+use Rattle.ccan_confine.specs.declared.bus_event.BusEvent.TheVariants as event
+use Rattle.ccan_confine.specs.declared.status_event.StatusEvent.{StatusEvent}
+use Rattle.ccan_confine.specs.declared.status_event.StatusEvent.TheVariants as status
+use Rattle.ccan_confine.specs.Counters.{Levels, is_off, levels_after}
+use Rattle.ccan_wire.specs.declared.member.Member.{Member}
+use Rattle.ccan_wire.specs.declared.start.Start.TheVariants.{Won}
+use Rattle.ccan_wire.specs.declared.wire.Wire.{Wire}
+use Rattle.ccan_wire.specs.Event.{event_of, senders_of}
+use Rattle.ccan_wire.specs.Member.{is_among, sent_by}
+use Rattle.ccan_wire.specs.Role.{drives}
+use Rattle.ccan_wire.specs.Wire.{Carries, Continues, Ends, start_of}
+
+abbrev pub has_sent : Option (BusEvent × StatusEvent)
+has_sent = Some (event.Sent, status.Sent)
+
+abbrev pub has_received : Option (BusEvent × StatusEvent)
+has_received = Some (event.Received, status.Received)
+
+-- the two are the same to each of these members: who sends, and what becomes of it
+pub record IsSameTo (m : ℕ → Member) (wire other : Wire) : Type 0 where
+  pub senders : (k : ℕ) → is_among (senders_of wire) k ≡ is_among (senders_of other) k
+  pub events : (k : ℕ) → event_of wire k (m k) ≡ event_of other k (m k)
+
+-- the members settle what is on the bus
+abbrev pub EachRoundHasOneWire : Type 0
+EachRoundHasOneWire = (m : ℕ → Member) (wire other : Wire) → Carries m wire → Carries m other → IsSameTo m wire other
+
+-- where nothing happened to the members since the start, what was decided then is decided again
+abbrev pub DecidedAgainAsAtFirst : Type 0
+DecidedAgainAsAtFirst =
+    (m : ℕ → Member) (wire later : Wire) → Carries m wire → Continues wire m later → IsSameTo m wire later
+
+-- a member that hears it well and sends a dominant bit in the ACK slot: it takes part, and started no frame that won
+pub record Hears (m : ℕ → Member) (wire : Wire) (j : ℕ) : Type 0 where
+  pub drives : drives (m j).role ≡ true
+  pub listens : is_among (senders_of wire) j ≡ false
+  pub received : event_of wire j (m j) ≡ has_received
+
+-- who has sent was heard by a member that takes part and sent nothing, and that member has received
+abbrev pub SentIsHeard : Type 0
+SentIsHeard =
+    (m : ℕ → Member) (wire : Wire) (k : ℕ) → Ends m wire → event_of wire k (m k) ≡ has_sent → (j : ℕ) × Hears m wire j
+
+-- all who have sent in one round have sent the same frame
+abbrev pub AtMostOneFrameIsSent : Type 0
+AtMostOneFrameIsSent =
+    (m : ℕ → Member) (wire : Wire) (j k : ℕ) → Carries m wire → event_of wire j (m j) ≡ has_sent
+    → event_of wire k (m k) ≡ has_sent
+    → (frame : Frame) × (sent_by (m j) ≡ Some frame) × (sent_by (m k) ≡ Some frame)
+
+-- the same members, except those who drive nothing: absent, silent or alone
+pub record DriveTheSame (m other : ℕ → Member) : Type 0 where
+  pub drive : (k : ℕ) → drives (m k).role ≡ true → other k ≡ m k
+  pub rest : (k : ℕ) → drives (m k).role ≡ false → drives (other k).role ≡ false
+
+-- who drives nothing changes nothing on the bus
+abbrev pub ListenersChangeNothing : Type 0
+ListenersChangeNothing = (m other : ℕ → Member) (wire : Wire) → DriveTheSame m other → Carries m wire → Carries other wire
+
+-- a member that sends, and finds no error by itself, while no other drives the bus
+pub record IsLoneSender (m : ℕ → Member) (k : ℕ) : Type 0 where
+  pub frame : Frame
+  pub sends : sent_by (m k) ≡ Some frame
+  pub flawless : (m k).flaw ≡ None
+  pub others : (j : ℕ) → j ≢ k → drives (m j).role ≡ false
+
+-- nobody acknowledges its frame, however many listen
+abbrev pub NobodyHearsALoneSender : Type 0
+NobodyHearsALoneSender =
+    (m : ℕ → Member) (wire : Wire) (k : ℕ) → Carries m wire → IsLoneSender m k
+    → event_of wire k (m k) ≡ Some (event.SendNoAck, status.Fault 3)
+
+-- and that leads no node off
+abbrev pub UnheardSendersStayOn : Type 0
+UnheardSendersStayOn = (levels : Levels) → is_off levels ≡ false → is_off (levels_after event.SendNoAck levels) ≡ false
+
+-- since the start of a frame that this member sends, others may have left, or found errors: each sends what it sent, or nothing
+-- any more
+pub record SomeLeave (m other : ℕ → Member) (sender : ℕ) : Type 0 where
+  pub stays : sent_by (other sender) ≡ sent_by (m sender)
+  pub leave : (k : ℕ) (frame : Frame) → sent_by (other k) ≡ Some frame → sent_by (m k) ≡ Some frame
+
+-- the frame that won at the start is the one that wins where the members who are left are asked anew
+abbrev pub WinnersAreSettledAtTheStart : Type 0
+WinnersAreSettledAtTheStart =
+    (m other : ℕ → Member) (wire later : Wire) (who : List Bool) (frame : Frame) (sender : ℕ)
+    → Carries m wire → start_of wire ≡ Won who frame → is_among who sender ≡ true
+    → SomeLeave m other sender → Carries other later
+    → (those : List Bool) × (start_of later ≡ Won those frame)

@@ -1,0 +1,10 @@
+pub mod Arbitration
+pub mod Role
+pub mod Flaw
+pub mod Member
+pub mod Packed
+pub mod Sign
+pub mod Start
+pub mod Wire
+pub mod Event
+pub mod Laws

@@ -1,0 +1,44 @@
+//! Laws of what is on a bus, each proved of all members. The functions do nothing: their contracts are the laws.
+
+ghost use Rattle.ccan_wire.specs.Laws.{AtMostOneFrameIsSent, DecidedAgainAsAtFirst, EachRoundHasOneWire, ListenersChangeNothing};
+ghost use Rattle.ccan_wire.specs.Laws.{NobodyHearsALoneSender, SentIsHeard, UnheardSendersStayOn, WinnersAreSettledAtTheStart};
+
+/// The members settle who sends, and what becomes of it for each of them.
+pub fn each_round_has_one_wire()
+    ensures { EachRoundHasOneWire }
+{}
+
+/// Where nothing happened to the members since the start of a frame, what was decided then is decided again.
+pub fn decided_again_as_at_first()
+    ensures { DecidedAgainAsAtFirst }
+{}
+
+/// Who has sent was heard by a member that takes part and sent nothing, and that member has received.
+pub fn sent_is_heard()
+    ensures { SentIsHeard }
+{}
+
+/// All who have sent in one round have sent the same frame.
+pub fn at_most_one_frame_is_sent()
+    ensures { AtMostOneFrameIsSent }
+{}
+
+/// Who drives nothing changes nothing on the bus.
+pub fn listeners_change_nothing()
+    ensures { ListenersChangeNothing }
+{}
+
+/// A frame is not acknowledged while nobody but its sender drives the bus, however many listen.
+pub fn nobody_hears_a_lone_sender()
+    ensures { NobodyHearsALoneSender }
+{}
+
+/// A frame that nobody acknowledges leads no sender off.
+pub fn unheard_senders_stay_on()
+    ensures { UnheardSendersStayOn }
+{}
+
+/// The frame that won at the start is the one that wins where the members who are left are asked anew, if one of its senders is.
+pub fn winners_are_settled_at_the_start()
+    ensures { WinnersAreSettledAtTheStart }
+{}

@@ -1,0 +1,102 @@
+//! Worked rounds of several members on one bus, with events from CAN Specification 2.0 and not from the program.
+
+use crate::expect::{frame, same};
+use ccan_confine::{BusEvent, StatusEvent};
+use ccan_wire::{Flaw, Member, Role, Wire, decide, decide_again};
+use std::process::Abort;
+
+/// A member: its role, the identifier and the one data byte of the frame that it starts, and the error that it finds.
+type Row = (Role, Option<(u8, u8)>, Option<Flaw>);
+
+type Event = Option<(BusEvent, StatusEvent)>;
+
+const SENT: Event = Some((BusEvent::Sent, StatusEvent::Sent));
+const RECEIVED: Event = Some((BusEvent::Received, StatusEvent::Received));
+const LOOPED: Event = Some((BusEvent::Sent, StatusEvent::Looped));
+const NO_ACK: Event = Some((BusEvent::SendNoAck, StatusEvent::Fault(3)));
+
+fn send_fault(code: u8) -> Event {
+    Some((BusEvent::SendFault, StatusEvent::Fault(code)))
+}
+
+fn receive_fault(code: u8) -> Event {
+    Some((BusEvent::ReceiveFault, StatusEvent::Fault(code)))
+}
+
+fn member(row: Row) -> Member {
+    let (role, starts, flaw) = row;
+    let frame = match starts {
+        Some((id, byte)) => Some(frame(u32::from(id), false, false, 1, [byte, 0, 0, 0, 0, 0, 0, 0])),
+        None => None,
+    };
+    Member { role, frame, flaw }
+}
+
+fn members(rows: [Row; 3]) -> [Member; 3] {
+    [member(rows[0]), member(rows[1]), member(rows[2])]
+}
+
+/// The round of this number is so to each of three members.
+fn comes(rt: &impl Abort, round: usize, wire: &Wire, members: &[Member; 3], want: [Event; 3]) {
+    for place in 0..3 {
+        let event = wire.event(place, &members[place]);
+        same(rt, (round, place, event), (round, place, want[place]));
+    }
+}
+
+#[test]
+fn rounds_come_to_each_member_as_it_sees_them(rt: HostRuntime) {
+    use Flaw::{Bit0, Bit1, Crc, Form, Stuff};
+    use Role::{Absent, Active, Alone, Passive, Silent};
+    let one = Some((5, 1));
+    let absent = (Absent, None, None);
+    let listener = (Active, None, None);
+    let sender = (Active, one, None);
+    let rounds = [
+        // acknowledged, and arbitration
+        ([sender, listener, (Passive, None, None)], [SENT, RECEIVED, RECEIVED]),
+        ([(Active, Some((6, 0)), None), sender, listener], [RECEIVED, SENT, RECEIVED]),
+        ([listener, (Silent, one, None), (Alone, None, None)], [None, None, None]),
+        // nobody acknowledges
+        ([(Passive, one, None), absent, (Silent, None, None)], [NO_ACK, None, RECEIVED]),
+        ([sender, (Silent, None, None), (Alone, one, None)], [NO_ACK, receive_fault(2), LOOPED]),
+        ([sender, (Passive, None, Some(Crc)), absent], [NO_ACK, receive_fault(6), None]),
+        ([sender, (Active, None, Some(Crc)), absent], [NO_ACK, receive_fault(6), None]),
+        ([(Passive, one, None), (Active, None, Some(Crc)), absent], [send_fault(3), receive_fault(6), None]),
+        // several senders
+        ([sender, (Active, Some((5, 2)), None), listener], [send_fault(4), send_fault(4), receive_fault(1)]),
+        ([sender, (Passive, one, None), listener], [SENT, SENT, RECEIVED]),
+        ([sender, (Passive, one, None), (Silent, None, None)], [NO_ACK, send_fault(3), receive_fault(2)]),
+        ([sender, (Passive, one, Some(Bit1)), listener], [SENT, send_fault(4), RECEIVED]),
+        // errors of listeners
+        ([sender, (Passive, None, Some(Stuff)), listener], [SENT, receive_fault(1), RECEIVED]),
+        ([sender, (Silent, None, Some(Stuff)), listener], [SENT, receive_fault(1), RECEIVED]),
+        ([sender, (Active, None, Some(Stuff)), listener], [send_fault(4), receive_fault(1), receive_fault(1)]),
+        ([sender, (Active, None, Some(Crc)), listener], [send_fault(2), receive_fault(6), receive_fault(2)]),
+        ([sender, (Active, None, Some(Form)), absent], [send_fault(2), receive_fault(2), None]),
+        ([sender, (Active, None, Some(Bit0)), listener], [send_fault(2), receive_fault(5), receive_fault(2)]),
+        // errors of senders
+        ([(Active, one, Some(Bit0)), listener, listener], [send_fault(5), receive_fault(1), receive_fault(1)]),
+        ([(Passive, one, Some(Bit0)), listener, absent], [send_fault(5), receive_fault(1), None]),
+        ([(Passive, one, Some(Form)), listener, absent], [send_fault(2), RECEIVED, None]),
+    ];
+    for round in 0..21 {
+        let (rows, want) = rounds[round];
+        let members = members(rows);
+        comes(&rt, round, &decide(&members), &members, want);
+    }
+
+    // what the first three start, what is left of them at the end, and what that is to them
+    let again = [
+        ([sender, listener, (Active, Some((6, 0)), None)], absent, [None, receive_fault(1), receive_fault(1)]),
+        ([sender, (Active, Some((5, 2)), None), listener], absent, [None, send_fault(4), receive_fault(1)]),
+        ([sender, sender, listener], absent, [None, SENT, RECEIVED]),
+        ([sender, listener, listener], (Active, one, Some(Bit1)), [send_fault(4), receive_fault(1), receive_fault(1)]),
+    ];
+    for round in 0..4 {
+        let (rows, first, want) = again[round];
+        let start = decide(&members(rows));
+        let members = members([first, rows[1], rows[2]]);
+        comes(&rt, round, &decide_again(&start, &members), &members, want);
+    }
+}
