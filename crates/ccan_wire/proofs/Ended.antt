@@ -1,20 +1,18 @@
 -- What becomes of a frame, by the signs of the members.
-use Rattle.std.proofs.Common.{inl, inr, ℕ, ◌≡◌, Bool, true, false, ◌&&◌, ◌||◌, not, ◌⊎◌, List, Option, Some, None, refl, sym, ap, subst, ◌∙◌}
+use Rattle.std.proofs.Common.{inl, inr, ℕ, ◌≡◌, Bool, true, false, ◌&&◌, List, Option, Some, None, refl, sym, ap, subst, ◌∙◌}
 use Rattle.std.specs.Prelude.{is_some, if◌then◌else◌}
-use Rattle.ccan_accept.specs.declared.frame.Frame.{Frame}
 use Rattle.ccan_wire.specs.declared.flaw.Flaw.{Flaw}
 use Rattle.ccan_wire.specs.declared.member.Member.{Member}
 use Rattle.ccan_wire.specs.declared.role.Role.{Role}
 use Rattle.ccan_wire.specs.declared.role.Role.TheVariants.{Absent, Silent, Alone, Passive, Active}
-use Rattle.ccan_wire.specs.declared.start.Start.{Start}
 use Rattle.ccan_wire.specs.declared.wire.Wire.{Wire}
 use Rattle.ccan_wire.specs.declared.wire.Wire.TheVariants.{Idle, Collided, Broken, Flagged, Unheard, Carried}
-use Rattle.ccan_wire.specs.Event.{event_as, event_of, event_on, listener_event, sender_event, senders_of}
+use Rattle.ccan_wire.specs.Event.{event_as, event_on, listener_event, sender_event, senders_of}
 use Rattle.ccan_wire.specs.Member.{found_at_delimiter, is_among, sends_on}
 use Rattle.ccan_wire.specs.Role.{is_active}
 use Rattle.ccan_wire.specs.Sign.{acknowledges, breaks, covers, flags, goes_on, protests}
 use Rattle.ccan_wire.specs.Start.{Starts}
-use Rattle.ccan_wire.specs.Wire.{Carries, Continues, Ends, IsBroken, IsCarried, IsFlagged, IsUnheard, IsWhole, Nobody, Someone, start_of}
+use Rattle.ccan_wire.specs.Wire.{Carries, Continues, IsBroken, IsCarried, IsFlagged, IsUnheard, IsWhole, Nobody, Someone}
 use Rattle.ccan_wire.specs.Laws.{IsSameTo}
 use Rattle.ccan_wire.proofs.Settled.{not_both, not_nothing, nothing_or_collided, same_colliders, same_senders}
 

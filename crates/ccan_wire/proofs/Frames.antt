@@ -1,5 +1,5 @@
 -- Of two frames one precedes the other, or neither.
-use Rattle.std.proofs.Common.{ℕ, ◌≡◌, true, false, Option, Some, None, sym, ◌∙◌, arith}
+use Rattle.std.proofs.Common.{◌≡◌, true, false, Option, Some, sym, ◌∙◌, arith}
 use Rattle.std.specs.Prelude.{nat_lt}
 use Rattle.std.proofs.lemmas.Bool.Decides.{nat_tests}
 use Rattle.ccan_accept.specs.declared.frame.Frame.{Frame}

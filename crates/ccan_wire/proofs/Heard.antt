@@ -12,11 +12,11 @@ use Rattle.ccan_wire.specs.declared.role.Role.{Role}
 use Rattle.ccan_wire.specs.declared.role.Role.TheVariants.{Absent, Silent, Alone, Passive, Active}
 use Rattle.ccan_wire.specs.declared.wire.Wire.{Wire}
 use Rattle.ccan_wire.specs.declared.wire.Wire.TheVariants.{Idle, Collided, Broken, Flagged, Unheard, Carried}
-use Rattle.ccan_wire.specs.Event.{event_alone, event_as, event_of, event_on, listener_event, own_or, receive_fault, received_unheard, received_well, send_fault, sender_event, senders_of, sent_unheard, sent_well, unacknowledged}
+use Rattle.ccan_wire.specs.Event.{event_alone, event_as, event_of, event_on, listener_event, own_or, receive_fault, received_unheard, received_well, send_fault, sender_event, senders_of, sent_unheard, sent_well}
 use Rattle.ccan_wire.specs.Member.{is_among, sent_by}
 use Rattle.ccan_wire.specs.Role.{drives, is_active}
 use Rattle.ccan_wire.specs.Wire.{Carries, Ends}
-use Rattle.ccan_wire.specs.Laws.{Hears, has_received, has_sent}
+use Rattle.ccan_wire.specs.Laws.{Hears, has_sent}
 
 -- this frame is on the bus and acknowledged, and the member is one of its senders
 abbrev pub CarriedBy : Wire → ℕ → Type 0

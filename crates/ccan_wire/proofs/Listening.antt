@@ -1,7 +1,6 @@
 -- Who drives nothing changes nothing on the bus.
-use Rattle.std.proofs.Common.{inl, inr, ℕ, ◌≡◌, Bool, true, false, ◌&&◌, ◌||◌, not, ◌⊎◌, List, Option, Some, None, refl, sym, ap, ◌∙◌}
+use Rattle.std.proofs.Common.{inl, inr, ℕ, ◌≡◌, Bool, true, false, ◌&&◌, ◌||◌, not, List, None, refl, sym, ap, ◌∙◌}
 use Rattle.std.specs.Prelude.{is_none, is_some, if◌then◌else◌}
-use Rattle.ccan_accept.specs.declared.frame.Frame.{Frame}
 use Rattle.ccan_wire.specs.declared.member.Member.{Member}
 use Rattle.ccan_wire.specs.declared.role.Role.{Role}
 use Rattle.ccan_wire.specs.declared.role.Role.TheVariants.{Absent, Silent, Alone, Passive, Active}
@@ -12,8 +11,8 @@ use Rattle.ccan_wire.specs.declared.wire.Wire.TheVariants.{Idle, Collided, Broke
 use Rattle.ccan_wire.specs.Member.{is_among, is_at_delimiter, is_early, sent_by}
 use Rattle.ccan_wire.specs.Role.{drives, is_active}
 use Rattle.ccan_wire.specs.Sign.{acknowledges, breaks, covers, flags, goes_on, protests}
-use Rattle.ccan_wire.specs.Start.{Collides, SendsLeast, Starts, Wins}
-use Rattle.ccan_wire.specs.Wire.{Carries, Ends, IsBroken, IsCarried, IsFlagged, IsUnheard, IsWhole, Nobody, Someone, start_of}
+use Rattle.ccan_wire.specs.Start.{SendsLeast, Starts}
+use Rattle.ccan_wire.specs.Wire.{Carries, Ends, IsWhole, Nobody, Someone, start_of}
 use Rattle.ccan_wire.specs.Laws.{DriveTheSame}
 
 -- ---- who drives nothing shows no sign

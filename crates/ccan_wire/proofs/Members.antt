@@ -1,8 +1,8 @@
 -- Members at their places.
-use Rattle.std.proofs.Common.{ℕ, ◌≡◌, ◌≤◌, ◌<◌, Bool, true, false, List, length, get_or, None, refl, ap, ◌∙◌, arith}
-use Rattle.std.specs.Prelude.{nat_lt}
+use Rattle.std.proofs.Common.{◌&&◌, sym, ℕ, ◌≡◌, ◌≤◌, ◌<◌, Bool, true, false, List, length, get_or, refl, ap, ◌∙◌, arith}
+use Rattle.std.specs.Prelude.{nat_lt, replicate}
 use Rattle.std.proofs.lemmas.Bool.Decides.{nat_tests}
-use Rattle.std.proofs.lemmas.List.{get_or_past, get_or_read}
+use Rattle.std.proofs.lemmas.List.{get_or-replicate, get_or_past, get_or_read, length-replicate}
 use Rattle.ccan_wire.specs.declared.member.Member.{Member}
 use Rattle.ccan_wire.specs.declared.sign.Sign.{Sign}
 use Rattle.ccan_wire.specs.declared.sign.Sign.TheVariants.{Breaks, GoesOn, Covers, Flags, Protests, Acknowledges}
@@ -42,3 +42,16 @@ none_shows members who sign n all below k =
 -- a member that was read
 pub read_at : (members : List Member) (k : ℕ) (x : Member) → k < length members → x ≡ get_or members k x → x ≡ member_at members k
 read_at members k x within is = get_or_read members k x within is nobody
+
+-- of no places none is meant
+none_among : (k n : ℕ) → is_among (replicate n false) k ≡ false
+none_among k n = elim (nat_lt k n) as (λ b. nat_lt k n ≡ b → is_among (replicate n false) k ≡ false) [
+  | true ↦ λ e. get_or-replicate n k false false (grind (arith, nat_tests))
+  | false ↦ λ e.
+      let out : n ≤ k = grind (arith, nat_tests) in
+      get_or_past (replicate n false) k false (simp length-replicate out)
+] refl
+
+pub none_at_first : (k : ℕ) (b : Bool) → is_among (replicate 32 false) k ≡ (nat_lt k 0 && b)
+none_at_first k b =
+    none_among k 32 ∙ sym (let no : nat_lt k 0 ≡ false = grind (arith, nat_tests) in ap (λ x. x && b) no)

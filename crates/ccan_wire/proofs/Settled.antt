@@ -1,12 +1,12 @@
 -- What is settled at the start of a frame, by those who send.
-use Rattle.std.proofs.Common.{ℕ, ◌≡◌, ◌≢◌, Bool, true, false, List, Option, Some, None, refl, sym, ap, subst, ◌∙◌}
+use Rattle.std.proofs.Common.{ℕ, ◌≡◌, Bool, true, false, List, Some, None, refl, sym, ap, subst, ◌∙◌}
 use Rattle.ccan_accept.specs.declared.frame.Frame.{Frame}
 use Rattle.ccan_wire.specs.declared.member.Member.{Member}
 use Rattle.ccan_wire.specs.declared.start.Start.{Start}
 use Rattle.ccan_wire.specs.declared.start.Start.TheVariants.{Nothing, Collision, Won}
 use Rattle.ccan_wire.specs.Arbitration.{beats}
 use Rattle.ccan_wire.specs.Member.{is_among, sent_by}
-use Rattle.ccan_wire.specs.Start.{Collides, SendsLeast, Starts, Wins}
+use Rattle.ccan_wire.specs.Start.{Collides, Starts, Wins}
 use Rattle.ccan_wire.specs.Laws.{SomeLeave}
 use Rattle.ccan_wire.proofs.Frames.{not_itself, one_way, same_frame}
 

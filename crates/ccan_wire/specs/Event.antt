@@ -1,8 +1,8 @@
 -- What is on the bus, to each member: an event of its error counters, and one of its Status register with the last error code
--- that the member itself can see. Source: CAN Specification 2.0, "Error Detection", "Error Signalling", "Fault Confinement" (rules
--- 1, 3, 7 and 8); C_CAN User's Manual 1.2, "Status Register" (LEC), "Silent Mode", "Loop Back Mode". That what a member sees
+-- that the member itself can see. Source: CAN Specification 2.0, "Error Detection", "Error Signalling", "Fault Confinement"
+-- (rules 1, 3, 7 and 8); C_CAN User's Manual 1.2, "Status Register" (LEC), "Silent Mode", "Loop Back Mode". That what a member sees
 -- behind its own error flag counts nothing more (rules 2, 4, 5 and 6), and that a silent member counts as others do, are (own).
-use Rattle.std.specs.Prelude.{ℕ, Bool, false, ◌&&◌, not, List, [], Option, Some, None, if◌then◌else◌}
+use Rattle.std.specs.Prelude.{ℕ, Bool, ◌&&◌, not, List, [], Option, Some, None, if◌then◌else◌}
 use Rattle.ccan_accept.specs.declared.frame.Frame.{Frame}
 use Rattle.ccan_confine.specs.declared.bus_event.BusEvent.{BusEvent}
 use Rattle.ccan_confine.specs.declared.bus_event.BusEvent.TheVariants as event

@@ -1,9 +1,9 @@
 -- What is settled when a frame starts: who sends which frame, or that some collide. Source: CAN Specification 2.0, part B,
--- section 2 (arbitration: the frame whose bits precede goes on, and no bit of it is lost) and "Error Detection" (a bit error, except in
--- arbitration). Members who send frames that are equal to the last bit see no difference: these are one frame on the bus. Frames
--- that are equal only in the bits of arbitration collide, which ends them all. That it also ends them where the members who see
--- the bit error are error passive is (own).
-use Rattle.std.specs.Prelude.{ℕ, ◌≡◌, ◌≢◌, Bool, true, false, List, Option, Some, None}
+-- section 2 (arbitration: the frame whose bits precede goes on, and no bit of it is lost) and "Error Detection" (a bit error, except
+-- in arbitration). Members who send frames that are equal to the last bit see no difference: these are one frame on the bus.
+-- Frames that are equal only in the bits of arbitration collide, which ends them all. That it also ends them where the members
+-- who see the bit error are error passive is (own).
+use Rattle.std.specs.Prelude.{ℕ, ◌≡◌, ◌≢◌, Bool, true, false, List, Some, None}
 use Rattle.ccan_accept.specs.declared.frame.Frame.{Frame}
 use Rattle.ccan_wire.specs.declared.member.Member.{Member}
 use Rattle.ccan_wire.specs.declared.start.Start.{Start}

@@ -1,4 +1,4 @@
-ghost use Rattle.std.specs.Prelude.{◌≡◌, ◌≤◌, ◌^◌};
+ghost use Rattle.std.specs.Prelude.{◌≡◌, ◌≤◌, ◌^◌, ◌↔◌, IsTrue, Some};
 
 use crate::flaw::Flaw;
 use crate::packed::packed;
@@ -36,6 +36,13 @@ impl Member {
         ensures { result ≡ sent_by self.now }
     {
         if self.role.drives() { self.frame } else { None }
+    }
+
+    /// Whether it sends this frame.
+    pub(crate) fn sends(&self, frame: &Frame) -> bool
+        ensures { IsTrue result ↔ (sent_by self.now ≡ Some frame.now) }
+    {
+        self.sent() == Some(*frame)
     }
 
     /// The number by which it contends: the least one wins.

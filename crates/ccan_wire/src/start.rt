@@ -44,15 +44,15 @@ fn holders(members: &[Member], number: u64) -> Places
 }
 
 /// A member among these that does not send this frame.
-fn dissenter(members: &[Member], who: &Places, frame: Frame) -> Option<usize>
+fn dissenter(members: &[Member], who: &Places, frame: &Frame) -> Option<usize>
     requires { length members.now ≤ 32 }
     ensures some { IfSome result (λ k. (is_among who.now k ≡ true)
-        × (sent_by (member_at members.now k) ≢ Some frame)) }
+        × (sent_by (member_at members.now k) ≢ Some frame.now)) }
     ensures none { IfNone result ((k : ℕ) → k < length members.now → is_among who.now k ≡ true
-        → sent_by (member_at members.now k) ≡ Some frame) }
+        → sent_by (member_at members.now k) ≡ Some frame.now) }
 {
     for place in 0..members.len() {
-        if who[place] && members[place].sent() != Some(frame) {
+        if who[place] && !members[place].sends(frame) {
             return Some(place);
         }
     }
@@ -75,7 +75,7 @@ impl Start {
             None => Start::Nothing,
             Some(frame) => {
                 let who = holders(members, members[least].key());
-                match dissenter(members, &who, frame) {
+                match dissenter(members, &who, &frame) {
                     Some(_) => Start::Collision(who),
                     None => Start::Won(who, frame),
                 }
