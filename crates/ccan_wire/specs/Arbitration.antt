@@ -1,5 +1,7 @@
--- The bits of arbitration. Source: CAN Specification 2.0, part B, sections 2 (arbitration) and 3.1.1 (arbitration field).
-use Rattle.std.specs.Prelude.{ℕ, zero, suc, ◌/◌, ◌^◌, Bool, true, false, List, [], ◌∷◌, ◌++◌, if◌then◌else◌}
+-- The bits of a frame, as far as they may differ. Source: CAN Specification 2.0, part B, sections 2 (arbitration) and 3.1.1
+-- (arbitration field, control field, data field). The check sequence is the same where these are.
+use Rattle.std.specs.Prelude.{ℕ, zero, suc, ◌+◌, ◌*◌, ◌/◌, ◌^◌, Bool, true, false, List, [], ◌∷◌, ◌++◌, if◌then◌else◌}
+use Rattle.std.specs.Int.{from_be_bytes, w64}
 use Rattle.ccan_object.specs.Bits.{bit}
 use Rattle.ccan_accept.specs.declared.frame.Frame.{Frame}
 
@@ -39,3 +41,8 @@ precedes (true ∷ ours) (true ∷ theirs) = precedes ours theirs
 -- this frame goes on where the two are sent at once
 abbrev pub beats : Frame → Frame → Bool
 beats one other = precedes (arbitration_bits one) (arbitration_bits other)
+
+-- what stands behind the bits of arbitration, as one number, the first bit the highest: the data length code, and then the data.
+-- Where two frames with the same bits of arbitration first differ, the one of the lesser number has the dominant bit
+unfoldable pub rest_of : Frame → ℕ
+rest_of f = f.dlc * 2 ^ 64 + from_be_bytes w64 f.bytes

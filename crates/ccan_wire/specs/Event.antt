@@ -1,7 +1,8 @@
 -- What is on the bus, to each member: an event of its error counters, and one of its Status register with the last error code
 -- that the member itself can see. Source: CAN Specification 2.0, "Error Detection", "Error Signalling", "Fault Confinement"
--- (rules 1, 3, 7 and 8); C_CAN User's Manual 1.2, "Status Register" (LEC), "Silent Mode", "Loop Back Mode". That what a member sees
--- behind its own error flag counts nothing more (rules 2, 4, 5 and 6), and that a silent member counts as others do, are (own).
+-- (rules 1, 3, 7 and 8); C_CAN User's Manual 1.2, "Status Register" (LEC), "Silent Mode", "Loop Back Mode". That what a member
+-- sees behind its own error flag counts nothing more (rules 2, 4, 5 and 6), that the second exception of rule 3 does not come, and
+-- that a silent member counts as others do, are (own).
 use Rattle.std.specs.Prelude.{ℕ, Bool, ◌&&◌, not, List, [], Option, Some, None, if◌then◌else◌}
 use Rattle.ccan_accept.specs.declared.frame.Frame.{Frame}
 use Rattle.ccan_confine.specs.declared.bus_event.BusEvent.{BusEvent}
@@ -14,18 +15,20 @@ use Rattle.ccan_wire.specs.declared.role.Role.{Role}
 use Rattle.ccan_wire.specs.declared.role.Role.TheVariants.{Absent, Silent, Alone, Passive, Active}
 use Rattle.ccan_wire.specs.declared.wire.Wire.{Wire}
 use Rattle.ccan_wire.specs.declared.wire.Wire.TheVariants.{Idle, Collided, Broken, Flagged, Unheard, Carried}
+use Rattle.ccan_wire.specs.declared.winner.Part.{Part}
+use Rattle.ccan_wire.specs.declared.winner.Part.TheVariants.{Sender, Dropped, Listener}
 use Rattle.ccan_wire.specs.Flaw.{code_of}
-use Rattle.ccan_wire.specs.Member.{is_among}
 use Rattle.ccan_wire.specs.Role.{is_active}
+use Rattle.ccan_wire.specs.Winner.{part_in, part_of}
 
--- who started the frame that is on the bus
-abbrev pub senders_of : Wire → List Bool
-senders_of Idle = []
-senders_of (Collided who) = who
-senders_of (Broken who frame) = who
-senders_of (Flagged who frame) = who
-senders_of (Unheard who frame flagged) = who
-senders_of (Carried who frame) = who
+-- what a member is to the frame that is on the bus
+abbrev pub part_on : Wire → ℕ → Part
+part_on Idle k = Listener
+part_on (Collided who) k = part_in who [] k
+part_on (Broken winner) k = part_of winner k
+part_on (Flagged winner) k = part_of winner k
+part_on (Unheard winner flagged) k = part_of winner k
+part_on (Carried winner) k = part_of winner k
 
 -- the code of the error that a member finds by itself, else that of what it sees of another member's
 abbrev pub own_or : Option Flaw → ℕ → ℕ
@@ -62,28 +65,30 @@ abbrev pub received_unheard : Bool → Option Flaw → Option (BusEvent × Statu
 received_unheard flagged flaw = if flagged then receive_fault (own_or flaw 2) else received_well flaw
 
 -- to a member that sends: a flag in the stuffed part makes a recessive bit of its own dominant (4), and one at the end breaks the
--- form (2). There it is a bit error too, and the code 2 is (own)
+-- form (2). That the first begins behind the arbitration field, and that of form error and bit error at the end the first is given,
+-- are (own)
 abbrev pub sender_event : Wire → Role → Option Flaw → Option (BusEvent × StatusEvent)
 sender_event Idle role flaw = None
 sender_event (Collided who) role flaw = send_fault 4
-sender_event (Broken who frame) role flaw = send_fault (own_or flaw 4)
-sender_event (Flagged who frame) role flaw = send_fault (own_or flaw 2)
-sender_event (Unheard who frame flagged) role flaw = sent_unheard flagged role flaw
-sender_event (Carried who frame) role flaw = sent_well flaw
+sender_event (Broken winner) role flaw = send_fault (own_or flaw 4)
+sender_event (Flagged winner) role flaw = send_fault (own_or flaw 2)
+sender_event (Unheard winner flagged) role flaw = sent_unheard flagged role flaw
+sender_event (Carried winner) role flaw = sent_well flaw
 
 -- to one that hears it: six equal bits in the stuffed part break the stuff rule (1), a flag at the end breaks the form (2)
 abbrev pub listener_event : Wire → Option Flaw → Option (BusEvent × StatusEvent)
 listener_event Idle flaw = None
 listener_event (Collided who) flaw = receive_fault 1
-listener_event (Broken who frame) flaw = receive_fault (own_or flaw 1)
-listener_event (Flagged who frame) flaw = receive_fault (own_or flaw 2)
-listener_event (Unheard who frame flagged) flaw = received_unheard flagged flaw
-listener_event (Carried who frame) flaw = received_well flaw
+listener_event (Broken winner) flaw = receive_fault (own_or flaw 1)
+listener_event (Flagged winner) flaw = receive_fault (own_or flaw 2)
+listener_event (Unheard winner flagged) flaw = received_unheard flagged flaw
+listener_event (Carried winner) flaw = received_well flaw
 
--- to one that takes part
-abbrev pub event_on : Wire → ℕ → Member → Option (BusEvent × StatusEvent)
-event_on wire k m =
-    if is_among (senders_of wire) k then sender_event wire m.role m.flaw else listener_event wire m.flaw
+-- to one that takes part; who dropped out has seen a bit error (4)
+abbrev pub event_in : Part → Wire → Member → Option (BusEvent × StatusEvent)
+event_in Sender wire m = sender_event wire m.role m.flaw
+event_in Dropped wire m = send_fault 4
+event_in Listener wire m = listener_event wire m.flaw
 
 -- to one in loop back mode: its own frame, if it has one, acknowledged or not
 abbrev pub event_alone : Option Frame → Option (BusEvent × StatusEvent)
@@ -94,8 +99,8 @@ abbrev pub event_as : Role → Wire → ℕ → Member → Option (BusEvent × S
 event_as Absent wire k m = None
 event_as Silent wire k m = listener_event wire m.flaw
 event_as Alone wire k m = event_alone m.frame
-event_as Passive wire k m = event_on wire k m
-event_as Active wire k m = event_on wire k m
+event_as Passive wire k m = event_in (part_on wire k) wire m
+event_as Active wire k m = event_in (part_on wire k) wire m
 
 -- what is on the bus, to the member at this place
 abbrev pub event_of : Wire → ℕ → Member → Option (BusEvent × StatusEvent)

@@ -1,7 +1,7 @@
 -- Errors that a member finds by itself, their codes, and where in the frame each is found. Source: CAN Specification 2.0, "Error
 -- Detection" and "Error Signalling" (the flag for a CRC error begins behind the ACK delimiter, the others at the next bit); C_CAN
 -- User's Manual 1.2, "Status Register" (LEC). That each is found at the place given here is (own): the usual case.
-use Rattle.std.specs.Prelude.{ℕ, Bool, true, false}
+use Rattle.std.specs.Prelude.{ℕ, Bool, true, false, Option, Some, None}
 use Rattle.ccan_wire.specs.declared.flaw.Flaw.{Flaw}
 use Rattle.ccan_wire.specs.declared.flaw.Flaw.TheVariants.{Stuff, Form, Bit1, Bit0, Crc}
 
@@ -30,3 +30,12 @@ is_before_the_ack_slot sends Form = true
 is_before_the_ack_slot sends Bit1 = false
 is_before_the_ack_slot sends Bit0 = false
 is_before_the_ack_slot sends Crc = sends
+
+-- such an error is found, if any is
+abbrev pub found_early : Bool → Option Flaw → Bool
+found_early sends None = false
+found_early sends (Some flaw) = is_in_the_stuffed_part sends flaw
+
+abbrev pub found_at_delimiter : Bool → Option Flaw → Bool
+found_at_delimiter sends None = false
+found_at_delimiter sends (Some flaw) = is_before_the_ack_slot sends flaw

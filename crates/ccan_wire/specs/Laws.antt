@@ -1,6 +1,6 @@
 -- Laws of what is on a bus, of any members. Source: CAN Specification 2.0, part B, section 2 (arbitration), 3.1.1 (ACK field),
 -- "Error Detection", "Fault Confinement" (rule 3 with its first exception); C_CAN User's Manual 1.2, "Silent Mode".
-use Rattle.std.specs.Prelude.{ℕ, ◌≡◌, ◌≢◌, Bool, true, false, List, Option, Some, None}
+use Rattle.std.specs.Prelude.{ℕ, ◌≡◌, ◌≢◌, true, false, Option, Some, None}
 use Rattle.ccan_accept.specs.declared.frame.Frame.{Frame}
 use Rattle.ccan_confine.specs.declared.bus_event.BusEvent.{BusEvent}
 use Rattle.ccan_confine.specs.declared.bus_event.BusEvent.TheVariants as event
@@ -10,9 +10,12 @@ use Rattle.ccan_confine.specs.Counters.{Levels, is_off, levels_after}
 use Rattle.ccan_wire.specs.declared.member.Member.{Member}
 use Rattle.ccan_wire.specs.declared.start.Start.TheVariants.{Won}
 use Rattle.ccan_wire.specs.declared.wire.Wire.{Wire}
-use Rattle.ccan_wire.specs.Event.{event_of, senders_of}
-use Rattle.ccan_wire.specs.Member.{is_among, sent_by}
-use Rattle.ccan_wire.specs.Role.{drives}
+use Rattle.ccan_wire.specs.declared.winner.Part.TheVariants.{Sender, Listener}
+use Rattle.ccan_wire.specs.declared.winner.Winner.{Winner}
+use Rattle.ccan_wire.specs.Event.{event_of, part_on}
+use Rattle.ccan_wire.specs.Member.{sent_by}
+use Rattle.ccan_wire.specs.Role.{drives, is_active}
+use Rattle.ccan_wire.specs.Winner.{part_of}
 use Rattle.ccan_wire.specs.Wire.{Carries, Continues, Ends, start_of}
 
 abbrev pub has_sent : Option (BusEvent × StatusEvent)
@@ -21,9 +24,9 @@ has_sent = Some (event.Sent, status.Sent)
 abbrev pub has_received : Option (BusEvent × StatusEvent)
 has_received = Some (event.Received, status.Received)
 
--- the two are the same to each of these members: who sends, and what becomes of it
+-- the two are the same to each of these members: its part, and what becomes of it
 pub record IsSameTo (m : ℕ → Member) (wire other : Wire) : Type 0 where
-  pub senders : (k : ℕ) → is_among (senders_of wire) k ≡ is_among (senders_of other) k
+  pub parts : (k : ℕ) → part_on wire k ≡ part_on other k
   pub events : (k : ℕ) → event_of wire k (m k) ≡ event_of other k (m k)
 
 -- the members settle what is on the bus
@@ -35,10 +38,10 @@ abbrev pub DecidedAgainAsAtFirst : Type 0
 DecidedAgainAsAtFirst =
     (m : ℕ → Member) (wire later : Wire) → Carries m wire → Continues wire m later → IsSameTo m wire later
 
--- a member that hears it well and sends a dominant bit in the ACK slot: it takes part, and started no frame that won
+-- a member that takes part, sends nothing, and has received the frame
 pub record Hears (m : ℕ → Member) (wire : Wire) (j : ℕ) : Type 0 where
   pub drives : drives (m j).role ≡ true
-  pub listens : is_among (senders_of wire) j ≡ false
+  pub listens : part_on wire j ≡ Listener
   pub received : event_of wire j (m j) ≡ has_received
 
 -- who has sent was heard by a member that takes part and sent nothing, and that member has received
@@ -79,16 +82,21 @@ NobodyHearsALoneSender =
 abbrev pub UnheardSendersStayOn : Type 0
 UnheardSendersStayOn = (levels : Levels) → is_off levels ≡ false → is_off (levels_after event.SendNoAck levels) ≡ false
 
--- since the start of a frame that this member sends, others may have left, or found errors: each sends what it sent, or nothing
--- any more
+-- a member that still sends what it sent, and is error active only if it was
+pub record IsAsBefore (m other : Member) (frame : Frame) : Type 0 where
+  pub sent : sent_by m ≡ Some frame
+  pub passive : is_active m.role ≡ false → is_active other.role ≡ false
+
+-- since the start of a frame that this member sends, others may have left, or found errors: each is as before, or sends nothing any
+-- more
 pub record SomeLeave (m other : ℕ → Member) (sender : ℕ) : Type 0 where
   pub stays : sent_by (other sender) ≡ sent_by (m sender)
-  pub leave : (k : ℕ) (frame : Frame) → sent_by (other k) ≡ Some frame → sent_by (m k) ≡ Some frame
+  pub leave : (k : ℕ) (frame : Frame) → sent_by (other k) ≡ Some frame → IsAsBefore (m k) (other k) frame
 
 -- the frame that won at the start is the one that wins where the members who are left are asked anew
 abbrev pub WinnersAreSettledAtTheStart : Type 0
 WinnersAreSettledAtTheStart =
-    (m other : ℕ → Member) (wire later : Wire) (who : List Bool) (frame : Frame) (sender : ℕ)
-    → Carries m wire → start_of wire ≡ Won who frame → is_among who sender ≡ true
+    (m other : ℕ → Member) (wire later : Wire) (winner : Winner) (sender : ℕ)
+    → Carries m wire → start_of wire ≡ Won winner → part_of winner sender ≡ Sender
     → SomeLeave m other sender → Carries other later
-    → (those : List Bool) × (start_of later ≡ Won those frame)
+    → (left : Winner) × (start_of later ≡ Won left) × (left.frame ≡ winner.frame)

@@ -1,6 +1,7 @@
 pub mod Arbitration
 pub mod Role
 pub mod Flaw
+pub mod Winner
 pub mod Member
 pub mod Packed
 pub mod Sign

@@ -1,9 +1,11 @@
 -- The bits of arbitration as one number, as the code compares them, and the least of the members' numbers. Source: (own).
-use Rattle.std.specs.Prelude.{ℕ, zero, suc, ◌≤◌, ◌<◌, ◌+◌, ◌^◌, Bool, true, false, List, [], ◌∷◌, Option, Some, None}
+use Rattle.std.specs.Prelude.{ℕ, zero, suc, ◌≡◌, ◌≢◌, ◌⊎◌, ◌≤◌, ◌<◌, ◌+◌, ◌^◌, Bool, true, false, List, [], ◌∷◌, Option, Some, None}
 use Rattle.ccan_accept.specs.declared.frame.Frame.{Frame}
 use Rattle.ccan_wire.specs.declared.member.Member.{Member}
-use Rattle.ccan_wire.specs.Arbitration.{arbitration_bits}
+use Rattle.ccan_wire.specs.Arbitration.{arbitration_bits, rest_of}
 use Rattle.ccan_wire.specs.Member.{sent_by}
+use Rattle.ccan_wire.specs.Role.{is_active}
+use Rattle.ccan_wire.specs.Winner.{is_among}
 
 -- a list of bits as a number of so many bits, the first the highest
 unfoldable pub value_of : ℕ → List Bool → ℕ
@@ -23,7 +25,27 @@ number_of (Some frame) = packed frame
 abbrev pub key_of : Member → ℕ
 key_of m = number_of (sent_by m)
 
+abbrev pub rest_of_some : Option Frame → ℕ
+rest_of_some None = 0
+rest_of_some (Some frame) = rest_of frame
+
+abbrev pub rest_by : Member → ℕ
+rest_by m = rest_of_some (sent_by m)
+
 -- of the first numbers, none is less than the one at this place
 pub record IsLeast (key : ℕ → ℕ) (count place : ℕ) : Type 0 where
   pub within : place < count
   pub floor : (k : ℕ) → k < count → key place ≤ key k
+
+-- of the first numbers, as far as their places are meant, none is less than the one at this place
+pub record IsLeastAmong (key : ℕ → ℕ) (who : List Bool) (count place : ℕ) : Type 0 where
+  pub within : is_among who place ≡ true
+  pub floor : (k : ℕ) → k < count → is_among who k ≡ true → key place ≤ key k
+
+-- a member with the same bits of arbitration as this frame lets it go on: it sends it too, or just drops out
+abbrev pub Agrees : Member → Frame → Type 0
+Agrees m frame = (sent_by m ≡ Some frame) ⊎ ((is_active m.role ≡ false) × (rest_of frame < rest_by m))
+
+-- or it does not
+abbrev pub Dissents : Member → Frame → Type 0
+Dissents m frame = (sent_by m ≢ Some frame) × ((is_active m.role ≡ true) ⊎ (rest_by m ≤ rest_of frame))

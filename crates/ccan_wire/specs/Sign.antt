@@ -1,42 +1,57 @@
--- What a member does on the bus while a frame is sent, as the others see it. Each takes whether the member is among those who
--- started the frame. Source: CAN Specification 2.0, part B, 3.1.1 (ACK field: who received the frame well sends a dominant bit in
--- the ACK slot, its senders a recessive one), 3.1.3 (error frame: six dominant bits of an error active node, six recessive ones
--- of an error passive node) and "Error Signalling" (an acknowledge error is flagged at the next bit).
-use Rattle.std.specs.Prelude.{Bool, ◌&&◌, ◌||◌, not, is_none, is_some}
+-- What a member does on the bus while a frame is sent, as the others see it, by its part: whether it sends the frame, or has dropped
+-- out, which shows the others nothing any more, or listens. Source: CAN Specification 2.0, part B, 3.1.1 (ACK field: who received
+-- the frame well sends a dominant bit in the ACK slot, its senders a recessive one), 3.1.3 (error frame: six dominant bits of an
+-- error active node, six recessive ones of an error passive node) and "Error Signalling" (an acknowledge error is flagged at the
+-- next bit).
+use Rattle.std.specs.Prelude.{Bool, true, false, ◌&&◌, not, is_none, is_some}
 use Rattle.ccan_wire.specs.declared.member.Member.{Member}
 use Rattle.ccan_wire.specs.declared.sign.Sign.{Sign}
 use Rattle.ccan_wire.specs.declared.sign.Sign.TheVariants.{Breaks, GoesOn, Covers, Flags, Protests, Acknowledges}
-use Rattle.ccan_wire.specs.Member.{is_at_delimiter, is_early, sends_on}
+use Rattle.ccan_wire.specs.declared.winner.Part.{Part}
+use Rattle.ccan_wire.specs.declared.winner.Part.TheVariants.{Sender, Dropped, Listener}
+use Rattle.ccan_wire.specs.Flaw.{found_at_delimiter, found_early}
 use Rattle.ccan_wire.specs.Role.{drives, is_active}
 
 -- its error flag, of dominant bits, begins before the end of the check sequence
-abbrev pub breaks : Bool → Member → Bool
-breaks among m = is_active m.role && is_early among m
+abbrev pub breaks : Part → Member → Bool
+breaks Sender m = is_active m.role && found_early true m.flaw
+breaks Dropped m = false
+breaks Listener m = is_active m.role && found_early false m.flaw
 
--- it sends the frame beyond the end of the check sequence
-abbrev pub goes_on : Bool → Member → Bool
-goes_on among m = sends_on among m && not (is_early among m)
+-- it sends the frame beyond the end of the check sequence: it has not left the bus, and found no error until there
+abbrev pub goes_on : Part → Member → Bool
+goes_on Sender m = drives m.role && not (found_early true m.flaw)
+goes_on Dropped m = false
+goes_on Listener m = false
 
 -- its error flag, of dominant bits, begins in the ACK slot
-abbrev pub covers : Bool → Member → Bool
-covers among m = is_active m.role && is_at_delimiter among m
+abbrev pub covers : Part → Member → Bool
+covers Sender m = is_active m.role && found_at_delimiter true m.flaw
+covers Dropped m = false
+covers Listener m = is_active m.role && found_at_delimiter false m.flaw
 
 -- it sends an error flag of dominant bits, wherever that begins
-abbrev pub flags : Bool → Member → Bool
-flags among m = is_active m.role && is_some m.flaw
+abbrev pub flags : Part → Member → Bool
+flags Sender m = is_active m.role && is_some m.flaw
+flags Dropped m = false
+flags Listener m = is_active m.role && is_some m.flaw
 
--- it sends an error flag of dominant bits in a frame that nobody acknowledges: a sender for that alone
-abbrev pub protests : Bool → Member → Bool
-protests among m = is_active m.role && (among || is_some m.flaw)
+-- it sends an error flag of dominant bits in a frame that nobody acknowledges: to a sender that is an error
+abbrev pub protests : Part → Member → Bool
+protests Sender m = is_active m.role
+protests Dropped m = false
+protests Listener m = is_active m.role && is_some m.flaw
 
--- it sends a dominant bit in the ACK slot: it takes part, started another frame or none, and found no error
-abbrev pub acknowledges : Bool → Member → Bool
-acknowledges among m = not among && (drives m.role && is_none m.flaw)
+-- it sends a dominant bit in the ACK slot: it takes part and found no error
+abbrev pub acknowledges : Part → Member → Bool
+acknowledges Sender m = false
+acknowledges Dropped m = false
+acknowledges Listener m = drives m.role && is_none m.flaw
 
-abbrev pub shows : Sign → Bool → Member → Bool
-shows Breaks among m = breaks among m
-shows GoesOn among m = goes_on among m
-shows Covers among m = covers among m
-shows Flags among m = flags among m
-shows Protests among m = protests among m
-shows Acknowledges among m = acknowledges among m
+abbrev pub shows : Sign → Part → Member → Bool
+shows Breaks part m = breaks part m
+shows GoesOn part m = goes_on part m
+shows Covers part m = covers part m
+shows Flags part m = flags part m
+shows Protests part m = protests part m
+shows Acknowledges part m = acknowledges part m

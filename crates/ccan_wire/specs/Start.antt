@@ -1,21 +1,39 @@
 -- What is settled when a frame starts: who sends which frame, or that some collide. Source: CAN Specification 2.0, part B,
--- section 2 (arbitration: the frame whose bits precede goes on, and no bit of it is lost) and "Error Detection" (a bit error, except
--- in arbitration). Members who send frames that are equal to the last bit see no difference: these are one frame on the bus.
--- Frames that are equal only in the bits of arbitration collide, which ends them all. That it also ends them where the members
--- who see the bit error are error passive is (own).
-use Rattle.std.specs.Prelude.{ℕ, ◌≡◌, ◌≢◌, Bool, true, false, List, Some, None}
+-- section 2 (arbitration: the frame whose bits precede goes on, and no bit of it is lost), 3.1.3 (a passive error flag is of
+-- recessive bits) and "Error Detection" (bit error: a unit that sends a recessive bit behind the arbitration field and sees a
+-- dominant one). Members who send frames that are equal to the last bit see no difference: these are one frame on the bus.
+use Rattle.std.specs.Prelude.{ℕ, ◌≡◌, ◌≢◌, ◌≤◌, ◌<◌, Bool, true, false, List, Some, None}
 use Rattle.ccan_accept.specs.declared.frame.Frame.{Frame}
 use Rattle.ccan_wire.specs.declared.member.Member.{Member}
 use Rattle.ccan_wire.specs.declared.start.Start.{Start}
 use Rattle.ccan_wire.specs.declared.start.Start.TheVariants.{Nothing, Collision, Won}
-use Rattle.ccan_wire.specs.Arbitration.{beats}
-use Rattle.ccan_wire.specs.Member.{is_among, sent_by}
+use Rattle.ccan_wire.specs.declared.winner.Part.TheVariants.{Sender, Dropped, Listener}
+use Rattle.ccan_wire.specs.declared.winner.Winner.{Winner}
+use Rattle.ccan_wire.specs.Arbitration.{beats, rest_of}
+use Rattle.ccan_wire.specs.Member.{sent_by}
+use Rattle.ccan_wire.specs.Role.{is_active}
+use Rattle.ccan_wire.specs.Winner.{is_among, part_of}
 
--- these are the members who send this frame, and it precedes each frame of another member
-pub record Wins (m : ℕ → Member) (who : List Bool) (frame : Frame) : Type 0 where
-  pub some : (k : ℕ) × (is_among who k ≡ true)
-  pub theirs : (k : ℕ) → is_among who k ≡ true → sent_by (m k) ≡ Some frame
-  pub first : (k : ℕ) (other : Frame) → is_among who k ≡ false → sent_by (m k) ≡ Some other → beats frame other ≡ true
+-- the two have the same bits of arbitration, and where they first differ the second has the recessive bit
+pub record ComesLater (frame other : Frame) : Type 0 where
+  pub not_before : beats other frame ≡ false
+  pub not_after : beats frame other ≡ false
+  pub recessive : rest_of frame < rest_of other
+
+-- this member drops out and leaves the frame as it is: it sends one that comes later, and is error passive
+pub record DropsOut (m : Member) (frame : Frame) : Type 0 where
+  pub other : Frame
+  pub sends : sent_by m ≡ Some other
+  pub later : ComesLater frame other
+  pub passive : is_active m.role ≡ false
+
+-- its senders send this frame, some drop out, and it precedes the frame of each other member
+pub record Wins (m : ℕ → Member) (winner : Winner) : Type 0 where
+  pub some : (k : ℕ) × (part_of winner k ≡ Sender)
+  pub theirs : (k : ℕ) → part_of winner k ≡ Sender → sent_by (m k) ≡ Some winner.frame
+  pub drop : (k : ℕ) → part_of winner k ≡ Dropped → DropsOut (m k) winner.frame
+  pub first : (k : ℕ) (other : Frame) → part_of winner k ≡ Listener → sent_by (m k) ≡ Some other
+      → beats winner.frame other ≡ true
 
 -- no frame precedes this member's
 pub record SendsLeast (m : ℕ → Member) (k : ℕ) : Type 0 where
@@ -23,18 +41,23 @@ pub record SendsLeast (m : ℕ → Member) (k : ℕ) : Type 0 where
   pub sends : sent_by (m k) ≡ Some frame
   pub least : (j : ℕ) (other : Frame) → sent_by (m j) ≡ Some other → beats other frame ≡ false
 
--- these are all the members whose frames none precedes, and two of them send different frames
+-- these are all the members whose frames none precedes, and one of them sends another frame than the one that would go on, and does
+-- not just drop out: its error flag, of dominant bits, ends all their frames
 pub record Collides (m : ℕ → Member) (who : List Bool) : Type 0 where
-  pub one : ℕ
-  pub another : ℕ
-  pub one_is : is_among who one ≡ true
-  pub another_is : is_among who another ≡ true
-  pub different : sent_by (m one) ≢ sent_by (m another)
   pub only : (k : ℕ) → is_among who k ≡ true → SendsLeast m k
   pub all : (k : ℕ) → SendsLeast m k → is_among who k ≡ true
+  pub one : ℕ
+  pub one_is : is_among who one ≡ true
+  pub frame : Frame
+  pub sends : sent_by (m one) ≡ Some frame
+  pub first : (k : ℕ) (other : Frame) → is_among who k ≡ true → sent_by (m k) ≡ Some other → rest_of frame ≤ rest_of other
+  pub another : ℕ
+  pub another_is : is_among who another ≡ true
+  pub different : sent_by (m another) ≢ Some frame
+  pub stays : DropsOut (m another) frame → ⊥
 
 -- the members start so
 abbrev pub Starts : (ℕ → Member) → Start → Type 0
 Starts m Nothing = (k : ℕ) → sent_by (m k) ≡ None
 Starts m (Collision who) = Collides m who
-Starts m (Won who frame) = Wins m who frame
+Starts m (Won winner) = Wins m winner

@@ -8,64 +8,66 @@ use Rattle.ccan_wire.specs.declared.start.Start.{Start}
 use Rattle.ccan_wire.specs.declared.start.Start.TheVariants as start
 use Rattle.ccan_wire.specs.declared.wire.Wire.{Wire}
 use Rattle.ccan_wire.specs.declared.wire.Wire.TheVariants.{Idle, Collided, Broken, Flagged, Unheard, Carried}
-use Rattle.ccan_wire.specs.Member.{is_among}
+use Rattle.ccan_wire.specs.declared.winner.Part.{Part}
+use Rattle.ccan_wire.specs.declared.winner.Winner.{Winner}
+use Rattle.ccan_wire.specs.Winner.{part_of}
 use Rattle.ccan_wire.specs.Sign.{acknowledges, breaks, covers, flags, goes_on, protests}
 use Rattle.ccan_wire.specs.Start.{Starts}
 
--- some member shows this sign, where these started the frame
-abbrev pub Someone : (Bool → Member → Bool) → (ℕ → Member) → List Bool → Type 0
-Someone shows m who = (k : ℕ) × (shows (is_among who k) (m k) ≡ true)
+-- some member shows this sign
+abbrev pub Someone : (Part → Member → Bool) → (ℕ → Member) → Winner → Type 0
+Someone shows m winner = (k : ℕ) × (shows (part_of winner k) (m k) ≡ true)
 
 -- no member does
-abbrev pub Nobody : (Bool → Member → Bool) → (ℕ → Member) → List Bool → Type 0
-Nobody shows m who = (k : ℕ) → shows (is_among who k) (m k) ≡ false
+abbrev pub Nobody : (Part → Member → Bool) → (ℕ → Member) → Winner → Type 0
+Nobody shows m winner = (k : ℕ) → shows (part_of winner k) (m k) ≡ false
 
 -- the frame ends before the end of its check sequence: by an error flag of dominant bits, or as nobody sends it any more, since
 -- its senders send passive error flags or have left the bus
-abbrev pub IsBroken : (ℕ → Member) → List Bool → Type 0
-IsBroken m who = Someone breaks m who ⊎ Nobody goes_on m who
+abbrev pub IsBroken : (ℕ → Member) → Winner → Type 0
+IsBroken m winner = Someone breaks m winner ⊎ Nobody goes_on m winner
 
 -- it goes on to there
-pub record IsWhole (m : ℕ → Member) (who : List Bool) : Type 0 where
-  pub unbroken : Nobody breaks m who
-  pub sent : Someone goes_on m who
+pub record IsWhole (m : ℕ → Member) (winner : Winner) : Type 0 where
+  pub unbroken : Nobody breaks m winner
+  pub sent : Someone goes_on m winner
 
 -- a dominant bit stands in the ACK slot, and an error flag of dominant bits there or behind it
-pub record IsFlagged (m : ℕ → Member) (who : List Bool) : Type 0 where
-  pub whole : IsWhole m who
-  pub by : Someone covers m who ⊎ (Someone acknowledges m who × Someone flags m who)
+pub record IsFlagged (m : ℕ → Member) (winner : Winner) : Type 0 where
+  pub whole : IsWhole m winner
+  pub by : Someone covers m winner ⊎ (Someone acknowledges m winner × Someone flags m winner)
 
 -- no dominant bit stands in the ACK slot; and whether an error flag of dominant bits stands behind it
-pub record IsUnheard (m : ℕ → Member) (who : List Bool) (flagged : Bool) : Type 0 where
-  pub whole : IsWhole m who
-  pub uncovered : Nobody covers m who
-  pub unheard : Nobody acknowledges m who
-  pub flag : flagged ≡ true → Someone protests m who
-  pub no_flag : flagged ≡ false → Nobody protests m who
+pub record IsUnheard (m : ℕ → Member) (winner : Winner) (flagged : Bool) : Type 0 where
+  pub whole : IsWhole m winner
+  pub uncovered : Nobody covers m winner
+  pub unheard : Nobody acknowledges m winner
+  pub flag : flagged ≡ true → Someone protests m winner
+  pub no_flag : flagged ≡ false → Nobody protests m winner
 
 -- a dominant bit stands in the ACK slot, and no error flag of dominant bits anywhere
-pub record IsCarried (m : ℕ → Member) (who : List Bool) : Type 0 where
-  pub whole : IsWhole m who
-  pub heard : Someone acknowledges m who
-  pub unflagged : Nobody flags m who
+pub record IsCarried (m : ℕ → Member) (winner : Winner) : Type 0 where
+  pub whole : IsWhole m winner
+  pub heard : Someone acknowledges m winner
+  pub unflagged : Nobody flags m winner
 
 -- what was settled at the start
 abbrev pub start_of : Wire → Start
 start_of Idle = start.Nothing
 start_of (Collided who) = start.Collision who
-start_of (Broken who frame) = start.Won who frame
-start_of (Flagged who frame) = start.Won who frame
-start_of (Unheard who frame flagged) = start.Won who frame
-start_of (Carried who frame) = start.Won who frame
+start_of (Broken winner) = start.Won winner
+start_of (Flagged winner) = start.Won winner
+start_of (Unheard winner flagged) = start.Won winner
+start_of (Carried winner) = start.Won winner
 
 -- from there the frame ends so, as the members are until then
 abbrev pub Ends : (ℕ → Member) → Wire → Type 0
 Ends m Idle = Unit {0}
 Ends m (Collided who) = Unit {0}
-Ends m (Broken who frame) = IsBroken m who
-Ends m (Flagged who frame) = IsFlagged m who
-Ends m (Unheard who frame flagged) = IsUnheard m who flagged
-Ends m (Carried who frame) = IsCarried m who
+Ends m (Broken winner) = IsBroken m winner
+Ends m (Flagged winner) = IsFlagged m winner
+Ends m (Unheard winner flagged) = IsUnheard m winner flagged
+Ends m (Carried winner) = IsCarried m winner
 
 -- the members put this on the bus
 pub record Carries (m : ℕ → Member) (wire : Wire) : Type 0 where

@@ -6,8 +6,9 @@ ghost use Rattle.ccan_wire.specs.Event.{event_alone, own_or, receive_fault, rece
 ghost use Rattle.ccan_wire.specs.Event.{sent_unheard, sent_well, unacknowledged};
 
 use crate::flaw::Flaw;
-use crate::member::Member;
+use crate::member::{MOST_MEMBERS, Member};
 use crate::role::Role;
+use crate::winner::Part;
 use crate::wire::Wire;
 use ccan_accept::Frame;
 use ccan_confine::{BusEvent, StatusEvent};
@@ -111,24 +112,8 @@ fn event_alone(frame: Option<Frame>) -> Option<(BusEvent, StatusEvent)>
 }
 
 impl Wire {
-    ghost use Rattle.std.specs.Prelude.{◌<◌, false};
-    ghost use Rattle.ccan_wire.specs.Event.{event_of, event_on, listener_event, sender_event, senders_of};
-    ghost use Rattle.ccan_wire.specs.Member.{is_among};
-
-    /// Whether the member at this place started the frame that is on the bus.
-    pub fn is_sender(&self, place: usize) -> bool
-        requires { place < 32 }
-        ensures { result ≡ is_among (senders_of self.now) place }
-    {
-        match self {
-            Wire::Idle => false,
-            Wire::Collided(who) => who[place],
-            Wire::Broken(who, _) => who[place],
-            Wire::Flagged(who, _) => who[place],
-            Wire::Unheard(who, _, _) => who[place],
-            Wire::Carried(who, _) => who[place],
-        }
-    }
+    ghost use Rattle.std.specs.Prelude.{◌<◌};
+    ghost use Rattle.ccan_wire.specs.Event.{event_in, event_of, listener_event, sender_event};
 
     /// To a member that sends.
     fn sender_event(&self, role: Role, flaw: Option<Flaw>) -> Option<(BusEvent, StatusEvent)>
@@ -138,10 +123,10 @@ impl Wire {
         match self {
             Wire::Idle => None,
             Wire::Collided(_) => send_fault(4),
-            Wire::Broken(_, _) => send_fault(own_or(flaw, 4)),
-            Wire::Flagged(_, _) => send_fault(own_or(flaw, 2)),
-            Wire::Unheard(_, _, flagged) => sent_unheard(*flagged, role, flaw),
-            Wire::Carried(_, _) => sent_well(flaw),
+            Wire::Broken(_) => send_fault(own_or(flaw, 4)),
+            Wire::Flagged(_) => send_fault(own_or(flaw, 2)),
+            Wire::Unheard(_, flagged) => sent_unheard(*flagged, role, flaw),
+            Wire::Carried(_) => sent_well(flaw),
         }
     }
 
@@ -153,30 +138,29 @@ impl Wire {
         match self {
             Wire::Idle => None,
             Wire::Collided(_) => receive_fault(1),
-            Wire::Broken(_, _) => receive_fault(own_or(flaw, 1)),
-            Wire::Flagged(_, _) => receive_fault(own_or(flaw, 2)),
-            Wire::Unheard(_, _, flagged) => received_unheard(*flagged, flaw),
-            Wire::Carried(_, _) => received_well(flaw),
+            Wire::Broken(_) => receive_fault(own_or(flaw, 1)),
+            Wire::Flagged(_) => receive_fault(own_or(flaw, 2)),
+            Wire::Unheard(_, flagged) => received_unheard(*flagged, flaw),
+            Wire::Carried(_) => received_well(flaw),
         }
     }
 
     /// To one that takes part.
-    fn event_on(&self, place: usize, member: &Member) -> Option<(BusEvent, StatusEvent)>
-        requires { place < 32 }
-        ensures is { result ≡ event_on self.now place member.now }
+    fn event_in(&self, part: Part, member: &Member) -> Option<(BusEvent, StatusEvent)>
+        ensures is { result ≡ event_in part self.now member.now }
         ensures known { IfSome result (λ event. HasFaultCode event.1) }
     {
-        if self.is_sender(place) {
-            self.sender_event(member.role, member.flaw)
-        } else {
-            self.listener_event(member.flaw)
+        match part {
+            Part::Sender => self.sender_event(member.role, member.flaw),
+            Part::Dropped => send_fault(4),
+            Part::Listener => self.listener_event(member.flaw),
         }
     }
 
     /// What is on the bus, to the member at this place: an event of its error counters, and one of its Status register. None:
     /// nothing happens to it.
     pub fn event(&self, place: usize, member: &Member) -> Option<(BusEvent, StatusEvent)>
-        requires { place < 32 }
+        requires { place < MOST_MEMBERS }
         ensures is { result ≡ event_of self.now place member.now }
         ensures known { IfSome result (λ event. HasFaultCode event.1) }
     {
@@ -184,7 +168,7 @@ impl Wire {
             Role::Absent => None,
             Role::Silent => self.listener_event(member.flaw),
             Role::Alone => event_alone(member.frame),
-            Role::Passive | Role::Active => self.event_on(place, member),
+            Role::Passive | Role::Active => self.event_in(self.part(place), member),
         }
     }
 }

@@ -30,6 +30,8 @@
 //! | passive + with a bit error, active - | `Broken` | LEC 5; LEC 1: six recessive bits |
 //! | passive + with a form error, active - | `Carried` | LEC 2; received |
 //! | two active + of equal arbitration and other data, active - | `Collided` | LEC 4; LEC 4; LEC 1 |
+//! | active +, passive + that drops out at its first recessive bit, active - | `Carried` | sent; LEC 4; received |
+//! | passive +, active + with a recessive bit first, active - | `Collided` | LEC 4; LEC 4; LEC 1 |
 //! | two active + of the same frame, active - | `Carried` | sent; sent; received |
 //! | two active + of the same frame, nobody else | `Unheard`, flagged by both | LEC 3; LEC 3 |
 //!
@@ -37,7 +39,7 @@
 //!
 //! - A member in loop back mode drives nothing that others see. A part in this mode without Silent drives its frames.
 //! - An error counts 1 at each receiver. Rule 2 of fault confinement adds 8 where a dominant bit stands behind its own flag.
-//! - A collision ends all frames in it, also where the members who see the bit error are error passive.
+//! - A stuff error in the arbitration field of a sender counts 8 as others do: the second exception of rule 3 does not come.
 //! - There are no overload frames, and an error passive sender does not wait before its next frame.
 #![tactic(auto)]
 
@@ -51,6 +53,7 @@ mod packed;
 pub mod role;
 mod sign;
 pub mod start;
+pub mod winner;
 pub mod wire;
 
 pub use decision::{decide, decide_again};
@@ -58,4 +61,5 @@ pub use flaw::Flaw;
 pub use member::{MOST_MEMBERS, Member, Places};
 pub use role::Role;
 pub use start::Start;
+pub use winner::{Part, Winner};
 pub use wire::Wire;

@@ -1,9 +1,10 @@
-ghost use Rattle.std.specs.Prelude.{◌≡◌, ◌≤◌, ◌^◌, ◌↔◌, IsTrue, Some};
+ghost use Rattle.std.specs.Prelude.{◌≡◌, ◌≤◌, ◌^◌, ◌↔◌, IsTrue, Some, true, false};
 
 use crate::flaw::Flaw;
-use crate::packed::packed;
+use crate::packed::{packed, rest};
 use crate::role::Role;
 use crate::sign::Sign;
+use crate::winner::Part;
 use ccan_accept::Frame;
 
 /// So many members a bus has at most.
@@ -13,7 +14,7 @@ pub const MOST_MEMBERS: usize = 32;
 pub(crate) const NO_FRAME: u64 = 1 << 32;
 
 /// Places of members, from 0 on: `true` at each place that is meant.
-pub type Places = [bool; 32];
+pub type Places = [bool; MOST_MEMBERS];
 
 /// A member of a bus while one frame is sent.
 #[derive(Clone, Copy, Debug, PartialEq, Eq, Hash)]
@@ -27,8 +28,9 @@ pub struct Member {
 }
 
 impl Member {
-    ghost use Rattle.ccan_wire.specs.Member.{is_early, is_at_delimiter, sends_on, sent_by};
-    ghost use Rattle.ccan_wire.specs.Packed.{key_of};
+    ghost use Rattle.ccan_wire.specs.Flaw.{found_at_delimiter, found_early};
+    ghost use Rattle.ccan_wire.specs.Member.{sent_by};
+    ghost use Rattle.ccan_wire.specs.Packed.{Agrees, Dissents, key_of, rest_by};
     ghost use Rattle.ccan_wire.specs.Sign.{shows};
 
     /// The frame that it sends: the one that it has, if its role lets it send.
@@ -45,7 +47,7 @@ impl Member {
         self.sent() == Some(*frame)
     }
 
-    /// The number by which it contends: the least one wins.
+    /// The number by which it contends for the bus: the least one wins.
     pub(crate) fn key(&self) -> u64
         ensures { result ≡ key_of self.now }
     {
@@ -55,44 +57,77 @@ impl Member {
         }
     }
 
-    /// Whether it still sends the frame, if it is among those who started it.
-    pub(crate) fn sends_on(&self, among: bool) -> bool
-        ensures { result ≡ sends_on among self.now }
+    /// What it sends behind the bits of arbitration, as a number; 0 if it sends nothing.
+    pub(crate) fn rest(&self) -> u128
+        ensures { result ≡ rest_by self.now }
     {
-        among && self.role.drives()
+        match self.sent() {
+            Some(frame) => rest(&frame),
+            None => 0,
+        }
+    }
+
+    /// Whether it lets this frame go on, which has the same bits of arbitration as its own.
+    pub(crate) fn agrees(&self, frame: &Frame) -> bool
+        ensures agrees { result ≡ true → Agrees self.now frame.now }
+        ensures dissents { result ≡ false → Dissents self.now frame.now }
+    {
+        self.sends(frame) || !self.role.is_active() && rest(frame) < self.rest()
     }
 
     /// Whether it finds an error before the end of the check sequence.
-    fn is_early(&self, among: bool) -> bool
-        ensures { result ≡ is_early among self.now }
+    fn is_early(&self, sends: bool) -> bool
+        ensures { result ≡ found_early sends self.now.flaw }
     {
         match self.flaw {
-            Some(flaw) => flaw.is_in_the_stuffed_part(self.sends_on(among)),
+            Some(flaw) => flaw.is_in_the_stuffed_part(sends),
             None => false,
         }
     }
 
     /// Whether it finds an error in the CRC delimiter.
-    fn is_at_delimiter(&self, among: bool) -> bool
-        ensures { result ≡ is_at_delimiter among self.now }
+    fn is_at_delimiter(&self, sends: bool) -> bool
+        ensures { result ≡ found_at_delimiter sends self.now.flaw }
     {
         match self.flaw {
-            Some(flaw) => flaw.is_before_the_ack_slot(self.sends_on(among)),
+            Some(flaw) => flaw.is_before_the_ack_slot(sends),
             None => false,
         }
     }
 
-    /// Whether it does this while a frame is sent; `among` says whether it is one of those who started the frame.
-    pub(crate) fn shows(&self, sign: Sign, among: bool) -> bool
-        ensures { result ≡ shows sign among self.now }
+    fn shows_as_sender(&self, sign: Sign) -> bool
+        ensures { result ≡ shows sign Part.Sender self.now }
     {
         match sign {
-            Sign::Breaks => self.role.is_active() && self.is_early(among),
-            Sign::GoesOn => self.sends_on(among) && !self.is_early(among),
-            Sign::Covers => self.role.is_active() && self.is_at_delimiter(among),
+            Sign::Breaks => self.role.is_active() && self.is_early(true),
+            Sign::GoesOn => self.role.drives() && !self.is_early(true),
+            Sign::Covers => self.role.is_active() && self.is_at_delimiter(true),
             Sign::Flags => self.role.is_active() && self.flaw.is_some(),
-            Sign::Protests => self.role.is_active() && (among || self.flaw.is_some()),
-            Sign::Acknowledges => !among && (self.role.drives() && self.flaw.is_none()),
+            Sign::Protests => self.role.is_active(),
+            Sign::Acknowledges => false,
+        }
+    }
+
+    fn shows_as_listener(&self, sign: Sign) -> bool
+        ensures { result ≡ shows sign Part.Listener self.now }
+    {
+        match sign {
+            Sign::Breaks => self.role.is_active() && self.is_early(false),
+            Sign::GoesOn => false,
+            Sign::Covers => self.role.is_active() && self.is_at_delimiter(false),
+            Sign::Flags | Sign::Protests => self.role.is_active() && self.flaw.is_some(),
+            Sign::Acknowledges => self.role.drives() && self.flaw.is_none(),
+        }
+    }
+
+    /// Whether it does this while the frame is sent to which it is such a part.
+    pub(crate) fn shows(&self, sign: Sign, part: Part) -> bool
+        ensures { result ≡ shows sign part self.now }
+    {
+        match part {
+            Part::Sender => self.shows_as_sender(sign),
+            Part::Dropped => false,
+            Part::Listener => self.shows_as_listener(sign),
         }
     }
 }

@@ -1,5 +1,6 @@
 ghost use Rattle.std.specs.Prelude.{◌≡◌, ◌<◌};
 ghost use Rattle.ccan_object.specs.Bits.{flag};
+ghost use Rattle.ccan_wire.specs.Arbitration.{rest_of};
 ghost use Rattle.ccan_wire.specs.Packed.{packed};
 
 use ccan_accept::Frame;
@@ -22,4 +23,11 @@ pub(crate) fn packed(frame: &Frame) -> u32
     } else {
         id * (1 << 21) + rtr * (1 << 20)
     }
+}
+
+/// The control field and the data field as one number of 68 bits, the first the highest.
+pub(crate) fn rest(frame: &Frame) -> u128
+    ensures { result ≡ rest_of frame.now }
+{
+    u128::from(frame.dlc().get()) * (1 << 64) + u128::from(u64::from_be_bytes(frame.bytes()))
 }

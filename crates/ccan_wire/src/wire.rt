@@ -1,28 +1,27 @@
-use crate::member::Places;
+use crate::member::{MOST_MEMBERS, Places};
 use crate::start::Start;
-use ccan_accept::Frame;
+use crate::winner::{Part, Winner};
 
 /// What is on a bus while one frame is sent, from its start to its end. Members are named by their places.
-///
-/// All but the first two have the members who started the frame that won the bus, and that frame.
 #[derive(Clone, Copy, Debug, PartialEq, Eq, Hash)]
 pub enum Wire {
     /// Nobody sends.
     Idle,
-    /// These members send frames that are equal in the bits of arbitration and differ behind them: each has a bit error.
+    /// These members' frames collide: they are equal in the bits of arbitration, and an error flag of dominant bits ends them.
     Collided(Places),
     /// The frame ends before the end of its check sequence: by an error flag of dominant bits, or as nobody sends it any more.
-    Broken(Places, Frame),
+    Broken(Winner),
     /// A dominant bit stands in the ACK slot, and an error flag of dominant bits there or behind it.
-    Flagged(Places, Frame),
+    Flagged(Winner),
     /// No dominant bit stands in the ACK slot; and whether an error flag of dominant bits stands behind it.
-    Unheard(Places, Frame, bool),
+    Unheard(Winner, bool),
     /// The frame is acknowledged, and there is no error flag of dominant bits.
-    Carried(Places, Frame),
+    Carried(Winner),
 }
 
 impl Wire {
-    ghost use Rattle.std.specs.Prelude.{◌≡◌};
+    ghost use Rattle.std.specs.Prelude.{◌≡◌, ◌<◌};
+    ghost use Rattle.ccan_wire.specs.Event.{part_on};
     ghost use Rattle.ccan_wire.specs.Wire.{start_of};
 
     /// What was settled at the start of the frame.
@@ -32,10 +31,31 @@ impl Wire {
         match self {
             Wire::Idle => Start::Nothing,
             Wire::Collided(who) => Start::Collision(*who),
-            Wire::Broken(who, frame) => Start::Won(*who, *frame),
-            Wire::Flagged(who, frame) => Start::Won(*who, *frame),
-            Wire::Unheard(who, frame, _) => Start::Won(*who, *frame),
-            Wire::Carried(who, frame) => Start::Won(*who, *frame),
+            Wire::Broken(winner) => Start::Won(*winner),
+            Wire::Flagged(winner) => Start::Won(*winner),
+            Wire::Unheard(winner, _) => Start::Won(*winner),
+            Wire::Carried(winner) => Start::Won(*winner),
+        }
+    }
+
+    /// What the member at this place is to the frame on the bus. Of frames that collide, those who started one are senders.
+    pub fn part(&self, place: usize) -> Part
+        requires { place < MOST_MEMBERS }
+        ensures { result ≡ part_on self.now place }
+    {
+        match self {
+            Wire::Idle => Part::Listener,
+            Wire::Collided(who) => {
+                if who[place] {
+                    Part::Sender
+                } else {
+                    Part::Listener
+                }
+            }
+            Wire::Broken(winner) => winner.part(place),
+            Wire::Flagged(winner) => winner.part(place),
+            Wire::Unheard(winner, _) => winner.part(place),
+            Wire::Carried(winner) => winner.part(place),
         }
     }
 }

@@ -65,6 +65,10 @@ fn rounds_come_to_each_member_as_it_sees_them(rt: HostRuntime) {
         ([(Passive, one, None), (Active, None, Some(Crc)), absent], [send_fault(3), receive_fault(6), None]),
         // several senders
         ([sender, (Active, Some((5, 2)), None), listener], [send_fault(4), send_fault(4), receive_fault(1)]),
+        ([(Passive, one, None), (Active, Some((5, 2)), None), listener], [send_fault(4), send_fault(4), receive_fault(1)]),
+        ([sender, (Passive, Some((5, 2)), None), listener], [SENT, send_fault(4), RECEIVED]),
+        ([(Passive, Some((5, 2)), None), (Passive, one, None), listener], [send_fault(4), SENT, RECEIVED]),
+        ([sender, (Passive, Some((5, 2)), None), (Silent, None, None)], [NO_ACK, send_fault(4), receive_fault(2)]),
         ([sender, (Passive, one, None), listener], [SENT, SENT, RECEIVED]),
         ([sender, (Passive, one, None), (Silent, None, None)], [NO_ACK, send_fault(3), receive_fault(2)]),
         ([sender, (Passive, one, Some(Bit1)), listener], [SENT, send_fault(4), RECEIVED]),
@@ -80,7 +84,7 @@ fn rounds_come_to_each_member_as_it_sees_them(rt: HostRuntime) {
         ([(Passive, one, Some(Bit0)), listener, absent], [send_fault(5), receive_fault(1), None]),
         ([(Passive, one, Some(Form)), listener, absent], [send_fault(2), RECEIVED, None]),
     ];
-    for round in 0..21 {
+    for round in 0..25 {
         let (rows, want) = rounds[round];
         let members = members(rows);
         comes(&rt, round, &decide(&members), &members, want);
