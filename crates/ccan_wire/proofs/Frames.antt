@@ -3,9 +3,9 @@ use Rattle.std.proofs.Common.{◌≡◌, true, false, Option, Some, sym, ◌∙�
 use Rattle.std.specs.Prelude.{nat_lt}
 use Rattle.std.proofs.lemmas.Bool.Decides.{nat_tests}
 use Rattle.ccan_accept.specs.declared.frame.Frame.{Frame}
-use Rattle.ccan_wire.specs.Arbitration.{beats}
+use Rattle.ccan_wire.specs.Arbitration.{arbitration_bits, beats}
 use Rattle.ccan_wire.specs.Packed.{packed}
-use Rattle.ccan_wire.proofs.Order.{packed-order}
+use Rattle.ccan_wire.proofs.Order.{packed-order, precedes-self}
 
 pub one_way : (f g : Frame) → beats f g ≡ true → beats g f ≡ false
 one_way f g h =
@@ -13,8 +13,11 @@ one_way f g h =
     let more : nat_lt (packed g) (packed f) ≡ false = grind (arith, nat_tests) in
     packed-order g f ∙ more
 
+pub beats-itself : (f : Frame) → beats f f ≡ false
+beats-itself f = precedes-self (arbitration_bits f)
+
 pub not_itself : (f : Frame) → beats f f ≡ true → ⊥
-not_itself f h = let no = one_way f f h in cc
+not_itself f h = let no = beats-itself f in cc
 
 -- two frames of one member
 pub same_frame : (o : Option Frame) (f g : Frame) → o ≡ Some f → o ≡ Some g → f ≡ g

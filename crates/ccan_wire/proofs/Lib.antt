@@ -1,5 +1,6 @@
 pub mod Order
 pub mod Members
+pub mod Parts
 pub mod Starting
 pub mod Frames
 pub mod Settled

@@ -1,23 +1,29 @@
 -- Who drives nothing changes nothing on the bus.
-use Rattle.std.proofs.Common.{inl, inr, ℕ, ◌≡◌, Bool, true, false, ◌&&◌, ◌||◌, not, List, None, refl, sym, ap, ◌∙◌}
+use Rattle.std.proofs.Common.{ℕ, ◌≡◌, Bool, true, false, ◌&&◌, not, inl, inr, Some, None, refl, sym, ap, subst, ◌∙◌}
 use Rattle.std.specs.Prelude.{is_none, is_some, if◌then◌else◌}
+use Rattle.ccan_accept.specs.declared.frame.Frame.{Frame}
 use Rattle.ccan_wire.specs.declared.member.Member.{Member}
 use Rattle.ccan_wire.specs.declared.role.Role.{Role}
 use Rattle.ccan_wire.specs.declared.role.Role.TheVariants.{Absent, Silent, Alone, Passive, Active}
 use Rattle.ccan_wire.specs.declared.start.Start.{Start}
 use Rattle.ccan_wire.specs.declared.start.Start.TheVariants.{Nothing, Collision, Won}
+use Rattle.ccan_wire.specs.declared.winner.Part.{Part}
+use Rattle.ccan_wire.specs.declared.winner.Part.TheVariants.{Sender, Dropped, Listener}
+use Rattle.ccan_wire.specs.declared.winner.Winner.{Winner}
 use Rattle.ccan_wire.specs.declared.wire.Wire.{Wire}
 use Rattle.ccan_wire.specs.declared.wire.Wire.TheVariants.{Idle, Collided, Broken, Flagged, Unheard, Carried}
-use Rattle.ccan_wire.specs.Member.{is_among, is_at_delimiter, is_early, sent_by}
+use Rattle.ccan_wire.specs.Flaw.{found_at_delimiter, found_early}
+use Rattle.ccan_wire.specs.Member.{sent_by}
 use Rattle.ccan_wire.specs.Role.{drives, is_active}
 use Rattle.ccan_wire.specs.Sign.{acknowledges, breaks, covers, flags, goes_on, protests}
-use Rattle.ccan_wire.specs.Start.{SendsLeast, Starts}
+use Rattle.ccan_wire.specs.Start.{DropsOut, SendsLeast, Starts}
+use Rattle.ccan_wire.specs.Winner.{part_of}
 use Rattle.ccan_wire.specs.Wire.{Carries, Ends, IsWhole, Nobody, Someone, start_of}
 use Rattle.ccan_wire.specs.Laws.{DriveTheSame}
 
 -- ---- who drives nothing shows no sign
 
-pub sent-quiet : (x : Member) → drives x.role ≡ false → sent_by x ≡ None
+sent-quiet : (x : Member) → drives x.role ≡ false → sent_by x ≡ None
 sent-quiet x e = ap (λ b. if b then x.frame else None) e
 
 not_active : (r : Role) → drives r ≡ false → is_active r ≡ false
@@ -27,38 +33,46 @@ not_active Alone e = refl
 not_active Passive e = refl
 not_active Active e = absurd cc
 
-abbrev IsQuiet : (Bool → Member → Bool) → Type 0
-IsQuiet shows = (among : Bool) (x : Member) → drives x.role ≡ false → shows among x ≡ false
+abbrev IsQuiet : (Part → Member → Bool) → Type 0
+IsQuiet shows = (p : Part) (x : Member) → drives x.role ≡ false → shows p x ≡ false
 
 breaks-quiet : IsQuiet breaks
-breaks-quiet among x e = ap (λ b. b && is_early among x) (not_active x.role e)
+breaks-quiet Sender x e = ap (λ b. b && found_early true x.flaw) (not_active x.role e)
+breaks-quiet Dropped x e = refl
+breaks-quiet Listener x e = ap (λ b. b && found_early false x.flaw) (not_active x.role e)
 
 covers-quiet : IsQuiet covers
-covers-quiet among x e = ap (λ b. b && is_at_delimiter among x) (not_active x.role e)
+covers-quiet Sender x e = ap (λ b. b && found_at_delimiter true x.flaw) (not_active x.role e)
+covers-quiet Dropped x e = refl
+covers-quiet Listener x e = ap (λ b. b && found_at_delimiter false x.flaw) (not_active x.role e)
 
 flags-quiet : IsQuiet flags
-flags-quiet among x e = ap (λ b. b && is_some x.flaw) (not_active x.role e)
+flags-quiet Sender x e = ap (λ b. b && is_some x.flaw) (not_active x.role e)
+flags-quiet Dropped x e = refl
+flags-quiet Listener x e = ap (λ b. b && is_some x.flaw) (not_active x.role e)
 
 protests-quiet : IsQuiet protests
-protests-quiet among x e = ap (λ b. b && (among || is_some x.flaw)) (not_active x.role e)
-
-nothing_on : (among early : Bool) → ((among && false) && not early) ≡ false
-nothing_on true early = refl
-nothing_on false early = refl
+protests-quiet Sender x e = not_active x.role e
+protests-quiet Dropped x e = refl
+protests-quiet Listener x e = ap (λ b. b && is_some x.flaw) (not_active x.role e)
 
 goes_on-quiet : IsQuiet goes_on
-goes_on-quiet among x e = ap (λ d. (among && d) && not (is_early among x)) e ∙ nothing_on among (is_early among x)
-
-no_ack : (among none : Bool) → (not among && (false && none)) ≡ false
-no_ack true none = refl
-no_ack false none = refl
+goes_on-quiet Sender x e = ap (λ d. d && not (found_early true x.flaw)) e
+goes_on-quiet Dropped x e = refl
+goes_on-quiet Listener x e = refl
 
 acknowledges-quiet : IsQuiet acknowledges
-acknowledges-quiet among x e = ap (λ d. not among && (d && is_none x.flaw)) e ∙ no_ack among (is_none x.flaw)
+acknowledges-quiet Sender x e = refl
+acknowledges-quiet Dropped x e = refl
+acknowledges-quiet Listener x e = ap (λ d. d && is_none x.flaw) e
 
-pub by_drive : (x : Member) (P : Type 0) → (drives x.role ≡ true → P) → (drives x.role ≡ false → P) → P
+by_drive : (x : Member) (P : Type 0) → (drives x.role ≡ true → P) → (drives x.role ≡ false → P) → P
 by_drive x P driving quiet =
     elim (drives x.role) as (λ b. drives x.role ≡ b → P) [ true ↦ λ e. driving e | false ↦ λ e. quiet e ] refl
+
+pub sender_drives : (x : Member) (f : Frame) → sent_by x ≡ Some f → drives x.role ≡ true
+sender_drives x f e =
+    by_drive x (drives x.role ≡ true) (λ d. d) (λ d. let none = sent-quiet x d in absurd cc)
 
 -- ---- the same is on the bus
 
@@ -67,6 +81,10 @@ module _ (m other : ℕ → Member) (h : DriveTheSame m other) where
   same_sent k =
       by_drive (m k) (sent_by (other k) ≡ sent_by (m k)) (λ d. ap sent_by (h.drive k d))
       (λ d. sent-quiet (other k) (h.rest k d) ∙ sym (sent-quiet (m k) d))
+
+  -- who sends is the same
+  same_sender : (k : ℕ) (f : Frame) → sent_by (m k) ≡ Some f → other k ≡ m k
+  same_sender k f e = h.drive k (sender_drives (m k) f e)
 
   there : (k : ℕ) → SendsLeast m k → SendsLeast other k
   there k l =
@@ -80,71 +98,80 @@ module _ (m other : ℕ → Member) (h : DriveTheSame m other) where
   same_start Nothing a = λ k. same_sent k ∙ a k
   same_start (Collision who) a =
       record {
-        one = a.one;
-        another = a.another;
-        one_is = a.one_is;
-        another_is = a.another_is;
-        different = λ e. a.different (sym (same_sent a.one) ∙ (e ∙ same_sent a.another));
         only = λ k among. there k (a.only k among);
         all = λ k l. a.all k (back k l);
+        one = a.one;
+        one_is = a.one_is;
+        frame = a.frame;
+        sends = same_sent a.one ∙ a.sends;
+        first = λ k g among its. a.first k g among (sym (same_sent k) ∙ its);
+        another = a.another;
+        another_is = a.another_is;
+        different = λ e. a.different (sym (same_sent a.another) ∙ e);
+        stays = λ d.
+            let mine = a.only a.another a.another_is in
+            a.stays (subst (λ x. DropsOut x a.frame) (same_sender a.another mine.frame mine.sends) d);
       }
-  same_start (Won who f) a =
+  same_start (Won w) a =
       record {
         some = a.some;
-        theirs = λ k among. same_sent k ∙ a.theirs k among;
-        first = λ k g out its. a.first k g out (sym (same_sent k) ∙ its);
+        theirs = λ k p. same_sent k ∙ a.theirs k p;
+        drop = λ k p.
+            let d = a.drop k p in
+            subst (λ x. DropsOut x w.frame) (sym (same_sender k d.other d.sends)) d;
+        first = λ k g p its. a.first k g p (sym (same_sent k) ∙ its);
       }
 
   -- a sign that nobody shows who drives nothing
-  module _ (shows : Bool → Member → Bool) (quiet : IsQuiet shows) (who : List Bool) where
-    same_sign : (k : ℕ) → shows (is_among who k) (other k) ≡ shows (is_among who k) (m k)
+  module _ (shows : Part → Member → Bool) (quiet : IsQuiet shows) (w : Winner) where
+    same_sign : (k : ℕ) → shows (part_of w k) (other k) ≡ shows (part_of w k) (m k)
     same_sign k =
-        by_drive (m k) (shows (is_among who k) (other k) ≡ shows (is_among who k) (m k))
-        (λ d. ap (shows (is_among who k)) (h.drive k d))
-        (λ d. quiet (is_among who k) (other k) (h.rest k d) ∙ sym (quiet (is_among who k) (m k) d))
+        by_drive (m k) (shows (part_of w k) (other k) ≡ shows (part_of w k) (m k))
+        (λ d. ap (shows (part_of w k)) (h.drive k d))
+        (λ d. quiet (part_of w k) (other k) (h.rest k d) ∙ sym (quiet (part_of w k) (m k) d))
 
-    someone_too : Someone shows m who → Someone shows other who
+    someone_too : Someone shows m w → Someone shows other w
     someone_too a = (a.0, same_sign a.0 ∙ a.1)
 
-    nobody_too : Nobody shows m who → Nobody shows other who
+    nobody_too : Nobody shows m w → Nobody shows other w
     nobody_too a k = same_sign k ∙ a k
 
-  same_whole : (who : List Bool) → IsWhole m who → IsWhole other who
-  same_whole who a =
+  same_whole : (w : Winner) → IsWhole m w → IsWhole other w
+  same_whole w a =
       record {
-        unbroken = nobody_too breaks breaks-quiet who a.unbroken;
-        sent = someone_too goes_on goes_on-quiet who a.sent;
+        unbroken = nobody_too breaks breaks-quiet w a.unbroken;
+        sent = someone_too goes_on goes_on-quiet w a.sent;
       }
 
   same_end : (w : Wire) → Ends m w → Ends other w
   same_end Idle a = tt
   same_end (Collided who) a = tt
-  same_end (Broken who f) a = elim a [
-    | inl some ↦ inl (someone_too breaks breaks-quiet who some)
-    | inr none ↦ inr (nobody_too goes_on goes_on-quiet who none)
+  same_end (Broken w) a = elim a [
+    | inl some ↦ inl (someone_too breaks breaks-quiet w some)
+    | inr none ↦ inr (nobody_too goes_on goes_on-quiet w none)
   ]
-  same_end (Flagged who f) a =
+  same_end (Flagged w) a =
       record {
-        whole = same_whole who a.whole;
+        whole = same_whole w a.whole;
         by = elim a.by [
-          | inl some ↦ inl (someone_too covers covers-quiet who some)
+          | inl some ↦ inl (someone_too covers covers-quiet w some)
           | inr two ↦
-              inr (someone_too acknowledges acknowledges-quiet who two.0, someone_too flags flags-quiet who two.1)
+              inr (someone_too acknowledges acknowledges-quiet w two.0, someone_too flags flags-quiet w two.1)
         ];
       }
-  same_end (Unheard who f x) a =
+  same_end (Unheard w x) a =
       record {
-        whole = same_whole who a.whole;
-        uncovered = nobody_too covers covers-quiet who a.uncovered;
-        unheard = nobody_too acknowledges acknowledges-quiet who a.unheard;
-        flag = λ e. someone_too protests protests-quiet who (a.flag e);
-        no_flag = λ e. nobody_too protests protests-quiet who (a.no_flag e);
+        whole = same_whole w a.whole;
+        uncovered = nobody_too covers covers-quiet w a.uncovered;
+        unheard = nobody_too acknowledges acknowledges-quiet w a.unheard;
+        flag = λ e. someone_too protests protests-quiet w (a.flag e);
+        no_flag = λ e. nobody_too protests protests-quiet w (a.no_flag e);
       }
-  same_end (Carried who f) a =
+  same_end (Carried w) a =
       record {
-        whole = same_whole who a.whole;
-        heard = someone_too acknowledges acknowledges-quiet who a.heard;
-        unflagged = nobody_too flags flags-quiet who a.unflagged;
+        whole = same_whole w a.whole;
+        heard = someone_too acknowledges acknowledges-quiet w a.heard;
+        unflagged = nobody_too flags flags-quiet w a.unflagged;
       }
 
   pub same_wire : (w : Wire) → Carries m w → Carries other w

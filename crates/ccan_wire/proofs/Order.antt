@@ -1,9 +1,8 @@
 -- The order of the packed numbers is that of the bit lists.
-use Rattle.std.proofs.Common.{ℕ, zero, suc, ◌≡◌, ◌≤◌, ◌<◌, ◌+◌, ◌*◌, ◌/◌, ◌%◌, ◌^◌, ◌==◌, Bool, true, false, cond, List, [], ◌∷◌, ◌++◌, length, refl, sym, ap, subst, ◌∙◌, arith, zero-add, append_assoc, ◌-◌}
+use Rattle.std.proofs.Common.{ℕ, zero, suc, ◌≡◌, ◌<◌, ◌+◌, ◌*◌, ◌/◌, ◌%◌, ◌^◌, ◌==◌, Bool, true, false, cond, List, [], ◌∷◌, ◌++◌, length, refl, sym, ap, subst, ◌∙◌, arith, zero-add}
 use Rattle.std.specs.Prelude.{nat_lt}
 use Rattle.std.proofs.Math.Nat.{add_assoc}
 use Rattle.std.specs.Int.{bit_at}
-use Rattle.std.proofs.lemmas.List.{append-nil}
 use Rattle.std.proofs.lemmas.Bool.Decides.{nat_tests}
 use Rattle.std.proofs.lemmas.Nat.{mod-pow-add, pow-add}
 use Rattle.std.proofs.lemmas.Nat.Bits.{bit_at-lt}
@@ -12,16 +11,6 @@ use Rattle.ccan_accept.specs.declared.frame.Frame.{Frame}
 use Rattle.ccan_accept.specs.Frame.{identifier_bits}
 use Rattle.ccan_wire.specs.Arbitration.{lowest_bits, arbitration_bits, standard_bits, extended_bits, precedes}
 use Rattle.ccan_wire.specs.Packed.{value_of, packed}
-
--- the order is total
-pub total : (a b : List Bool) → precedes a b ≡ false → precedes b a ≡ false → a ≡ b
-total [] [] p q = refl
-total [] (y ∷ b) p q = absurd cc
-total (x ∷ a) [] p q = absurd cc
-total (false ∷ a) (false ∷ b) p q = ap (λ l. false ∷ l) (total a b p q)
-total (true ∷ a) (true ∷ b) p q = ap (λ l. true ∷ l) (total a b p q)
-total (false ∷ a) (true ∷ b) p q = absurd cc
-total (true ∷ a) (false ∷ b) p q = absurd cc
 
 -- nothing precedes itself
 pub precedes-self : (a : List Bool) → precedes a a ≡ false
@@ -204,22 +193,6 @@ packed_extended f is within =
     ∙ (value_of-lowest_bits 21 11 (f.id / 262144) (low_extended f)
     ∙ (rw small (ap (λ v. (f.id / 262144) * 2097152 + v) (high_bits _ ∙ ap (λ v. 1572864 + v) low))))
 
--- one more bit of a number
-pub push_step : (items start : List Bool) (count done number : ℕ) (b : Bool) → done < count → b ≡ bit number (count - 1 - done)
-    → items ++ lowest_bits (count - done) number ≡ start → (items ++ b ∷ []) ++ lowest_bits (count - (done + 1)) number ≡ start
-unfolding lowest_bits
-push_step items start count done number b within is h =
-    let left : count - done ≡ suc (count - (done + 1)) = omega arith in
-    let here : count - 1 - done ≡ count - (done + 1) = omega arith in
-    append_assoc items (b ∷ []) _ ∙ (rw (is, here) (rw left at h))
-
-pub push_end : (items start : List Bool) (count done number : ℕ) → count ≤ done
-    → items ++ lowest_bits (count - done) number ≡ start
-    → items ≡ start
-unfolding lowest_bits
-push_end items start count done number out h =
-    let left : count - done ≡ 0 = omega arith in sym (append-nil items) ∙ (rw left at h)
-
 pub number_standard : (f : Frame) (id n : ℕ) → id ≡ f.id → n ≡ flag f.rtr → f.xtd ≡ false → f.id < 2 ^ identifier_bits f.xtd
     → id * 2097152 + n * 1048576 ≡ packed f
 number_standard f id n a b is within = rw (a, b) (sym (packed_standard f is (rw is at within)))
@@ -227,16 +200,3 @@ number_standard f id n a b is within = rw (a, b) (sym (packed_standard f is (rw 
 pub number_extended : (f : Frame) (id n : ℕ) → id ≡ f.id → n ≡ flag f.rtr → f.xtd ≡ true → f.id < 2 ^ identifier_bits f.xtd
     → (id / 262144) * 2097152 + (1572864 + ((id % 262144) * 2 + n)) ≡ packed f
 number_extended f id n a b is within = rw (a, b) (sym (packed_extended f is (rw is at within)))
-
--- the bits one after another
-pub field_extended : (f : Frame) (id : ℕ) (r : Bool) (o a b c d e : List Bool) → f.xtd ≡ true → id ≡ f.id → r ≡ f.rtr → o ≡ []
-    → a ≡ o ++ lowest_bits 11 (id / 262144) → b ≡ a ++ true ∷ [] → c ≡ b ++ true ∷ [] → d ≡ c ++ lowest_bits 18 id
-    → e ≡ d ++ r ∷ []
-    → e ≡ arbitration_bits f
-unfolding arbitration_bits
-field_extended f id r o a b c d e x i t nil pa pb pc pd pe = rw (x, pe, pd, pc, pb, pa, nil, i, t) (simp append_assoc)
-
-pub field_standard : (f : Frame) (id : ℕ) (r : Bool) (o a b c : List Bool) → f.xtd ≡ false → id ≡ f.id → r ≡ f.rtr → o ≡ []
-    → a ≡ o ++ lowest_bits 11 id → b ≡ a ++ r ∷ [] → c ≡ b ++ false ∷ [] → c ≡ arbitration_bits f
-unfolding arbitration_bits
-field_standard f id r o a b c x i t nil pa pb pc = rw (x, pc, pb, pa, nil, i, t) (simp append_assoc)

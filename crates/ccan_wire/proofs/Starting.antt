@@ -1,46 +1,17 @@
 -- What the least number of the members says of how a frame starts.
-use Rattle.std.proofs.Common.{ℕ, ◌≡◌, ◌≢◌, ◌≤◌, ◌<◌, ◌+◌, ◌^◌, ◌==◌, Bool, true, false, ◌&&◌, List, length, Option, Some, None, refl, sym, ap, subst, ◌∙◌, arith}
+use Rattle.std.proofs.Common.{ℕ, ◌≡◌, ◌≢◌, ◌≤◌, ◌<◌, ◌^◌, ◌==◌, Bool, true, false, ◌&&◌, not, List, length, Option, Some, None, refl, sym, ap, ◌∙◌, inl, inr, arith}
 use Rattle.std.specs.Prelude.{nat_lt}
 use Rattle.std.proofs.lemmas.Bool.Decides.{nat_tests}
 use Rattle.ccan_accept.specs.declared.frame.Frame.{Frame}
 use Rattle.ccan_wire.specs.declared.member.Member.{Member}
-use Rattle.ccan_wire.specs.Arbitration.{arbitration_bits, beats}
-use Rattle.ccan_wire.specs.Member.{is_among, member_at, sent_by}
-use Rattle.ccan_wire.specs.Packed.{IsLeast, key_of, number_of, packed}
-use Rattle.ccan_wire.specs.Start.{Collides, SendsLeast, Wins}
-use Rattle.ccan_wire.proofs.Members.{by_place, nobody_past}
+use Rattle.ccan_wire.specs.Arbitration.{arbitration_bits, beats, rest_of}
+use Rattle.ccan_wire.specs.Member.{member_at, sent_by}
+use Rattle.ccan_wire.specs.Packed.{Agrees, Dissents, IsLeast, IsLeastAmong, key_of, number_of, packed, rest_by, rest_of_some}
+use Rattle.ccan_wire.specs.Start.{Collides, ComesLater, DropsOut, SendsLeast, Wins}
+use Rattle.ccan_wire.specs.Winner.{is_among}
+use Rattle.ccan_wire.proofs.Members.{by_among, by_place, nobody_past}
 use Rattle.ccan_wire.proofs.Order.{packed-order, value_of-below}
-
--- ---- the least of some numbers
-
-pub IsLeast-first : (key : ℕ → ℕ) → IsLeast key 1 0
-IsLeast-first key =
-    record { within = omega arith; floor = λ k lt. (let e : k ≡ 0 = omega arith in let w = ap key e in omega arith) }
-
--- one more number, which is less or isn't
-module _ (key : ℕ → ℕ) (n least : ℕ) (h : IsLeast key n least) where
-  by_last : {P : Type 0} (k : ℕ) → k < n + 1 → (k < n → P) → (k ≡ n → P) → P
-  by_last {P} k lt low last = elim (nat_lt k n) as (λ b. nat_lt k n ≡ b → P) [
-    | true ↦ λ e. low (grind (arith, nat_tests))
-    | false ↦ λ e. last (let out : n ≤ k = grind (arith, nat_tests) in omega arith)
-  ] refl
-
-  pub IsLeast-less : key n < key least → IsLeast key (n + 1) n
-  IsLeast-less less =
-      record {
-        within = omega arith;
-        floor = λ k lt. by_last k lt (λ l. let f = h.floor k l in omega arith) (λ l. let w = ap key l in omega arith);
-      }
-
-  pub IsLeast-more : key least ≤ key n → IsLeast key (n + 1) least
-  IsLeast-more more =
-      record {
-        within = (let w = h.within in omega arith);
-        floor = λ k lt. by_last k lt (λ l. h.floor k l) (λ l. let w = ap key l in omega arith);
-      }
-
-pub IsLeast-all : (key : ℕ → ℕ) (n count least : ℕ) → n ≡ count → IsLeast key n least → IsLeast key count least
-IsLeast-all key n count least e h = subst (λ c. IsLeast key c least) e h
+use Rattle.ccan_wire.proofs.Parts.{dropped-part, listener-part, part-sender, sender-part}
 
 -- ---- numbers and frames
 
@@ -82,6 +53,9 @@ module _ (members : List Member) (least : ℕ) (L : IsLeast (λ k. key_of (membe
   key_is : (k : ℕ) (f : Frame) → sent_by (member_at members k) ≡ Some f → key_of (member_at members k) ≡ packed f
   key_is k f sends = ap number_of sends
 
+  rest_is : (k : ℕ) (f : Frame) → sent_by (member_at members k) ≡ Some f → rest_by (member_at members k) ≡ rest_of f
+  rest_is k f sends = ap rest_of_some sends
+
   -- the least number is of no frame
   pub nothing : sent_by (member_at members least) ≡ None → (k : ℕ) → sent_by (member_at members k) ≡ None
   nothing none k =
@@ -94,7 +68,7 @@ module _ (members : List Member) (least : ℕ) (L : IsLeast (λ k. key_of (membe
       (λ out. ap sent_by (nobody_past members k out))
 
   -- it is of this frame, and these are all who contend by it
-  module _ (f : Frame) (sends : sent_by (member_at members least) ≡ Some f) (who : List Bool)
+  module _ (g : Frame) (its : sent_by (member_at members least) ≡ Some g) (who : List Bool)
       (each : (k : ℕ) → is_among who k
       ≡ (nat_lt k (length members) && key_of (member_at members k) == key_of (member_at members least))) where
     among_of : (k : ℕ) → k < length members → key_of (member_at members k) ≡ key_of (member_at members least)
@@ -104,7 +78,7 @@ module _ (members : List Member) (least : ℕ) (L : IsLeast (λ k. key_of (membe
         let two : (key_of (member_at members k) == key_of (member_at members least)) ≡ true = grind (arith, nat_tests) in
         each k ∙ (rw (one, two) refl)
 
-    pub of_among : (k : ℕ) → is_among who k ≡ true
+    of_among : (k : ℕ) → is_among who k ≡ true
         → (k < length members) × (key_of (member_at members k) ≡ key_of (member_at members least))
     of_among k among =
         let b = both (nat_lt k (length members)) (key_of (member_at members k) == key_of (member_at members least))
@@ -113,56 +87,140 @@ module _ (members : List Member) (least : ℕ) (L : IsLeast (λ k. key_of (membe
         let q = b.1 in
         (grind (arith, nat_tests), grind (arith, nat_tests))
 
-    pub least_among : is_among who least ≡ true
-    least_among = among_of least L.within refl
-
-    pub won : ((k : ℕ) → k < length members → is_among who k ≡ true → sent_by (member_at members k) ≡ Some f)
-        → Wins (member_at members) who f
-    won agree =
-        record {
-          some = (least, least_among);
-          theirs = λ k among. agree k (of_among k among).0 among;
-          first = λ k other out its.
-              let lt = within k other its in
-              let floor = L.floor k lt in
-              let here = key_is least f sends in
-              let there = key_is k other its in
-              let differ : key_of (member_at members k) ≢ key_of (member_at members least) =
-              λ e. (let among = among_of k lt e in cc) in
-              beats_less f other (omega arith);
-        }
-
-    sends_least : (k : ℕ) → is_among who k ≡ true → SendsLeast (member_at members) k
+    pub sends_least : (k : ℕ) → is_among who k ≡ true → SendsLeast (member_at members) k
     sends_least k among =
-        let in_it = of_among k among in
-        let same = in_it.1 in
-        let here = key_is least f sends in
-        let low = packed-below f in
+        let same = (of_among k among).1 in
+        let here = key_is least g its in
+        let low = packed-below g in
         let found = some_frame (sent_by (member_at members k)) (omega arith) in
         let mine = key_is k found.0 found.1 in
         record {
           frame = found.0;
           sends = found.1;
-          least = λ j other its.
-              let floor = L.floor j (within j other its) in
-              let there = key_is j other its in
+          least = λ j other theirs.
+              let floor = L.floor j (within j other theirs) in
+              let there = key_is j other theirs in
               beats_not other found.0 (omega arith);
         }
 
-    pub collided : (k : ℕ) → is_among who k ≡ true → sent_by (member_at members k) ≢ Some f → Collides (member_at members) who
-    collided k among differs =
-        record {
-          one = k;
-          another = least;
-          one_is = among;
-          another_is = least_among;
-          different = λ e. differs (e ∙ sends);
-          only = sends_least;
-          all = λ j s.
-              let lt = within j s.frame s.sends in
-              let here = key_is least f sends in
-              let there = key_is j s.frame s.sends in
-              let no_less = not_beats f s.frame (s.least least f sends) in
-              let floor = L.floor j lt in
-              among_of j lt (omega arith);
-        }
+    -- the frame of one of them whose rest is the least
+    module _ (first : ℕ) (F : IsLeastAmong (λ k. rest_by (member_at members k)) who (length members) first) (f : Frame)
+        (sends : sent_by (member_at members first) ≡ Some f) where
+      rest_first : rest_by (member_at members first) ≡ rest_of f
+      rest_first = rest_is first f sends
+
+      key_first : packed f ≡ key_of (member_at members least)
+      key_first = sym (key_is first f sends) ∙ (of_among first F.within).1
+
+      later : (k : ℕ) (other : Frame) → is_among who k ≡ true → sent_by (member_at members k) ≡ Some other
+          → rest_of f < rest_by (member_at members k)
+          → ComesLater f other
+      later k other among theirs less =
+          let here = key_first in
+          let there = key_is k other theirs in
+          let same = (of_among k among).1 in
+          let rest = rest_is k other theirs in
+          record {
+            not_before = beats_not other f (omega arith);
+            not_after = beats_not f other (omega arith);
+            recessive = omega arith;
+          }
+
+      -- who of them does not let it go on
+      pub collided : (k : ℕ) → is_among who k ≡ true → Dissents (member_at members k) f → Collides (member_at members) who
+      collided k among d =
+          record {
+            only = sends_least;
+            all = λ j s.
+                let lt = within j s.frame s.sends in
+                let here = key_is least g its in
+                let there = key_is j s.frame s.sends in
+                let no_less = not_beats g s.frame (s.least least g its) in
+                let floor = L.floor j lt in
+                among_of j lt (omega arith);
+            one = first;
+            one_is = F.within;
+            frame = f;
+            sends = sends;
+            first = λ j other inside theirs.
+                let floor = F.floor j (of_among j inside).0 inside in
+                let here = rest_first in
+                let there = rest_is j other theirs in
+                omega arith;
+            another = k;
+            another_is = among;
+            different = d.0;
+            stays = λ out. elim d.1 [
+              | inl active ↦ let passive = out.passive in cc
+              | inr less ↦
+                  let there = rest_is k out.other out.sends in
+                  let more = out.later.recessive in
+                  omega arith
+            ];
+          }
+
+      -- each lets it go on
+      module _ (senders dropped : List Bool)
+          (of_senders : (k : ℕ) → is_among senders k
+          ≡ (nat_lt k (length members)
+          && (is_among who k && rest_by (member_at members k) == rest_by (member_at members first))))
+          (of_dropped : (k : ℕ) → is_among dropped k ≡ (is_among who k && not (is_among senders k)))
+          (agree : (k : ℕ) → k < length members → is_among who k ≡ true → Agrees (member_at members k) f) where
+        same_rest : (k : ℕ) → is_among senders k ≡ true
+            → (is_among who k ≡ true) × (rest_by (member_at members k) ≡ rest_by (member_at members first))
+        same_rest k e =
+            let b = both (nat_lt k (length members)) _ (sym (of_senders k) ∙ e) in
+            let d = both (is_among who k) (rest_by (member_at members k) == rest_by (member_at members first)) b.1 in
+            let q = d.1 in
+            (d.0, grind (arith, nat_tests))
+
+        is_sender : (k : ℕ) → is_among who k ≡ true → rest_by (member_at members k) ≡ rest_by (member_at members first)
+            → is_among senders k ≡ true
+        is_sender k among same =
+            let lt = (of_among k among).0 in
+            let one : nat_lt k (length members) ≡ true = grind (arith, nat_tests) in
+            let two : (rest_by (member_at members k) == rest_by (member_at members first)) ≡ true = grind (arith, nat_tests) in
+            of_senders k ∙ (rw (one, among, two) refl)
+
+        theirs_is : (k : ℕ) → is_among senders k ≡ true → sent_by (member_at members k) ≡ Some f
+        theirs_is k e =
+            let there = same_rest k e in
+            elim (agree k (of_among k there.0).0 there.0) [
+              | inl sent ↦ sent
+              | inr out ↦ let less = out.1 in let same = there.1 in let here = rest_first in absurd (omega arith)
+            ]
+
+        drops_out : (k : ℕ) → is_among senders k ≡ false → is_among who k ≡ true → DropsOut (member_at members k) f
+        drops_out k out among = elim (agree k (of_among k among).0 among) [
+          | inl sent ↦
+              let is = is_sender k among (rest_is k f sent ∙ sym rest_first) in absurd cc
+          | inr late ↦
+              let s = sends_least k among in
+              record { other = s.frame; sends = s.sends; later = later k s.frame among s.sends late.1; passive = late.0 }
+        ]
+
+        pub won : Wins (member_at members) (record { frame = f; senders = senders; dropped = dropped })
+        won =
+            record {
+              some = (first, part-sender senders dropped first (is_sender first F.within refl));
+              theirs = λ k p. theirs_is k (sender-part senders dropped k p);
+              drop = λ k p.
+                  let d = dropped-part senders dropped k p in
+                  drops_out k d.0 (both (is_among who k) (not (is_among senders k)) (sym (of_dropped k) ∙ d.1)).0;
+              first = λ k other p theirs.
+                  let out = listener-part senders dropped k p in
+                  let not_among : is_among who k ≡ false =
+                  by_among who k (is_among who k ≡ false)
+                  (λ among.
+                  let is : is_among dropped k ≡ true = of_dropped k ∙ rw (among, out.0) refl in
+                  let no = out.1 in
+                  absurd cc)
+                  (λ outside. outside) in
+                  let lt = within k other theirs in
+                  let floor = L.floor k lt in
+                  let here = key_first in
+                  let there = key_is k other theirs in
+                  let differ : key_of (member_at members k) ≢ key_of (member_at members least) =
+                  λ e. (let among = among_of k lt e in cc) in
+                  beats_less f other (omega arith);
+            }

@@ -1,9 +1,9 @@
 -- What is on the bus, to each member: an event of its error counters, and one of its Status register with the last error code
 -- that the member itself can see. Source: CAN Specification 2.0, "Error Detection", "Error Signalling", "Fault Confinement"
 -- (rules 1, 3, 7 and 8); C_CAN User's Manual 1.2, "Status Register" (LEC), "Silent Mode", "Loop Back Mode". That what a member
--- sees behind its own error flag counts nothing more (rules 2, 4, 5 and 6), that the second exception of rule 3 does not come, and
--- that a silent member counts as others do, are (own).
-use Rattle.std.specs.Prelude.{ℕ, Bool, ◌&&◌, not, List, [], Option, Some, None, if◌then◌else◌}
+-- sees behind its own error flag counts nothing more (rules 2, 4, 5 and 6), that the second exception of rule 3 does not come,
+-- and that a silent member counts as others do, are (own).
+use Rattle.std.specs.Prelude.{ℕ, Bool, ◌&&◌, not, [], Option, Some, None, if◌then◌else◌}
 use Rattle.ccan_accept.specs.declared.frame.Frame.{Frame}
 use Rattle.ccan_confine.specs.declared.bus_event.BusEvent.{BusEvent}
 use Rattle.ccan_confine.specs.declared.bus_event.BusEvent.TheVariants as event
@@ -65,8 +65,7 @@ abbrev pub received_unheard : Bool → Option Flaw → Option (BusEvent × Statu
 received_unheard flagged flaw = if flagged then receive_fault (own_or flaw 2) else received_well flaw
 
 -- to a member that sends: a flag in the stuffed part makes a recessive bit of its own dominant (4), and one at the end breaks the
--- form (2). That the first begins behind the arbitration field, and that of form error and bit error at the end the first is given,
--- are (own)
+-- form (2). That the first begins behind the arbitration field, and that the second is a form error and not a bit error, are (own)
 abbrev pub sender_event : Wire → Role → Option Flaw → Option (BusEvent × StatusEvent)
 sender_event Idle role flaw = None
 sender_event (Collided who) role flaw = send_fault 4

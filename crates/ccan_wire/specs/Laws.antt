@@ -87,8 +87,8 @@ pub record IsAsBefore (m other : Member) (frame : Frame) : Type 0 where
   pub sent : sent_by m ≡ Some frame
   pub passive : is_active m.role ≡ false → is_active other.role ≡ false
 
--- since the start of a frame that this member sends, others may have left, or found errors: each is as before, or sends nothing any
--- more
+-- since the start of a frame that this member sends, others may have left, or found errors: each is as before, or no longer
+-- sends
 pub record SomeLeave (m other : ℕ → Member) (sender : ℕ) : Type 0 where
   pub stays : sent_by (other sender) ≡ sent_by (m sender)
   pub leave : (k : ℕ) (frame : Frame) → sent_by (other k) ≡ Some frame → IsAsBefore (m k) (other k) frame

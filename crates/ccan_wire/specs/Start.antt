@@ -41,8 +41,8 @@ pub record SendsLeast (m : ℕ → Member) (k : ℕ) : Type 0 where
   pub sends : sent_by (m k) ≡ Some frame
   pub least : (j : ℕ) (other : Frame) → sent_by (m j) ≡ Some other → beats other frame ≡ false
 
--- these are all the members whose frames none precedes, and one of them sends another frame than the one that would go on, and does
--- not just drop out: its error flag, of dominant bits, ends all their frames
+-- these are all the members whose frames none precedes, and one of them sends another frame than the one that would go on, and
+-- does not just drop out: its error flag, of dominant bits, ends all their frames
 pub record Collides (m : ℕ → Member) (who : List Bool) : Type 0 where
   pub only : (k : ℕ) → is_among who k ≡ true → SendsLeast m k
   pub all : (k : ℕ) → SendsLeast m k → is_among who k ≡ true

@@ -2,7 +2,7 @@
 -- passive flag is of recessive bits; that of a sender breaks the stuff rule, unless another member sends on), "Error Detection"
 -- (acknowledge error) and "Error Signalling". Of errors that end a frame, the one that stands earlier in it counts. That a sender
 -- who leaves the bus does so before the end of the check sequence is (own).
-use Rattle.std.specs.Prelude.{ℕ, ◌≡◌, Bool, true, false, ◌⊎◌, List}
+use Rattle.std.specs.Prelude.{ℕ, ◌≡◌, Bool, true, false, ◌⊎◌}
 use Rattle.ccan_wire.specs.declared.member.Member.{Member}
 use Rattle.ccan_wire.specs.declared.start.Start.{Start}
 use Rattle.ccan_wire.specs.declared.start.Start.TheVariants as start

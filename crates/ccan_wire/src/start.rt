@@ -115,9 +115,9 @@ impl Start {
             return Start::Nothing;
         }
         let least = least_place(members);
-        if members[least].sent().is_none() {
+        let Some(_) = members[least].sent() else {
             return Start::Nothing;
-        }
+        };
         let who = holders(members, members[least].key());
         let first = least_rest(members, &who, least);
         let Some(frame) = members[first].sent() else {

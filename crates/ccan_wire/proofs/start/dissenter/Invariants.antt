@@ -1,7 +1,9 @@
-use Rattle.std.proofs.Common.{ℕ, ◌≡◌, ◌<◌, true, Some}
-use Rattle.ccan_wire.specs.Member.{is_among, member_at, sent_by}
+use Rattle.std.proofs.Common.{ℕ, ◌≡◌, ◌<◌, true}
+use Rattle.ccan_wire.specs.Member.{member_at}
+use Rattle.ccan_wire.specs.Packed.{Agrees}
+use Rattle.ccan_wire.specs.Winner.{is_among}
 use Rattle.ccan_wire.proofs.start.dissenter.Given as goal
 
 abbrev pub invariant-loop-place : goal.invariant-loop-place
 invariant-loop-place l =
-    (k : ℕ) → k < l.place → is_among l.who k ≡ true → sent_by (member_at l.members k) ≡ Some l.frame
+    (k : ℕ) → k < l.place → is_among l.who k ≡ true → Agrees (member_at l.members k) l.frame

@@ -1,7 +1,8 @@
 use Rattle.std.proofs.Common.{ℕ, ◌≡◌, ◌==◌, ◌&&◌, length}
 use Rattle.std.specs.Prelude.{nat_lt}
-use Rattle.ccan_wire.specs.Member.{is_among, member_at}
+use Rattle.ccan_wire.specs.Member.{member_at}
 use Rattle.ccan_wire.specs.Packed.{key_of}
+use Rattle.ccan_wire.specs.Winner.{is_among}
 use Rattle.ccan_wire.proofs.start.holders.Given as goal
 
 abbrev pub invariant-loop-place : goal.invariant-loop-place
