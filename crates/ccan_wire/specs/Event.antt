@@ -65,7 +65,7 @@ abbrev pub received_unheard : Bool → Option Flaw → Option (BusEvent × Statu
 received_unheard flagged flaw = if flagged then receive_fault (own_or flaw 2) else received_well flaw
 
 -- to a member that sends: a flag in the stuffed part makes a recessive bit of its own dominant (4), and one at the end breaks the
--- form (2). That the first begins behind the arbitration field, and that the second is a form error and not a bit error, are (own)
+-- form (2). That the first begins behind the arbitration field, and that the second is a form error, not a bit error, is (own)
 abbrev pub sender_event : Wire → Role → Option Flaw → Option (BusEvent × StatusEvent)
 sender_event Idle role flaw = None
 sender_event (Collided who) role flaw = send_fault 4

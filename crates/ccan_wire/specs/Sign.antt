@@ -1,5 +1,5 @@
--- What a member does on the bus while a frame is sent, as the others see it, by its part in it: one that sends the frame, one that
--- has dropped out, which the others no longer see, or a listener. Source: CAN Specification 2.0, part B, 3.1.1 (ACK field: who
+-- What a member does on the bus while a frame is sent, as the others see it, by its part: one that sends the frame, one that has
+-- dropped out, which the others no longer see, or a listener. Source: CAN Specification 2.0, part B, 3.1.1 (ACK field: who
 -- received the frame well sends a dominant bit in the ACK slot, its senders a recessive one), 3.1.3 (error frame: six dominant
 -- bits of an error active node, six recessive ones of an error passive node) and "Error Signalling" (an acknowledge error is
 -- flagged at the next bit).
