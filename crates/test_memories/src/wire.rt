@@ -3,7 +3,6 @@
 use crate::expect::{frame, same};
 use ccan_confine::{BusEvent, StatusEvent};
 use ccan_wire::{Flaw, Member, Role, Wire, decide, decide_again};
-use std::process::Abort;
 
 /// A member: its role, the identifier and the one data byte of the frame that it starts, and the error that it finds.
 type Row = (Role, Option<(u8, u8)>, Option<Flaw>);
@@ -11,8 +10,11 @@ type Row = (Role, Option<(u8, u8)>, Option<Flaw>);
 type Event = Option<(BusEvent, StatusEvent)>;
 
 const SENT: Event = Some((BusEvent::Sent, StatusEvent::Sent));
+
 const RECEIVED: Event = Some((BusEvent::Received, StatusEvent::Received));
+
 const LOOPED: Event = Some((BusEvent::Sent, StatusEvent::Looped));
+
 const NO_ACK: Event = Some((BusEvent::SendNoAck, StatusEvent::Fault(3)));
 
 fn send_fault(code: u8) -> Event {
@@ -26,7 +28,13 @@ fn receive_fault(code: u8) -> Event {
 fn member(row: Row) -> Member {
     let (role, starts, flaw) = row;
     let frame = match starts {
-        Some((id, byte)) => Some(frame(u32::from(id), false, false, 1, [byte, 0, 0, 0, 0, 0, 0, 0])),
+        Some((id, byte)) => Some(frame(
+            u32::from(id),
+            false,
+            false,
+            1,
+            [byte, 0, 0, 0, 0, 0, 0, 0],
+        )),
         None => None,
     };
     Member { role, frame, flaw }
@@ -36,12 +44,13 @@ fn members(rows: [Row; 3]) -> [Member; 3] {
     [member(rows[0]), member(rows[1]), member(rows[2])]
 }
 
-/// The round of this number is so to each of three members.
-fn comes(rt: &impl Abort, round: usize, wire: &Wire, members: &[Member; 3], want: [Event; 3]) {
-    for place in 0..3 {
-        let event = wire.event(place, &members[place]);
-        same(rt, (round, place, event), (round, place, want[place]));
-    }
+/// What is on the bus, to each of three members.
+fn events(wire: &Wire, members: &[Member; 3]) -> [Event; 3] {
+    [
+        wire.event(0, &members[0]),
+        wire.event(1, &members[1]),
+        wire.event(2, &members[2]),
+    ]
 }
 
 #[test]
@@ -54,53 +63,144 @@ fn rounds_come_to_each_member_as_it_sees_them(rt: HostRuntime) {
     let sender = (Active, one, None);
     let rounds = [
         // acknowledged, and arbitration
-        ([sender, listener, (Passive, None, None)], [SENT, RECEIVED, RECEIVED]),
-        ([(Active, Some((6, 0)), None), sender, listener], [RECEIVED, SENT, RECEIVED]),
-        ([listener, (Silent, one, None), (Alone, None, None)], [None, None, None]),
+        (
+            [sender, listener, (Passive, None, None)],
+            [SENT, RECEIVED, RECEIVED],
+        ),
+        (
+            [(Active, Some((6, 0)), None), sender, listener],
+            [RECEIVED, SENT, RECEIVED],
+        ),
+        (
+            [listener, (Silent, one, None), (Alone, None, None)],
+            [None, None, None],
+        ),
         // nobody acknowledges
-        ([(Passive, one, None), absent, (Silent, None, None)], [NO_ACK, None, RECEIVED]),
-        ([sender, (Silent, None, None), (Alone, one, None)], [NO_ACK, receive_fault(2), LOOPED]),
-        ([sender, (Passive, None, Some(Crc)), absent], [NO_ACK, receive_fault(6), None]),
-        ([sender, (Active, None, Some(Crc)), absent], [NO_ACK, receive_fault(6), None]),
-        ([(Passive, one, None), (Active, None, Some(Crc)), absent], [send_fault(3), receive_fault(6), None]),
+        (
+            [(Passive, one, None), absent, (Silent, None, None)],
+            [NO_ACK, None, RECEIVED],
+        ),
+        (
+            [sender, (Silent, None, None), (Alone, one, None)],
+            [NO_ACK, receive_fault(2), LOOPED],
+        ),
+        (
+            [sender, (Passive, None, Some(Crc)), absent],
+            [NO_ACK, receive_fault(6), None],
+        ),
+        (
+            [sender, (Active, None, Some(Crc)), absent],
+            [NO_ACK, receive_fault(6), None],
+        ),
+        (
+            [(Passive, one, None), (Active, None, Some(Crc)), absent],
+            [send_fault(3), receive_fault(6), None],
+        ),
         // several senders
-        ([sender, (Active, Some((5, 2)), None), listener], [send_fault(4), send_fault(4), receive_fault(1)]),
-        ([(Passive, one, None), (Active, Some((5, 2)), None), listener], [send_fault(4), send_fault(4), receive_fault(1)]),
-        ([sender, (Passive, Some((5, 2)), None), listener], [SENT, send_fault(4), RECEIVED]),
-        ([(Passive, Some((5, 2)), None), (Passive, one, None), listener], [send_fault(4), SENT, RECEIVED]),
-        ([sender, (Passive, Some((5, 2)), None), (Silent, None, None)], [NO_ACK, send_fault(4), receive_fault(2)]),
-        ([sender, (Passive, one, None), listener], [SENT, SENT, RECEIVED]),
-        ([sender, (Passive, one, None), (Silent, None, None)], [NO_ACK, send_fault(3), receive_fault(2)]),
-        ([sender, (Passive, one, Some(Bit1)), listener], [SENT, send_fault(4), RECEIVED]),
+        (
+            [sender, (Active, Some((5, 2)), None), listener],
+            [send_fault(4), send_fault(4), receive_fault(1)],
+        ),
+        (
+            [(Passive, one, None), (Active, Some((5, 2)), None), listener],
+            [send_fault(4), send_fault(4), receive_fault(1)],
+        ),
+        (
+            [sender, (Passive, Some((5, 2)), None), listener],
+            [SENT, send_fault(4), RECEIVED],
+        ),
+        (
+            [
+                (Passive, Some((5, 2)), None),
+                (Passive, one, None),
+                listener,
+            ],
+            [send_fault(4), SENT, RECEIVED],
+        ),
+        (
+            [sender, (Passive, Some((5, 2)), None), (Silent, None, None)],
+            [NO_ACK, send_fault(4), receive_fault(2)],
+        ),
+        (
+            [sender, (Passive, one, None), listener],
+            [SENT, SENT, RECEIVED],
+        ),
+        (
+            [sender, (Passive, one, None), (Silent, None, None)],
+            [NO_ACK, send_fault(3), receive_fault(2)],
+        ),
+        (
+            [sender, (Passive, one, Some(Bit1)), listener],
+            [SENT, send_fault(4), RECEIVED],
+        ),
         // errors of listeners
-        ([sender, (Passive, None, Some(Stuff)), listener], [SENT, receive_fault(1), RECEIVED]),
-        ([sender, (Silent, None, Some(Stuff)), listener], [SENT, receive_fault(1), RECEIVED]),
-        ([sender, (Active, None, Some(Stuff)), listener], [send_fault(4), receive_fault(1), receive_fault(1)]),
-        ([sender, (Active, None, Some(Crc)), listener], [send_fault(2), receive_fault(6), receive_fault(2)]),
-        ([sender, (Active, None, Some(Form)), absent], [send_fault(2), receive_fault(2), None]),
-        ([sender, (Active, None, Some(Bit0)), listener], [send_fault(2), receive_fault(5), receive_fault(2)]),
+        (
+            [sender, (Passive, None, Some(Stuff)), listener],
+            [SENT, receive_fault(1), RECEIVED],
+        ),
+        (
+            [sender, (Silent, None, Some(Stuff)), listener],
+            [SENT, receive_fault(1), RECEIVED],
+        ),
+        (
+            [sender, (Active, None, Some(Stuff)), listener],
+            [send_fault(4), receive_fault(1), receive_fault(1)],
+        ),
+        (
+            [sender, (Active, None, Some(Crc)), listener],
+            [send_fault(2), receive_fault(6), receive_fault(2)],
+        ),
+        (
+            [sender, (Active, None, Some(Form)), absent],
+            [send_fault(2), receive_fault(2), None],
+        ),
+        (
+            [sender, (Active, None, Some(Bit0)), listener],
+            [send_fault(2), receive_fault(5), receive_fault(2)],
+        ),
         // errors of senders
-        ([(Active, one, Some(Bit0)), listener, listener], [send_fault(5), receive_fault(1), receive_fault(1)]),
-        ([(Passive, one, Some(Bit0)), listener, absent], [send_fault(5), receive_fault(1), None]),
-        ([(Passive, one, Some(Form)), listener, absent], [send_fault(2), RECEIVED, None]),
+        (
+            [(Active, one, Some(Bit0)), listener, listener],
+            [send_fault(5), receive_fault(1), receive_fault(1)],
+        ),
+        (
+            [(Passive, one, Some(Bit0)), listener, absent],
+            [send_fault(5), receive_fault(1), None],
+        ),
+        (
+            [(Passive, one, Some(Form)), listener, absent],
+            [send_fault(2), RECEIVED, None],
+        ),
     ];
-    for round in 0..25 {
-        let (rows, want) = rounds[round];
+    for (rows, want) in rounds {
         let members = members(rows);
-        comes(&rt, round, &decide(&members), &members, want);
+        let got = events(&decide(&members), &members);
+        same(&rt, (rows, got), (rows, want));
     }
 
     // what the first three start, what is left of them at the end, and what that is to them
     let again = [
-        ([sender, listener, (Active, Some((6, 0)), None)], absent, [None, receive_fault(1), receive_fault(1)]),
-        ([sender, (Active, Some((5, 2)), None), listener], absent, [None, send_fault(4), receive_fault(1)]),
+        (
+            [sender, listener, (Active, Some((6, 0)), None)],
+            absent,
+            [None, receive_fault(1), receive_fault(1)],
+        ),
+        (
+            [sender, (Active, Some((5, 2)), None), listener],
+            absent,
+            [None, send_fault(4), receive_fault(1)],
+        ),
         ([sender, sender, listener], absent, [None, SENT, RECEIVED]),
-        ([sender, listener, listener], (Active, one, Some(Bit1)), [send_fault(4), receive_fault(1), receive_fault(1)]),
+        (
+            [sender, listener, listener],
+            (Active, one, Some(Bit1)),
+            [send_fault(4), receive_fault(1), receive_fault(1)],
+        ),
     ];
-    for round in 0..4 {
-        let (rows, first, want) = again[round];
+    for (rows, first, want) in again {
         let start = decide(&members(rows));
         let members = members([first, rows[1], rows[2]]);
-        comes(&rt, round, &decide_again(&start, &members), &members, want);
+        let got = events(&decide_again(&start, &members), &members);
+        same(&rt, (rows, first, got), (rows, first, want));
     }
 }
