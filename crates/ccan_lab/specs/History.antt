@@ -1,5 +1,5 @@
 -- What is printed of a step of a history. Source: this project's own.
-use Rattle.std.specs.Prelude.{ℕ, ◌/◌, ◌%◌, ◌++◌, List, [], Option, Some, None, codes, decimal}
+use Rattle.std.specs.Prelude.{ℕ, ◌-◌, ◌/◌, ◌%◌, ◌++◌, List, [], Option, Some, None, codes, decimal}
 use Rattle.ccan_ram.specs.declared.port.PortName.{PortName}
 use Rattle.ccan_ram.specs.Port.{port_text}
 use Rattle.ccan_outcomes.specs.declared.history_kind.HistoryKind.{HistoryKind}
@@ -25,11 +25,11 @@ abbrev pub object_text : Option ℕ → List ℕ
 object_text None = []
 object_text (Some object) = codes " " ++ (decimal (object / 10) ++ decimal (object % 10))
 
--- `if2[1]`: a port and the number of its line, from 1
+-- `if2[0]`: a port and its line of this number, from 1. Lines are printed from 0, as jq counts them and as `ccan` tells faults
 unfoldable pub line_name : PortName → ℕ → List ℕ
-line_name port line = port_text port ++ (codes "[" ++ (decimal line ++ codes "]"))
+line_name port line = port_text port ++ (codes "[" ++ (decimal (line - 1) ++ codes "]"))
 
--- `  4 if2[1] look 01`: the step's number, the port and its line, what it did, and the object, where it has one
+-- `  4 if2[0] look 01`: the step's number, the port and its line, what it did, and the object, where it has one
 abbrev pub step_text : ℕ → HistoryStep → List ℕ
 step_text number step =
     codes "  " ++ (decimal number ++ (codes " " ++ (line_name step.port step.line ++ (codes " " ++ (kind_text step.kind

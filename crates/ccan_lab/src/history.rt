@@ -52,7 +52,7 @@ pub fn add_object(text: &mut String, object: Option<ObjectNo>) -> Result<(), All
     Ok(())
 }
 
-/// Adds a port and the number of its line, from 1.
+/// Adds a port and its line of this number, from 1. It is printed from 0, as jq counts lines and as `ccan` tells faults.
 #[tactic(auto, unfolding(crate::specs::History::line_name))]
 pub fn add_line_name(text: &mut String, port: PortName, line: usize) -> Result<(), AllocError>
     ensures { OnOk result
@@ -60,7 +60,7 @@ pub fn add_line_name(text: &mut String, port: PortName, line: usize) -> Result<(
 {
     text.push_str(port_word(port))?;
     text.push_str("[")?;
-    add_number(text, line)?;
+    add_number(text, line.saturating_sub(1))?;
     text.push_str("]")?;
     Ok(())
 }

@@ -286,7 +286,7 @@ fn below_heading(
 /// The list of the outcomes that can be told apart by the lines and objects of these names: of each kind the first, with these
 /// lines, and with a history that leads to it.
 ///
-/// A name is that of a line, as `if1[2]`, of an object at the end, as `final 01`, or a port's or `final` for all of them; names
+/// A name is that of a line, as `if1[1]`, of an object at the end, as `final 01`, or a port's or `final` for all of them; names
 /// have commas between them. An outcome has the number that it has in the list of all.
 pub fn observed_listing(
     alloc: Global,

@@ -51,7 +51,7 @@ fn all_flag<'a>(alloc: Global) -> Result<Arg<'a>, AllocError> {
 /// The option that asks for the outcomes that can be told apart by some lines.
 fn observe_option<'a>(alloc: Global) -> Result<Arg<'a>, AllocError> {
     let help =
-        "Show each outcome that differs in these, as if1[2],bus,final: lines, all of a port, objects at the end";
+        "Show each outcome that differs in these, as if1[1],bus,final: lines from 0, all of a port, objects at the end";
     apart_from(
         apart_from(option(alloc, "observe", "NAMES", help), "can")?,
         "never",
@@ -80,7 +80,9 @@ fn choosing<'a>(alloc: Global, command: Command<'a>) -> Result<Command<'a>, Allo
 
 /// The command that asks about outcomes.
 pub fn outcomes_command<'a>(alloc: Global) -> Result<Command<'a>, AllocError> {
-    let about = "Shows what can come of a script whose two hosts and bus run at once";
+    let about =
+        "Shows what can come of a script whose two hosts and bus run at once; lines are counted from 0, as in jq and \
+                 in the faults of ccan";
     let asked = choosing(alloc, command(alloc, "outcomes", about))?;
     let asked = with(asked, most_option(alloc))?;
     with(

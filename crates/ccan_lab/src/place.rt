@@ -1,4 +1,4 @@
-//! The places of an outcome's lines, by name: `if1[2]`, `bus[1]`, `final 01`.
+//! The places of an outcome's lines, by name: `if1[1]`, `bus[0]`, `final 01`. Lines are named from 0.
 ghost use Rattle.std.specs.Prelude.{◌≡◌, ◌+◌, ◌^◌, ◌<◌, ◌++◌, OnOk, string_bytes};
 ghost use Rattle.ccan_lab.specs.Place.{final_name, late_kind, late_name, place_kind, place_name};
 

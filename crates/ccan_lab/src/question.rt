@@ -31,7 +31,9 @@ fn versioned<'a>(command: Command<'a>) -> Command<'a> {
 
 /// The command line without its questions, and what it is for.
 fn program<'a>(alloc: Global) -> Command<'a> {
-    let about = "Answers questions about scripts of the C_CAN model";
+    let about =
+        "Answers questions about scripts of the C_CAN model. Lines of a script are counted from 0, as in jq and in the \
+                 faults of ccan";
     versioned(words::command(alloc, "ccan-lab", about))
 }
 

@@ -214,7 +214,7 @@ fn watched_text<P: Progress>(
 /// The list of what of the outcomes of a script can be told apart by the lines and objects of these names, each with a history
 /// that leads to such an outcome. `None`: the ports can come to more states than `most` that look different.
 ///
-/// A name is that of a line, as `if1[2]`, of an object at the end, as `final 01`, or a port's or `final` for all of them; names
+/// A name is that of a line, as `if1[1]`, of an object at the end, as `final 01`, or a port's or `final` for all of them; names
 /// have commas between them.
 pub fn seen_text<P: Progress>(
     alloc: Global,
