@@ -3,7 +3,7 @@
 ghost use Rattle.std.specs.Prelude.{◌≡◌, vec_len};
 ghost use Rattle.ccan_lab.specs.CheckCommand.{end_by_counts};
 
-use crate::check_end::CheckEnd;
+use crate::check_end::{CheckEnd, worst_of};
 use crate::command_words::{command, file, option, switch, with};
 use crate::expect::compare_run;
 use crate::explaining::print_text;
@@ -181,10 +181,10 @@ pub fn answer_check<T: AllocGlobal + Input + Files + Print + Eprint>(
 where
     T::Reader: IsTerminal,
 {
-    let mut worst = CheckEnd::Clean;
+    let mut ends = Vec::new(rt.alloc());
     for file in question.files.as_slice() {
         let end = check_file(rt, file, question.expected)?;
-        worst = worst.max(end);
+        ends.push(end).map_err(AllocError::from)?;
     }
-    Ok(worst)
+    Ok(worst_of(ends.as_slice()))
 }
