@@ -1,4 +1,5 @@
 pub mod Apart
 pub mod Differ
+pub mod Most
 pub mod Texts
 pub mod Told

@@ -4,7 +4,7 @@ ghost use Rattle.std.specs.Prelude.{◌≡◌, IfOk, codes, option_map};
 ghost use Rattle.clap.specs.Words.{first_value, found_of, one_text};
 ghost use Rattle.ccan_line.specs.Script.{fields_of};
 ghost use Rattle.ccan_lab.specs.Answer.{IsOfAll};
-ghost use Rattle.ccan_lab.specs.Question.{AreKnown, AreKnownNames, AsksAllBy, AsksBy};
+ghost use Rattle.ccan_lab.specs.Question.{AreKnown, AreKnownNames, AsksAllBy, AsksBy, IsGivenBy};
 
 use crate::answer::{Answer, answer_of};
 use crate::asked::Asked;
@@ -128,8 +128,16 @@ fn asked_of<'a>(words: &ArgMatches<'a>) -> Asked<'a>
 /// The question that the words of that command ask.
 pub fn outcomes_question<'a>(words: &ArgMatches<'a>) -> OutcomesQuestion<'a>
     ensures file { option_map (λ path. path.now) result.file
+/// The greatest number of states to list: as it is given, or the default.
+fn most_of(words: &ArgMatches<'_>) -> usize
+    ensures { IsGivenBy (one_text (found_of words.now) (codes "most")) result }
+{
+    words.get_one::<usize>("most").unwrap_or(DEFAULT_MOST)
+}
+
         ≡ first_value (found_of words.entry.now) (codes "file") }
     ensures all { one_text (found_of words.entry.now) (codes "all") ≡ Some (codes "true")
+    ensures most { IsGivenBy (one_text (found_of words.entry.now) (codes "most")) result.most }
         → AsksAllBy (first_value (found_of words.entry.now) (codes "observe")) result.asked }
     ensures line { one_text (found_of words.entry.now) (codes "all") ≡ Some (codes "false")
         → AsksBy (first_value (found_of words.entry.now) (codes "can"))
@@ -137,7 +145,7 @@ pub fn outcomes_question<'a>(words: &ArgMatches<'a>) -> OutcomesQuestion<'a>
         (first_value (found_of words.entry.now) (codes "observe")) result.asked }
 {
     OutcomesQuestion {
-        most: words.get_one::<usize>("most").unwrap_or(DEFAULT_MOST),
+        most: most_of(words),
         file: words.get_str("file"),
         asked: asked_of(words),
     }
