@@ -1,8 +1,12 @@
+pub mod Beginnings
+pub mod BusForms
 pub mod CheckCommand
 pub mod Expect
+pub mod Forms
 pub mod History
 pub mod LabError
 pub mod Observed
+pub mod Outcomes
 pub mod Place
 pub mod Replay
 pub mod Report

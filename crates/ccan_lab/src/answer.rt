@@ -1,10 +1,13 @@
-ghost use Rattle.std.specs.Prelude.{◌≡◌, ◌++◌, IfOk, OnOk, length, map, position, string_bytes};
+ghost use Rattle.std.specs.Prelude.{◌≡◌, ◌++◌, IfErr, IfOk, OnOk, false, length, map, position, string_bytes};
 ghost use Rattle.ccan_line.specs.Script.{fields_of};
 ghost use Rattle.ccan_outcomes.specs.Outcomes.{AreFound};
-ghost use Rattle.ccan_lab.specs.Answer.{Answers, IsOfAll, IsSearchText, first_with, holds_of, none_text};
+ghost use Rattle.ccan_lab.specs.Answer.{Answers, IsOfAll, IsSearchText, TellsWhy, asks_in_vain, first_with};
+ghost use Rattle.ccan_lab.specs.Answer.{holds_of, is_refused, none_text};
 ghost use Rattle.ccan_lab.specs.Rows.{has_line, rows_of};
 
 use crate::asked::Asked;
+use crate::beginnings::can_begin;
+use crate::lab_error::LabError;
 use crate::observed::observed_listing;
 use crate::report::{add_heading, add_outcome, different_lines, listing};
 use crate::rows::{Rows, all_rows};
@@ -105,13 +108,62 @@ fn holds_of(outcomes: &Outcomes, all: &[Rows], asked: Asked<'_>) -> bool
     }
 }
 
-/// What is answered to a question about the list of all outcomes of a script.
+/// Whether a line is refused that is searched for: it is empty, or no outcome has it and no printed line of the script can
+/// begin so.
+fn is_refused(
+    alloc: Global,
+    script: &Script,
+    outcomes: &Outcomes,
+    all: &[Rows],
+    begin: &str,
+) -> Result<bool, AllocError>
+    requires { all.now ≡ map rows_of outcomes.now.listing.endings.keys }
+    ensures { IfOk result (λ refused. refused
+        ≡ is_refused (fields_of script.now) outcomes.now.listing.endings.keys begin.now) }
+{
+    if begin.is_empty() {
+        return Ok(true);
+    }
+    if first_with(all, begin).is_some() {
+        return Ok(false);
+    }
+    Ok(!can_begin(alloc, script, begin)?)
+}
+
+/// Refuses a line that is searched for, where no printed line of the script can begin so. One that an outcome has is taken.
+fn refuse_line(
+    alloc: Global,
+    script: &Script,
+    outcomes: &Outcomes,
+    all: &[Rows],
+    asked: Asked<'_>,
+) -> Result<(), LabError>
+    requires { all.now ≡ map rows_of outcomes.now.listing.endings.keys }
+    ensures taken { IfOk result (λ done. asks_in_vain (fields_of script.now)
+        outcomes.now.listing.endings.keys asked.entry ≡ false) }
+    ensures why { IfErr result (TellsWhy (fields_of script.now)
+        outcomes.now.listing.endings.keys asked.entry) }
+{
+    match asked {
+        Asked::Can(begin) | Asked::Never(begin) => {
+            if is_refused(alloc, script, outcomes, all, begin)? {
+                Err(LabError::NoLine)
+            } else {
+                Ok(())
+            }
+        }
+        Asked::Summary | Asked::All | Asked::Observed(_) | Asked::AllObserved(_) => Ok(()),
+    }
+}
+
+/// What is answered to a question about the list of all outcomes of a script. A line is refused that none of them has and no
+/// printed line of the script can begin with.
 pub fn answer_of(
     alloc: Global,
     script: &Script,
     outcomes: &Outcomes,
     asked: Asked<'_>,
-) -> Result<Answer, AllocError>
+) -> Result<Answer, LabError>
     requires found { AreFound (fields_of script.now) outcomes.now }
     requires of_all { IsOfAll asked }
     ensures text { IfOk result (λ answer. Answers (fields_of script.now)
@@ -119,8 +171,13 @@ pub fn answer_of(
         (string_bytes answer.text)) }
     ensures holds { IfOk result (λ answer.
         answer.holds ≡ holds_of outcomes.now.listing.endings.keys asked.entry) }
+    ensures taken { IfOk result (λ answer. asks_in_vain (fields_of script.now)
+        outcomes.now.listing.endings.keys asked.entry ≡ false) }
+    ensures why { IfErr result (TellsWhy (fields_of script.now)
+        outcomes.now.listing.endings.keys asked.entry) }
 {
     let all = all_rows(alloc, outcomes.listing.endings.as_slice())?;
+    refuse_line(alloc, script, outcomes, all.as_slice(), asked)?;
     let text = text_of(alloc, script, outcomes, all.as_slice(), asked)?;
     let holds = holds_of(outcomes, all.as_slice(), asked);
     Ok(Answer { text, holds })

@@ -20,6 +20,9 @@ pub enum LabError {
     /// The name of this number, from 1, of those that are to be observed is that of no line and no object.
     #[error("ccan-lab: outcomes: --observe: name {0} is no line or object of the script")]
     NoPlace(usize),
+    /// No printed line of the script can begin with what is to be searched for.
+    #[error("ccan-lab: outcomes: no printed line of this script can begin with that LINE")]
+    NoLine,
     /// The log is no text.
     #[error("ccan-lab: log: not UTF-8")]
     Log,
@@ -48,7 +51,7 @@ impl LabError {
         match self {
             LabError::Input(fault) => fault.status(),
             LabError::Log | LabError::Frames => 1,
-            LabError::Words | LabError::NoPlace(_) => 2,
+            LabError::Words | LabError::NoPlace(_) | LabError::NoLine => 2,
             LabError::Memory => 3,
             LabError::Open | LabError::Write => 4,
             LabError::More(_) => 5,

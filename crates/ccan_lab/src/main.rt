@@ -11,22 +11,26 @@
 //! The exit status is 0 where it is as asked, and 6 where no outcome has the line of `--can`, or one has that of
 //! `--never`. A check ends with 1 where a script has faults, and else with 7 where there are warnings and `--strict` asks
 //! for that, and with 8 where a run is not as expected. A fault is told on standard error, and the exit status: 1 where the
-//! script or the log is refused, 2 where the words of the command line ask no question, 3 where memory ran out, 4 where a
-//! stream or a file failed, 5 where the ports can come to more states than were allowed, 9 where there is no outcome of the
-//! number that is to be drawn.
+//! script or the log is refused, 2 where the words of the command line ask no question or search for a line that no printed
+//! line can begin with, 3 where memory ran out, 4 where a stream or a file failed, 5 where the ports can come to more states
+//! than were allowed, 9 where there is no outcome of the number that is to be drawn.
 #![tactic(auto)]
 
 pub mod answer;
 pub mod asked;
+pub mod beginnings;
+mod bus_forms;
 pub mod check_command;
 pub mod check_end;
 pub mod command_words;
 pub mod drawing;
 pub mod expect;
 pub mod explaining;
+mod forms;
 pub mod history;
 pub mod input;
 pub mod lab_error;
+pub mod laws;
 pub mod observed;
 pub mod outcome_rows;
 pub mod outcomes;

@@ -1,19 +1,22 @@
 //! The question `ccan-lab outcomes`: its words, and its answer.
 
-ghost use Rattle.std.specs.Prelude.{◌≡◌, IfOk, codes, option_map};
+ghost use Rattle.std.specs.Prelude.{◌≡◌, IfErr, IfOk, codes, option_map, string_bytes};
 ghost use Rattle.clap.specs.Words.{first_value, found_of, one_text};
 ghost use Rattle.ccan_line.specs.Script.{fields_of};
 ghost use Rattle.ccan_lab.specs.Answer.{IsOfAll};
+ghost use Rattle.ccan_lab.specs.Outcomes.{IsWithout, TellsAll};
 ghost use Rattle.ccan_lab.specs.Question.{AreKnown, AreKnownNames, AsksAllBy, AsksBy, IsGivenBy};
 
 use crate::answer::{Answer, answer_of};
 use crate::asked::Asked;
+use crate::beginnings::beginnings_text;
 use crate::command_words::{apart_from, command, file, number, option, switch, with};
 use crate::input::script_asked;
 use crate::lab_error::LabError;
 use crate::observed::first_unknown;
 use crate::progress_line::ProgressLine;
 use crate::seen::seen_text;
+use ccan_outcomes::all_ports::AllPorts;
 use ccan_outcomes::{all_outcomes, looking_once};
 use ccan_script::Script;
 use ccan_search::Progress;
@@ -125,9 +128,6 @@ fn asked_of<'a>(words: &ArgMatches<'a>) -> Asked<'a>
     }
 }
 
-/// The question that the words of that command ask.
-pub fn outcomes_question<'a>(words: &ArgMatches<'a>) -> OutcomesQuestion<'a>
-    ensures file { option_map (λ path. path.now) result.file
 /// The greatest number of states to list: as it is given, or the default.
 fn most_of(words: &ArgMatches<'_>) -> usize
     ensures { IsGivenBy (one_text (found_of words.now) (codes "most")) result }
@@ -135,9 +135,12 @@ fn most_of(words: &ArgMatches<'_>) -> usize
     words.get_one::<usize>("most").unwrap_or(DEFAULT_MOST)
 }
 
+/// The question that the words of that command ask.
+pub fn outcomes_question<'a>(words: &ArgMatches<'a>) -> OutcomesQuestion<'a>
+    ensures most { IsGivenBy (one_text (found_of words.entry.now) (codes "most")) result.most }
+    ensures file { option_map (λ path. path.now) result.file
         ≡ first_value (found_of words.entry.now) (codes "file") }
     ensures all { one_text (found_of words.entry.now) (codes "all") ≡ Some (codes "true")
-    ensures most { IsGivenBy (one_text (found_of words.entry.now) (codes "most")) result.most }
         → AsksAllBy (first_value (found_of words.entry.now) (codes "observe")) result.asked }
     ensures line { one_text (found_of words.entry.now) (codes "all") ≡ Some (codes "false")
         → AsksBy (first_value (found_of words.entry.now) (codes "can"))
@@ -181,11 +184,15 @@ fn answer_of_all<P: Progress>(
     progress: &P,
 ) -> Result<Answer, LabError>
     requires { IsOfAll asked }
+    ensures told { IfOk result (λ answer. TellsAll (fields_of script.now) asked.entry
+        (string_bytes answer.text) answer.holds) }
+    ensures without { IfErr result (IsWithout (fields_of script.now) asked.entry
+        ⟦<AllPorts as PartialEq>⟧.eq most) }
 {
     let Some(outcomes) = all_outcomes(alloc, script, most, progress)? else {
         return Err(LabError::More(most));
     };
-    answer_of(alloc, script, &outcomes, asked).map_err(LabError::from)
+    answer_of(alloc, script, &outcomes, asked)
 }
 
 /// What is answered to the question what of the outcomes of a script can be told apart by the lines and objects of these
@@ -218,6 +225,29 @@ fn answer_of_script<P: Progress>(
     }
 }
 
+/// Says on standard error what the printed lines of a script begin with.
+fn tell_beginnings<T: AllocGlobal + Eprint>(rt: &T, script: &Script) -> Result<(), LabError> {
+    let text = beginnings_text(rt.alloc(), script)?;
+    let _told = rt.eprintln(text.as_str());
+    Ok(())
+}
+
+/// What is answered to a question about the outcomes of a script. Where a line is refused that is to be searched for, standard
+/// error says what would be right.
+fn answered_or_told<T: AllocGlobal + Eprint>(
+    rt: &T,
+    script: &Script,
+    question: &OutcomesQuestion<'_>,
+    progress: &ProgressLine<'_, T>,
+) -> Result<Answer, LabError> {
+    let answered = answer_of_script(rt.alloc(), script, question, progress);
+    progress.clear();
+    if let Err(LabError::NoLine) = answered {
+        tell_beginnings(rt, script)?;
+    }
+    answered
+}
+
 /// Lists the outcomes of the script, prints what is answered, and says whether it is as asked. A wait is told by its last look:
 /// that changes no outcome. On a terminal it is told how far the search is.
 pub fn answer_outcomes<T: AllocGlobal + Input + Files + Print + Eprint>(
@@ -227,9 +257,7 @@ pub fn answer_outcomes<T: AllocGlobal + Input + Files + Print + Eprint>(
 ) -> Result<bool, LabError> {
     let script = looking_once(rt.alloc(), script_asked(rt, question.file)?)?;
     refuse_unknown(rt.alloc(), &script, question.asked)?;
-    let answered = answer_of_script(rt.alloc(), &script, question, progress);
-    progress.clear();
-    let answer = answered?;
+    let answer = answered_or_told(rt, &script, question, progress)?;
     match io::writer(rt).write_all(answer.text.as_bytes()) {
         Ok(()) => Ok(answer.holds),
         Err(_) => Err(LabError::Write),
