@@ -111,6 +111,26 @@ TOLD = [
      ['-:1:65: bus[0].send[0].data: "1" is not a text of two hexadecimal digits for each byte']),
     ('{"nodes":2,"bus":[{"op":"round","send":[{"node":1,"id":1},{"node":1,"id":2}]}]}',
      ['-:1:40: bus[0].send: a node sends twice in one round']),
+    # reports the first fault in the order of the checks, whatever the order of the members
+    ('{"nodes":2,"bus":[{"op":"round","send":[{"node":1,"xtd":2,"id":4000}]}]}',
+     ['-:1:57: bus[0].send[0].xtd: 2 is not in 0 to 1']),
+    ('{"nodes":2,"bus":[{"op":"round","send":[{"node":1,"id":4000,"xtd":2}]}]}',
+     ['-:1:67: bus[0].send[0].xtd: 2 is not in 0 to 1']),
+    ('{"nodes":2,"bus":[{"op":"round","send":[{"node":1,"id":4000,"dlc":16}]}]}',
+     ['-:1:56: bus[0].send[0].id: 4000 is not in 0 to 2047 (more with "xtd": 1)']),
+    ('{"nodes":2,"bus":[{"op":"round","send":[{"node":3,"id":4000,"dlc":16}]}]}',
+     ['-:1:49: bus[0].send[0].node: 3 is not in 1 to 2 ("nodes" says how many other nodes there are)']),
+    ('{"nodes":2,"bus":[{"op":"round","send":[{"node":3,"id":"1"}]}]}',
+     ['-:1:56: bus[0].send[0].id: "1" is a text: write a whole number, in decimal and without quotes']),
+    ('{"bus":[{"op":"round","send":[0,0,0,0,0,0,0,0,0],"fault":"crx"}]}',
+     ['-:1:58: bus[0].fault: "crx" is no fault: none, stuff, form, bit1, bit0 or crc']),
+    ('{"bus":[{"op":"round","fault":"crx","send":[0,0,0,0,0,0,0,0,0]}]}',
+     ['-:1:31: bus[0].fault: "crx" is no fault: none, stuff, form, bit1, bit0 or crc']),
+    ('{"bus":[{"op":"control","sie":2,"eie":"1"}]}',
+     ['-:1:39: bus[0].eie: "1" is a text: write a whole number, in decimal and without quotes']),
+    # reports faults of a host and of the bus
+    ('{"if1":[{}],"bus":[{}]}',
+     ['-:1:9: if1[0]: "op" is missing', '-:1:20: bus[0]: "op" is missing']),
     # warns
     ('{"if1":[{"op":"transfer","request":"0021"}]}',
      ['-:1:36: warning: if1[0].request: "0021" means object 1']),
@@ -134,6 +154,70 @@ TOLD = [
      ['-:1:27: warning: if1[0]: "op" stands twice, and the last one counts']),
     ('{"if1":[{"op":"transfer","request":"0001","set":{"ctrl":"0088","ctrl":"0080"}}]}',
      ['-:1:64: warning: if1[0].set: "ctrl" stands twice, and the last one counts']),
+    # prints each of several warnings
+    ('{"if1":[{"op":"transfer","request":"0021"},{"op":"transfer","request":"0000"}]}',
+     ['-:1:36: warning: if1[0].request: "0021" means object 1', '-:1:71: warning: if1[1].request: "0000" means object 32']),
+    # warns of a read that overwrites what its line sets
+    ('{"if1":[{"op":"transfer","request":"0001","set":{"cmask":"0030","ctrl":"0088"}}]}',
+     ['-:1:72: warning: if1[0].set.ctrl: "0088" is overwritten by this read: WR/RD of the command mask is 0']),
+    ('{"if1":[{"op":"transfer","request":"0001","set":{"cmask":"0020","ctrl":"0088"}}]}',
+     []),
+    ('{"if1":[{"op":"transfer","request":"0001","set":{"cmask":"00b0","ctrl":"0088"}}]}',
+     []),
+    ('{"if1":[\n{"op":"transfer","request":"0001","set":{"cmask":"0002"}},\n'
+     '{"op":"transfer","request":"0001","set":{"dataa1":"1122"}}]}',
+     ['-:3:51: warning: if1[1].set.dataa1: "1122" is overwritten by this read: WR/RD of the command mask is 0']),
+    # warns of a write that takes back what another port set
+    ('{"order":["if1","if2","if1"],"if1":[\n'
+     '{"op":"transfer","request":"0001","set":{"cmask":"00b0","arb2":"a48c","ctrl":"0088"}},\n'
+     '{"op":"transfer","request":"0001","set":{"cmask":"0090"}}],\n'
+     '"if2":[{"op":"transfer","request":"0001","set":{"cmask":"0084"}}]}',
+     ['-:3:1: warning: if1[1]: takes back TxRqst of object 1, which another port set and if1 has not looked at since']),
+    ('{"order":["if1","if2","if1","if1"],"if1":[\n'
+     '{"op":"transfer","request":"0001","set":{"cmask":"00b0","arb2":"a48c","ctrl":"0088"}},\n'
+     '{"op":"until","object":1,"flag":"txrqst","turns":1},\n'
+     '{"op":"transfer","request":"0001","set":{"cmask":"0090"}}],\n'
+     '"if2":[{"op":"transfer","request":"0001","set":{"cmask":"0084"}}]}',
+     []),
+    ('{"order":["if1","if1","if2"],"if1":[\n'
+     '{"op":"transfer","request":"0001","set":{"cmask":"00b0","arb2":"a48c","ctrl":"0088"}},\n'
+     '{"op":"transfer","request":"0001","set":{"cmask":"0090"}}],\n'
+     '"if2":[{"op":"transfer","request":"0001","set":{"cmask":"0084"}}]}',
+     []),
+    ('{"nodes":1,"order":["if1","bus","if1"],"if1":[\n'
+     '{"op":"transfer","request":"0001","set":{"cmask":"00b0","arb2":"848c","ctrl":"0480"}},\n'
+     '{"op":"transfer","request":"0001","set":{"cmask":"0090"}}],\n'
+     '"bus":[{"op":"round","send":[{"node":1,"id":291}]}]}',
+     ['-:3:1: warning: if1[1]: takes back NewDat and IntPnd of object 1, which another port set and if1 has not looked at since']),
+    ('{"nodes":1,"order":["if1","bus","if1","if1"],"if1":[\n'
+     '{"op":"transfer","request":"0001","set":{"cmask":"00b0","arb2":"848c","ctrl":"0480"}},\n'
+     '{"op":"transfer","request":"0001","set":{"cmask":"007f"}},\n'
+     '{"op":"transfer","request":"0001","set":{"cmask":"0090"}}],\n'
+     '"bus":[{"op":"round","send":[{"node":1,"id":291}]}]}',
+     []),
+    ('{"nodes":1,"order":["if1","bus","if1"],"if1":[\n'
+     '{"op":"transfer","request":"0001","set":{"cmask":"00b0","arb2":"848c","ctrl":"0480"}},\n'
+     '{"op":"transfer","request":"0001","set":{"cmask":"0090"}}],\n'
+     '"bus":[{"op":"round","send":[{"node":1,"id":292}]}]}',
+     []),
+    # warns of an object without EoB that is no part of a FIFO buffer
+    ('{"if1":[{"op":"transfer","request":"0001","set":{"cmask":"00b0","arb2":"848c","ctrl":"0000"}}]}',
+     ['-:1:9: warning: if1[0]: leaves object 1 valid without EoB, but the next object is no part of the same FIFO buffer']),
+    ('{"if1":[{"op":"transfer","request":"0001","set":{"cmask":"00b0","arb2":"848c","ctrl":"0000"}},'
+     '{"op":"transfer","request":"0002","set":{"ctrl":"0080"}}]}',
+     []),
+    ('{"if1":[{"op":"transfer","request":"0001","set":{"cmask":"00b0","arb2":"848c","ctrl":"0000"}},\n'
+     '{"op":"transfer","request":"0002","set":{"arb2":"8490","ctrl":"0080"}}]}',
+     ['-:1:9: warning: if1[0]: leaves object 1 valid without EoB, but the next object is no part of the same FIFO buffer']),
+    ('{"if1":[{"op":"transfer","request":"0020","set":{"cmask":"00b0","arb2":"848c","ctrl":"0000"}}]}',
+     ['-:1:9: warning: if1[0]: leaves object 32 valid without EoB, but the next object is no part of the same FIFO buffer']),
+    # warns of a request of an object that is not valid
+    ('{"if1":[{"op":"transfer","request":"0001","set":{"cmask":"00b0","arb2":"248c","ctrl":"0188"}}]}',
+     ['-:1:9: warning: if1[0]: requests a transmission of object 1, which is not valid (MsgVal 0)']),
+    ('{"if1":[{"op":"transfer","request":"0001","set":{"cmask":"00b0","arb2":"a48c","ctrl":"0188"}}]}',
+     []),
+    ('{"if1":[{"op":"transfer","request":"0001","set":{"cmask":"0084"}}]}',
+     ['-:1:9: warning: if1[0]: requests a transmission of object 1, which is not valid (MsgVal 0)']),
     # tells too many lines
     ('{"if1":[0' + ",0" * 2000 + "]}",
      ['-:1:8: if1: has more than 2000 lines']),

@@ -8,18 +8,26 @@
 //! ```
 //!
 //! Whether a script has a fault, and which comes first, is what [`ccan_script::read_script`] says, and of each line what its
-//! reader says. The parts here only find the place of a fault in the text, and words for it.
+//! reader says. Which member of a line is at fault first is proved here, by the order of the checks (`specs/FirstFault.antt`).
+//! The rest finds the place of that member in the text, and words for it.
 #![tactic(auto)]
 
+mod fault_path;
+mod first_fault;
 mod json_text;
+mod line_path;
 mod line_remark;
 mod member;
+mod member_checks;
 mod member_remark;
 mod not_json;
+mod object_image;
 pub mod place;
 pub mod print;
 pub mod report;
 pub mod script_check;
+mod script_image;
+mod script_warning;
 mod spot;
 mod told_line;
 mod walk;

@@ -1,13 +1,11 @@
-ghost use Rattle.std.specs.Prelude.{◌≤◌};
-ghost use Rattle.ccan_line.specs.Limits.{most_nodes};
-
 use crate::json_text::item_after;
-use crate::member::{FRAME, Kind, Member};
-use crate::member_remark::{range_remark, remark_on, remark_on_name, shape_remark};
+use crate::line_path::{LinePath, MemberName, Part, frame_path};
+use crate::member::{Kind, Member, frame_members};
+use crate::member_remark::{member_remark, register_remark, remark_on, remark_on_name};
 use crate::report::Remark;
 use crate::spot::{Spot, joined};
 use ccan_script::LineContext;
-use ccan_script::frame_line::read_frame;
+use serde_json::Value;
 use std::alloc::{AllocError, Global};
 
 /// That a member is unknown where these are known.
@@ -16,12 +14,12 @@ fn known_names(alloc: Global, members: &[Member]) -> Result<String, AllocError> 
     text.push_str("is unknown here; known:")?;
     for member in members {
         text.push(' ')?;
-        text.push_str(member.name())?;
+        text.push_str(member.name().text())?;
     }
     Ok(text)
 }
 
-/// A remark on a member that a line can't have.
+/// A remark on the first member that a line or a frame can't have.
 fn unknown_remark(
     alloc: Global,
     path: &str,
@@ -32,7 +30,10 @@ fn unknown_remark(
         return Ok(Some(remark_on(alloc, path, line, "is not an object")?));
     };
     for name in object.keys() {
-        if members.iter().all(|member| member.name() != name.as_str()) {
+        if members
+            .iter()
+            .all(|member| member.name().text() != name.as_str())
+        {
             let offset = line
                 .member(name.as_str())
                 .map_or(line.offset, |spot| spot.offset);
@@ -44,52 +45,54 @@ fn unknown_remark(
     Ok(None)
 }
 
-/// A remark on the first member whose shape is at fault.
-fn shapes_remark(
-    alloc: Global,
-    path: &str,
-    line: Spot<'_>,
-    members: &[Member],
-) -> Result<Option<Remark>, AllocError> {
-    for member in members {
-        if let Some(remark) = shape_remark(alloc, path, line, member)? {
-            return Ok(Some(remark));
-        }
-    }
-    Ok(None)
+/// The name of the first member that is missing.
+fn missing_name(line: &Value, members: &[Member]) -> Option<MemberName> {
+    let missing = members.iter().find(|member| member.is_needed()
+        && line.get(member.name().text()).is_none())?;
+    Some(missing.name())
 }
 
-/// A remark on the first member whose number is out of its range.
-fn ranges_remark(
+/// A remark on a line or a frame that has a member too many or too few. Where it has neither, the data of a frame hasn't its
+/// length.
+fn whole_remark(
     alloc: Global,
     path: &str,
     line: Spot<'_>,
     members: &[Member],
-    context: LineContext,
-) -> Result<Option<Remark>, AllocError> {
-    for member in members {
-        if let Some(remark) = range_remark(alloc, path, line, member, context)? {
-            return Ok(Some(remark));
-        }
-    }
-    Ok(None)
-}
-
-/// A remark on the members of a line: its shape first, then its ranges.
-fn members_remark(
-    alloc: Global,
-    path: &str,
-    line: Spot<'_>,
-    members: &[Member],
-    context: LineContext,
-) -> Result<Option<Remark>, AllocError> {
+) -> Result<Remark, AllocError> {
     if let Some(remark) = unknown_remark(alloc, path, line, members)? {
-        return Ok(Some(remark));
+        return Ok(remark);
     }
-    if let Some(remark) = shapes_remark(alloc, path, line, members)? {
-        return Ok(Some(remark));
+    match missing_name(line.value, members) {
+        Some(name) => remark_on_name(alloc, path, name.text(), "is missing", line.offset),
+        None => {
+            let wrong =
+                ": \"data\" has not as many bytes as \"dlc\" says, or any in a remote frame";
+            remark_at(alloc, path, wrong, line.offset)
+        }
     }
-    ranges_remark(alloc, path, line, members, context)
+}
+
+/// A remark on a part of a line or frame that has these members.
+fn part_remark(
+    alloc: Global,
+    path: &str,
+    line: Spot<'_>,
+    members: &[Member],
+    part: Part,
+    context: LineContext,
+) -> Result<Remark, AllocError> {
+    match part {
+        Part::Whole => whole_remark(alloc, path, line, members),
+        Part::Member(name) => {
+            let kind = members
+                .iter()
+                .find(|member| member.name() == name)
+                .map_or(Kind::Operation, Member::kind);
+            member_remark(alloc, path, line, name, kind, context)
+        }
+        Part::Register(register) => register_remark(alloc, path, line, register),
+    }
 }
 
 /// A remark on an offset: a path and what is wrong there.
@@ -98,72 +101,45 @@ fn remark_at(alloc: Global, path: &str, wrong: &str, offset: usize) -> Result<Re
     Ok(Remark { offset, text })
 }
 
-/// A remark on a frame at fault. Where each member alone is right, the length of its data is not.
-fn frame_remark(
-    alloc: Global,
-    path: &str,
-    frame: Spot<'_>,
-    context: LineContext,
-) -> Result<Remark, AllocError> {
-    if let Some(remark) = members_remark(alloc, path, frame, &FRAME, context)? {
-        return Ok(remark);
-    }
-    let wrong = ": \"data\" has not as many bytes as \"dlc\" says, or any in a remote frame";
-    remark_at(alloc, path, wrong, frame.offset)
-}
-
-/// A remark on the first frame of a round that is at fault.
-fn frames_remark(
-    alloc: Global,
-    path: &str,
-    line: Spot<'_>,
-    context: LineContext,
-) -> Result<Option<Remark>, AllocError>
-    requires { context.nodes ≤ most_nodes }
-{
-    let Some(send) = line.member("send") else {
-        return Ok(None);
-    };
-    let Some(frames) = send.value.as_array() else {
-        return Ok(None);
-    };
+/// The frame of this index, in the member `send` of a round.
+fn frame_spot(line: Spot<'_>, index: usize) -> Option<Spot<'_>> {
+    let send = line.member("send")?;
+    let value = send.value.as_array()?.get(index)?;
     let mut offset = send.offset;
-    for (index, value) in frames.iter().enumerate() {
-        let (begin, end) = item_after(line.text, offset);
-        let frame = Spot {
-            value,
-            text: line.text,
-            offset: begin,
-        };
-        if read_frame(value, context.nodes).is_err() {
-            let path = format!(in alloc; "{path}.send[{index}]")?;
-            return Ok(Some(frame_remark(alloc, path.as_str(), frame, context)?));
-        }
+    for _frame in 0..index {
+        let (_begin, end) = item_after(line.text, offset);
         offset = end;
     }
-    let twice = ".send: a node sends twice in one round";
-    Ok(Some(remark_at(alloc, path, twice, send.offset)?))
+    let (begin, _end) = item_after(line.text, offset);
+    Some(Spot {
+        value,
+        text: line.text,
+        offset: begin,
+    })
 }
 
-/// A remark on a line at fault whose operation has these members.
+/// A remark on the place in a line at which its first fault stands; the line's operation has these members.
 pub(crate) fn line_remark(
     alloc: Global,
     path: &str,
     line: Spot<'_>,
     members: &[Member],
+    place: LinePath,
     context: LineContext,
-) -> Result<Remark, AllocError>
-    requires { context.nodes ≤ most_nodes }
-{
-    if let Some(remark) = members_remark(alloc, path, line, members, context)? {
-        return Ok(remark);
-    }
-    if members.iter().any(|member| member.kind() == Kind::Frames) {
-        if let Some(remark) = frames_remark(alloc, path, line, context)? {
-            return Ok(remark);
-        }
-    }
-    remark_on(alloc, path, line, "is no line of this list")
+) -> Result<Remark, AllocError> {
+    let Some(index) = place.frame else {
+        return part_remark(alloc, path, line, members, place.part, context);
+    };
+    let frame = frame_spot(line, index).unwrap_or(line);
+    let path = frame_path(alloc, path, index)?;
+    part_remark(
+        alloc,
+        path.as_str(),
+        frame,
+        frame_members(),
+        place.part,
+        context,
+    )
 }
 
 /// A remark on a line without an operation that its list knows.

@@ -1,9 +1,29 @@
-//! The members that the lines of a script have, for the words about a fault. Whether a line has a fault is not decided by
-//! these, but by the readers of `ccan_script`.
+//! The members that the lines of a script have, in the order in which they are checked. Whether a line has a fault is not
+//! decided by these, but by the readers of `ccan_script`; these say where its first fault stands.
 
+ghost use Rattle.std.specs.Prelude.{◌≡◌};
+ghost use Rattle.ccan_check.specs.Member.{name_of, kind_of, is_needed, is_set, range_in};
+ghost use Rattle.ccan_check.specs.Member.{host_members, bus_members, frame_members, frame_numbers};
+
+use crate::line_path::MemberName;
 use ccan_script::bus_op::BusOp;
 use ccan_script::host_op::HostOp;
 use ccan_script::{MAX_GROUPS, MAX_TURNS};
+
+/// The range of a number.
+#[derive(Clone, Copy, PartialEq, Eq, Debug)]
+pub(crate) enum Range {
+    /// From the first number to the second.
+    Between(u64, u64),
+    /// An object of the profile.
+    Object,
+    /// A node that sends, 1 to `nodes`.
+    Sender,
+    /// A node, or the controller: 0 to `nodes`.
+    Node,
+    /// The identifier of a frame.
+    Identifier,
+}
 
 /// What a member's value is.
 #[derive(Clone, Copy, PartialEq, Eq, Debug)]
@@ -22,114 +42,167 @@ pub(crate) enum Kind {
     Frames,
     /// The data of a frame.
     Data,
-    /// A whole number from the first to the second.
-    Whole(u64, u64),
-    /// An object of the profile.
-    Object,
-    /// A node that sends, 1 to `nodes`.
-    Sender,
-    /// A node, or the controller: 0 to `nodes`.
-    Node,
-    /// The identifier of a frame.
-    Identifier,
+    /// A whole number.
+    Number(Range),
+}
+
+impl Kind {
+    /// Whether it is registers with their texts.
+    pub(crate) fn is_set(self) -> bool
+        ensures { result ≡ is_set self }
+    {
+        matches!(self, Kind::Registers)
+    }
+
+    /// The range of a number, `None` of another kind.
+    pub(crate) fn range(self) -> Option<Range>
+        ensures { result ≡ range_in self }
+    {
+        match self {
+            Kind::Number(range) => Some(range),
+            Kind::Operation
+            | Kind::Digits
+            | Kind::Registers
+            | Kind::Flag
+            | Kind::FaultName
+            | Kind::Frames
+            | Kind::Data => None,
+        }
+    }
 }
 
 /// A member that a line has: one that each such line has, or one that may be left out.
 #[derive(Clone, Copy, Debug)]
 pub(crate) enum Member {
-    Needed(&'static str, Kind),
-    Optional(&'static str, Kind),
+    Needed(MemberName, Kind),
+    Optional(MemberName, Kind),
 }
 
 impl Member {
-    pub(crate) fn name(&self) -> &'static str {
+    pub(crate) fn name(&self) -> MemberName
+        ensures { result ≡ name_of self.now }
+    {
         match self {
-            Member::Needed(name, _) | Member::Optional(name, _) => name,
+            Member::Needed(name, _) | Member::Optional(name, _) => *name,
         }
     }
 
-    pub(crate) fn kind(&self) -> Kind {
+    pub(crate) fn kind(&self) -> Kind
+        ensures { result ≡ kind_of self.now }
+    {
         match self {
             Member::Needed(_, kind) | Member::Optional(_, kind) => *kind,
         }
     }
 
-    pub(crate) fn is_needed(&self) -> bool {
+    pub(crate) fn is_needed(&self) -> bool
+        ensures { result ≡ is_needed self.now }
+    {
         matches!(self, Member::Needed(..))
     }
 }
 
-const OPERATION: Member = Member::Needed("op", Kind::Operation);
+const OPERATION: Member = Member::Needed(MemberName::Op, Kind::Operation);
 
-const FLAG: Member = Member::Needed("flag", Kind::Flag);
+const FLAG: Member = Member::Needed(MemberName::Flag, Kind::Flag);
 
-const BARE: [Member; 1] = [OPERATION];
-
-const FLAGS: [Member; 2] = [OPERATION, FLAG];
+const SWITCH: Kind = Kind::Number(Range::Between(0, 1));
 
 const TRANSFER: [Member; 3] = [
     OPERATION,
-    Member::Needed("request", Kind::Digits),
-    Member::Optional("set", Kind::Registers),
+    Member::Needed(MemberName::Request, Kind::Digits),
+    Member::Optional(MemberName::Set, Kind::Registers),
 ];
 
 const UNTIL: [Member; 4] = [
     OPERATION,
-    Member::Needed("object", Kind::Object),
+    Member::Needed(MemberName::Object, Kind::Number(Range::Object)),
     FLAG,
-    Member::Needed("turns", Kind::Whole(1, MAX_TURNS)),
+    Member::Needed(
+        MemberName::Turns,
+        Kind::Number(Range::Between(1, MAX_TURNS)),
+    ),
 ];
 
 const ROUND: [Member; 3] = [
     OPERATION,
-    Member::Optional("send", Kind::Frames),
-    Member::Optional("fault", Kind::FaultName),
+    Member::Optional(MemberName::Fault, Kind::FaultName),
+    Member::Optional(MemberName::Send, Kind::Frames),
 ];
 
 const CONTROL: [Member; 3] = [
     OPERATION,
-    Member::Needed("sie", Kind::Whole(0, 1)),
-    Member::Needed("eie", Kind::Whole(0, 1)),
+    Member::Needed(MemberName::Sie, SWITCH),
+    Member::Needed(MemberName::Eie, SWITCH),
 ];
 
-const COUNTERS: [Member; 2] = [OPERATION, Member::Needed("node", Kind::Node)];
+const COUNTERS: [Member; 2] = [
+    OPERATION,
+    Member::Needed(MemberName::Node, Kind::Number(Range::Node)),
+];
 
 const RECESSIVE: [Member; 2] = [
     OPERATION,
-    Member::Needed("groups", Kind::Whole(1, MAX_GROUPS)),
+    Member::Needed(
+        MemberName::Groups,
+        Kind::Number(Range::Between(1, MAX_GROUPS)),
+    ),
 ];
 
-const LOOP_BACK: [Member; 2] = [OPERATION, Member::Needed("on", Kind::Whole(0, 1))];
+const SENDER: Member = Member::Needed(MemberName::Node, Kind::Number(Range::Sender));
 
-/// The members of a frame.
-pub(crate) const FRAME: [Member; 6] = [
-    Member::Needed("node", Kind::Sender),
-    Member::Needed("id", Kind::Identifier),
-    Member::Optional("xtd", Kind::Whole(0, 1)),
-    Member::Optional("rtr", Kind::Whole(0, 1)),
-    Member::Optional("dlc", Kind::Whole(0, 15)),
-    Member::Optional("data", Kind::Data),
-];
+const IDENTIFIER: Member = Member::Needed(MemberName::Id, Kind::Number(Range::Identifier));
+
+const XTD: Member = Member::Optional(MemberName::Xtd, SWITCH);
+
+const RTR: Member = Member::Optional(MemberName::Rtr, SWITCH);
+
+const DLC: Member = Member::Optional(MemberName::Dlc, Kind::Number(Range::Between(0, 15)));
+
+/// The members of a frame, in the order in which their shapes are checked.
+pub(crate) fn frame_members() -> &'static [Member]
+    ensures { result.now ≡ frame_members }
+{
+    &[
+        SENDER,
+        IDENTIFIER,
+        XTD,
+        RTR,
+        DLC,
+        Member::Optional(MemberName::Data, Kind::Data),
+    ]
+}
+
+/// The numbers of a frame, in the order in which their ranges are checked: Xtd before the identifier, whose range it gives.
+pub(crate) fn frame_numbers() -> &'static [Member]
+    ensures { result.now ≡ frame_numbers }
+{
+    &[SENDER, XTD, RTR, IDENTIFIER, DLC]
+}
 
 /// The members of a line of a host.
-pub(crate) fn host_members(op: HostOp) -> &'static [Member] {
+pub(crate) fn host_members(op: HostOp) -> &'static [Member]
+    ensures { result.now ≡ host_members op }
+{
     match op {
         HostOp::Transfer => &TRANSFER,
         HostOp::Until => &UNTIL,
-        HostOp::Interrupt => &BARE,
-        HostOp::Flags => &FLAGS,
+        HostOp::Interrupt => &[OPERATION],
+        HostOp::Flags => &[OPERATION, FLAG],
     }
 }
 
 /// The members of a line of the bus.
-pub(crate) fn bus_members(op: BusOp) -> &'static [Member] {
+pub(crate) fn bus_members(op: BusOp) -> &'static [Member]
+    ensures { result.now ≡ bus_members op }
+{
     match op {
-        BusOp::Load | BusOp::Status | BusOp::Interrupt | BusOp::Init => &BARE,
+        BusOp::Load | BusOp::Status | BusOp::Interrupt | BusOp::Init => &[OPERATION],
         BusOp::Round => &ROUND,
         BusOp::Control => &CONTROL,
-        BusOp::Flags => &FLAGS,
+        BusOp::Flags => &[OPERATION, FLAG],
         BusOp::Counters => &COUNTERS,
         BusOp::Recessive => &RECESSIVE,
-        BusOp::LoopBack => &LOOP_BACK,
+        BusOp::LoopBack => &[OPERATION, Member::Needed(MemberName::On, SWITCH)],
     }
 }

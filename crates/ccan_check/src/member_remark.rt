@@ -1,9 +1,9 @@
-ghost use Rattle.std.specs.Prelude.{◌≤◌};
-
-use crate::member::{Kind, Member};
+use crate::line_path::{MemberName, Part, part_path, register_text};
+use crate::member::{Kind, Range};
+use crate::member_checks::range_of;
 use crate::report::Remark;
 use crate::spot::{Spot, joined};
-use ccan_object::Profile;
+use ccan_object::{Profile, Reg};
 use ccan_script::fault_name::fault_in;
 use ccan_script::flag_name::flag_in;
 use ccan_script::frame_data::data_in;
@@ -47,7 +47,7 @@ fn frames_fault(value: &Value) -> Option<&'static str> {
     }
 }
 
-/// What is wrong with the shape of a member of a line.
+/// What is wrong with the shape of a member of a line, if something is.
 fn shape_fault(line: &Value, value: &Value, kind: Kind) -> Option<&'static str> {
     match kind {
         Kind::Digits => digits_fault(value),
@@ -64,9 +64,7 @@ fn shape_fault(line: &Value, value: &Value, kind: Kind) -> Option<&'static str> 
         }
         Kind::Flag | Kind::FaultName | Kind::Data => None,
         Kind::Frames => frames_fault(value),
-        Kind::Whole(..) | Kind::Object | Kind::Sender | Kind::Node | Kind::Identifier => {
-            whole_fault(value)
-        }
+        Kind::Number(_) => whole_fault(value),
     }
 }
 
@@ -122,99 +120,87 @@ fn register_fault(name: &str) -> Option<&'static str> {
     }
 }
 
-/// A remark on the first register of a `set` that is at fault.
-fn registers_remark(
-    alloc: Global,
-    path: &str,
-    set: Spot<'_>,
-) -> Result<Option<Remark>, AllocError> {
+/// A remark on the first member of a `set` that is no register.
+fn set_remark(alloc: Global, path: &str, set: Spot<'_>) -> Result<Option<Remark>, AllocError> {
     let Some(members) = set.value.as_object() else {
         return Ok(None);
     };
     for name in members.keys() {
-        let Some(spot) = set.member(name.as_str()) else {
-            return Ok(None);
-        };
-        if let Some(wrong) = register_fault(name.as_str()) {
+        if let (Some(wrong), Some(spot)) = (
+            register_fault(name.as_str()),
+            set.member(name.as_str()),
+        ) {
             return Ok(Some(remark_on_name(alloc, path, name.as_str(), wrong, spot.offset)?));
-        }
-        if let Some(wrong) = digits_fault(spot.value) {
-            let path = member_path(alloc, path, name.as_str())?;
-            return Ok(Some(remark_on(alloc, path.as_str(), spot, wrong)?));
         }
     }
     Ok(None)
 }
 
-/// A remark on the shape of a member: that it is missing, or what is wrong with its value.
-pub(crate) fn shape_remark(
+/// A remark on a register of a `set` that has no text of four digits.
+pub(crate) fn register_remark(
     alloc: Global,
     path: &str,
     line: Spot<'_>,
-    member: &Member,
-) -> Result<Option<Remark>, AllocError> {
-    let Some(spot) = line.member(member.name()) else {
-        if !member.is_needed() {
-            return Ok(None);
-        }
-        let missing = remark_on_name(alloc, path, member.name(), "is missing", line.offset)?;
-        return Ok(Some(missing));
-    };
-    let path = member_path(alloc, path, member.name())?;
-    if let Some(wrong) = shape_fault(line.value, spot.value, member.kind()) {
-        return Ok(Some(remark_on(alloc, path.as_str(), spot, wrong)?));
-    }
-    match member.kind() {
-        Kind::Registers => registers_remark(alloc, path.as_str(), spot),
-        _ => Ok(None),
-    }
-}
-
-/// The least and the greatest number that a member of a line may be.
-fn range_of(line: &Value, kind: Kind, context: LineContext) -> Option<(u64, u64)> {
-    match kind {
-        Kind::Whole(least, greatest) => Some((least, greatest)),
-        Kind::Object => Some((1, u64::from(context.profile.objects()))),
-        Kind::Sender => Some((1, u64::from(context.nodes))),
-        Kind::Node => Some((0, u64::from(context.nodes))),
-        Kind::Identifier => match line.get("xtd").and_then(Value::as_u64) {
-            Some(1) => Some((0, 536_870_911)),
-            _ => Some((0, 2_047)),
-        },
-        _ => None,
-    }
+    register: Reg,
+) -> Result<Remark, AllocError> {
+    let path = part_path(alloc, path, Part::Register(register))?;
+    let spot = line
+        .member("set")
+        .and_then(|set| set.member(register_text(register)))
+        .unwrap_or(line);
+    let wrong = digits_fault(spot.value).unwrap_or("is refused");
+    remark_on(alloc, path.as_str(), spot, wrong)
 }
 
 /// What may lift the range.
-fn range_hint(kind: Kind, context: LineContext, greatest: u64) -> &'static str {
-    match kind {
-        Kind::Object if context.profile == Profile::One => " (33 to 64 with \"profile\": 2)",
-        Kind::Sender | Kind::Node => " (\"nodes\" says how many other nodes there are)",
-        Kind::Identifier if greatest == 2_047 => " (more with \"xtd\": 1)",
-        _ => "",
+fn range_hint(range: Range, context: LineContext, greatest: u64) -> &'static str {
+    match range {
+        Range::Object if context.profile == Profile::One => " (33 to 64 with \"profile\": 2)",
+        Range::Sender | Range::Node => " (\"nodes\" says how many other nodes there are)",
+        Range::Identifier if greatest == 2_047 => " (more with \"xtd\": 1)",
+        Range::Object | Range::Identifier | Range::Between(..) => "",
     }
 }
 
-/// A remark on the number of a member that is out of its range.
-pub(crate) fn range_remark(
+/// A remark on a number that is out of its range.
+fn range_remark(
     alloc: Global,
     path: &str,
     line: Spot<'_>,
-    member: &Member,
+    spot: Spot<'_>,
+    range: Range,
     context: LineContext,
-) -> Result<Option<Remark>, AllocError> {
-    let Some(spot) = line.member(member.name()) else {
-        return Ok(None);
-    };
-    let Some((least, greatest)) = range_of(line.value, member.kind(), context) else {
-        return Ok(None);
-    };
-    match spot.value.as_u64() {
-        Some(number) if number < least || greatest < number => {}
-        _ => return Ok(None),
-    }
-    let hint = range_hint(member.kind(), context, greatest);
-    let path = member_path(alloc, path, member.name())?;
+) -> Result<Remark, AllocError> {
+    let (least, greatest) = range_of(line.value, range, context);
+    let hint = range_hint(range, context, greatest);
     let wrong = format!(in alloc; "is not in {least} to {greatest}{hint}")?;
-    Ok(Some(remark_on(alloc, path.as_str(), spot, wrong.as_str())?))
+    remark_on(alloc, path, spot, wrong.as_str())
+}
+
+/// A remark on a member that is at fault: on its shape, else on its range or on what its values say together.
+pub(crate) fn member_remark(
+    alloc: Global,
+    path: &str,
+    line: Spot<'_>,
+    name: MemberName,
+    kind: Kind,
+    context: LineContext,
+) -> Result<Remark, AllocError> {
+    let spot = line.member(name.text()).unwrap_or(line);
+    let path = part_path(alloc, path, Part::Member(name))?;
+    let path = path.as_str();
+    if let Some(wrong) = shape_fault(line.value, spot.value, kind) {
+        return remark_on(alloc, path, spot, wrong);
+    }
+    if let Some(range) = kind.range() {
+        return range_remark(alloc, path, line, spot, range, context);
+    }
+    if let Some(remark) = set_remark(alloc, path, spot)? {
+        return Ok(remark);
+    }
+    let text = joined(alloc, &[path, ": a node sends twice in one round"])?;
+    Ok(Remark {
+        offset: spot.offset,
+        text,
+    })
 }

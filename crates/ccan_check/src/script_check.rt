@@ -1,17 +1,27 @@
-ghost use Rattle.std.specs.Prelude.{◌≡◌, IfOk, Some};
-ghost use Rattle.ccan_check.specs.ScriptCheck.{first_error, IsFirstOf};
+ghost use Rattle.std.specs.Prelude.{◌≡◌, ◌≢◌, ◌++◌, IfOk, codes, IsTrue, IsUtf8, Some, None, nat_eq, string_bytes};
+ghost use Rattle.std.specs.List.{starts_with};
+ghost use Rattle.serde_json.specs.Errors.{IsMemory};
+ghost use Rattle.serde_json.specs.Read.{read};
+ghost use Rattle.serde_json.specs.View.{view};
+ghost use Rattle.ccan_script.specs.declared.script_error.ScriptError.TheVariants.{Memory};
+ghost use Rattle.ccan_script.specs.Reader.{RefusesText};
+ghost use Rattle.ccan_check.specs.ScriptCheck.{first_fault, IsToldAs, IsFirstOf};
 
+use crate::fault_path::fault_path;
 use crate::json_text::after_spaces;
 use crate::not_json::json_fault;
 use crate::report::{Fault, Remark, Report};
+use crate::script_warning::warn_of_script;
 use crate::spot::{Spot, joined};
 use crate::walk::walk;
-use ccan_script::{ScriptError, read_script};
+use ccan_script::{Script, ScriptError, read_script};
 use serde_json::{Error, Value};
 use std::alloc::{AllocError, Global};
 
 /// What is said of bytes that are no JSON.
-fn json_report(alloc: Global, bytes: &[u8], error: &Error) -> Result<Report, AllocError> {
+fn json_report(alloc: Global, bytes: &[u8], error: &Error) -> Result<Report, AllocError>
+    ensures { IfOk result (λ _. ¬ IsMemory error.now) }
+{
     if error.is_memory() {
         return Err(AllocError);
     }
@@ -28,66 +38,150 @@ fn json_report(alloc: Global, bytes: &[u8], error: &Error) -> Result<Report, All
     Ok(report)
 }
 
-/// What the walk over the bytes says.
-fn walked(alloc: Global, bytes: &[u8]) -> Result<Report, AllocError> {
-    match Value::from_slice(alloc, bytes) {
-        Ok(value) => walk(
-            alloc,
-            Spot {
-                value: &value,
-                text: bytes,
-                offset: after_spaces(bytes, 0),
-            },
-        ),
-        Err(error) => json_report(alloc, bytes, &error),
+/// The script's value, where it stands in the bytes.
+fn top_of<'a>(bytes: &'a [u8], value: &'a Value) -> Spot<'a> {
+    Spot {
+        value,
+        text: bytes,
+        offset: after_spaces(bytes, 0),
     }
 }
 
-/// The fault that reading a script answers, if there is one.
-fn first_of(alloc: Global, bytes: &[u8]) -> Result<Option<ScriptError>, AllocError>
-    ensures { IfOk result (IsFirstOf bytes.now) }
+/// Whether a fault is this one, and what is said of it begins with this path.
+fn is_told(fault: &Fault, error: ScriptError, path: &str) -> bool
+    ensures error { IsTrue result → fault.now.error ≡ error }
+    ensures path { IsTrue result
+        → IsTrue (starts_with nat_eq (string_bytes fault.now.remark.text) path.now) }
 {
-    match read_script(alloc, bytes) {
-        Ok(_script) => Ok(None),
-        Err(ScriptError::Memory) => Err(AllocError),
-        Err(error) => Ok(Some(error)),
-    }
+    fault.error == error
+        && fault
+            .remark
+            .text
+            .as_str()
+            .as_bytes()
+            .starts_with(path.as_bytes())
 }
 
-/// The faults, this one first.
+/// What is said of a fault of which only the path is known.
+fn refusal_text(alloc: Global, path: &str) -> Result<String, AllocError>
+    ensures { IfOk result (λ text. string_bytes text
+        ≡ path.now ++ codes ": the script is refused") }
+{
+    format!(in alloc; "{path}: the script is refused")
+}
+
+/// A fault of which only the path is known.
+fn refused(alloc: Global, error: ScriptError, path: &str) -> Result<Fault, AllocError>
+    ensures { IfOk result (λ fault. IsToldAs error path.now (Some fault)) }
+{
+    let text = refusal_text(alloc, path)?;
+    Ok(Fault {
+        error,
+        remark: Remark { offset: 0, text },
+    })
+}
+
+/// The faults, this one first, and told with this path.
 fn told_first(
     alloc: Global,
     error: ScriptError,
+    path: &str,
     faults: Vec<Fault>,
 ) -> Result<Vec<Fault>, AllocError>
-    ensures { IfOk result (λ told. first_error told.items ≡ Some error) }
+    ensures { IfOk result (λ told. IsToldAs error path.now (first_fault told.items)) }
 {
     match faults.first() {
-        Some(fault) if fault.error == error => Ok(faults),
+        Some(fault) if is_told(fault, error, path) => Ok(faults),
         // The walk finds the fault that the reader tells, but that is not proved here: so what is told rests on the reader.
         _ => {
             let mut told = Vec::new(alloc);
-            let text = joined(alloc, &["the script is refused"])?;
-            told.push(Fault {
-                error,
-                remark: Remark { offset: 0, text },
-            })?;
+            told.push(refused(alloc, error, path)?)?;
             Ok(told)
         }
     }
 }
 
+/// What is said of bytes that are this value, and that reading refuses with this fault.
+fn value_report(
+    alloc: Global,
+    bytes: &[u8],
+    value: &Value,
+    error: ScriptError,
+) -> Result<Report, AllocError>
+    requires memory { error ≢ Memory }
+    requires refuses { RefusesText bytes.now error }
+    requires reads { read bytes.now ≡ Some (view value.now) }
+    ensures { IfOk result (λ report. IsFirstOf bytes.now (first_fault report.faults.items)) }
+{
+    let Report { faults, warnings } = walk(alloc, top_of(bytes, value))?;
+    let path = fault_path(alloc, value, error)?;
+    let told = told_first(alloc, error, path.as_str(), faults)?;
+    Ok(Report {
+        faults: told,
+        warnings,
+    })
+}
+
+/// What is said of bytes that are no JSON, and that reading refuses with this fault.
+fn text_report(
+    alloc: Global,
+    bytes: &[u8],
+    stop: &Error,
+    error: ScriptError,
+) -> Result<Report, AllocError>
+    requires memory { error ≢ Memory }
+    requires refuses { RefusesText bytes.now error }
+    requires none { ¬ IsMemory stop.now → IsUtf8 bytes.now → read bytes.now ≡ None }
+    ensures { IfOk result (λ report. IsFirstOf bytes.now (first_fault report.faults.items)) }
+{
+    let Report { faults, warnings } = json_report(alloc, bytes, stop)?;
+    let told = told_first(alloc, error, "", faults)?;
+    Ok(Report {
+        faults: told,
+        warnings,
+    })
+}
+
+/// What is said of bytes that reading refuses with this fault.
+fn refused_report(alloc: Global, bytes: &[u8], error: ScriptError) -> Result<Report, AllocError>
+    requires memory { error ≢ Memory }
+    requires refuses { RefusesText bytes.now error }
+    ensures { IfOk result (λ report. IsFirstOf bytes.now (first_fault report.faults.items)) }
+{
+    match Value::from_slice(alloc, bytes) {
+        Ok(value) => value_report(alloc, bytes, &value, error),
+        Err(stop) => text_report(alloc, bytes, &stop, error),
+    }
+}
+
+/// What is rarely meant in a script without faults.
+fn warnings_of(alloc: Global, bytes: &[u8], script: &Script) -> Result<Vec<Remark>, AllocError> {
+    let Ok(value) = Value::from_slice(alloc, bytes) else {
+        return Err(AllocError);
+    };
+    let top = top_of(bytes, &value);
+    let Report {
+        faults: _,
+        mut warnings,
+    } = walk(alloc, top)?;
+    warn_of_script(alloc, top, script, &mut warnings)?;
+    Ok(warnings)
+}
+
 /// The faults of a script, of each of its lines the first, and what is taken but rarely meant.
 ///
-/// It has no faults just where [`read_script`] answers a script, and else the first is the fault that `read_script` answers.
+/// It has no faults exactly when [`read_script`] answers a script. Else the first is the fault that `read_script` answers, and
+/// what is said of it begins with its path: the list, the index of the line, and the member that the order of the checks
+/// names first.
 pub fn check(alloc: Global, bytes: &[u8]) -> Result<Report, AllocError>
-    ensures { IfOk result (λ report. IsFirstOf bytes.now (first_error report.faults.items)) }
+    ensures { IfOk result (λ report. IsFirstOf bytes.now (first_fault report.faults.items)) }
 {
-    let first = first_of(alloc, bytes)?;
-    let Report { faults, warnings } = walked(alloc, bytes)?;
-    let faults = match first {
-        Some(error) => told_first(alloc, error, faults)?,
-        None => Vec::new(alloc),
-    };
-    Ok(Report { faults, warnings })
+    match read_script(alloc, bytes) {
+        Ok(script) => Ok(Report {
+            faults: Vec::new(alloc),
+            warnings: warnings_of(alloc, bytes, &script)?,
+        }),
+        Err(ScriptError::Memory) => Err(AllocError),
+        Err(error) => refused_report(alloc, bytes, error),
+    }
 }

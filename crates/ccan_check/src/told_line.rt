@@ -1,6 +1,7 @@
 ghost use Rattle.std.specs.Prelude.{◌≤◌};
 ghost use Rattle.ccan_line.specs.Limits.{most_nodes};
 
+use crate::first_fault::{bus_place, host_place};
 use crate::line_remark::{line_remark, operation_remark};
 use crate::member::{bus_members, host_members};
 use crate::member_remark::remark_on;
@@ -43,7 +44,10 @@ impl ToldLine for HostLine {
         context: LineContext,
     ) -> Result<Remark, AllocError> {
         match host_op(line.value) {
-            Some(op) => line_remark(alloc, path, line, host_members(op), context),
+            Some(op) => {
+                let place = host_place(line.value, context);
+                line_remark(alloc, path, line, host_members(op), place, context)
+            }
             None if bus_op(line.value).is_some() => {
                 operation_remark(
                     alloc,
@@ -86,7 +90,10 @@ impl ToldLine for BusLine {
         context: LineContext,
     ) -> Result<Remark, AllocError> {
         match bus_op(line.value) {
-            Some(op) => line_remark(alloc, path, line, bus_members(op), context),
+            Some(op) => {
+                let place = bus_place(line.value, context);
+                line_remark(alloc, path, line, bus_members(op), place, context)
+            }
             None if host_op(line.value).is_some() => {
                 operation_remark(
                     alloc,

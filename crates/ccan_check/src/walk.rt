@@ -1,16 +1,16 @@
-ghost use Rattle.std.specs.Prelude.{◌≤◌, IfOk, true};
+ghost use Rattle.std.specs.Prelude.{◌≤◌};
 ghost use Rattle.ccan_line.specs.Limits.{most_nodes};
 
+use crate::fault_path::context_of;
 use crate::json_text::item_after;
 use crate::member_remark::{remark_on, remark_on_name};
 use crate::report::{Fault, Remark, Report};
 use crate::spot::{Spot, joined};
 use crate::told_line::ToldLine;
 use crate::warning::warn_of_twice;
-use ccan_object::Profile;
 use ccan_ram::PortName;
 use ccan_script::bus_op::{BusOp, bus_op};
-use ccan_script::number::{number_member, profile_numbered};
+use ccan_script::number::number_member;
 use ccan_script::{
     BusLine, DEFAULT_NODES, DEFAULT_PROFILE, DEFAULT_QUOTA, DEFAULT_TRIES, HostLine, LineContext,
     ListName, MAX_LINES, MAX_NAMES, MAX_NODES, MAX_PROFILE, MAX_QUOTA, MAX_TRIES, ScriptError,
@@ -56,8 +56,7 @@ fn add_unknown(alloc: Global, top: Spot<'_>, report: &mut Report) -> Result<(), 
     Ok(())
 }
 
-/// The number of a member of the script. Where it is at fault, adds that, and takes the greatest, so that no fault of a line
-/// comes of it.
+/// Adds the fault of a number of the script, if it has one.
 fn add_number(
     alloc: Global,
     top: Spot<'_>,
@@ -65,21 +64,18 @@ fn add_number(
     range: (u64, u64),
     default: u64,
     report: &mut Report,
-) -> Result<u64, AllocError>
+) -> Result<(), AllocError>
     requires default_least { range.0 ≤ default }
     requires default_greatest { default ≤ range.1 }
-    ensures { IfOk result (λ n. (range.0 ≤ n) × (n ≤ range.1)) }
 {
     let (least, greatest) = range;
-    let error = match number_member(top.value, name, least, greatest, default) {
-        Ok(number) => return Ok(number),
-        Err(error) => error,
-    };
-    let spot = top.member(name).unwrap_or(top);
-    let wrong = format!(in alloc; "is not a whole number in {least} to {greatest}")?;
-    let remark = remark_on(alloc, name, spot, wrong.as_str())?;
-    report.faults.push(Fault { error, remark })?;
-    Ok(greatest)
+    if let Err(error) = number_member(top.value, name, least, greatest, default) {
+        let spot = top.member(name).unwrap_or(top);
+        let wrong = format!(in alloc; "is not a whole number in {least} to {greatest}")?;
+        let remark = remark_on(alloc, name, spot, wrong.as_str())?;
+        report.faults.push(Fault { error, remark })?;
+    }
+    Ok(())
 }
 
 /// Adds the fault of a line of a list, or what is rarely meant in it.
@@ -265,25 +261,13 @@ fn warn_of_default(alloc: Global, top: Spot<'_>, report: &mut Report) -> Result<
     Ok(())
 }
 
-/// Adds the faults of the numbers of a script, and answers what the ranges of its lines depend on.
-fn add_numbers(alloc: Global, top: Spot<'_>, report: &mut Report) -> Result<LineContext, AllocError>
-    ensures { IfOk result (λ context. context.nodes ≤ most_nodes) }
-{
-    let profile = add_number(
-        alloc,
-        top,
-        "profile",
-        (1, MAX_PROFILE),
-        DEFAULT_PROFILE,
-        report,
-    )?;
+/// Adds the faults of the numbers of a script.
+fn add_numbers(alloc: Global, top: Spot<'_>, report: &mut Report) -> Result<(), AllocError> {
+    let profiles = (1, MAX_PROFILE);
+    add_number(alloc, top, "profile", profiles, DEFAULT_PROFILE, report)?;
     add_number(alloc, top, "quota", (1, MAX_QUOTA), DEFAULT_QUOTA, report)?;
     add_number(alloc, top, "tries", (1, MAX_TRIES), DEFAULT_TRIES, report)?;
-    let nodes = add_number(alloc, top, "nodes", (0, MAX_NODES), DEFAULT_NODES, report)?;
-    Ok(LineContext {
-        profile: profile_numbered(profile),
-        nodes: nodes as u8,
-    })
+    add_number(alloc, top, "nodes", (0, MAX_NODES), DEFAULT_NODES, report)
 }
 
 /// Adds what is said of the lines of a port.
@@ -309,7 +293,8 @@ pub(crate) fn walk(alloc: Global, top: Spot<'_>) -> Result<Report, AllocError> {
     };
     warn_of_twice(alloc, "the script", top, &mut report.warnings)?;
     add_unknown(alloc, top, &mut report)?;
-    let context = add_numbers(alloc, top, &mut report)?;
+    add_numbers(alloc, top, &mut report)?;
+    let context = context_of(top.value);
     add_port::<HostLine>(alloc, top, ListName::If1, "if1", context, &mut report)?;
     add_port::<HostLine>(alloc, top, ListName::If2, "if2", context, &mut report)?;
     add_port::<BusLine>(alloc, top, ListName::Bus, "bus", context, &mut report)?;

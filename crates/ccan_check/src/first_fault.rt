@@ -1,0 +1,149 @@
+//! Where the first fault of a line stands, by the order of the checks. Whether a line has a fault is what the readers of
+//! `ccan_script` say.
+
+ghost use Rattle.std.specs.Prelude.{◌≡◌, ◌≤◌, map, is_some, None, unwrap_or};
+ghost use Rattle.std.specs.List.{position};
+ghost use Rattle.serde_json.specs.Find.{get};
+ghost use Rattle.serde_json.specs.View.{view};
+ghost use Rattle.ccan_line.specs.Limits.{most_nodes};
+ghost use Rattle.ccan_script.specs.Json.{lines_in};
+ghost use Rattle.ccan_script.specs.FrameLine.{frame_fault};
+ghost use Rattle.ccan_check.specs.Member.{frame_members, frame_numbers};
+ghost use Rattle.ccan_check.specs.FirstFault.{part_found, operation_part, round_place, behind_members};
+ghost use Rattle.ccan_check.specs.FirstFault.{host_place, bus_place};
+
+use crate::line_path::{LinePath, MemberName, Part};
+use crate::member::{bus_members, frame_members, frame_numbers, host_members};
+use crate::member_checks::part_found;
+use ccan_script::LineContext;
+use ccan_script::bus_op::{BusOp, bus_op};
+use ccan_script::frame_line::read_frame;
+use ccan_script::host_op::host_op;
+use serde_json::Value;
+
+/// The part of a line without a known operation at which that shows.
+fn operation_part(line: &Value) -> Part
+    ensures { result ≡ operation_part (view line.now) }
+{
+    match line.get("op") {
+        Some(_) => Part::Member(MemberName::Op),
+        None => Part::Whole,
+    }
+}
+
+/// A part of a line.
+fn in_line(part: Part) -> LinePath
+    ensures { result ≡ record { frame = None; part = part } }
+{
+    LinePath { frame: None, part }
+}
+
+/// Whether a frame is at fault.
+fn is_frame_at_fault(frame: &Value, nodes: u8) -> bool
+    requires { nodes ≤ most_nodes }
+    ensures { result ≡ is_some (frame_fault nodes (view frame.now)) }
+{
+    read_frame(frame, nodes).is_err()
+}
+
+/// The values of the list that a member is, none where it is no list.
+#[tactic(auto, using(ccan_script::proofs::ListFaults::lines_are), unfolding(ccan_script::specs::Json::lines_in))]
+pub(crate) fn items_in<'a>(value: &'a Value, name: &str) -> &'a [Value]
+    ensures { map view result.now ≡ lines_in (get name.now (view value.now)) }
+{
+    let Some(list) = value.get(name) else {
+        return &[];
+    };
+    match list.as_array() {
+        Some(values) => values.as_slice(),
+        None => &[],
+    }
+}
+
+/// The index of the first frame that is at fault.
+fn frame_at_fault(frames: &[Value], nodes: u8) -> Option<usize>
+    requires { nodes ≤ most_nodes }
+    ensures { result ≡ position (λ frame. is_some (frame_fault nodes (view frame))) frames.now }
+{
+    frames
+        .iter()
+        .position(|frame| is_frame_at_fault(frame, nodes))
+}
+
+/// The part of a frame at fault at which its first fault stands.
+fn frame_part(frame: &Value, context: LineContext) -> Part
+    ensures { result
+        ≡ unwrap_or (part_found context frame_members frame_numbers (view frame.now)) Part.Whole }
+{
+    part_found(frame, frame_members(), frame_numbers(), context).unwrap_or(Part::Whole)
+}
+
+/// Where the first fault of a round stands whose members are in order.
+#[tactic(auto, unfolding(crate::specs::FirstFault::round_place))]
+fn round_place(line: &Value, context: LineContext) -> LinePath
+    requires { context.nodes ≤ most_nodes }
+    ensures { result ≡ round_place context (view line.now) }
+{
+    let frames = items_in(line, "send");
+    let Some(index) = frame_at_fault(frames, context.nodes) else {
+        return in_line(Part::Member(MemberName::Send));
+    };
+    match frames.get(index) {
+        Some(frame) => LinePath {
+            frame: Some(index),
+            part: frame_part(frame, context),
+        },
+        None => LinePath {
+            frame: Some(index),
+            part: Part::Whole,
+        },
+    }
+}
+
+/// Where the first fault of a host's line stands that is at fault.
+#[tactic(auto, unfolding(crate::specs::FirstFault::host_place_by))]
+pub(crate) fn host_place(line: &Value, context: LineContext) -> LinePath
+    ensures { result ≡ host_place context (view line.now) }
+{
+    let Some(op) = host_op(line) else {
+        return in_line(operation_part(line));
+    };
+    let members = host_members(op);
+    in_line(part_found(line, members, members, context).unwrap_or(Part::Whole))
+}
+
+/// Where the first fault of a line of the bus stands that is at fault.
+#[tactic(auto, unfolding(crate::specs::FirstFault::bus_place_by, crate::specs::FirstFault::behind_members))]
+pub(crate) fn bus_place(line: &Value, context: LineContext) -> LinePath
+    requires { context.nodes ≤ most_nodes }
+    ensures { result ≡ bus_place context (view line.now) }
+{
+    let Some(op) = bus_op(line) else {
+        return in_line(operation_part(line));
+    };
+    let members = bus_members(op);
+    match part_found(line, members, members, context) {
+        Some(part) => in_line(part),
+        None => behind_members(line, op, context),
+    }
+}
+
+/// Where a fault behind the members of a line of the bus stands.
+#[tactic(auto, unfolding(crate::specs::FirstFault::behind_members))]
+fn behind_members(line: &Value, op: BusOp, context: LineContext) -> LinePath
+    requires { context.nodes ≤ most_nodes }
+    ensures { result ≡ behind_members context op (view line.now) }
+{
+    match op {
+        BusOp::Round => round_place(line, context),
+        BusOp::Load
+        | BusOp::Status
+        | BusOp::Control
+        | BusOp::Interrupt
+        | BusOp::Flags
+        | BusOp::Counters
+        | BusOp::Init
+        | BusOp::Recessive
+        | BusOp::LoopBack => in_line(Part::Whole),
+    }
+}
