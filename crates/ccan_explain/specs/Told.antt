@@ -1,6 +1,6 @@
 -- What is told of a script: the lines in their order, over a plain memory. Source: this project's own, over the meaning of a
 -- script.
-use Rattle.std.specs.Prelude.{◌≡◌, List, map}
+use Rattle.std.specs.Prelude.{◌≡◌, List, [], map}
 use Rattle.ccan_ram.specs.declared.port.PortName.{PortName}
 use Rattle.ccan_ram.specs.declared.event.Event.{Event}
 use Rattle.ccan_ram.specs.Access.{Passes}
@@ -8,8 +8,11 @@ use Rattle.ccan_line.specs.declared.line_answer.LineAnswer.{LineAnswer}
 use Rattle.ccan_line.specs.Order.{times}
 use Rattle.ccan_line.specs.Port.{count_of}
 use Rattle.ccan_line.specs.Script.{ScriptFields}
-use Rattle.ccan_run.specs.Ordered.{RunsInOrder}
+use Rattle.ccan_line.specs.Lines.{Run}
+use Rattle.ccan_line.specs.Turn.{opening}
+use Rattle.ccan_run.specs.Ordered.{RunsInOrder, lines_of}
 use Rattle.ccan_explain.specs.declared.step.Step.{Step}
+use Rattle.ccan_explain.specs.Step.{TellsLine}
 
 -- the script with another order
 abbrev pub in_order : ScriptFields → List PortName → ScriptFields
@@ -33,9 +36,14 @@ IsOrderOf script order = (port : PortName) → times port order ≡ count_of scr
 abbrev pub answers_of : List Step → List (PortName × LineAnswer)
 answers_of steps = map (λ step. (step.port, step.answer)) steps
 
--- the lines of the script have run in their order with the answers of these steps, and the memory has seen just what they
--- stand for
+-- the steps tell the lines of the script, one after another in their order, which stand for this history
+abbrev pub TellLines : ScriptFields → List Event → List Step → Type 0
+TellLines script history steps = Run (TellsLine script) (opening script.nodes) (lines_of script) [] history steps
+
+-- the lines of the script have run in their order with the answers of these steps, which tell them, and the memory has seen just
+-- what they stand for
 pub record AreStepsOf (script : ScriptFields) (steps : List Step) (memory : Passes) : Type 0 where
   pub history : List Event
   pub runs : RunsInOrder script history (answers_of steps)
+  pub tell : TellLines script history steps
   pub seen : memory.has_seen history

@@ -75,7 +75,7 @@ impl Bench {
             ≡ next_of self.old name + (if same_port name port then 1 else 0) }
         ensures runs { TakesTurn (⟦<Array as Access>⟧.passes self.old.ram)
             (⟦<Array as Access>⟧.passes self.new.ram) (fields_of script.now)
-            self.old self.new port result.answer }
+            self.old self.new port result.answer result.report }
     {
         let tries = script.tries;
         self.ram.at(port);

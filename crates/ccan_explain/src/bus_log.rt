@@ -12,7 +12,12 @@ pub fn frame_received(report: &RoundReport) -> Option<Frame> {
         Some(Decision::Finish(_, frame)) => Some(frame),
         Some(Decision::Receipt(_, frame)) => Some(frame),
         Some(Decision::Passed(_, frame)) => Some(frame),
-        _ => None,
+        None
+        | Some(Decision::Idle)
+        | Some(Decision::Collision)
+        | Some(Decision::Fault(_, _))
+        | Some(Decision::NoAck(_, _))
+        | Some(Decision::LoopBack(_, _)) => None,
     }
 }
 

@@ -1,23 +1,41 @@
 //! Who contended for the bus in a round, by its report and by its line.
+ghost use Rattle.std.specs.Prelude.{◌≡◌, IfSome, IsSome, slice_get};
+ghost use Rattle.ccan_bus.specs.declared.round_line.RoundLine.{RoundLine};
+ghost use Rattle.ccan_explain.specs.Contest.{winner_in};
+
 use crate::step::Step;
 use ccan_accept::Frame;
 use ccan_bus::{Decision, LoadAnswer, RoundLine, RoundReport};
 use ccan_script::{BusLine, Script};
 
 /// The round that a step is, with its report.
-pub(crate) fn round_of<'a>(
-    script: &'a Script,
-    step: &Step,
-) -> Option<(&'a RoundLine, RoundReport)> {
+pub(crate) fn round_of<'a>(script: &'a Script, step: &Step) -> Option<(&'a RoundLine, RoundReport)>
+    ensures report { IfSome result (λ found. step.now.report ≡ Some found.1) }
+    ensures line { IfSome result (λ found. slice_get script.now.bus.items step.now.line
+        ≡ Some (BusLine.Round found.0.now)) }
+    ensures all { IsSome step.now.report → (round : RoundLine)
+        → slice_get script.now.bus.items step.now.line ≡ Some (BusLine.Round round)
+        → IsSome result }
+{
     let report = step.report?;
-    match script.bus.get(step.line.checked_sub(1)?)? {
+    match script.bus.get(step.line)? {
         BusLine::Round(round) => Some((round, report)),
-        _ => None,
+        BusLine::Load
+        | BusLine::Status
+        | BusLine::Control { .. }
+        | BusLine::Interrupt
+        | BusLine::Flags(_)
+        | BusLine::Counters(_)
+        | BusLine::Init
+        | BusLine::Recessive(_)
+        | BusLine::LoopBack(_) => None,
     }
 }
 
 /// The frame that won the bus, and its node; the controller is node 0.
-pub(crate) fn winner_of(report: &RoundReport) -> Option<(u8, Frame)> {
+pub(crate) fn winner_of(report: &RoundReport) -> Option<(u8, Frame)>
+    ensures { result ≡ winner_in report.now }
+{
     match &report.decision {
         Some(decision) => decision.winner(),
         None => None,

@@ -1,5 +1,5 @@
 //! Numbers as text.
-ghost use Rattle.std.specs.Prelude.{◌≡◌, ◌<◌, ◌≤◌, ◌++◌, OnOk, string_bytes};
+ghost use Rattle.std.specs.Prelude.{◌≡◌, ◌<◌, ◌≤◌, ◌++◌, OnOk, decimal, string_bytes};
 ghost use Rattle.std.specs.Fmt.{digit_glyph};
 ghost use Rattle.ccan_explain.specs.FrameText.{capital_hex};
 
@@ -43,9 +43,14 @@ pub(crate) fn push_data(text: &mut String, bytes: &[u8]) -> Result<(), AllocErro
 }
 
 /// Appends a number in decimal, without leading zeros.
-pub fn push_decimal(text: &mut String, value: u64) -> Result<(), AllocError> {
-    if value >= 10 {
-        push_decimal(text, value / 10)?;
+pub fn push_decimal(text: &mut String, value: u64) -> Result<(), AllocError>
+    ensures { OnOk result (string_bytes text.new ≡ string_bytes text.old ++ decimal value) }
+{
+    if value < 10 {
+        text.push(digit(value, false))?;
+        return Ok(());
     }
-    text.push(digit(value % 10, false))
+    push_decimal(text, value / 10)?;
+    text.push(digit(value % 10, false))?;
+    Ok(())
 }

@@ -109,7 +109,11 @@ fn push_told(text: &mut String, answer: &LineAnswer) -> Result<(), AllocError> {
         }
         LineAnswer::Recessive(state) => push_word(text, "state", state_word(*state)),
         LineAnswer::LoopBack(on) => push_switch(text, "on", *on),
-        _ => Ok(()),
+        LineAnswer::Busy(_)
+        | LineAnswer::Spent(_)
+        | LineAnswer::Load(_)
+        | LineAnswer::Round(_)
+        | LineAnswer::Init => Ok(()),
     }
 }
 

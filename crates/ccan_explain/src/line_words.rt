@@ -138,38 +138,25 @@ fn push_counters(
     text.push_str(state_word(state))
 }
 
-/// Appends the answer to a line of the bus that concerns no object.
-fn push_setting(text: &mut String, answer: &LineAnswer) -> Result<(), AllocError> {
-    match answer {
-        LineAnswer::Status(word) => push_status(text, *word),
-        LineAnswer::Control(sie, eie) => {
-            text.push_str(if *sie {
-                " control: SIE 1"
-            } else {
-                " control: SIE 0"
-            })?;
-            text.push_str(if *eie { ", EIE 1" } else { ", EIE 0" })
-        }
-        LineAnswer::Counters {
-            node,
-            tec,
-            rec,
-            state,
-        } => push_counters(text, *node, *tec, *rec, *state),
-        LineAnswer::Init => text.push_str(" init: cleared"),
-        LineAnswer::Recessive(state) => {
-            text.push_str(" recessive: the chip is ")?;
-            text.push_str(state_word(*state))
-        }
-        LineAnswer::LoopBack(on) => {
-            text.push_str(if *on {
-                " loopback: on"
-            } else {
-                " loopback: off"
-            })
-        }
-        _ => Ok(()),
-    }
+/// Appends the enables of the status interrupt, as they were set.
+fn push_control(text: &mut String, sie: bool, eie: bool) -> Result<(), AllocError> {
+    text.push_str(" control: SIE ")?;
+    text.push_str(if sie { "1" } else { "0" })?;
+    text.push_str(", EIE ")?;
+    text.push_str(if eie { "1" } else { "0" })
+}
+
+/// Appends the controller's state after groups of recessive bits.
+fn push_recessive(text: &mut String, state: NodeState) -> Result<(), AllocError> {
+    text.push_str(" recessive: the chip is ")?;
+    text.push_str(state_word(state))
+}
+
+/// Appends that a transfer was given up, and why.
+fn push_given_up(text: &mut String, object: ObjectNo, why: &str) -> Result<(), AllocError> {
+    push_object(text, " transfer", object)?;
+    text.push_str(": given up, ")?;
+    text.push_str(why)
 }
 
 /// Appends the answer to a line that is no round.
@@ -177,23 +164,31 @@ fn push_answer(text: &mut String, step: &Step) -> Result<(), AllocError> {
     match &step.answer {
         LineAnswer::Write(object, shown) => push_transfer(text, step, " write", *object, shown),
         LineAnswer::Read(object, shown) => push_transfer(text, step, " read", *object, shown),
-        LineAnswer::Busy(object) => {
-            push_object(text, " transfer", *object)?;
-            text.push_str(": given up, each try was lost")
-        }
+        LineAnswer::Busy(object) => push_given_up(text, *object, "each try was lost"),
         LineAnswer::Spent(object) => {
-            push_object(text, " transfer", *object)?;
-            text.push_str(": given up, the quota of changes is used up")
+            push_given_up(text, *object, "the quota of changes is used up")
         }
         LineAnswer::Until(object, flag, shown) => push_until(text, *object, *flag, *shown),
         LineAnswer::Interrupt(value) => push_interrupt(text, *value),
         LineAnswer::Flags(flag, word, profile) => push_word(text, *flag, *word, *profile),
         LineAnswer::Load(loading) => push_load(text, step, loading),
-        other => push_setting(text, other),
+        LineAnswer::Round(_) => text.push_str(" round"),
+        LineAnswer::Status(word) => push_status(text, *word),
+        LineAnswer::Control(sie, eie) => push_control(text, *sie, *eie),
+        LineAnswer::Counters {
+            node,
+            tec,
+            rec,
+            state,
+        } => push_counters(text, *node, *tec, *rec, *state),
+        LineAnswer::Init => text.push_str(" init: cleared"),
+        LineAnswer::Recessive(state) => push_recessive(text, *state),
+        LineAnswer::LoopBack(true) => text.push_str(" loopback: on"),
+        LineAnswer::LoopBack(false) => text.push_str(" loopback: off"),
     }
 }
 
-/// Appends the lines of a step: its port and its number, and what came of it.
+/// Appends the lines of a step: its port and the line's number among those of its port, from 0, and what came of it.
 pub fn push_step(text: &mut String, script: &Script, step: &Step) -> Result<(), AllocError> {
     text.push_str(port_word(step.port))?;
     text.push_str("[")?;

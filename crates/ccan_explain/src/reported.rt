@@ -1,10 +1,10 @@
-ghost use Rattle.std.specs.Prelude.{◌≡◌, IfSome};
+ghost use Rattle.std.specs.Prelude.{◌≡◌};
 ghost use Rattle.ccan_object.specs.declared.profile.Profile.{Profile};
 ghost use Rattle.ccan_ram.specs.Access.{Goes};
 ghost use Rattle.ccan_bus.specs.Bus.{LedTo};
-ghost use Rattle.ccan_line.specs.BusPort.{BusLineMeans, TakesLine};
+ghost use Rattle.ccan_line.specs.BusPort.{TakesLine};
 ghost use Rattle.ccan_line.specs.Side.{GoesOn};
-ghost use Rattle.ccan_explain.specs.Reported.{IsReportOf};
+ghost use Rattle.ccan_explain.specs.Reported.{ReportsLine};
 
 use ccan_bus::{Bus, RoundReport};
 use ccan_ram::{Access, Tries};
@@ -68,10 +68,8 @@ pub(crate) fn run_reported<A: Access>(
     ensures takes { (profile : Profile) (other : BusLine)
         → TakesLine profile bus.old other → TakesLine profile bus.new other }
     ensures runs { Goes (A.passes access.old) (A.passes access.new) (λ terms seen added.
-        GoesOn LedTo bus.old bus.new (λ past after.
-        BusLineMeans terms tries line.now past seen added result.answer after)) }
-    ensures report { IfSome result.report (λ report. IsReportOf (A.passes access.old)
-        (A.passes access.new) bus.old bus.new line.now tries result.answer report) }
+        GoesOn LedTo bus.old bus.new (λ past after. ReportsLine terms tries line.now past
+        seen added result.answer result.report after)) }
 {
     match line {
         BusLine::Round(round) => Reported::of_round(bus.report_round(access, round, tries)),

@@ -1,4 +1,8 @@
 //! A round for people.
+ghost use Rattle.std.specs.Prelude.{◌≡◌, ◌++◌, IfSome, OnOk, string_bytes};
+ghost use Rattle.ccan_explain.specs.Contest.{winner_in};
+ghost use Rattle.ccan_explain.specs.FrameText.{node_text, winner_text};
+
 use crate::contest::{controller_contends, has_lost, is_off, winner_of};
 use crate::digits::push_decimal;
 use crate::frame_text::push_frame;
@@ -11,7 +15,10 @@ use ccan_object::ObjectNo;
 use std::alloc::AllocError;
 
 /// Appends which node it is.
-fn push_node(text: &mut String, node: u8) -> Result<(), AllocError> {
+#[tactic(auto, unfolding(crate::specs::FrameText::node_text))]
+fn push_node(text: &mut String, node: u8) -> Result<(), AllocError>
+    ensures { OnOk result (string_bytes text.new ≡ string_bytes text.old ++ node_text node) }
+{
     if node == 0 {
         return text.push_str("the chip");
     }
@@ -20,7 +27,11 @@ fn push_node(text: &mut String, node: u8) -> Result<(), AllocError> {
 }
 
 /// Appends the frame that was on the bus and its sender.
-fn push_winner(text: &mut String, winner: u8, frame: &Frame) -> Result<(), AllocError> {
+#[tactic(auto, unfolding(crate::specs::FrameText::winner_text))]
+fn push_winner(text: &mut String, winner: u8, frame: &Frame) -> Result<(), AllocError>
+    ensures { OnOk result
+        (string_bytes text.new ≡ string_bytes text.old ++ winner_text winner frame.now) }
+{
     text.push_str("can0 ")?;
     push_frame(text, frame)?;
     text.push_str(" from ")?;
@@ -32,7 +43,7 @@ fn no_winner(report: &RoundReport) -> &'static str {
     match report.decision {
         None => "no frame, the load was given up",
         Some(Decision::Collision) => "no frame, frames with the same arbitration bits collided",
-        _ => "no frame",
+        Some(_) => "no frame",
     }
 }
 
@@ -43,17 +54,29 @@ fn fate(report: &RoundReport) -> &'static str {
         Some(Decision::Passed(_, _)) => ", not received: the chip is bus off",
         Some(Decision::LoopBack(_, _)) => ", looped back",
         Some(Decision::Fault(_, _)) => ", spoiled by fault ",
-        _ => "",
+        None
+        | Some(Decision::Idle)
+        | Some(Decision::Collision)
+        | Some(Decision::Finish(_, _))
+        | Some(Decision::Receipt(_, _)) => "",
+    }
+}
+
+/// Appends the frame that was on the bus in a round, and its sender, or that there was none.
+fn push_sent(text: &mut String, report: &RoundReport) -> Result<(), AllocError>
+    ensures { OnOk result (IfSome (winner_in report.now) (λ won.
+        string_bytes text.new ≡ string_bytes text.old ++ winner_text won.0 won.1)) }
+{
+    match winner_of(report) {
+        Some((winner, frame)) => push_winner(text, winner, &frame),
+        None => text.push_str(no_winner(report)),
     }
 }
 
 /// Appends the first line of a round: the frame, its sender and what came of it.
 fn push_head(text: &mut String, round: &RoundLine, report: &RoundReport) -> Result<(), AllocError> {
     text.push_str(" round: ")?;
-    match winner_of(report) {
-        Some((winner, frame)) => push_winner(text, winner, &frame)?,
-        None => text.push_str(no_winner(report))?,
-    }
+    push_sent(text, report)?;
     text.push_str(fate(report))?;
     if matches!(report.decision, Some(Decision::Fault(_, _))) {
         text.push_str(fault_word(round.fault()))?;
@@ -71,7 +94,11 @@ fn loser_word(report: &RoundReport, is_off: bool) -> &'static str {
         Some(Decision::Idle) => "  not heard in loop back mode: ",
         Some(Decision::LoopBack(_, _)) => "  not heard in loop back mode: ",
         Some(Decision::Collision) => "  contended: ",
-        _ => "  lost arbitration: ",
+        Some(Decision::Fault(_, _))
+        | Some(Decision::NoAck(_, _))
+        | Some(Decision::Finish(_, _))
+        | Some(Decision::Receipt(_, _))
+        | Some(Decision::Passed(_, _)) => "  lost arbitration: ",
     }
 }
 

@@ -22,7 +22,7 @@ pub struct Touched {
 pub struct Step {
     /// The port whose line it is.
     pub port: PortName,
-    /// The line's number among those of its port, from 1.
+    /// The line's number among those of its port, from 0.
     pub line: usize,
     /// What it was answered.
     pub answer: LineAnswer,

@@ -1,9 +1,15 @@
 //! One line after another, and what is kept of each.
-ghost use Rattle.std.specs.Prelude.{◌≡◌, ◌+◌, ◌<◌, if◌then◌else◌};
+ghost use Rattle.std.specs.Prelude.{ℕ, ◌≡◌, ◌≤◌, ◌+◌, ◌<◌, if◌then◌else◌};
+ghost use Rattle.ccan_ram.specs.Array.{Leaves};
 ghost use Rattle.ccan_ram.specs.Port.{same_port};
+ghost use Rattle.ccan_confine.specs.Counters.{is_off};
+ghost use Rattle.ccan_bus.specs.Bus.{LedTo};
+ghost use Rattle.ccan_bus.specs.Past.{BusPast, levels_at};
 ghost use Rattle.ccan_line.specs.Script.{fields_of};
 ghost use Rattle.ccan_line.specs.Port.{count_of};
-ghost use Rattle.ccan_explain.specs.Bench.{Serves, TakesTurn, next_of};
+ghost use Rattle.ccan_explain.specs.Bench.{Serves, TakesStep, next_of};
+ghost use Rattle.ccan_explain.specs.Step.{AreOff, at_number, object_loaded, object_named, object_storing};
+ghost use Rattle.ccan_explain.specs.Step.{own_object, stored_object, touched_of};
 
 use crate::bench::Bench;
 use crate::reported::Reported;
@@ -15,7 +21,9 @@ use ccan_ram::{Access, Array, PortName};
 use ccan_script::{LineAnswer, Script};
 
 /// The object that a round or a load was about: what is loaded, or what could not be.
-fn object_loaded(loading: &LoadAnswer) -> Option<ObjectNo> {
+fn object_loaded(loading: &LoadAnswer) -> Option<ObjectNo>
+    ensures { result ≡ object_loaded loading.now }
+{
     match loading {
         LoadAnswer::Loaded(object, _) => Some(*object),
         LoadAnswer::Held(object) => Some(*object),
@@ -25,51 +33,99 @@ fn object_loaded(loading: &LoadAnswer) -> Option<ObjectNo> {
     }
 }
 
-/// The object that a line's answer names, or that the controller was about to send in its round.
-fn own_object(reported: &Reported) -> Option<ObjectNo> {
-    if let Some(report) = &reported.report {
-        return object_loaded(&report.loading);
-    }
-    match &reported.answer {
+/// The object that an answer names.
+fn object_named(answer: &LineAnswer) -> Option<ObjectNo>
+    ensures { result ≡ object_named answer.now }
+{
+    match answer {
         LineAnswer::Write(object, _) => Some(*object),
         LineAnswer::Read(object, _) => Some(*object),
         LineAnswer::Busy(object) => Some(*object),
         LineAnswer::Spent(object) => Some(*object),
         LineAnswer::Until(object, _, _) => Some(*object),
         LineAnswer::Load(loading) => object_loaded(loading),
-        _ => None,
+        LineAnswer::Interrupt(_)
+        | LineAnswer::Flags(_, _, _)
+        | LineAnswer::Round(_)
+        | LineAnswer::Status(_)
+        | LineAnswer::Control(_, _)
+        | LineAnswer::Counters { .. }
+        | LineAnswer::Init
+        | LineAnswer::Recessive(_)
+        | LineAnswer::LoopBack(_) => None,
+    }
+}
+
+/// The object that the controller was about to send in a round, or else that the line's answer names.
+fn own_object(reported: &Reported) -> Option<ObjectNo>
+    ensures { result ≡ own_object reported.now.report reported.now.answer }
+{
+    match &reported.report {
+        Some(report) => object_loaded(&report.loading),
+        None => object_named(&reported.answer),
+    }
+}
+
+/// The object that stored the frame of a round.
+fn object_storing(answer: &RoundAnswer) -> Option<ObjectNo>
+    ensures { result ≡ object_storing answer.now }
+{
+    match answer {
+        RoundAnswer::Received(Some((object, _))) => Some(*object),
+        RoundAnswer::Looped(_, _, Some((object, _))) => Some(*object),
+        RoundAnswer::Received(None)
+        | RoundAnswer::Looped(_, _, None)
+        | RoundAnswer::Idle
+        | RoundAnswer::Sent(_, _)
+        | RoundAnswer::Passed
+        | RoundAnswer::Collision
+        | RoundAnswer::NoAck
+        | RoundAnswer::Fault
+        | RoundAnswer::Busy(_)
+        | RoundAnswer::Spent(_) => None,
     }
 }
 
 /// The object that stored a frame in a line.
-fn stored_object(answer: &LineAnswer) -> Option<ObjectNo> {
+fn stored_object(answer: &LineAnswer) -> Option<ObjectNo>
+    ensures { result ≡ stored_object answer.now }
+{
     match answer {
-        LineAnswer::Round(RoundAnswer::Received(Some((object, _)))) => Some(*object),
-        LineAnswer::Round(RoundAnswer::Looped(_, _, Some((object, _)))) => Some(*object),
+        LineAnswer::Round(ended) => object_storing(ended),
         _ => None,
     }
 }
 
-/// The records of all objects that a memory can have, that of object 1 first.
-type Records = [Record; MOST_OBJECTS];
+/// How many numbers an array needs that has each object at its own.
+const NUMBERS: usize = MOST_OBJECTS + 1;
+
+/// The records of all objects that a memory can have, each at its number; at 0 stands zero.
+type Records = [Record; NUMBERS];
 
 /// The records of a memory, and zero for the objects that it has not.
-fn all_records(ram: &Array) -> Records {
-    let mut records = [Record::zero(); MOST_OBJECTS];
-    for place in 0..MOST_OBJECTS {
-        let object = ObjectNo::new(place as u8 + 1).unwrap();
-        records[place] = record_of(ram, object);
+fn all_records(ram: &Array) -> Records
+    ensures { (object : ℕ) → Leaves (⟦<Array as Access>⟧.passes ram.now) object
+        (at_number result object) }
+{
+    let mut records = [Record::zero(); NUMBERS];
+    for number in 1..NUMBERS {
+        let object = ObjectNo::new(number as u8).unwrap();
+        records[number] = record_of(ram, object);
     }
     records
 }
 
 /// The record of an object among all.
-fn record_in(records: &Records, object: ObjectNo) -> Record {
-    records[usize::from(object.get()) - 1]
+fn record_in(records: &Records, object: ObjectNo) -> Record
+    ensures { result ≡ at_number records.now object }
+{
+    records[usize::from(object.get())]
 }
 
 /// An object with its records in both.
-fn touched(before: &Records, after: &Records, object: Option<ObjectNo>) -> Option<Touched> {
+fn touched(before: &Records, after: &Records, object: Option<ObjectNo>) -> Option<Touched>
+    ensures { result ≡ touched_of (at_number before.now) (at_number after.now) object }
+{
     match object {
         Some(object) => Some(Touched {
             object,
@@ -81,7 +137,9 @@ fn touched(before: &Records, after: &Records, object: Option<ObjectNo>) -> Optio
 }
 
 /// The record of an object in a memory; zero where the memory has no such object.
-pub(crate) fn record_of(ram: &Array, object: ObjectNo) -> Record {
+pub(crate) fn record_of(ram: &Array, object: ObjectNo) -> Record
+    ensures { Leaves (⟦<Array as Access>⟧.passes ram.now) object result }
+{
     if ram.profile().holds(object) {
         ram.record_of(object)
     } else {
@@ -89,13 +147,24 @@ pub(crate) fn record_of(ram: &Array, object: ObjectNo) -> Record {
     }
 }
 
+/// Whether a node of a bus is bus off.
+fn is_node_off(bus: &Bus, node: u8) -> bool
+    requires { node ≤ bus.now.others }
+    ensures { (past : BusPast) → LedTo past bus.now → result ≡ is_off (levels_at past node) }
+{
+    match bus.counters(node).state() {
+        NodeState::Off => true,
+        NodeState::Active | NodeState::Passive => false,
+    }
+}
+
 /// Which nodes of a bus are bus off.
-fn nodes_off(bus: &Bus) -> [bool; 9] {
+fn nodes_off(bus: &Bus) -> [bool; 9]
+    ensures { (past : BusPast) → LedTo past bus.now → AreOff past result }
+{
     let mut off = [false; 9];
-    for node in 0..9u8 {
-        if node <= bus.others() {
-            off[usize::from(node)] = matches!(bus.counters(node).state(), NodeState::Off);
-        }
+    for node in 0..bus.others() + 1 {
+        off[usize::from(node)] = is_node_off(bus, node);
     }
     off
 }
@@ -110,14 +179,13 @@ pub(crate) fn step_on(bench: &mut Bench, script: &Script, port: PortName) -> Ste
     ensures next { (name : PortName) → next_of bench.new name
         ≡ next_of bench.old name + (if same_port name port then 1 else 0) }
     ensures port { result.port ≡ port }
-    ensures line { result.line ≡ next_of bench.old port + 1 }
-    ensures runs { TakesTurn (⟦<Array as Access>⟧.passes bench.old.ram)
+    ensures runs { TakesStep (⟦<Array as Access>⟧.passes bench.old.ram)
         (⟦<Array as Access>⟧.passes bench.new.ram) (fields_of script.now)
-        bench.old bench.new port result.answer }
+        bench.old bench.new result }
 {
     let before = all_records(&bench.ram);
     let off = nodes_off(&bench.bus);
-    let line = bench.lines_run(port) + 1;
+    let line = bench.lines_run(port);
     let reported = bench.turn(script, port);
     let after = all_records(&bench.ram);
     Step {

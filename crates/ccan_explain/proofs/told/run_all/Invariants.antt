@@ -5,7 +5,7 @@ use Rattle.ccan_line.specs.Script.{fields_of}
 use Rattle.ccan_line.specs.Order.{times}
 use Rattle.ccan_line.specs.Port.{count_of}
 use Rattle.ccan_explain.specs.Bench.{Serves, next_of}
-use Rattle.ccan_explain.specs.Told.{answers_of, in_order}
+use Rattle.ccan_explain.specs.Told.{in_order}
 use Rattle.ccan_explain.proofs.SoFar.{SoFar}
 use Rattle.ccan_explain.proofs.told.run_all.Given as goal
 
@@ -19,5 +19,5 @@ invariant-loop-port l =
     record {
       serves : Serves memory.terms script l.bench;
       left : (name : PortName) → next_of l.bench name + times name later ≡ count_of script name;
-      so_far : SoFar memory (in_order script l.order) l.bench later (answers_of l.steps.items);
+      so_far : SoFar memory (in_order script l.order) l.bench later l.steps.items;
     }

@@ -48,5 +48,5 @@ returns-in-Bus-clause-runs c =
     let serves = c.requires.serves in
     rw c.in-Bus.is
     (by_bus _ _ _ (fields_of c.args.script.now) c.args.self.now _ serves.profile_is serves.quota_is c.at.ensures.same
-    (rw c.in-Bus.is at c.at.ensures.terms) _ _ _ _ c.as_slice-in-Bus.ensures.value c.line_at-line-in-Bus.ensures.rest
+    (rw c.in-Bus.is at c.at.ensures.terms) _ _ _ _ _ c.as_slice-in-Bus.ensures.value c.line_at-line-in-Bus.ensures.rest
     c.run_reported.ensures.runs)

@@ -1,0 +1,8 @@
+use Rattle.std.proofs.Common.{◌≡◌, ◌++◌, take, string_bytes}
+use Rattle.std.specs.List.{flat_map}
+use Rattle.ccan_explain.specs.FrameText.{capital_hex}
+use Rattle.ccan_explain.proofs.frame_text.push_bytes.Given as goal
+
+-- the bytes so far
+abbrev pub invariant-loop-byte : goal.invariant-loop-byte
+invariant-loop-byte l = string_bytes l.text ≡ string_bytes l.initial.text ++ flat_map (capital_hex 2) (take l.byte-index l.bytes)
