@@ -1,3 +1,5 @@
 pub mod Bar
 pub mod Column
 pub mod Escape
+pub mod FlagBars
+pub mod Row

@@ -31,7 +31,9 @@ fn fate(report: &RoundReport) -> &'static str {
         Some(Decision::Fault(_, _)) => ", spoiled",
         Some(Decision::NoAck(_, _)) => ", not acknowledged",
         Some(Decision::Passed(_, _)) => ", chip bus off",
-        _ => "",
+        Some(Decision::Finish(_, _))
+        | Some(Decision::Receipt(_, _))
+        | Some(Decision::LoopBack(_, _)) => "",
     }
 }
 
@@ -50,7 +52,11 @@ fn push_end(text: &mut String, answer: &RoundAnswer) -> Result<(), AllocError> {
         }
         RoundAnswer::Busy(object) => push_object(text, "\nbusy", *object),
         RoundAnswer::Spent(object) => push_object(text, "\nspent", *object),
-        _ => Ok(()),
+        RoundAnswer::Idle
+        | RoundAnswer::Passed
+        | RoundAnswer::Collision
+        | RoundAnswer::NoAck
+        | RoundAnswer::Fault => Ok(()),
     }
 }
 
@@ -76,21 +82,6 @@ fn push_load(text: &mut String, loading: &LoadAnswer) -> Result<(), AllocError> 
     }
 }
 
-/// The label of a line that concerns no object.
-fn setting(answer: &LineAnswer) -> &'static str {
-    match answer {
-        LineAnswer::Interrupt(_) => "interrupt",
-        LineAnswer::Flags(_, _, _) => "flags",
-        LineAnswer::Status(_) => "status",
-        LineAnswer::Control(_, _) => "control",
-        LineAnswer::Counters { .. } => "counters",
-        LineAnswer::Init => "init",
-        LineAnswer::Recessive(_) => "recessive",
-        LineAnswer::LoopBack(_) => "loopback",
-        _ => "",
-    }
-}
-
 /// Appends the label of a line by its answer.
 fn push_answer(text: &mut String, answer: &LineAnswer) -> Result<(), AllocError> {
     match answer {
@@ -103,7 +94,15 @@ fn push_answer(text: &mut String, answer: &LineAnswer) -> Result<(), AllocError>
             text.push_str(if *shown { ": yes" } else { ": no" })
         }
         LineAnswer::Load(loading) => push_load(text, loading),
-        other => text.push_str(setting(other)),
+        LineAnswer::Round(answer) => push_end(text, answer),
+        LineAnswer::Interrupt(_) => text.push_str("interrupt"),
+        LineAnswer::Flags(_, _, _) => text.push_str("flags"),
+        LineAnswer::Status(_) => text.push_str("status"),
+        LineAnswer::Control(_, _) => text.push_str("control"),
+        LineAnswer::Counters { .. } => text.push_str("counters"),
+        LineAnswer::Init => text.push_str("init"),
+        LineAnswer::Recessive(_) => text.push_str("recessive"),
+        LineAnswer::LoopBack(_) => text.push_str("loopback"),
     }
 }
 

@@ -15,6 +15,7 @@ pub mod bar;
 pub mod column;
 pub mod elements;
 pub mod escape;
+pub mod flag_bars;
 pub mod head;
 pub mod label;
 pub mod layout;

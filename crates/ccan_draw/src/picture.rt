@@ -6,7 +6,7 @@ use ccan_ram::PortName;
 /// One row of a picture: what a port did in one step, or in some of one kind without a break.
 #[derive(Drop)]
 pub struct Row {
-    /// The number of the step, from 1; of the first, where there are more.
+    /// The number of the step, from 1; of the first, where there are more. It is 0 for lines that stand before the first step.
     pub number: usize,
     /// The lane.
     pub port: PortName,

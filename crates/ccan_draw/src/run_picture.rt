@@ -1,6 +1,8 @@
 //! The picture of a run.
-ghost use Rattle.std.specs.Prelude.{◌≡◌, ◌++◌, ◌∷◌, [], IfOk, OnOk, map};
-ghost use Rattle.ccan_draw.specs.Column.{AreColumns};
+ghost use Rattle.std.specs.Prelude.{◌≡◌, ◌++◌, ◌∷◌, [], IfOk, OnOk, map, if◌then◌else◌};
+ghost use Rattle.std.specs.List.{flat_map, list_any};
+ghost use Rattle.ccan_draw.specs.Column.{AreColumns, four_flags, is_of, objects_touched, shown_in, touches};
+ghost use Rattle.ccan_draw.specs.Row.{frame_told, lane_of, lane_told};
 
 use crate::column::{Column, FLAGS, column_of};
 use crate::label::label_of;
@@ -14,14 +16,18 @@ use ccan_script::Script;
 use std::alloc::{AllocError, Global};
 
 /// The frame that was on the bus in a step.
-fn frame_of(step: &Step) -> Option<Frame> {
+fn frame_of(step: &Step) -> Option<Frame>
+    ensures { result ≡ frame_told step.now }
+{
     let decision = step.report.as_ref()?.decision.as_ref()?;
     let (_, frame) = decision.winner()?;
     Some(frame)
 }
 
 /// Whether this is the object.
-fn is_of(touched: &Option<Touched>, object: ObjectNo) -> bool {
+fn is_of(touched: &Option<Touched>, object: ObjectNo) -> bool
+    ensures { result ≡ is_of object touched.now }
+{
     match touched {
         Some(touched) => touched.object == object,
         None => false,
@@ -29,7 +35,9 @@ fn is_of(touched: &Option<Touched>, object: ObjectNo) -> bool {
 }
 
 /// Whether a step of a run touches an object.
-fn is_touched(steps: &[Step], object: ObjectNo) -> bool {
+fn is_touched(steps: &[Step], object: ObjectNo) -> bool
+    ensures { result ≡ list_any (touches object) steps.now }
+{
     steps.iter().any(|step| is_of(&step.own, object) || is_of(&step.stored, object))
 }
 
@@ -44,7 +52,7 @@ fn object_of(step: &Step) -> Option<ObjectNo> {
 
 /// The row of a step of this number, from 1.
 fn row_of(alloc: Global, script: &Script, step: &Step, number: usize) -> Result<Row, AllocError>
-    ensures { IfOk result (λ row. row.port ≡ step.now.port) }
+    ensures { IfOk result (λ row. lane_of row ≡ lane_told step.now) }
 {
     let mut words = String::new(alloc);
     push_step(&mut words, script, step)?;
@@ -60,8 +68,7 @@ fn row_of(alloc: Global, script: &Script, step: &Step, number: usize) -> Result<
 
 /// The rows of a run, one for each step.
 fn rows_of(alloc: Global, script: &Script, steps: &[Step]) -> Result<Vec<Row>, AllocError>
-    ensures { IfOk result (λ rows.
-        map (λ row. row.port) rows.items ≡ map (λ step. step.port) steps.now) }
+    ensures { IfOk result (λ rows. map lane_of rows.items ≡ map lane_told steps.now) }
 {
     let mut rows = Vec::new(alloc);
     for step in steps {
@@ -78,7 +85,9 @@ fn add_object(
     steps: &[Step],
     object: ObjectNo,
 ) -> Result<(), AllocError>
-    ensures { OnOk result
+    ensures flags { OnOk result (map shown_in columns.new.items
+        ≡ map shown_in columns.old.items ++ four_flags object) }
+    ensures each { OnOk result
         (AreColumns steps.now columns.old.items → AreColumns steps.now columns.new.items) }
 {
     for flag in FLAGS {
@@ -87,24 +96,45 @@ fn add_object(
     Ok(())
 }
 
+/// Adds the flags of an object, if a step of the run touches it.
+fn add_if_touched(
+    alloc: Global,
+    columns: &mut Vec<Column>,
+    steps: &[Step],
+    object: ObjectNo,
+) -> Result<(), AllocError>
+    ensures flags { OnOk result (map shown_in columns.new.items ≡ map shown_in columns.old.items
+        ++ (if list_any (touches object) steps.now then four_flags object else [])) }
+    ensures each { OnOk result
+        (AreColumns steps.now columns.old.items → AreColumns steps.now columns.new.items) }
+{
+    if is_touched(steps, object) {
+        add_object(alloc, columns, steps, object)
+    } else {
+        Ok(())
+    }
+}
+
 /// The flags of the objects that a run touches.
 fn columns_of(alloc: Global, steps: &[Step]) -> Result<Vec<Column>, AllocError>
-    ensures { IfOk result (λ columns. AreColumns steps.now columns.items) }
+    ensures flags { IfOk result (λ columns. map shown_in columns.items
+        ≡ flat_map four_flags (objects_touched steps.now)) }
+    ensures each { IfOk result (λ columns. AreColumns steps.now columns.items) }
 {
     let mut columns = Vec::new(alloc);
     for place in 0..MOST_OBJECTS {
         let object = ObjectNo::new(place as u8 + 1).unwrap();
-        if is_touched(steps, object) {
-            add_object(alloc, &mut columns, steps, object)?;
-        }
+        add_if_touched(alloc, &mut columns, steps, object)?;
     }
     Ok(columns)
 }
 
 /// The picture of a run: a row for each step, and the flags of each object that a step touches.
 pub fn picture_of_run(alloc: Global, script: &Script, told: &Told) -> Result<Picture, AllocError>
-    ensures rows { IfOk result (λ picture. map (λ row. row.port) picture.rows.items
-        ≡ map (λ step. step.port) told.now.steps.items) }
+    ensures rows { IfOk result (λ picture. map lane_of picture.rows.items
+        ≡ map lane_told told.now.steps.items) }
+    ensures flags { IfOk result (λ picture. map shown_in picture.columns.items
+        ≡ flat_map four_flags (objects_touched told.now.steps.items)) }
     ensures columns { IfOk result (λ picture.
         AreColumns told.now.steps.items picture.columns.items) }
 {

@@ -1,9 +1,9 @@
 //! The text of a picture in SVG.
 ghost use Rattle.std.specs.Prelude.{length};
 
-use crate::bar::bar_at;
 use crate::column::Column;
 use crate::elements::{Area, push_area, push_words};
+use crate::flag_bars::{FlagBar, bars_of};
 use crate::head::{flag_word, push_headings, push_legend, push_opening};
 use crate::layout::{
     BAR_WIDTH, FLAGS_X, GLYPH, HEADING_HEIGHT, HEADING_Y, LINE, MARK, NUMBER_X, OBJECT_WIDTH,
@@ -189,25 +189,26 @@ fn bar_end(tops: &[u64], row: usize, rows: usize) -> u64 {
     }
 }
 
-/// Appends the bars of a column.
+/// Where a bar stands in a picture of so many rows.
+fn bar_area(tops: &[u64], drawn: &FlagBar, rows: usize) -> Area {
+    let y = top_of(tops, drawn.bar.from).saturating_add(MARK);
+    Area {
+        x: column_x(drawn.place),
+        y,
+        width: BAR_WIDTH,
+        height: bar_end(tops, drawn.bar.to, rows).saturating_sub(y),
+    }
+}
+
+/// Appends bars.
 fn push_bars(
     text: &mut String,
     tops: &[u64],
-    column: &Column,
-    place: usize,
+    bars: &[FlagBar],
+    rows: usize,
 ) -> Result<(), AllocError> {
-    let shown = column.shown.as_slice();
-    for row in 0..shown.len() {
-        if let Some(bar) = bar_at(shown, row) {
-            let y = top_of(tops, bar.from).saturating_add(MARK);
-            let area = Area {
-                x: column_x(place),
-                y,
-                width: BAR_WIDTH,
-                height: bar_end(tops, bar.to, shown.len()).saturating_sub(y),
-            };
-            push_area(text, flag_word(column.flag), &area)?;
-        }
+    for drawn in bars {
+        push_area(text, flag_word(drawn.flag), &bar_area(tops, drawn, rows))?;
     }
     Ok(())
 }
@@ -225,9 +226,8 @@ fn push_below(
         let bottom = y.saturating_add(crate::layout::row_height(row));
         push_ground(text, columns, row, number, y, bottom)?;
     }
-    for (place, column) in columns.iter().enumerate() {
-        push_bars(text, tops, column, place)?;
-    }
+    let bars = bars_of(alloc, columns)?;
+    push_bars(text, tops, bars.as_slice(), picture.rows.len())?;
     push_headings(alloc, text, columns, HEADING_Y)?;
     for number in 0..picture.rows.len() {
         if has_heading(number) {
