@@ -3,27 +3,17 @@ ghost use Rattle.std.specs.Prelude.{◌<◌, length};
 ghost use Rattle.ccan_line.specs.Script.{fields_of};
 ghost use Rattle.ccan_outcomes.specs.Outcomes.{AreFound};
 
+mod columns;
+
 use crate::history::{add_line_name, add_object, kind_text};
-use ccan_draw::column::FLAGS;
+use crate::outcome_rows::columns::columns_of;
 use ccan_draw::layout::WORDS_GLYPHS;
 use ccan_draw::wrapping::wrapped;
-use ccan_draw::{Column, Picture, Row};
-use ccan_object::{MOST_OBJECTS, ObjectNo};
-use ccan_outcomes::all_ports::AllPorts;
+use ccan_draw::{Picture, Row};
 use ccan_outcomes::{Ending, HistoryKind, HistoryStep, Outcomes, history_of, states_along};
-use ccan_ram::{Flag, PortName};
+use ccan_ram::PortName;
 use ccan_script::{LineAnswer, Script, print_line};
 use std::alloc::{AllocError, Global};
-
-/// The line of a port's next step among these.
-fn next_line(steps: &[HistoryStep], port: PortName) -> Option<usize> {
-    for step in steps {
-        if step.port == port {
-            return Some(step.line);
-        }
-    }
-    None
-}
 
 /// The answers of a port in an outcome.
 fn answers_of(ending: &Ending, port: PortName) -> &[LineAnswer] {
@@ -32,6 +22,16 @@ fn answers_of(ending: &Ending, port: PortName) -> &[LineAnswer] {
         PortName::If2 => ending.if2.as_slice(),
         PortName::Bus => ending.bus.as_slice(),
     }
+}
+
+/// The line of a port's next step among these, from 1; where it has none, the number behind that of its last line.
+fn next_line(steps: &[HistoryStep], port: PortName, answers: &[LineAnswer]) -> usize {
+    for step in steps {
+        if step.port == port {
+            return step.line;
+        }
+    }
+    answers.len().saturating_add(1)
 }
 
 /// Adds the answers to the lines of a port from a line of this number, from 1, up to another, a line each.
@@ -104,11 +104,11 @@ fn runs_of(alloc: Global, steps: &[HistoryStep]) -> Result<Vec<Run>, AllocError>
     Ok(runs)
 }
 
-/// Adds what the steps of a row did, and at which object, or from which object to which.
+/// Adds what the steps of a row did, and at which object, or from which object to which other.
 fn add_deed(text: &mut String, run: &Run) -> Result<(), AllocError> {
     text.push_str(kind_text(run.first.kind))?;
     add_object(text, run.first.object)?;
-    if run.number < run.end {
+    if run.first.object != run.last.object {
         text.push_str(" to")?;
         add_object(text, run.last.object)?;
     }
@@ -130,10 +130,7 @@ fn words_of(
     add_deed(&mut text, run)?;
     text.push_str("\n")?;
     let answers = answers_of(ending, port);
-    let to = match next_line(later, port) {
-        Some(line) => line,
-        None => answers.len().saturating_add(1),
-    };
+    let to = next_line(later, port, answers);
     add_answers(&mut text, port, answers, run.last.line, to)?;
     Ok(text)
 }
@@ -158,86 +155,79 @@ fn row_of(
     })
 }
 
+/// The row of a port's lines before its first step, which are run as the ports begin; its number is 0. `None`: it has none.
+fn opening_row(
+    alloc: Global,
+    steps: &[HistoryStep],
+    ending: &Ending,
+    port: PortName,
+) -> Result<Option<Row>, AllocError> {
+    let answers = answers_of(ending, port);
+    let mut words = String::new(alloc);
+    add_answers(
+        &mut words,
+        port,
+        answers,
+        1,
+        next_line(steps, port, answers),
+    )?;
+    if words.is_empty() {
+        return Ok(None);
+    }
+    Ok(Some(Row {
+        number: 0,
+        port,
+        frame: None,
+        label: String::from_str(alloc, "no step")?,
+        object: None,
+        words,
+    }))
+}
+
+/// The rows before the first step.
+fn opening_rows(
+    alloc: Global,
+    steps: &[HistoryStep],
+    ending: &Ending,
+) -> Result<Vec<Row>, AllocError> {
+    let mut rows = Vec::new(alloc);
+    for port in [PortName::If1, PortName::If2, PortName::Bus] {
+        if let Some(row) = opening_row(alloc, steps, ending, port)? {
+            rows.push(row)?;
+        }
+    }
+    Ok(rows)
+}
+
 /// The steps from this place on.
 fn behind(steps: &[HistoryStep], place: usize) -> &[HistoryStep] {
     steps.get(place..).unwrap_or(&[])
 }
 
-/// The rows of a history.
-fn rows_of(
+/// Adds the rows of a history.
+fn add_rows(
     alloc: Global,
+    rows: &mut Vec<Row>,
     runs: &[Run],
     steps: &[HistoryStep],
     ending: &Ending,
-) -> Result<Vec<Row>, AllocError> {
-    let mut rows = Vec::new(alloc);
+) -> Result<(), AllocError> {
     for run in runs {
         rows.push(row_of(alloc, run, behind(steps, run.end), ending)?)?;
-    }
-    Ok(rows)
-}
-
-/// A flag of an object in a state.
-fn flag_in(state: &AllPorts, object: ObjectNo, flag: Flag) -> bool {
-    let place = usize::from(object.get()) - 1;
-    match state.records.as_slice().get(place) {
-        Some(record) => flag.of(record),
-        None => false,
-    }
-}
-
-/// A flag of an object behind each row. There is one state more than there are steps, the first before any.
-fn column_of(
-    alloc: Global,
-    states: &[AllPorts],
-    runs: &[Run],
-    object: ObjectNo,
-    flag: Flag,
-) -> Result<Column, AllocError> {
-    let mut shown = Vec::new(alloc);
-    for run in runs {
-        let is = match states.get(run.end) {
-            Some(state) => flag_in(state, object, flag),
-            None => false,
-        };
-        shown.push(is)?;
-    }
-    Ok(Column {
-        object,
-        flag,
-        shown,
-    })
-}
-
-/// Adds the flags of an object.
-fn add_flags(
-    alloc: Global,
-    columns: &mut Vec<Column>,
-    states: &[AllPorts],
-    runs: &[Run],
-    object: ObjectNo,
-) -> Result<(), AllocError> {
-    for flag in FLAGS {
-        columns.push(column_of(alloc, states, runs, object, flag)?)?;
     }
     Ok(())
 }
 
-/// Whether a step other than a look is at an object.
-fn is_touched(runs: &[Run], object: ObjectNo) -> bool {
-    runs.iter().any(|run| run.last.object == Some(object) && !is_look(&run.last))
-}
-
-/// The flags of the objects that a history does more with than look.
-fn columns_of(alloc: Global, states: &[AllPorts], runs: &[Run]) -> Result<Vec<Column>, AllocError> {
-    let mut columns = Vec::new(alloc);
-    for place in 0..MOST_OBJECTS {
-        let object = ObjectNo::new(place as u8 + 1).unwrap();
-        if is_touched(runs, object) {
-            add_flags(alloc, &mut columns, states, runs, object)?;
-        }
+/// How many steps stand up to each row: none up to a row before the first step.
+fn ends_of(alloc: Global, openings: usize, runs: &[Run]) -> Result<Vec<usize>, AllocError> {
+    let mut ends = Vec::new(alloc);
+    for _ in 0..openings {
+        ends.push(0)?;
     }
-    Ok(columns)
+    for run in runs {
+        ends.push(run.end)?;
+    }
+    Ok(ends)
 }
 
 /// The picture of a history that leads to the outcome of this place in the list, from 0.
@@ -254,8 +244,11 @@ pub fn picture_of_outcome(
     let states = states_along(alloc, script, steps.as_slice())?;
     let ending = &outcomes.listing.endings.as_slice()[place];
     let runs = runs_of(alloc, steps.as_slice())?;
+    let mut rows = opening_rows(alloc, steps.as_slice(), ending)?;
+    let ends = ends_of(alloc, rows.len(), runs.as_slice())?;
+    add_rows(alloc, &mut rows, runs.as_slice(), steps.as_slice(), ending)?;
     Ok(Picture {
-        rows: rows_of(alloc, runs.as_slice(), steps.as_slice(), ending)?,
-        columns: columns_of(alloc, states.as_slice(), runs.as_slice())?,
+        rows,
+        columns: columns_of(alloc, states.as_slice(), runs.as_slice(), ends.as_slice())?,
     })
 }
