@@ -33,6 +33,7 @@ pub fn kind_text(kind: HistoryKind) -> &'static str
         HistoryKind::Starts => "start",
         HistoryKind::Finishes => "finish",
         HistoryKind::Stores => "store",
+        HistoryKind::Resets => "reset",
         HistoryKind::Decides => "decision",
         HistoryKind::IsSpent => "spent",
         HistoryKind::IsBusy => "busy",
