@@ -9,7 +9,7 @@ use crate::expect::{holds, same};
 use ccan_bus::LoadAnswer;
 use ccan_c::{
     BusHandle, Chip, HostHandle, Offer, SavedChip, ShownCounters, ShownFinal, ShownFrame,
-    ShownLoad, ShownOutcome, ShownRecord, ccan_request, ccan_set, ccan_version,
+    ShownLoad, ShownOutcome, ShownRecord, ccan_request, ccan_set,
 };
 use ccan_object::Record;
 use std::process::Abort;
@@ -418,7 +418,7 @@ fn a_saved_chip_opens_again(rt: HostRuntime) {
     same(&rt, ccan_request(&mut chip.if1, 2), 0);
     same(&rt, save(alloc, &mut chip, &mut text), 0);
     let mut later = text;
-    later.bytes[8] = 2;
+    later.bytes[8] = 3;
     same(&rt, restore(alloc, &mut other, &later), 23);
     holds(&rt, !is_open(&other));
     same(&rt, restore(alloc, &mut other, &text), 0);
@@ -427,15 +427,17 @@ fn a_saved_chip_opens_again(rt: HostRuntime) {
     same(&rt, played(&rt, &mut other.bus, &[], 0).kind, 1);
 }
 
-/// The registers have the values of a reset, and object 2 is still as it was written.
+/// The registers have the values of a reset, and of object 2 MsgVal, NewDat, IntPnd and TxRqst are 0; MsgLst, TxIE, EoB and the
+/// length are as they were written.
 #[test]
-fn a_reset_leaves_the_message_ram(rt: HostRuntime) {
+fn a_reset_clears_four_flags_of_an_object(rt: HostRuntime) {
     let alloc = rt.alloc();
     let mut chip = Chip::closed(alloc);
     same(&rt, reset_in_place(alloc, &mut chip), 1);
     chip = opened(&rt, alloc, 1, 1);
     same(&rt, ccan_set(&mut chip.if1, 0, 0x00f3), 0);
     same(&rt, ccan_set(&mut chip.if1, 4, 0xa400), 0);
+    same(&rt, ccan_set(&mut chip.if1, 5, 0xe981), 0);
     same(&rt, ccan_request(&mut chip.if1, 2), 0);
     same(&rt, reset_in_place(alloc, &mut chip), 0);
     same(&rt, shown(&rt, &mut chip.if1, 4), 0);
@@ -443,12 +445,8 @@ fn a_reset_leaves_the_message_ram(rt: HostRuntime) {
     same(&rt, reads(&rt, &mut chip.if2, 0x44), 0xffff);
     let mut seen = no_record();
     same(&rt, peek(&mut chip.if2, 2, &mut seen), 0);
-    same(&rt, seen.arbitration, 0xa4000000);
-}
-
-#[test]
-fn the_version_is_that_of_the_header(rt: HostRuntime) {
-    same(&rt, ccan_version(), 400);
+    same(&rt, seen.arbitration, 0x24000000);
+    same(&rt, seen.control, 0x4881);
 }
 
 #[test]
