@@ -35,17 +35,16 @@
  *    was. ccan_end gives the records that the whole history leaves. All this holds however the chip was opened: ccan_restore begins
  *    as ccan_open_reset does, and the steps by which it puts the chip back are the bus's.
  *  - ccan_round takes part as the controller is at its look, and its event is made of the controller as it is then; the error
- *    counters are still those of the look. It also
- *    reports what came of its steps: whether it loaded an object itself, whose frame was on the bus and which one, and which step
- *    was refused.
- *  - It answers the numbers below, in exactly the cases that are said at each call; of CCAN_NO_MEMORY and CCAN_SHARED that is
- *    only tested. If a call is refused, that is for each number but CCAN_DONE, CCAN_BUSY, CCAN_SPENT and CCAN_SHARED, handle and
- *    output stay as they were.
+ *    counters are still those of the look. It also reports what came of its steps: whether it loaded an object itself, whose
+ *    frame was on the bus and which one, and which step was refused.
+ *  - It answers the numbers below, in exactly the cases that are said at each call. That is only tested of CCAN_NO_MEMORY and
+ *    CCAN_SHARED, and of which number ccan_restore answers for the bytes of a saved chip that it doesn't open. If a call is
+ *    refused, that is for each number but CCAN_DONE, CCAN_BUSY, CCAN_SPENT and CCAN_SHARED, handle and output stay as they were.
  * Read off the sources: that a call takes no lock, except those of malloc, realloc and free in ccan_open, ccan_open_reset,
- * ccan_restore and ccan_end; and that a round's event, like a write of Control, is tried 1000 times, however few tries the chip
- * was opened with. Only tested: that no call but the three that open takes memory, that a call needs at most 16 KiB of
- * stack, that CCAN_SHARED never comes where C keeps its promises, and that this header has the numbers, sizes and offsets of the
- * library.
+ * ccan_restore and ccan_end; and that a round's event, and the change by which the bus joins, are tried 1000 times, however few
+ * tries the chip was opened with. Only tested: that no call but the three that open takes memory, that a call needs at most
+ * 16 KiB of stack, that CCAN_SHARED never comes where C keeps its promises, and that this header has the numbers, sizes and
+ * offsets of the library.
  * Not proved, and not claimed: how long a call takes, and that a thread is ever run. A look at objects begins anew where another
  * port changed what it looks at meanwhile: one object for ccan_request, ccan_until, ccan_peek and a write of Command Request, any
  * object for flags, interrupt values and the interrupt line.

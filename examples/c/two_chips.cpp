@@ -2,6 +2,8 @@
  *
  * Both want to send: chip A the identifier 0x200, chip B 0x100. B wins the first round, and A stores its frame; A wins the
  * second, and B stores its frame. Between the chips stands nothing but the bus, so each is node 1 to the other.
+ * It holds while both chips are on and no error comes: a chip is to the other a node that always acknowledges, and that has error
+ * counters of its own there (docs/EMBEDDING.md, "Two chips on one bus").
  *
  *   c++ -std=c++11 two_chips.cpp $(pkg-config --cflags --libs ccan) */
 #include <ccan.h>

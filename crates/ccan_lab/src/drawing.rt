@@ -39,7 +39,7 @@ fn outcome_option<'a>(alloc: Global) -> Arg<'a> {
 
 /// The option that a number of states is given by, where an outcome is asked.
 fn most_option<'a>(alloc: Global) -> Result<Arg<'a>, AllocError> {
-    let help = "The greatest number of states to keep [default: 1000000]";
+    let help = "How many states to follow at most [default: 1000000]";
     number(alloc, "most", help).requires_arg("outcome")
 }
 

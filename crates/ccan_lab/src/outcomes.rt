@@ -42,7 +42,7 @@ pub struct OutcomesQuestion<'a> {
 
 /// The option that a number of states is given by.
 fn most_option<'a>(alloc: Global) -> Arg<'a> {
-    number(alloc, "most", "The greatest number of states to keep").default_value("1000000")
+    number(alloc, "most", "How many states to follow at most").default_value("1000000")
 }
 
 /// The flag that asks for the whole list.
@@ -128,7 +128,7 @@ fn asked_of<'a>(words: &ArgMatches<'a>) -> Asked<'a>
     }
 }
 
-/// The greatest number of states to list: as it is given, or the default.
+/// How many states are followed at most: as it is given, or the default.
 fn most_of(words: &ArgMatches<'_>) -> usize
     ensures { IsGivenBy (one_text (found_of words.now) (codes "most")) result }
 {
