@@ -27,7 +27,8 @@ has_transfer_of script object =
 
 -- the objects that transfers name, each once: lines of the bus and the objects at the end are of these
 unfoldable pub transferred_objects : ScriptFields → List ℕ
-transferred_objects script = filter (has_transfer_of script) (map (λ index. index + 1) (range_with_len 0 (objects_in script.profile)))
+transferred_objects script =
+    filter (has_transfer_of script) (map (λ index. index + 1) (range_with_len 0 (objects_in script.profile)))
 
 -- ---- a script
 

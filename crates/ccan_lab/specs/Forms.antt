@@ -32,8 +32,8 @@ is_hexadecimal byte = is_decimal byte || is_between 97 102 byte
 abbrev pub is_of_counters : ℕ → Bool
 is_of_counters byte = is_decimal byte || (is_between 97 122 byte || (byte == 32 || byte == 10))
 
--- in a form `#` stands for a hexadecimal digit, `~` for a byte of the counters, and any other byte for itself; so a line that shows
--- neither is its own form
+-- in a form `#` stands for a hexadecimal digit, `~` for a byte of the counters, and any other byte for itself; so a line that
+-- shows neither is its own form
 abbrev pub stands_for : ℕ → ℕ → Bool
 stands_for mark byte =
     if mark == 35 then is_hexadecimal byte else (if mark == 126 then is_of_counters byte else mark == byte)

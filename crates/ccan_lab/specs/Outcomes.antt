@@ -21,8 +21,8 @@ pub record TellsAll (script : ScriptFields) (asked : Asked) (text : List ℕ) (h
   pub holds_is : holds ≡ holds_of outcomes.listing.endings.keys asked
   pub taken : asks_in_vain script outcomes.listing.endings.keys asked ≡ false
 
--- why there is no answer: the ports can come to more states than so many, the line that is searched for is refused by such a list,
--- or memory ran out
+-- why there is no answer: the ports can come to more states than so many, the line that is searched for is refused by such a
+-- list, or memory ran out
 abbrev pub IsWithout : ScriptFields → Asked → (AllPorts → AllPorts → Bool) → ℕ → LabError → Type 0
 IsWithout script asked eq most (fault.More told) = (told ≡ most) × HasMoreAtOnce script eq most
 IsWithout script asked eq most fault.NoLine =
