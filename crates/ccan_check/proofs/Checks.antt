@@ -1,7 +1,7 @@
 -- Names of members, lists and frames, of a value as the program has it and of the data that it shows.
-use Rattle.std.proofs.Common.{◌≡◌, ◌∙◌, ℕ, List, [], ◌∷◌, Bool, Option, Some, None, ◌+◌, ◌<◌, ◌≤◌, ◌&&◌, ◌||◌, true}
-use Rattle.std.proofs.Common.{false, cond, not}
-use Rattle.std.proofs.Common.{inl, inr, codes, string_bytes, map, length, drop, get_or, add-one, arith, nat_le, nat_lt}
+use Rattle.std.proofs.Common.{◌≡◌, ◌∙◌, ℕ, List, [], ◌∷◌, Bool, Option, Some, None, ◌+◌, ◌<◌, ◌≤◌, ◌&&◌, ◌||◌}
+use Rattle.std.proofs.Common.{cond, not}
+use Rattle.std.proofs.Common.{inl, inr, codes, string_bytes, map, length, drop, get_or, add-one, arith, nat_le}
 use Rattle.std.proofs.Common.{is_some, unwrap_or, refl, ap, ap₂, sym, suc, option_map}
 use Rattle.std.specs.List.{list_all, list_any, position, prefix_len, slice_get}
 use Rattle.std.specs.Map.{keys_of}
@@ -20,7 +20,6 @@ use Rattle.ccan_script.specs.Json.{names_in, is_among, lines_in, list_of}
 use Rattle.ccan_script.specs.FrameLine.{frame_fault}
 use Rattle.ccan_script.specs.Round.{frames_in}
 use Rattle.ccan_script.specs.declared.line_context.LineContext.{LineContext}
-use Rattle.ccan_check.specs.declared.line_path.LinePath.{LinePath}
 use Rattle.ccan_check.specs.declared.line_path.MemberName.TheVariants.{Send}
 use Rattle.ccan_check.specs.declared.line_path.Part.{Part}
 use Rattle.ccan_check.specs.declared.line_path.Part.TheVariants as part

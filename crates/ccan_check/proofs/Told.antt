@@ -1,5 +1,5 @@
 -- That a fault is the first one of some bytes, and told with its path, from how it was found.
-use Rattle.std.proofs.Common.{◌≡◌, ◌≢◌, ◌∙◌, ℕ, List, [], ◌∷◌, ◌++◌, Option, Some, None, Result, String, codes, decimal}
+use Rattle.std.proofs.Common.{◌≡◌, ◌≢◌, ◌∙◌, ℕ, List, ◌++◌, Option, Some, None, Result, String, codes, decimal}
 use Rattle.std.proofs.Common.{subst, sym, ap, refl, string_bytes}
 use Rattle.std.specs.Prelude.{IfOk, IsTrue, IsUtf8, nat_eq, slice_get}
 use Rattle.std.specs.declared.alloc.Global.{Global}

@@ -1,6 +1,6 @@
 -- The members that the lines of a script and the frames in them have, in the order in which they are checked. Source: this
 -- project's own.
-use Rattle.std.specs.Prelude.{ℕ, Bool, true, false, List, [], ◌∷◌, Option, Some, None}
+use Rattle.std.specs.Prelude.{Bool, true, false, List, [], ◌∷◌, Option, Some, None}
 use Rattle.ccan_line.specs.Limits.{most_groups, most_turns}
 use Rattle.ccan_script.specs.declared.host_op.HostOp.{HostOp}
 use Rattle.ccan_script.specs.declared.host_op.HostOp.TheVariants as host

@@ -1,7 +1,7 @@
 -- What a report of a script has first: the fault that reading the script answers, told at its place. Source: this project's own.
-use Rattle.std.specs.Prelude.{ℕ, ◌≡◌, ◌≢◌, ◌==◌, ◌++◌, List, [], ◌∷◌, Option, Some, None, Ok, IsTrue, IsUtf8, codes}
+use Rattle.std.specs.Prelude.{ℕ, ◌≡◌, ◌≢◌, ◌++◌, List, [], ◌∷◌, Option, Some, None, Ok, IsTrue, IsUtf8, codes}
 use Rattle.std.specs.Prelude.{decimal}
-use Rattle.std.specs.Prelude.{nat_eq, slice_get, string_bytes, unwrap_or, if◌then◌else◌}
+use Rattle.std.specs.Prelude.{nat_eq, slice_get, string_bytes}
 use Rattle.std.specs.List.{starts_with}
 use Rattle.std.specs.Option.{option_map_or}
 use Rattle.serde_json.specs.Data.{Data}
