@@ -43,14 +43,16 @@ class CcanBus(BusABC):
         Whether a round with a fault, a collision or no acknowledgement gives an error frame, as SocketCAN has it. Filters don't
         count for it.
     period : float, optional
-        Seconds between the rounds that a thread plays. Left out, this bus starts no thread, and :meth:`step` plays rounds.
+        Seconds between the rounds that a thread plays. A channel has one such thread, with the period of its first bus that has
+        one. Left out, this bus starts no thread, and :meth:`step` plays rounds.
     **kwargs : any
         ``can_filters``, and what other interfaces take; a bit rate means nothing here.
 
     Raises
     ------
     can.CanInitializationError
-        Where each of the chip's other nodes has a bus, the channel has another chip, or the chip is on another channel.
+        Where each of the chip's other nodes has a bus, the channel has another chip, or the chip is on another channel. Also
+        where `period` is given, and the chip was not opened with ``concurrent=True``.
     """
 
     def __init__(
