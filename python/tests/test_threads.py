@@ -211,7 +211,7 @@ def test_each_host_has_its_own_object_while_the_bus_plays(shared: ccan.Chip) -> 
 
 def test_a_driver_in_three_threads(shared: ccan.Chip) -> None:
     """As examples/c/driver.c: IF2 sends numbered frames, IF1 receives others by the line, and the bus is in a third thread."""
-    frames = 500
+    frames = 200
     taken: List[int] = []
     served: List[int] = []
     on_bus: List[int] = []
