@@ -166,8 +166,8 @@ class Chip:
     def reset(self) -> None:
         """Resets the chip in its place, as the reset of a part does.
 
-        The registers have their reset values. The message objects stay as they are, and so do the error counters of the other
-        nodes.
+        The registers have their reset values. MsgVal, NewDat, IntPnd and TxRqst of each message object become 0, and what was
+        loaded is dropped. The rest of the message objects stays, and so do the error counters of the other nodes.
         """
         self._whole("ccan_reset")
 

@@ -217,11 +217,13 @@ def test_a_chip_goes_back_in_its_place(chip: ccan.Chip) -> None:
     assert port.peek(1) == ccan.Record()
 
 
-def test_a_reset_leaves_the_message_objects(chip: ccan.Chip) -> None:
-    receive_0x123(chip.if1, 1)
+def test_a_reset_clears_four_flags_of_the_message_objects(chip: ccan.Chip) -> None:
+    chip.if1.transfer(1, cmask=0x00F3, arb2=0xA48C, ctrl=0xE588)
+    assert chip.if1.peek(1).valid
     chip.reset()
     assert chip.if1.read16(Offset.CONTROL) == 1 and chip.if1["MASK1"] == 0xFFFF
-    assert chip.if1.peek(1).valid
+    record = chip.if1.peek(1)
+    assert (record.valid, record.id, record.control) == (False, 0x123, 0x4488)
 
 
 def test_a_chip_of_one_thread_meets_by_itself(chip: ccan.Chip) -> None:

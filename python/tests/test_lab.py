@@ -20,7 +20,9 @@ SCRIPT: Dict[str, Any] = {
     "if1": [{"op": "transfer", "request": "0001", "set": {"cmask": "00f3", "arb2": "a48c", "ctrl": "0088"}}]
 }
 #: A standard identifier that was not shifted: docs/FORMATS.md, "The check of a script".
-UNSHIFTED: Dict[str, Any] = {"if1": [{"op": "transfer", "request": "0001", "set": {"cmask": "00f0", "arb2": "8123"}}]}
+UNSHIFTED: Dict[str, Any] = {
+    "if1": [{"op": "transfer", "request": "0001", "set": {"cmask": "00f0", "arb2": "8123", "ctrl": "0080"}}]
+}
 
 
 def test_outcomes_of_a_race() -> None:
