@@ -204,3 +204,15 @@ fn rounds_come_to_each_member_as_it_sees_them(rt: HostRuntime) {
         same(&rt, (rows, first, got), (rows, first, want));
     }
 }
+
+#[test]
+fn laws_hold() {
+    ccan_wire::laws::each_round_has_one_wire();
+    ccan_wire::laws::decided_again_as_at_first();
+    ccan_wire::laws::sent_is_heard();
+    ccan_wire::laws::at_most_one_frame_is_sent();
+    ccan_wire::laws::listeners_change_nothing();
+    ccan_wire::laws::nobody_hears_a_lone_sender();
+    ccan_wire::laws::unheard_senders_stay_on();
+    ccan_wire::laws::winners_are_settled_at_the_start();
+}
