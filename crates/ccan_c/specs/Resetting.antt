@@ -1,6 +1,6 @@
--- A chip that is reset in its place. Source: C_CAN User's Manual 1.2, "Hardware Reset Description": the registers have their reset
--- values, those of the flags of the objects among them, and the data in the message RAM is not affected. (own): the nodes beside the
--- chip go on, and what was loaded is dropped.
+-- A chip that is reset in its place. Source: C_CAN User's Manual 1.2, "Hardware Reset Description": the registers have their
+-- reset values, those of the flags of the objects among them, and the data in the message RAM is not affected. (own): the
+-- nodes beside the chip go on, and what was loaded is dropped.
 use Rattle.std.specs.Prelude.{ℕ, ◌≡◌, Result, Ok, Err, Some}
 use Rattle.ccan_bus.specs.Bus.{LedTo}
 use Rattle.ccan_bus.specs.Past.{BusPast}

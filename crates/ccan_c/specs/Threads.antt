@@ -149,8 +149,8 @@ pub record SavesAll (terms : PortName → Terms) (set : Set) (text : List ℕ) (
   pub looks : LooksAtAll (terms Bus) saved.controller saved.records old.bus.seen added
   pub leaves : new ≡ bus_adds added old
 
--- after a reset the hosts have the registers of one, nothing is loaded, and the three have met; a reset that was refused leaves all
--- but its steps as it is
+-- after a reset the hosts have the registers of one, nothing is loaded, and the three have met; a reset that was refused
+-- leaves all but its steps as it is
 abbrev pub LeavesReset : Result (Unit {0}) AccessError → Places → Places → Type 0
 LeavesReset (Ok done) old new = HaveMetAll (hosts_have reset_set reset_set (bus_unloads old)) new
 LeavesReset (Err why) old new = new ≡ old

@@ -35,7 +35,8 @@ unloaded past = record past { loaded = None }
 abbrev pub left_behind : Controller → BusPast → BusPast
 left_behind first past = if first.has_left then unloaded past else past
 
--- a change of the controller is made as it is then, or each try was lost to a change of another port; no step is made at an object
+-- a change of the controller is made as it is then, or each try was lost to a change of another port; no step is made at an
+-- object
 abbrev pub IsMade : ControllerChange → ℕ → ChipPass → ChipPass → Result ControllerChanged ControllerBusy → Type 0
 IsMade change tries old new (Ok made) =
     AddsController old new (Make change) made.before × (made.after ≡ controller_after change made.before) × AddsNoEvent old new
@@ -55,8 +56,8 @@ pub record Joins (old new : ChipPass) (first : Controller) : Type 0 where
   pub outcome : Result ControllerChanged ControllerBusy
   pub joins : IsMade Join most_tries looked new outcome
 
--- The port comes to the bus: it looks at the controller; and where that comes back, it joins and looks again. Its first look found
--- this controller, and its last this one.
+-- The port comes to the bus: it looks at the controller; and where that comes back, it joins and looks again. Its first look
+-- found this controller, and its last this one.
 pub record Arrives (old new : ChipPass) (first found : Controller) : Type 0 where
   pub before : ChipPass
   pub ready : MatchBool (comes_back first) (Joins old before first) ((before ≡ old) × (first ≡ found))

@@ -79,10 +79,10 @@ Notes None tries old new told = AddsNone old new × (told ≡ None) × AddsNoEve
 Notes (Some own) tries old new None = ⊥
 Notes (Some own) tries old new (Some outcome) = IsMade (Frame own.0 own.1) tries old new outcome
 
--- A round: the port comes to the bus, and what was loaded is dropped where the controller has left it; then a load, a decision and
--- the memory steps that are due, as the bus is with the controller that was found; and last what all this was to the controller, as
--- one change of it. Between, its port makes no other step there. What was on the bus can't be played again, so this change has as
--- many tries as one may have, however few the steps have.
+-- A round: the port comes to the bus, and what was loaded is dropped where the controller has left it; then a load, a
+-- decision and the memory steps that are due, as the bus is with the controller that was found; and last what all this was to
+-- the controller, as one change of it. Between, its port makes no other step there. What was on the bus can't be played
+-- again, so this change has as many tries as one may have, however few the steps have.
 pub record ChipRound (terms : Terms) (line : RoundLine) (tries : ℕ) (old new : ChipPass) (past after : BusPast)
     (told : ChipReport) : Type 0 where
   pub looked : ChipPass
@@ -93,8 +93,8 @@ pub record ChipRound (terms : Terms) (line : RoundLine) (tries : ℕ) (old new :
   pub sees : CanSee between.pass
   pub added : List Event
   pub adds : between.pass.seen ≡ added ++ looked.pass.seen
-  pub runs : RunsSteps terms line tries looked.pass.seen added (as_found told.found (events_in looked.whole) (left_behind first past)) after
-      told.report
+  pub runs : RunsSteps terms line tries looked.pass.seen added
+      (as_found told.found (events_in looked.whole) (left_behind first past)) after told.report
   pub own : WasTo told.own (as_found told.found (events_in looked.whole) (left_behind first past)) after
   pub notes : Notes told.own most_tries between new told.noted
 

@@ -44,8 +44,9 @@ fn comes_back(controller: &Controller) -> bool
     may_take_part(controller) && controller.has_left
 }
 
-/// Comes to the bus: looks at the controller, and where that comes back, joins and looks again. The controllers that the first and
-/// the last look found. Where each try to join was lost to a change of another port, the controller takes no part this time.
+/// Comes to the bus: looks at the controller, and where that comes back, joins and looks again. The controllers that the
+/// first and the last look found. Where each try to join was lost to a change of another port, the controller takes no part
+/// this time.
 pub(crate) fn arrive(ram: &EndlessRam, port: &mut Port) -> (Controller, Controller)
     requires memory { port.old.pass.memory ≡ ram.now.words }
     requires bus { port.old.pass.port ≡ Bus }

@@ -1,9 +1,9 @@
 -- The registers of a controller at one moment, what each step makes of them, and the word that they pack to. Source: C_CAN
 -- User's Manual 1.2, "CAN Control Register", "Status Register", "Error Counter", "Bit Timing Register", "BRP Extension
--- Register", "Test Register" and "Hardware Reset Description". (own): a status interrupt is raised whatever SIE and EIE say; groups
--- of recessive bits count on the way back from bus off also while Init is 1 again; that a controller has left the bus is
--- remembered until the message handler joins anew; and the packed word. The clearing read: Texas Instruments, AM335x Technical
--- Reference Manual, D_CAN's "Error and Status Register".
+-- Register", "Test Register" and "Hardware Reset Description". (own): a status interrupt is raised whatever SIE and EIE say;
+-- groups of recessive bits count on the way back from bus off also while Init is 1 again; that a controller has left the bus
+-- is remembered until the message handler joins anew; and the packed word. The clearing read: Texas Instruments, AM335x
+-- Technical Reference Manual, D_CAN's "Error and Status Register".
 use Rattle.std.specs.Prelude.{ℕ, ◌≡◌, ◌+◌, ◌<◌, ◌≤◌, Bool, true, false, ◌&&◌, ◌||◌, not, nat_le, min, ◌^◌, if◌then◌else◌}
 use Rattle.ccan_confine.specs.declared.status_event.StatusEvent.{StatusEvent}
 use Rattle.ccan_confine.specs.declared.status_event.StatusEvent.TheVariants.{Recovery, Level}
@@ -92,7 +92,7 @@ new_controller =
       has_left = false;
     }
 
--- A controller has left the bus where Init is 1, be it but for a moment: setting Init stops all transfer of messages.
+-- A controller has left the bus where Init is 1, if only for a moment: setting Init stops all transfer of messages.
 abbrev pub leaving : Controller → Controller
 leaving c = record c { has_left = c.has_left || c.control.init }
 

@@ -33,8 +33,8 @@ pub enum ControllerChange {
     /// A host writes the BRP Extension register, without its reserved bits. It stays where Init or CCE of the Control register
     /// is 0 (C_CAN User's Manual 1.2, "BRP Extension Register").
     WriteExtension(u16),
-    /// A hardware reset: Init is 1, so the controller has left the bus, the Bit Timing register is 0x2301, and all else is 0 as in
-    /// a new controller (C_CAN User's Manual 1.2, "Hardware Reset Description"). By the message handler's side alone.
+    /// A hardware reset: Init is 1, so the controller has left the bus, the Bit Timing register is 0x2301, and all else is 0
+    /// as in a new controller (C_CAN User's Manual 1.2, "Hardware Reset Description"). By the message handler's side alone.
     Reset,
     /// The message handler joins the bus anew: that the controller had left it is forgotten, unless Init is 1. By the message
     /// handler alone (own).

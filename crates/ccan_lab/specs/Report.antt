@@ -85,8 +85,8 @@ abbrev pub outcome_text : List ℕ → ℕ → List HistoryStep → Option (List
 outcome_text lines number steps order =
     codes "outcome " ++ (decimal (number + 1) ++ (codes "\n" ++ (lines ++ (history_text steps ++ order_text order))))
 
--- the text is that of the ending in this place, with these lines and under this number, with a history of it, and with no order, or
--- one that leads to it
+-- the text is that of the ending in this place, with these lines and under this number, with a history of it, and with no
+-- order, or one that leads to it
 abbrev pub IsTextWith : (Ending → List HistoryStep → Type 0) → (Ending → List PortName → Type 0) → List Ending → ℕ → List ℕ
     → ℕ → List ℕ → Type 0
 IsTextWith IsHistory LeadsTo endings place lines number text =

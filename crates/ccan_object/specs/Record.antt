@@ -1,5 +1,5 @@
--- The record of a message object. Source: C_CAN User's Manual 1.2, section 3.3.4 (Message Object in the Message Memory);
--- that a record opens as zero is this project's own. What a reset leaves of it: the summary of registers there (the reset value of
+-- The record of a message object. Source: C_CAN User's Manual 1.2, section 3.3.4 (Message Object in the Message Memory); that
+-- a record opens as zero is this project's own. What a reset leaves of it: the summary of registers there (the reset value of
 -- Transmission Request, New Data, Interrupt Pending and Message Valid is 0) and "Hardware Reset Description" (the data in the
 -- Message RAM is not affected).
 use Rattle.std.specs.Prelude.{◌≡◌, ◌≤◌, ◌<◌, ◌^◌, false, All, length, replicate}

@@ -1,7 +1,7 @@
 -- What a hardware reset of a chip comes to in its history. Source: C_CAN User's Manual 1.2, "Hardware Reset Description" (the
--- registers have their reset values, and the data in the Message RAM is not affected) and the summary of registers (the reset value
--- of Transmission Request, New Data, Interrupt Pending and Message Valid is 0). That it is one change of the controller, and then
--- one of each object in the order of their numbers, is (own).
+-- registers have their reset values, and the data in the Message RAM is not affected) and the summary of registers (the reset
+-- value of Transmission Request, New Data, Interrupt Pending and Message Valid is 0). That it is one change of the
+-- controller, and then one of each object in the order of their numbers, is (own).
 use Rattle.std.specs.Prelude.{ℕ, ◌≡◌, ◌<◌, ◌⊎◌, zero, suc, [], Result, Ok, Err}
 use Rattle.ccan_confine.specs.declared.controller_change.ControllerChange.TheVariants as controller
 use Rattle.ccan_object.specs.Profile.{objects_in}

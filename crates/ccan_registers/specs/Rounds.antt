@@ -62,9 +62,9 @@ NotesEvent port tries None noted seen added = (noted ≡ None) × IsStill port a
 NotesEvent port tries (Some own) None seen added = ⊥
 NotesEvent port tries (Some own) (Some outcome) seen added = Changes port (Frame own.0 own.1) tries seen added outcome
 
--- A round: the port comes to the bus, and what was loaded is dropped where the controller has left it; the load, the decision and
--- the steps at objects that are due, as the bus is with the controller that was found; and last what all this was to the controller,
--- which has as many tries as a change may have.
+-- A round: the port comes to the bus, and what was loaded is dropped where the controller has left it; the load, the decision
+-- and the steps at objects that are due, as the bus is with the controller that was found; and last what all this was to the
+-- controller, which has as many tries as a change may have.
 pub record RoundOnChip (terms : Terms) (line : RoundLine) (tries : ℕ) (past : BusPast) (seen added : ChipHistory)
     (after : BusPast) (told : ChipReport) : Type 0 where
   pub looked : ChipHistory

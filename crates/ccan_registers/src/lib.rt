@@ -3,7 +3,8 @@
 //! A port reads and writes a register by its offset, as a driver does. What it comes to is in the chip's one history: a register
 //! of the controller is one look or one change of the controller's word; a register of flags is all objects in one moment; a
 //! write of Command Request is a transfer; the other registers of an interface are the port's own, and no other port has them.
-//! Beside these, whoever drives the bus plays its rounds here.
+//! Beside these, whoever drives the bus plays its rounds here, and resets the chip: a change of the controller and one of each
+//! object.
 //!
 //! ```text
 //!   read_at, write_at             load, round, recessive

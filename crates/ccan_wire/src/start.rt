@@ -52,7 +52,8 @@ fn least_rest(members: &[Member], who: &Places, first: usize) -> usize
     requires first { first < length members.now }
     requires among { is_among who.now first ≡ true }
     ensures within { result < length members.now }
-    ensures least { IsLeastAmong (λ k. rest_by (member_at members.now k)) who.now (length members.now) result }
+    ensures least { IsLeastAmong (λ k. rest_by (member_at members.now k)) who.now
+        (length members.now) result }
 {
     let mut least = first;
     for place in 0..members.len() {
