@@ -55,10 +55,10 @@ module _ (profile : Profile) (s : ChipState) (c : ChipKeeps profile s) (ws : Lis
     (at : get_elem? s.views id ≡ some v) (same : s.words ≡ ws) (xa xb xd : PortView) (ha hb hd : ChipHistory)
     (ram_is : v.ram ≡ three_held xa xb xd) (chip_is : v.chip ≡ three_wholes ha hb hd) where
   abbrev w : ChipView
-  w = record { ram = three_held xa xb xd; chip = three_wholes ha hb hd }
+  w = record { ram = three_held xa xb xd; chip = three_wholes ha hb hd; told = v.told }
 
   here : get_elem? s.views id ≡ some w
-  here = subst (λ (u : ChipView). get_elem? s.views id ≡ some u) (λ i. record { ram = ram_is i; chip = chip_is i }) at
+  here = subst (λ (u : ChipView). get_elem? s.views id ≡ some u) (λ i. record { ram = ram_is i; chip = chip_is i; told = v.told }) at
 
   -- one more of the three
   closes_if1 : (port : ChipPass) → Closes If1 xa ha port → IsChipPart port c.log

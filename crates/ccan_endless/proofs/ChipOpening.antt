@@ -45,11 +45,11 @@ held_start quota If2 = refl
 held_start quota Bus = refl
 
 pub reset_done : (profile : Profile) (quota : ℕ) (seat to : SeatKnows) (found : ℕ) → seat.me ≡ (all_ports quota, [])
-    → seat.chip ≡ all_seen [] → SetsController profile Bus Reset new_controller (chip_me seat) found (chip_me to)
+    → seat.chip ≡ all_seen [] → seat.told ≡ [] → SetsController profile Bus Reset new_controller (chip_me seat) found (chip_me to)
     → (to.me ≡ (all_ports quota, [])) × (to.chip ≡ all_seen reset_history)
-reset_done profile quota seat to found a b told =
+reset_done profile quota seat to found a b d told =
     let first : ChipKnows = (chip_all_ports quota, []) in
-    let is : chip_me seat ≡ first = λ i. (record { ram = (a i).0; chip = b i }, (a i).1) in
+    let is : chip_me seat ≡ first = λ i. (record { ram = (a i).0; chip = b i; told = d i }, (a i).1) in
     let t = subst (λ (m : ChipKnows). SetsController profile Bus Reset new_controller m found (chip_me to)) is told in
     let none : t.log ≡ [] =
     nobody t.log (λ p. (t.finds.goes_on p [] (seen_nothing p)).own)

@@ -16,7 +16,8 @@ use Rattle.ccan_endless.specs.declared.view.PortView.{PortView}
 use Rattle.ccan_endless.specs.declared.view.ChipView.{ChipView}
 use Rattle.ccan_endless.specs.View.{View}
 use Rattle.ccan_endless.specs.Layout.{most, words_in_all, controller_cell}
-use Rattle.ccan_endless.specs.Chip.{ChipHistory, IsControllerLegal}
+use Rattle.ccan_endless.specs.Chip.{ChipHistory, GoesFrom, IsControllerLegal}
+use Rattle.ccan_endless.specs.ChipPort.{whole_in}
 use Rattle.ccan_endless.specs.Seat.{IsSeated}
 use Rattle.ccan_endless.specs.ChipRule.{ram_view, ram_state, Agree, IsBeginning, ChipKeeps, chip_without, chip_only, chip_together}
 use Rattle.ccan_endless.specs.ChipRule.{chip_nothing, chip_all_ports}
@@ -111,9 +112,23 @@ start_holds c If1 g e = cc
 start_holds c If2 g e = cc
 start_holds c Bus g e = cc
 
+append_none : (h : ChipHistory) → h ++ [] ≡ h
+append_none [] = refl
+append_none (e ∷ h) = λ i. e ∷ append_none h i
+
 first_of : (l : List ChipView) (v u : ChipView) (i : ℕ) → l ≡ [] → get_elem? (v ∷ l) i ≡ some u → v ≡ u
 first_of l v u zero e h = some-injective v u h
 first_of l v u (suc i) e h = absurd (some-ne-none u (sym (subst (λ (z : List ChipView). get_elem? z i ≡ some u) e h)))
+
+-- each history goes on from none
+goes_from_none : (log : ChipHistory) → GoesFrom log []
+goes_from_none log = (log, sym (append_none log))
+
+-- and so the history from what was seen for a port, if the seat holds it
+told_by : (log : ChipHistory) (o : Option ChipHistory) → ((h : ChipHistory) → o ≡ Some h → GoesFrom log h)
+    → GoesFrom log (whole_in o)
+told_by log None each = goes_from_none log
+told_by log (Some h) each = each h refl
 
 -- of the first seat
 pub start_seated : (c : ℕ) → IsSeated (chip_all_ports c)
@@ -129,8 +144,9 @@ module _ (profile : Profile) where
       → ((i : ℕ) (p : PortName) (v : ChipView) → get_elem? vs i ≡ some v → AgreeAt p v)
       → ((i : ℕ) (p : PortName) (v : ChipView) (g : ChipHistory) → get_elem? vs i ≡ some v → holding p v.chip ≡ Some g
       → IsBeginning c.log p g)
+      → ((i : ℕ) (v : ChipView) → get_elem? vs i ≡ some v → GoesFrom c.log v.told)
       → ChipKeeps profile (with_chip_views s vs)
-  reseated s c vs us is ram agree seats = record {
+  reseated s c vs us is ram agree seats told = record {
     log = c.log;
     ram = recast.0;
     same = recast.1 ∙ c.same;
@@ -138,6 +154,7 @@ module _ (profile : Profile) where
     word = c.word;
     agree = agree;
     seats = seats;
+    told = told;
   }
     where
       recast : KeepsAt profile (ram_state (with_chip_views s vs)) c.ram.log
@@ -168,6 +185,15 @@ module _ (profile : Profile) where
       (at_set s.views id i l t a))
       (λ (a : (i ≡ length cut) × (r ≡ t)).
       c.seats id q v g at (was_only p q v.chip g (subst (λ (z : ChipView). holding q z.chip ≡ Some g) (sym a.1) k)))
+      (at_end cut r t i e))
+      (λ i t e. ⊎_elim
+      (λ (a : get_elem? cut i ≡ some t). ⊎_elim
+      (λ (b : (i ≡ id) × (l ≡ t)).
+      subst (λ (z : ChipView). GoesFrom c.log z.told) b.1
+      (told_by c.log (holding p v.chip) (λ h k. (c.seats id p v h at k).part)))
+      (λ (b : (i ≢ id) × (get_elem? s.views i ≡ some t)). c.told i t b.1)
+      (at_set s.views id i l t a))
+      (λ (a : (i ≡ length cut) × (r ≡ t)). subst (λ (z : ChipView). GoesFrom c.log z.told) a.1 (goes_from_none c.log))
       (at_end cut r t i e))
 
   pub chip_joins : (id other : ℕ) (v w : ChipView)
@@ -203,6 +229,14 @@ module _ (profile : Profile) where
       (λ (b : (i ≢ id) × (get_elem? s.views i ≡ some t)). c.seats i q t g b.1 k)
       (at_set s.views id i both t a.1))
       (at_set wide other i chip_nothing t e))
+      (λ i t e. ⊎_elim
+      (λ (a : (i ≡ other) × (chip_nothing ≡ t)).
+      subst (λ (z : ChipView). GoesFrom c.log z.told) a.1 (goes_from_none c.log))
+      (λ (a : (i ≢ other) × (get_elem? wide i ≡ some t)). ⊎_elim
+      (λ (b : (i ≡ id) × (both ≡ t)). subst (λ (z : ChipView). GoesFrom c.log z.told) b.1 (c.told other w two))
+      (λ (b : (i ≢ id) × (get_elem? s.views i ≡ some t)). c.told i t b.1)
+      (at_set s.views id i both t a.1))
+      (at_set wide other i chip_nothing t e))
 
   abbrev zero_word : ℕ
   zero_word = 0
@@ -220,4 +254,6 @@ module _ (profile : Profile) where
         let a = first_of [] (chip_all_ports c) v i refl e in
         subst (IsBeginning [] p) (start_holds c p g (subst (λ (z : ChipView). holding p z.chip ≡ Some g) (sym a) k))
         (record { part = goes_again []; own = refl });
+    told = λ i v e.
+        subst (λ (z : ChipView). GoesFrom [] z.told) (first_of [] (chip_all_ports c) v i refl e) (goes_again []);
   }

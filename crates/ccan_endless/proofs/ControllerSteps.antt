@@ -107,7 +107,7 @@ module _ (profile : Profile) where
     is_now = controller_is c.log c.legal
 
     abbrev seen : ChipHistory → ChipView
-    seen log = record { ram = see_all (ram_of log) v.ram; chip = chip_see log v.chip }
+    seen log = record { ram = see_all (ram_of log) v.ram; chip = chip_see log v.chip; told = v.told }
 
     -- the controller's word becomes what this history leaves, and the seat sees the history
     stepped : (n : ℕ) (log : ChipHistory) → ram_of log ≡ ram_of c.log → GoesFrom log c.log → IsControllerLegal log
@@ -127,6 +127,8 @@ module _ (profile : Profile) where
         (saw_all v.ram (ram_of log) p) (c.agree id p v at)))
         (sees_all profile log v.chip)
         (λ q g none b. record { part = through g b.part; own = others q none ∙ b.own })
+        refl
+        through
       where
         through : (g : ChipHistory) → GoesFrom c.log g → GoesFrom log g
         through g b = subst (λ (h : ChipHistory). GoesFrom h g) (sym goes.1) (goes_more goes.0 c.log g b)
@@ -142,6 +144,7 @@ module _ (profile : Profile) where
           ram = λ p x h. subst (GoesOn profile p x) c.same
               (on_for profile (ram_state s) c.ram id p v.ram x (map_at ram_view s.views id v at) h);
           goes_on = λ p h e. let b = c.seats id p v h at e in record { part = b.part; own = b.own; legal = c.legal };
+          told = c.told id v at;
         })
 
   pub looks_controller : (slots id : ℕ) (me : ChipKnows) (p : PortName) (h : ChipHistory) → holding p me.0.chip ≡ Some h

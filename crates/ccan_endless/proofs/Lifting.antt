@@ -134,8 +134,9 @@ module _ (profile : Profile) where
       → ((p : PortName) → Agree (holding p w.ram) (holding p w.chip))
       → ((p : PortName) (g : ChipHistory) → holding p w.chip ≡ Some g → IsBeginning log p g)
       → ((p : PortName) (g : ChipHistory) → holding p v.chip ≡ None → IsBeginning c.log p g → IsBeginning log p g)
+      → w.told ≡ v.told → ((g : ChipHistory) → GoesFrom c.log g → GoesFrom log g)
       → ChipKeeps profile (chip_with_view s ws id w)
-  chip_moved s c id v w ws log h at ram hist legal word agree own others = record {
+  chip_moved s c id v w ws log h at ram hist legal word agree own others same onward = record {
     log = log;
     ram = recast.0;
     same = recast.1;
@@ -148,6 +149,12 @@ module _ (profile : Profile) where
     seats = λ i p t g e k. ⊎_elim
         (λ (b : (i ≡ id) × (w ≡ t)). own p g (subst (λ (z : ChipView). holding p z.chip ≡ Some g) (sym b.1) k))
         (λ (b : (i ≢ id) × (get_elem? s.views i ≡ some t)). others p g (free i p t g b.0 b.1 k) (c.seats i p t g b.1 k))
+        (at_set s.views id i w t e);
+    told = λ i t e. ⊎_elim
+        (λ (b : (i ≡ id) × (w ≡ t)).
+        subst (λ (z : ChipView). GoesFrom log z.told) b.1
+        (onward w.told (subst (GoesFrom c.log) (sym same) (c.told id v at))))
+        (λ (b : (i ≢ id) × (get_elem? s.views i ≡ some t)). onward t.told (c.told i t b.1))
         (at_set s.views id i w t e);
   }
     where
@@ -204,7 +211,7 @@ module _ (profile : Profile) where
       ⊎_elim
       (λ (saw : AllSaw v.ram m.view (m.added ++ c.ram.log)).
       let log : ChipHistory = of_ram m.added ++ c.log in
-      let w : ChipView = record { ram = m.view; chip = chip_see log v.chip } in
+      let w : ChipView = record { ram = m.view; chip = chip_see log v.chip; told = v.told } in
       let hist : m.added ++ c.ram.log ≡ ram_of log = ap (λ (h : History). m.added ++ h) c.same
       ∙ sym (ram_of-more m.added c.log) in (
         w,
@@ -220,11 +227,13 @@ module _ (profile : Profile) where
             (λ p g none b. record {
               part = goes_more (of_ram m.added) c.log g b.part;
               own = steps_of-more p m.added c.log ∙ b.own;
-            }),
+            })
+            refl
+            (goes_more (of_ram m.added) c.log),
         (m.told, goes_on s c id v at m.added),
       ))
       (λ (quiet : (m.added ≡ []) × AllKept v.ram m.view).
-      let w : ChipView = record { ram = m.view; chip = v.chip } in
+      let w : ChipView = record { ram = m.view; chip = v.chip; told = v.told } in
       let hist : m.added ++ c.ram.log ≡ ram_of c.log = ap (λ (h : History). h ++ c.ram.log) quiet.0 ∙ c.same in (
         w,
         keeps,
@@ -232,7 +241,9 @@ module _ (profile : Profile) where
         chip_moved s c id v w ws c.log (m.added ++ c.ram.log) at m.keeps hist c.legal (kept ∙ c.word)
             (λ p. agree_kept (holding p v.ram) (holding p m.view) (holding p v.chip) (quiet.1 p) (c.agree id p v at))
             (λ p g e. c.seats id p v g at e)
-            (λ p g none b. b),
+            (λ p g none b. b)
+            refl
+            (λ g b. b),
         (
           m.told,
           λ p h e. (h, e, record { part = goes_again h; own = refl }),

@@ -21,6 +21,7 @@ use Rattle.ccan_endless.specs.Layout.{controller_cell}
 use Rattle.ccan_endless.specs.Rule.{Keeps}
 use Rattle.ccan_endless.specs.Chip.{ChipHistory, ram_of, controller_at, steps_of, IsControllerLegal, GoesFrom}
 use Rattle.ccan_endless.specs.Chip.{MayMake, step_at}
+use Rattle.ccan_endless.specs.ChipPort.{whole_in}
 
 -- a seat's view of a chip, beside the slots that it holds: these memories have none
 abbrev pub ChipKnows : Type 0
@@ -65,10 +66,12 @@ module _ (profile : Profile) where
     pub agree : (i : ℕ) (p : PortName) (v : ChipView) → get_elem? s.views i ≡ some v → Agree (holding p v.ram) (holding p v.chip)
     pub seats : (i : ℕ) (p : PortName) (v : ChipView) (h : ChipHistory) → get_elem? s.views i ≡ some v
         → holding p v.chip ≡ Some h → IsBeginning log p h
+    -- what was told with a seat is a beginning of the history
+    pub told : (i : ℕ) (v : ChipView) → get_elem? s.views i ≡ some v → GoesFrom log v.told
 
 -- what each port of a seat has seen is all of this history
 abbrev pub SawAll : ChipHistory → ChipKnows → ChipKnows → Type 0
-SawAll log m n = n ≡ (record { ram = see_all (ram_of log) m.0.ram; chip = chip_see log m.0.chip }, m.1)
+SawAll log m n = n ≡ (record { ram = see_all (ram_of log) m.0.ram; chip = chip_see log m.0.chip; told = m.0.told }, m.1)
 
 -- the history goes on from what was seen for the port, with no step of the port at the controller
 pub record ChipGoesOn (p : PortName) (h log : ChipHistory) : Type 0 where
@@ -82,6 +85,7 @@ pub record FindsController (profile : Profile) (log : ChipHistory) (m : ChipKnow
   pub is : IsController (controller_at log)
   pub ram : (p : PortName) (x : PortView) → holding p m.0.ram ≡ Some x → GoesOn profile p x (ram_of log)
   pub goes_on : (p : PortName) (h : ChipHistory) → holding p m.0.chip ≡ Some h → ChipGoesOn p h log
+  pub told : GoesFrom log m.0.told
 
 -- a look at the controller: it is the last event of a history that was seen
 pub record LooksController (profile : Profile) (p : PortName) (m : ChipKnows) (found : ℕ) (n : ChipKnows) : Type 0 where
@@ -113,19 +117,20 @@ pub record SetsController (profile : Profile) (p : PortName) (change : Controlle
       × IsControllerLegal (OfController (step_at p (Make change) before) ∷ log)
   pub lost : found ≢ packed before → SawAll log m n
 
--- a seat is cut in two: the second has one port
+-- a seat is cut in two: the second has one port, and the first is told what that has seen
 abbrev pub chip_without : PortName → ChipView → ChipView
-chip_without p v = record { ram = with_held p None v.ram; chip = with_held p None v.chip }
+chip_without p v =
+    record { ram = with_held p None v.ram; chip = with_held p None v.chip; told = whole_in (holding p v.chip) }
 
 abbrev pub chip_only : PortName → ChipView → ChipView
-chip_only p v = record { ram = only p (holding p v.ram); chip = only p (holding p v.chip) }
+chip_only p v = record { ram = only p (holding p v.ram); chip = only p (holding p v.chip); told = [] }
 
--- a seat takes the ports of another
+-- a seat takes the ports of another, and what was told with that
 abbrev pub chip_together : ChipView → ChipView → ChipView
-chip_together v w = record { ram = together v.ram w.ram; chip = together v.chip w.chip }
+chip_together v w = record { ram = together v.ram w.ram; chip = together v.chip w.chip; told = w.told }
 
 abbrev pub chip_nothing : ChipView
-chip_nothing = record { ram = nothing; chip = nothing }
+chip_nothing = record { ram = nothing; chip = nothing; told = [] }
 
 -- each port has seen this of the chip
 abbrev pub all_seen : ChipHistory → ByPort ChipHistory
@@ -133,4 +138,4 @@ all_seen h = record { if1 = Some h; if2 = Some h; bus = Some h }
 
 -- the view of the first seat
 abbrev pub chip_all_ports : ℕ → ChipView
-chip_all_ports quota = record { ram = all_ports quota; chip = all_seen [] }
+chip_all_ports quota = record { ram = all_ports quota; chip = all_seen []; told = [] }

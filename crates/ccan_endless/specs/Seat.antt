@@ -16,13 +16,15 @@ pub record SeatKnows : Type 0 where
   pub me : Knows
   -- what each port that it holds has seen of the chip
   pub chip : ByPort ChipHistory
+  -- what the last port which left it had seen of the chip
+  pub told : ChipHistory
 
 abbrev pub knows_of : TableId → ℕ → ChipKnows → SeatKnows
-knows_of table id m = record { table_id = table; id = id; me = ram_knows m; chip = m.0.chip }
+knows_of table id m = record { table_id = table; id = id; me = ram_knows m; chip = m.0.chip; told = m.0.told }
 
 -- the same as the words' rule speaks of it
 abbrev pub chip_me : SeatKnows → ChipKnows
-chip_me s = (record { ram = s.me.0; chip = s.chip }, s.me.1)
+chip_me s = (record { ram = s.me.0; chip = s.chip; told = s.told }, s.me.1)
 
 -- what a seat has seen of the message RAM is the part of what it has seen of the chip, which is legal
 abbrev pub IsSeated : ChipView → Type 0

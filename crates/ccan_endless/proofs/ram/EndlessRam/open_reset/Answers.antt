@@ -24,6 +24,7 @@ first : (c : After-set_aside) → (c.set_aside.new.seat.me ≡ (all_ports c.args
 first c =
     let e = c.in_ok-words.ensures in
     reset_done c.in_ok-words.words.profile c.args.quota c.in_ok-words.seat c.set_aside.new.seat c.set_aside.result e.view e.chip
+    e.told
     (subst (λ (k : Controller). SetsController c.in_ok-words.words.profile Bus Reset k (chip_me c.in_ok-words.seat)
     c.set_aside.result (chip_me c.set_aside.new.seat)) c.new-opening.ensures.opened c.set_aside.ensures.told)
 
