@@ -16,10 +16,11 @@ use Rattle.ccan_endless.specs.declared.chip.ControllerStep.TheVariants.{Make}
 use Rattle.ccan_endless.specs.declared.chip.ChipEvent.TheVariants.{OfController}
 use Rattle.ccan_endless.specs.declared.controller_changed.ControllerBusy.{ControllerBusy}
 use Rattle.ccan_endless.specs.declared.controller_changed.ControllerChanged.{ControllerChanged}
-use Rattle.ccan_endless.specs.Chip.{ChipHistory, IsControllerStep, controller_at, ram_of, step_at, steps_of}
+use Rattle.ccan_endless.specs.Chip.{ChipHistory, GoesFrom, IsControllerStep, controller_at, ram_of, step_at, steps_of}
 use Rattle.ccan_endless.specs.ChipPort.{AddsController, AddsNoEvent, AddsNone, ChipPass, HasChanges, SeesOne}
 use Rattle.ccan_endless.specs.Layout.{same_object}
 use Rattle.ccan_registers.specs.ChipSteps.{AtController, Changes, ChipGoes, IsLost, OnObjects, Then, terms_at}
+use Rattle.ccan_registers.specs.Notes.{Heeds}
 use Rattle.ccan_registers.proofs.Histories.{no_events, no_steps, ram_of-append}
 
 -- a port as it stands goes on from itself
@@ -122,6 +123,31 @@ lost old new tries busy none quiet changes found = record {
           changes = subst (HasChanges tries old.whole) is changes.1;
           tries_are = changes.0;
           found = found ∙ ap controller_at is;
+        },
+      );
+}
+
+-- a port that has seen what another told, and made no step
+pub heeded : (old new : ChipPass) (told : ChipHistory) → AddsNone old new → AddsNoEvent old new → GoesFrom new.whole told
+    → ChipGoes old new (λ terms seen added. Heeds terms.port told seen added)
+heeded old new told none quiet heeds = record {
+  same = none.same;
+  each = λ s.
+      let port = old.pass.port in
+      let more = none.part.0 in
+      let is : new.whole ≡ more ++ old.whole = none.part.1 in
+      let ram : new.pass.seen ≡ ram_of (more ++ old.whole) = none.to.ram ∙ ap ram_of is in (
+        more,
+        record { one = none.to; sees = quiet.sees },
+        is,
+        record {
+          none =
+              no_steps port more old.whole
+              (subst (λ (h : ChipHistory). steps_of port h ≡ steps_of port old.whole) is none.own);
+          quiet =
+              no_events port more old.whole
+              (ap (events_of port) (sym ram) ∙ (quiet.own ∙ ap (events_of port) none.from.ram));
+          heeds = subst (λ (h : ChipHistory). GoesFrom h told) is heeds;
         },
       );
 }

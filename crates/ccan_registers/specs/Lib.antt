@@ -5,3 +5,4 @@ pub mod InterfaceSet
 pub mod Register
 pub mod Rounds
 pub mod Resetting
+pub mod Notes

@@ -18,12 +18,15 @@
 //!         \----------\--- EndlessRam ----------/------/
 //! ```
 //!
+//! A port tells another what it has seen by a note (`tell`, `heed`).
+//!
 //! A word of 32 bits (`read_word`, `write_word`) is two registers, one after the other.
 #![tactic(auto)]
 
 mod access_error;
 mod controller;
 mod interface_set;
+mod notes;
 mod objects;
 mod port_holder;
 mod registers;
@@ -34,6 +37,7 @@ mod words;
 pub use access_error::AccessError;
 pub use controller::{change, look};
 pub use interface_set::InterfaceSet;
+pub use notes::{heed, tell};
 pub use objects::{flags, interrupt, peek, transfer, wait};
 pub use port_holder::PortHolder;
 pub use registers::{
