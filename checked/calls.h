@@ -33,6 +33,13 @@ CALL(uint32_t, ccan_save, (ccan_chip *chip, ccan_saved *out), (chip, out), CHIP(
 CALL(uint32_t, ccan_restore, (ccan_chip *chip, const ccan_saved *saved), (chip, saved), CHIP(chip) READS(saved, 1))
 CALL(uint32_t, ccan_reset, (ccan_chip *chip), (chip), CHIP(chip))
 
+/* ---- notes */
+CALL(uint32_t, ccan_tell, (ccan_host *host, ccan_note *note), (host, note), HOST(host) WRITES(note, 1))
+CALL(uint32_t, ccan_bus_tell, (ccan_bus *bus, ccan_note *note), (bus, note), BUS(bus) WRITES(note, 1))
+CALL(uint32_t, ccan_heed, (ccan_host *host, ccan_note *note), (host, note), HOST(host) WRITES(note, 1))
+CALL(uint32_t, ccan_bus_heed, (ccan_bus *bus, ccan_note *note), (bus, note), BUS(bus) WRITES(note, 1))
+CALL(uint32_t, ccan_forget, (ccan_note *note), (note), WRITES(note, 1))
+
 /* ---- registers by their offsets */
 CALL(uint32_t, ccan_read16, (ccan_host *host, uint32_t offset, uint16_t *out), (host, offset, out), HOST(host) WRITES(out, 1))
 CALL(uint32_t, ccan_write16, (ccan_host *host, uint32_t offset, uint16_t value), (host, offset, value), HOST(host))

@@ -26,8 +26,8 @@
  *              another look, come before the choice. ccan_round: what ccan_load does, then the finish, the store or both, and last
  *              the round's event at the controller. ccan_save: a look at the controller and one at each object. ccan_reset: a
  *              change of the controller and one of each object.
- *      none    ccan_set, ccan_get, ccan_meet, ccan_counters of another node; reads and writes of the other registers of an
- *              interface, and writes of registers that can only be read.
+ *      none    ccan_set, ccan_get, ccan_meet, ccan_tell, ccan_heed and the two of the bus, ccan_counters of another node; reads
+ *              and writes of the other registers of an interface, and writes of registers that can only be read.
  *      A word of 32 bits: one, where a read is of two registers of a flag; else those of its two halves, in the order in which
  *      they are read or written.
  *    Between two of a call's places steps of other ports may stand. What ccan_load and ccan_round choose to send is chosen at one
@@ -41,9 +41,9 @@
  *    CCAN_SHARED, and of which number ccan_restore answers for the bytes of a saved chip that it doesn't open. If a call is
  *    refused, that is for each number but CCAN_DONE, CCAN_BUSY, CCAN_SPENT and CCAN_SHARED, handle and output stay as they were.
  * Read off the sources: that a call takes no lock, except those of malloc, realloc and free in ccan_open, ccan_open_reset,
- * ccan_restore and ccan_end; and that a round's event, and the change by which the bus joins, are tried 1000 times, however few
- * tries the chip was opened with. Only tested: that no call but the three that open takes memory, that a call needs at most
- * 16 KiB of stack, that CCAN_SHARED never comes where C keeps its promises, and that this header has the numbers, sizes and
+ * ccan_restore, ccan_end and the calls that are given a note; and that a round's event, and the change by which the bus joins, are tried 1000 times, however few
+ * tries the chip was opened with. Only tested: that no call but the three that open and the two that tell takes memory,
+ * that a call needs at most 16 KiB of stack, that CCAN_SHARED never comes where C keeps its promises, and that this header has the numbers, sizes and
  * offsets of the library.
  * Not proved, and not claimed: how long a call takes, and that a thread is ever run. A look at objects begins anew where another
  * port changed what it looks at meanwhile: one object for ccan_request, ccan_until, ccan_peek and a write of Command Request, any
@@ -68,13 +68,15 @@
  *     while one of them runs, no other of them does on that chip, and no call on one of its handles.
  *  4. Where calls on one handle, or on the whole chip, are made by different threads, C orders them: by the start or the join
  *     of a thread, a mutex, a condition variable or a barrier, or an atomic that is stored and then loaded as seq_cst. So
- *     the opening comes before the first call of a thread that is started after it. A call orders no memory of C's own: what one
- *     thread wrote, another reads only after one of these too.
+ *     the opening comes before the first call of a thread that is started after it. The same orders the calls on one note. A call
+ *     orders no memory of C's own: what one thread wrote, another reads only after one of these too.
  *  5. Each pointer leads to a valid object of its type, none is null, and no two arguments of a call overlap. While a call
  *     runs, nobody else touches what its arguments lead to. A call writes to an output that may have held anything.
  *  6. malloc, realloc and free are of one allocator, whose blocks are aligned to 16. No call is made from a signal handler,
  *     nor in the child of a fork of a process with several threads.
- *  7. A chip that is let go without ccan_end loses its memory.
+ *  7. A chip that is let go without ccan_end loses its memory, and so does a note that is neither heeded nor forgotten.
+ *  8. A ccan_note begins as CCAN_NOTE_EMPTY. C neither reads nor writes its insides, and neither copies nor moves it. Only a
+ *     handle of the chip that told it heeds it, and only until that chip is ended or restored.
  * A call on a closed handle is safe, and so is a second ccan_end: both answer CCAN_CLOSED.
  *
  * The library is built for Linux on x86-64, for processors of x86-64-v2 or later. The asserts below hold the compiler of C to
@@ -166,7 +168,8 @@ enum ccan_code {
     CCAN_OTHER_INTERFACE = 21, /* the register is of IF1 or IF2, and this handle is not that of it */
     CCAN_LAYOUT_RANGE = 22,  /* no layout has this number */
     CCAN_NO_SAVED_CHIP = 23, /* the bytes are no saved chip, or one of a version that this library doesn't know */
-    CCAN_NO_CHIP = 24        /* no chip can be as the bytes say */
+    CCAN_NO_CHIP = 24,       /* no chip can be as the bytes say */
+    CCAN_UNTOLD = 25         /* the note is empty */
 };
 
 /* The text of a code, without an end of line; for another number "no code". This function is not proved. */
@@ -181,7 +184,7 @@ static inline const char *ccan_text(uint32_t code)
         "too many frames", "an identifier or a length is out of range", "no such fault",
         "a sender is none of the other nodes, or sends twice", "no register begins at this offset",
         "the register is of another port's interface", "no such layout", "these bytes are no saved chip",
-        "no chip can be as these bytes say" };
+        "no chip can be as these bytes say", "the note is empty" };
     return code < sizeof texts / sizeof texts[0] ? texts[code] : "no code";
 }
 
@@ -236,6 +239,29 @@ CCAN_CODE ccan_end(ccan_chip *chip, ccan_final *out);
  * from all that was done on the three. For who has the whole chip in one thread and reads by one handle what was written by
  * another. It makes no step of the chip. CCAN_CLOSED where the chip isn't open; else CCAN_DONE. */
 CCAN_CODE ccan_meet(ccan_chip *chip);
+
+/* ---- handing over from one handle to another, in threads of their own */
+
+/* What a handle has told, for another handle of the same chip; or nothing, as each begins. */
+typedef struct { bool ccan_private_full; void *ccan_private_at; } ccan_note;
+CCAN_HOLDS(sizeof(ccan_note) == 16 && offsetof(ccan_note, ccan_private_at) == 8);
+#define CCAN_NOTE_EMPTY { false, NULL }
+
+/* Notes all that the handle's port has seen of the chip, its own steps among it. What the note told before is dropped. No step of
+ * the chip. For two threads that hand something over by a lock of C's own: the one tells before it unlocks, the other heeds after
+ * it has locked.
+ * CCAN_CLOSED where the handle isn't open; CCAN_NO_MEMORY where malloc refused: the note stays as it was. */
+CCAN_CODE ccan_tell(ccan_host *host, ccan_note *note);
+CCAN_CODE ccan_bus_tell(ccan_bus *bus, ccan_note *note);
+
+/* Shows the handle's port what the note tells, and empties the note: each step that the handle makes from now on comes after all
+ * that the teller had done and seen before it told. No step of the chip.
+ * CCAN_CLOSED where the handle isn't open; CCAN_UNTOLD where the note is empty. Then handle and note stay as they were. */
+CCAN_CODE ccan_heed(ccan_host *host, ccan_note *note);
+CCAN_CODE ccan_bus_heed(ccan_bus *bus, ccan_note *note);
+
+/* Empties a note that nobody is to heed, and gives its memory back. An empty one stays empty. Always CCAN_DONE. */
+CCAN_CODE ccan_forget(ccan_note *note);
 
 /* ---- saving, restoring and resetting */
 

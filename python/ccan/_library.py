@@ -52,6 +52,7 @@ class Code(enum.IntEnum):
     LAYOUT_RANGE = 22
     NO_SAVED_CHIP = 23
     NO_CHIP = 24
+    UNTOLD = 25
 
 
 #: The texts of ``ccan_text``, by the numbers of the codes.
@@ -235,6 +236,12 @@ class ccan_bus(ctypes.Structure):
     _fields_ = [("ccan_private_full", c_bool), ("ccan_private_at", c_void_p)]
 
 
+class ccan_note(ctypes.Structure):
+    """What a handle has told another; the package, whose chips are each used by one thread, makes none."""
+
+    _fields_ = [("ccan_private_full", c_bool), ("ccan_private_at", c_void_p)]
+
+
 class ccan_chip(ctypes.Structure):
     """A chip. One that is made here is closed, as ``CCAN_CHIP_CLOSED``: all zero."""
 
@@ -342,6 +349,11 @@ CALLS: Dict[str, List[Any]] = {
     "ccan_open_reset": [_chip, c_uint32, c_uint32, c_uint32, c_uint32],
     "ccan_end": [_chip, POINTER(ccan_final)],
     "ccan_meet": [_chip],
+    "ccan_tell": [_host, POINTER(ccan_note)],
+    "ccan_bus_tell": [_bus, POINTER(ccan_note)],
+    "ccan_heed": [_host, POINTER(ccan_note)],
+    "ccan_bus_heed": [_bus, POINTER(ccan_note)],
+    "ccan_forget": [POINTER(ccan_note)],
     "ccan_save": [_chip, POINTER(ccan_saved)],
     "ccan_restore": [_chip, POINTER(ccan_saved)],
     "ccan_reset": [_chip],

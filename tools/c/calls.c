@@ -770,6 +770,61 @@ static void a_reset_leaves_the_data_of_the_message_ram(void)
     EXPECT(seen.bytes[0] == 0x77);
 }
 
+/* ---- notes */
+
+/* Writes object 5 whole by a host, with this in its first two data bytes. */
+static void writes_object_5(ccan_host *host, uint16_t data)
+{
+    const struct setting settings[] = { { CCAN_CMASK, 0x00f3 }, { CCAN_CTRL, 0x8008 }, { CCAN_DATAA1, data } };
+    set_all(host, settings, COUNT(settings));
+    EXPECT(ccan_request(host, 5) == CCAN_DONE);
+}
+
+static void what_a_host_tells_the_other_heeds(void)
+{
+    ccan_note note = CCAN_NOTE_EMPTY;
+    opened(&chip, 1, 0);
+    writes_object_5(&chip.if1, 0x2211);
+    EXPECT(ccan_heed(&chip.if2, &note) == CCAN_UNTOLD);
+    EXPECT(ccan_tell(&chip.if1, &note) == CCAN_DONE);
+    EXPECT(ccan_heed(&chip.if2, &note) == CCAN_DONE);
+    EXPECT(ccan_heed(&chip.if2, &note) == CCAN_UNTOLD);
+    EXPECT(ccan_set(&chip.if2, CCAN_CMASK, 0x0073) == CCAN_DONE && ccan_request(&chip.if2, 5) == CCAN_DONE);
+    EXPECT(shown(&chip.if2, CCAN_DATAA1) == 0x2211 && shown(&chip.if2, CCAN_CTRL) == 0x8008);
+}
+
+static void what_the_bus_tells_a_host_heeds(void)
+{
+    ccan_note note = CCAN_NOTE_EMPTY;
+    uint64_t word = 0;
+    opened(&chip, 1, 0);
+    EXPECT(ccan_bus_heed(&chip.bus, &note) == CCAN_UNTOLD);
+    EXPECT(ccan_bus_tell(&chip.bus, &note) == CCAN_DONE && ccan_heed(&chip.if1, &note) == CCAN_DONE);
+    writes_object_5(&chip.if1, 0x4433);
+    EXPECT(ccan_tell(&chip.if1, &note) == CCAN_DONE && ccan_bus_heed(&chip.bus, &note) == CCAN_DONE);
+    EXPECT(ccan_bus_flags(&chip.bus, CCAN_MSGVAL, &word) == CCAN_DONE && word == 0);
+    EXPECT(ccan_bus_flags(&chip.bus, CCAN_NEWDAT, &word) == CCAN_DONE && word == 0x10);
+}
+
+static void a_note_is_told_anew_and_forgotten(void)
+{
+    ccan_note note = CCAN_NOTE_EMPTY;
+    opened(&chip, 1, 0);
+    EXPECT(ccan_forget(&note) == CCAN_DONE);
+    EXPECT(ccan_tell(&chip.if1, &note) == CCAN_DONE && ccan_tell(&chip.if2, &note) == CCAN_DONE);
+    EXPECT(ccan_forget(&note) == CCAN_DONE && ccan_heed(&chip.if1, &note) == CCAN_UNTOLD);
+}
+
+static void closed_handles_tell_and_heed_nothing(void)
+{
+    ccan_note note = CCAN_NOTE_EMPTY;
+    EXPECT(ccan_tell(&chip.if1, &note) == CCAN_CLOSED && ccan_bus_tell(&chip.bus, &note) == CCAN_CLOSED);
+    opened(&other, 1, 0);
+    EXPECT(ccan_tell(&other.if1, &note) == CCAN_DONE);
+    EXPECT(ccan_heed(&chip.if1, &note) == CCAN_CLOSED && ccan_bus_heed(&chip.bus, &note) == CCAN_CLOSED);
+    EXPECT(ccan_bus_heed(&other.bus, &note) == CCAN_DONE);
+}
+
 static void the_version_is_that_of_the_header(void) { EXPECT(ccan_version() == CCAN_VERSION); }
 
 /* ---- running them */
@@ -815,6 +870,10 @@ static const struct { const char *name; void (*run)(void); } tests[] = {
     TEST(init_set_and_cleared_drops_what_is_loaded),
     TEST(a_reset_drops_what_is_loaded),
     TEST(a_reset_leaves_the_data_of_the_message_ram),
+    TEST(what_a_host_tells_the_other_heeds),
+    TEST(what_the_bus_tells_a_host_heeds),
+    TEST(a_note_is_told_anew_and_forgotten),
+    TEST(closed_handles_tell_and_heed_nothing),
     TEST(the_version_is_that_of_the_header) };
 
 /* Ends a chip that a test has left open. */

@@ -121,6 +121,25 @@ static bool no_chip_is_refused(ccan_chip *chip)
         && ccan_restore(&closed, &saved) == CCAN_NO_CHIP && !ccan_is_open(&closed) && live == before;
 }
 
+/* A note that is told while memory is refused stays as it was, empty or told; and what was told is given back once it is heeded or
+ * forgotten. */
+static bool notes_keep_their_blocks(ccan_chip *chip)
+{
+    ccan_note note = CCAN_NOTE_EMPTY;
+    long before = live;
+    left = 0;
+    bool refused_empty = ccan_tell(&chip->if1, &note) == CCAN_NO_MEMORY && ccan_heed(&chip->if2, &note) == CCAN_UNTOLD
+        && live == before;
+    left = -1;
+    bool told = ccan_tell(&chip->if1, &note) == CCAN_DONE && live > before;
+    left = 0;
+    bool refused_told = ccan_bus_tell(&chip->bus, &note) == CCAN_NO_MEMORY && live > before;
+    left = -1;
+    return refused_empty && told && refused_told && ccan_heed(&chip->if2, &note) == CCAN_DONE && live == before
+        && ccan_bus_tell(&chip->bus, &note) == CCAN_DONE && ccan_tell(&chip->if1, &note) == CCAN_DONE
+        && ccan_forget(&note) == CCAN_DONE && live == before;
+}
+
 int main(void)
 {
     static ccan_final last;
@@ -141,6 +160,10 @@ int main(void)
     }
     if (!no_chip_is_refused(chip)) {
         printf("a chip that can't be: %ld blocks instead of %ld\n", live, blocks);
+        return 1;
+    }
+    if (!notes_keep_their_blocks(chip)) {
+        printf("a note: %ld blocks instead of %ld, or another code\n", live, blocks);
         return 1;
     }
     left = 0;

@@ -16,6 +16,7 @@ static ccan_record record;
 static ccan_loaded loaded;
 static ccan_outcome outcome;
 static ccan_counts counts;
+static ccan_note note = CCAN_NOTE_EMPTY;
 static uint16_t value;
 static uint32_t number;
 static uint64_t word;
@@ -23,6 +24,8 @@ static uint64_t word;
 static uint32_t nothing(void) { return CCAN_DONE; }
 static uint32_t open_chip(void) { return ccan_open(&chip, 2, 1, 3); }
 static uint32_t meet(void) { return ccan_meet(&chip); }
+static uint32_t tell(void) { return ccan_tell(&chip.if1, &note) | ccan_heed(&chip.if2, &note); }
+static uint32_t bus_tell(void) { return ccan_bus_tell(&chip.bus, &note) | ccan_forget(&note); }
 
 /* Writes an object whole: Arbitration 2 and Message Control. */
 static uint32_t write(uint16_t object, uint16_t arb2, uint16_t control)
@@ -68,7 +71,7 @@ static uint32_t bus_registers(void)
 static uint32_t end(void) { return ccan_end(&chip, &last); }
 
 static const struct { const char *name; uint32_t (*call)(void); } calls[] = {
-    { "nothing", nothing }, { "open", open_chip }, { "meet", meet }, { "request", receiver }, { "request to send", sender },
+    { "nothing", nothing }, { "open", open_chip }, { "meet", meet }, { "tell", tell }, { "bus tell", bus_tell }, { "request", receiver }, { "request to send", sender },
     { "flags", host_flags }, { "interrupt", host_interrupt }, { "peek", peek }, { "until", wait_for_flag },
     { "round, received", round_received }, { "load", load }, { "round, sent", round_sent }, { "round, looped", round_looped },
     { "status", status }, { "control", control }, { "recessive", recessive }, { "bus flags", bus_flags },

@@ -34,6 +34,11 @@ on_known o x P Q known h = subst (λ z. MatchOption z P Q) known h
 pub on_unknown : {X : Type 0} (o : Option X) (P : Type 0) (Q : X → Type 0) → None ≡ o → P → MatchOption o P Q
 on_unknown o P Q unknown h = subst (λ z. MatchOption z P Q) unknown h
 
+-- where there is nothing, there is none
+pub none_there : {X : Type 0} (o : Option X) → is_some o ≡ false → None ≡ o
+none_there None empty = refl
+none_there (Some x) empty = absurd (let wrong : true ≡ false = empty in cc)
+
 -- a test that was passed
 pub on_true : (b : Bool) (P Q : Type 0) → b ≡ true → P → MatchBool b P Q
 on_true b P Q passed h = subst (λ z. MatchBool z P Q) (sym passed) h

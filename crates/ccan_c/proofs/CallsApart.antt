@@ -474,6 +474,8 @@ module _ (terms : Terms) (tries : ℕ) (some : 1 ≤ tries) where
         (told, writes_word_apart layout offset value own left seen added told alone h, code)
     host_call_apart (host.line result out) own left (code, (pulls, is, h), keeps) =
         (code, (pulls, is, line_apart pulls seen added alone h), keeps)
+    host_call_apart (host.tell note result) own left h = h
+    host_call_apart (host.heed note result) own left h = h
 
     loops_apart : (on : Bool) (result : ℕ) → LoopsBack terms tries on seen added result
         → LoopsBack single tries on seen added result
@@ -533,3 +535,5 @@ module _ (terms : Terms) (tries : ℕ) (some : 1 ≤ tries) where
         (own, (told, writes_word_apart layout offset value own own seen added told alone h, code), is)
     bus_call_apart nodes (bus.line result out) past after (code, (pulls, is, h), keeps) =
         (code, (pulls, is, line_apart pulls seen added alone h), keeps)
+    bus_call_apart nodes (bus.tell note result) past after h = h
+    bus_call_apart nodes (bus.heed note result) past after h = h

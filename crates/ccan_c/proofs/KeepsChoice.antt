@@ -165,3 +165,7 @@ calls_keep terms tries nodes layout (bus.write16 offset value result) past after
 calls_keep terms tries nodes layout (bus.read32 offset result out) past after seen added h = same_choice after past h.2
 calls_keep terms tries nodes layout (bus.write32 offset value result) past after seen added h = same_choice after past h.2
 calls_keep terms tries nodes layout (bus.line result out) past after seen added h = same_choice after past h.2
+calls_keep terms tries nodes layout (bus.tell note result) past after seen added (inl (told, h)) = same_choice after past h.leaves
+calls_keep terms tries nodes layout (bus.tell note result) past after seen added (inr h) = same_choice after past h.leaves
+calls_keep terms tries nodes layout (bus.heed None result) past after seen added h = same_choice after past h.leaves
+calls_keep terms tries nodes layout (bus.heed (Some told) result) past after seen added h = same_choice after past h.2

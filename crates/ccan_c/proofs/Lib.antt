@@ -1,4 +1,5 @@
 pub mod AsBox
+pub mod AsNoteBox
 pub mod Calls
 pub mod Chips
 pub mod OwnEvents

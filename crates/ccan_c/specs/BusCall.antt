@@ -18,6 +18,7 @@ use Rattle.ccan_endless.specs.declared.chip.ControllerStep.TheVariants.{Look}
 use Rattle.ccan_endless.specs.declared.controller_changed.ControllerBusy.{ControllerBusy}
 use Rattle.ccan_endless.specs.declared.controller_changed.ControllerChanged.{ControllerChanged}
 use Rattle.ccan_endless.specs.Chip.{ChipHistory}
+use Rattle.ccan_endless.specs.Note.{Told}
 use Rattle.ccan_line.specs.declared.line_answer.LineAnswer.TheVariants as answer
 use Rattle.ccan_line.specs.Limits.{most_frames, most_groups}
 use Rattle.ccan_map.specs.declared.map.Map.{Map}
@@ -40,6 +41,7 @@ use Rattle.ccan_c.specs.Held.{IsOpenAs, WorksAsBefore, port_of}
 use Rattle.ccan_c.specs.Host.{flag_numbered, number_of}
 use Rattle.ccan_c.specs.HostCall.{IsRead, ReadsAtOffset, ReadsWordAtOffset, WritesAtOffset, WritesWordAtOffset, code_of_access}
 use Rattle.ccan_c.specs.Load.{c_load}
+use Rattle.ccan_c.specs.Note.{HeedsNote, Tells}
 use Rattle.ccan_c.specs.Outcome.{c_outcome, code_of_round}
 use Rattle.ccan_c.specs.Round.{IsRound, fault_numbered, is_frame, sending_of}
 use Rattle.ccan_c.specs.Settings.{is_from_one_to}
@@ -62,6 +64,10 @@ pub data BusCall : Type 0 where
   read32 : ℕ → ℕ → ℕ → BusCall
   write32 : ℕ → ℕ → ℕ → BusCall
   line : ℕ → ℕ → BusCall
+  -- with the note as the call left it
+  tell : Option Told → ℕ → BusCall
+  -- with the note as the call found it
+  heed : Option Told → ℕ → BusCall
 
 -- the code that it got
 abbrev pub code_got : BusCall → ℕ
@@ -80,6 +86,8 @@ code_got (write16 offset value result) = result
 code_got (read32 offset result out) = result
 code_got (write32 offset value result) = result
 code_got (line result out) = result
+code_got (tell _ result) = result
+code_got (heed _ result) = result
 
 -- ---- the controller
 
@@ -191,6 +199,8 @@ BusCallMeans terms tries nodes map (write32 offset value result) past seen added
     (own : InterfaceSet) × WritesWordAtOffset terms tries map offset value own seen added result own × (after ≡ past)
 BusCallMeans terms tries nodes map (line result out) past seen added after =
     (result ≡ done) × ((pulls : Bool) × (out ≡ number_of pulls) × PullsLine terms seen added pulls) × (after ≡ past)
+BusCallMeans terms tries nodes map (tell note result) past seen added after = Tells note past seen added result after
+BusCallMeans terms tries nodes map (heed note result) past seen added after = HeedsNote terms note past seen added result after
 
 -- a call on an open handle: each past that may have led to the bus goes on to one that may have led to it afterwards, what its
 -- port had seen goes on by what the call stands for, and all else of the handle stays

@@ -73,3 +73,6 @@ no_saved_chip = 23
 
 abbrev pub no_chip : ℕ
 no_chip = 24
+
+abbrev pub untold : ℕ
+untold = 25

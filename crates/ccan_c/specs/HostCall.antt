@@ -9,6 +9,7 @@ use Rattle.ccan_ram.specs.Terms.{Terms}
 use Rattle.ccan_line.specs.declared.line_answer.LineAnswer.{LineAnswer}
 use Rattle.ccan_line.specs.Limits.{most_turns}
 use Rattle.ccan_endless.specs.Chip.{ChipHistory}
+use Rattle.ccan_endless.specs.Note.{Told}
 use Rattle.ccan_map.specs.declared.map.Map.{Map}
 use Rattle.ccan_registers.specs.declared.access_error.AccessError.{AccessError}
 use Rattle.ccan_registers.specs.declared.access_error.AccessError.TheVariants as why
@@ -24,6 +25,7 @@ use Rattle.ccan_c.specs.Call.{IsCall}
 use Rattle.ccan_c.specs.Codes.{done, busy, spent, register_range, object_range, flag_range, turns_range, offset_range, other_interface}
 use Rattle.ccan_c.specs.Held.{IsOpenAs, WorksAsBefore, port_of}
 use Rattle.ccan_c.specs.Host.{register_numbered, flag_numbered, is_object, number_of}
+use Rattle.ccan_c.specs.Note.{HeedsNote, Tells}
 use Rattle.ccan_c.specs.Record.{c_record}
 use Rattle.ccan_c.specs.Settings.{is_from_one_to}
 use Rattle.ccan_c.specs.Step.{Rests}
@@ -42,6 +44,10 @@ pub data HostCall : Type 0 where
   read32 : ℕ → ℕ → ℕ → HostCall
   write32 : ℕ → ℕ → ℕ → HostCall
   line : ℕ → ℕ → HostCall
+  -- with the note as the call left it
+  tell : Option Told → ℕ → HostCall
+  -- with the note as the call found it
+  heed : Option Told → ℕ → HostCall
 
 -- the code that it got
 abbrev pub code_got : HostCall → ℕ
@@ -57,6 +63,8 @@ code_got (write16 offset value result) = result
 code_got (read32 offset result out) = result
 code_got (write32 offset value result) = result
 code_got (line result out) = result
+code_got (tell _ result) = result
+code_got (heed _ result) = result
 
 -- ---- registers by their offsets
 
@@ -163,6 +171,8 @@ HostCallMeans terms tries map (write32 offset value result) own seen added left 
     WritesWordAtOffset terms tries map offset value own seen added result left
 HostCallMeans terms tries map (line result out) own seen added left =
     (result ≡ done) × ((pulls : Bool) × (out ≡ number_of pulls) × PullsLine terms seen added pulls) × (left ≡ own)
+HostCallMeans terms tries map (tell note result) own seen added left = Tells note own seen added result left
+HostCallMeans terms tries map (heed note result) own seen added left = HeedsNote terms note own seen added result left
 
 -- a call on an open handle: what its port had seen goes on by what the call stands for, the interface registers are what it
 -- leaves, and all else of the handle stays

@@ -19,6 +19,7 @@ pub mod Load
 pub mod Round
 pub mod Steps
 pub mod Step
+pub mod Note
 pub mod HostCall
 pub mod BusCall
 pub mod Threads

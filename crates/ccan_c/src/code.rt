@@ -56,6 +56,9 @@ pub const NO_SAVED_CHIP: u32 = 23;
 /// No chip can be as the bytes say.
 pub const NO_CHIP: u32 = 24;
 
+/// The note tells nothing.
+pub const UNTOLD: u32 = 25;
+
 /// Busy or spent where a step of the memory was, else done.
 pub(crate) fn code_of(answer: &LineAnswer) -> u32
     ensures { result ≡ code_of answer.now }

@@ -30,6 +30,7 @@ mod host_handle;
 mod host_lines;
 pub mod laws;
 mod meeting;
+mod note_handle;
 mod numbers;
 mod offer;
 mod opening;
@@ -45,6 +46,7 @@ mod shown_frame;
 mod shown_load;
 mod shown_outcome;
 mod shown_record;
+mod telling;
 mod version;
 
 pub use bus::{
@@ -62,6 +64,7 @@ pub use host::{
 };
 pub use host_handle::HostHandle;
 pub use meeting::ccan_meet;
+pub use note_handle::{NoteHandle, notes_may_cross};
 pub use numbers::{flag_numbered, register_numbered};
 pub use offer::{Offer, fault_numbered};
 pub use opening::{ccan_is_open, ccan_open, ccan_open_reset};
@@ -75,4 +78,5 @@ pub use shown_frame::ShownFrame;
 pub use shown_load::ShownLoad;
 pub use shown_outcome::{NO_NODE, NOT_NOTED, ShownOutcome, step_number};
 pub use shown_record::ShownRecord;
+pub use telling::{ccan_bus_heed, ccan_bus_tell, ccan_forget, ccan_heed, ccan_tell};
 pub use version::ccan_version;

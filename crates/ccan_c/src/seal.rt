@@ -5,7 +5,10 @@ ghost use Rattle.std.specs.Coded.{coded_option};
 ghost use Rattle.ccan_c.specs.declared.held.Held.{Held as Inner};
 ghost use Rattle.ccan_c.specs.Seals.{seal_owns, held_coded};
 
+mod note;
 mod parts;
+
+pub use note::NoteSeal;
 
 use crate::held::Held;
 use parts::Parts;

@@ -8,8 +8,9 @@ use super::calls::{
 use crate::expect::{holds, same};
 use ccan_bus::LoadAnswer;
 use ccan_c::{
-    BusHandle, Chip, HostHandle, Offer, SavedChip, ShownCounters, ShownFinal, ShownFrame,
-    ShownLoad, ShownOutcome, ShownRecord, ccan_request, ccan_set,
+    BusHandle, Chip, HostHandle, NoteHandle, Offer, SavedChip, ShownCounters, ShownFinal,
+    ShownFrame, ShownLoad, ShownOutcome, ShownRecord, ccan_bus_heed, ccan_bus_tell, ccan_forget,
+    ccan_heed, ccan_request, ccan_set, ccan_tell,
 };
 use ccan_object::Record;
 use std::process::Abort;
@@ -113,6 +114,32 @@ fn the_ports_of_a_chip_meet(rt: HostRuntime) {
     same(&rt, bus_flags(&mut chip.bus, 0, &mut word), 0);
     same(&rt, word, 0x10);
     same(&rt, shown(&rt, &mut chip.if1, 5), 0x8000);
+}
+
+/// What one handle tells another, `tools/c/calls.c` tries.
+#[test]
+fn a_host_tells_and_heeds(rt: HostRuntime) {
+    let alloc = rt.alloc();
+    let mut chip = opened(&rt, alloc, 1, 0);
+    let mut note = NoteHandle::empty(alloc);
+    let told = ccan_tell(alloc, &mut chip.if1, &mut note);
+    same(&rt, told, 0);
+    if told == 0 {
+        same(&rt, ccan_heed(alloc, &mut chip.if1, &mut note), 0);
+    }
+}
+
+#[test]
+fn the_bus_tells_and_heeds(rt: HostRuntime) {
+    let alloc = rt.alloc();
+    let mut chip = opened(&rt, alloc, 1, 0);
+    let mut note = NoteHandle::empty(alloc);
+    let told = ccan_bus_tell(alloc, &mut chip.bus, &mut note);
+    same(&rt, told, 0);
+    if told == 0 {
+        same(&rt, ccan_bus_heed(alloc, &mut chip.bus, &mut note), 0);
+    }
+    same(&rt, ccan_forget(alloc, &mut note), 0);
 }
 
 /// The frame 0x123 with two bytes, from a node.
@@ -452,6 +479,7 @@ fn a_reset_clears_four_flags_of_an_object(rt: HostRuntime) {
 #[test]
 fn laws_hold() {
     ccan_c::handles_may_cross();
+    ccan_c::notes_may_cross();
     ccan_c::laws::calls_keep_the_choice();
     ccan_c::laws::calls_fit_one_history();
     ccan_c::laws::turns_run_in_order();

@@ -3,7 +3,7 @@
 use crate::expect::same;
 use ccan_bus::{Fault, LoadAnswer, MemoryStep, RoundAnswer, RoundEnd, RoundReport};
 use ccan_c::{
-    BusHandle, Chip, HostHandle, NO_NODE, NOT_NOTED, Offer, SavedChip, ShownCounters, ShownFinal,
+    BusHandle, Chip, HostHandle, NO_NODE, NOT_NOTED, NoteHandle, Offer, SavedChip, ShownCounters, ShownFinal,
     ShownFrame, ShownLoad, ShownOutcome, ShownRecord, ccan_version, code, fault_numbered,
     flag_numbered, map_numbered, register_numbered, state_number, step_number,
 };
@@ -49,6 +49,7 @@ fn codes_of_registers(rt: HostRuntime) {
     same(&rt, code::MAP_RANGE, 22); // CCAN_LAYOUT_RANGE
     same(&rt, code::NO_SAVED_CHIP, 23); // CCAN_NO_SAVED_CHIP
     same(&rt, code::NO_CHIP, 24); // CCAN_NO_CHIP
+    same(&rt, code::UNTOLD, 25); // CCAN_UNTOLD
 }
 
 /// The number of a layout, 77 where it has none.
@@ -288,6 +289,7 @@ fn steps_of_rounds(rt: HostRuntime) {
 fn sizes(rt: HostRuntime) {
     same(&rt, size_of::<HostHandle>(), 16); // sizeof(ccan_host)
     same(&rt, size_of::<BusHandle>(), 16); // sizeof(ccan_bus)
+    same(&rt, size_of::<NoteHandle>(), 16); // sizeof(ccan_note)
     same(&rt, size_of::<Chip>(), 272); // sizeof(ccan_chip)
     same(&rt, size_of::<ShownRecord>(), 20); // sizeof(ccan_record)
     same(&rt, size_of::<ShownFinal>(), 1284); // sizeof(ccan_final)
