@@ -65,7 +65,7 @@ TEXTS: Tuple[str, ...] = (
     "too many frames", "an identifier or a length is out of range", "no such fault",
     "a sender is none of the other nodes, or sends twice", "no register begins at this offset",
     "the register is of another port's interface", "no such layout", "these bytes are no saved chip",
-    "no chip can be as these bytes say",
+    "no chip can be as these bytes say", "the note is empty",
 )  # fmt: skip
 
 
@@ -323,6 +323,7 @@ class ccan_counts(ctypes.Structure):
 LAYOUT: Dict[Type[ctypes.Structure], Tuple[int, Dict[str, int]]] = {
     ccan_host: (16, {"ccan_private_at": 8}),
     ccan_bus: (16, {"ccan_private_at": 8}),
+    ccan_note: (16, {"ccan_private_at": 8}),
     ccan_chip: (272, {"if2": 128, "bus": 256}),
     ccan_record: (20, {"arbitration": 4, "control": 8, "bytes": 10}),
     ccan_final: (1284, {"records": 4}),
