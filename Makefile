@@ -1,9 +1,10 @@
 # `make` alone prints this list. The times are of four processors, the first time and later.
 SCRIPT ?= examples/first_write.json
 PREFIX ?= /usr/local
-export SCRIPT PREFIX
+EARLIER ?=
+export SCRIPT PREFIX EARLIER
 
-.PHONY: help run try examples prove wrong test install bench sweep hostile soak c-test c-wrong python-test schema clean
+.PHONY: help run try examples prove wrong test install dist dist-test bench sweep hostile soak c-test c-wrong python-test schema clean
 
 help:
 	@tools/targets
@@ -31,6 +32,12 @@ test:
 
 install:
 	@tools/install "$$PREFIX"
+
+dist:
+	@tools/dist $${EARLIER:+"$$EARLIER"}
+
+dist-test:
+	tools/check_dist
 
 bench:
 	@tools/bench

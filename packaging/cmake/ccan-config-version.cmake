@@ -1,0 +1,21 @@
+# Which versions serve who asks for one: while the first number is 0, those with the same second number, and later ones with the
+# same first number afterwards.
+set(PACKAGE_VERSION "@VERSION@")
+set(PACKAGE_VERSION_EXACT FALSE)
+set(PACKAGE_VERSION_COMPATIBLE FALSE)
+string(REGEX MATCH "^[0-9]+" _ccan_major "${PACKAGE_VERSION}")
+string(REGEX MATCH "^[0-9]+\\.[0-9]+" _ccan_short "${PACKAGE_VERSION}")
+if(PACKAGE_FIND_VERSION VERSION_EQUAL PACKAGE_VERSION)
+    set(PACKAGE_VERSION_EXACT TRUE)
+    set(PACKAGE_VERSION_COMPATIBLE TRUE)
+elseif(PACKAGE_FIND_VERSION VERSION_LESS PACKAGE_VERSION AND PACKAGE_FIND_VERSION_MAJOR EQUAL _ccan_major)
+    if(_ccan_major GREATER 0 OR _ccan_short VERSION_EQUAL "${PACKAGE_FIND_VERSION_MAJOR}.${PACKAGE_FIND_VERSION_MINOR}")
+        set(PACKAGE_VERSION_COMPATIBLE TRUE)
+    endif()
+endif()
+if(NOT CMAKE_SIZEOF_VOID_P STREQUAL "" AND NOT CMAKE_SIZEOF_VOID_P EQUAL 8)
+    # The library is for x86-64.
+    set(PACKAGE_VERSION_UNSUITABLE TRUE)
+endif()
+unset(_ccan_major)
+unset(_ccan_short)
