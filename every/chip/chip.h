@@ -1,0 +1,101 @@
+/* A C_CAN of one thread, whose calls are those of ccan.h, made of steps: each place of a call in the chip's history is a step. */
+#ifndef CHIP_H
+#define CHIP_H
+#include "../../include/ccan.h"
+#include "../explorer.h"
+#include <string.h>
+
+enum {
+    NEWDAT = 0x8000, MSGLST = 0x4000, INTPND = 0x2000, UMASK = 0x1000, TXIE = 0x0800, RXIE = 0x0400, RMTEN = 0x0200, TXRQST = 0x0100,
+    EOB = 0x0080, DLC = 0x000f
+};
+enum { IDENTIFIER = 0x1fffffff, STANDARD = 0x1ffc0000, DIR = 1 << 29, XTD = 1 << 30, MDIR = 1 << 30 };
+#define MSGVAL 0x80000000u
+#define MXTD 0x80000000u
+enum { INIT = 0x01, IE = 0x02, SIE = 0x04, EIE = 0x08, CCE = 0x40, TEST = 0x80 };  /* in Control */
+enum { LBACK = 0x10 };                                                            /* in Test */
+
+/* Parts of the controller: bits of ROW_CONTROLLER. */
+enum {
+    PART_INIT = 1, PART_IE = 2, PART_ENABLES = 4, PART_CONTROL = 8, PART_FLAGS = 16, PART_PENDING = 32, PART_COUNTERS = 64,
+    PART_TIMING = 128, PART_EXTENSION = 256, PART_TEST = 512, PART_LEFT = 1024
+};
+
+/* A node's error counters. */
+typedef struct { uint16_t tec, rec; uint32_t groups; bool init_cleared; } counters;
+
+typedef struct {
+    uint16_t control, timing, extension, test;
+    uint8_t flags;    /* RxOk 4, TxOk 3, LEC 2 to 0 */
+    uint8_t pending;  /* status interrupts: 1 a transfer or an error, 2 a change of BOff or EWarn */
+    bool has_left;    /* Init was 1 since the bus joined the controller last */
+    counters counters;
+} controller;
+
+/* The registers of IF1 or IF2. */
+typedef struct { uint16_t mask, request; ccan_record buffer; } interface;
+
+typedef struct {
+    ccan_record records[64];
+    interface interfaces[2];
+    controller controller;
+    counters nodes[9];    /* from 1 on */
+    uint32_t loaded;      /* the object whose frame is loaded, 0 none */
+    ccan_record held;     /* its record at its start */
+    uint32_t objects, others, tries, layout;
+    bool is_open;
+} chip;
+extern chip *the_chip;
+#define C (*the_chip)
+
+/* chip.c */
+uint64_t all_objects(void);
+uint64_t up_to_first_pending(void);
+unsigned first_pending(void);
+void step_at_object(unsigned object, bool changes);
+void read_object(unsigned object, unsigned rows);
+void changed_object(unsigned object, const ccan_record *before);
+void step_at_objects(unsigned rows, uint64_t which);
+void step_at_controller(uint64_t reads, uint64_t writes);
+void changed_controller(const controller *before);
+void step_at_interface(unsigned side, uint64_t reads, uint64_t writes);
+enum { ALL_ROWS = (1 << ROW_CONTROLLER) - 1 };
+const char *flags_changed(const ccan_record *before, const ccan_record *now);
+
+/* controller.c */
+bool is_off(const counters *of);
+uint32_t state_of(const counters *of);
+enum counted { COUNT_NONE, COUNT_SENT, COUNT_RECEIVED, COUNT_SEND_FAULT, COUNT_NO_ACK, COUNT_RECEIVE_FAULT };
+void count(counters *of, enum counted what);
+void let_groups_pass(counters *of, uint32_t groups, bool is_host);
+uint8_t levels_of(const counters *of);
+bool shows_status(void);
+uint16_t status_word(void);
+uint16_t error_counter_word(void);
+void set_control(uint16_t value);
+void reset_controller(void);
+
+/* frames.c */
+typedef struct { uint32_t id; bool xtd, rtr; uint8_t dlc, bytes[8]; } frame;
+frame frame_of(const ccan_record *record);
+frame frame_of_offer(const ccan_offer *offer);
+bool accepts(const ccan_record *record, const frame *of);
+ccan_record stored(const ccan_record *record, const frame *of);
+bool is_ready(const ccan_record *record);
+uint32_t arbitration_key(const frame *of);
+const char *text_of(const frame *of);
+
+/* host.c and registers.c */
+unsigned side_of(const ccan_host *host);
+uint16_t get_register(unsigned side, uint32_t reg);
+void set_register(unsigned side, uint32_t reg, uint16_t value);
+void transfer(unsigned side, uint16_t request);
+uint64_t flags_now(uint32_t flag, uint64_t which);
+uint16_t pending_object(void);
+bool shows_flag(const ccan_record *record, uint32_t flag);
+unsigned row_of_flag(uint32_t flag);
+extern const char *const flag_names[5];
+uint16_t read_interrupt(void);
+bool read_line(void);
+uint16_t read_status(void);
+#endif

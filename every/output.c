@@ -1,0 +1,215 @@
+/* What the user reads: the summary, the histories, progress; and the replay of one history. */
+#include "explorer.h"
+#include <sys/syscall.h>
+#include <unistd.h>
+
+enum { COLUMN = 4, NAME = 12, MOST_SEGMENTS = MOST_DEPTH };
+
+/* ---- the program's own output */
+
+static ssize_t take_output(void *unused, const char *text, size_t size)
+{
+    enum { TEXT_BYTES = 1 << 20 };
+    (void)unused;
+    if (R.printed + size > TEXT_BYTES)
+        ccan_fail("the program prints more than a megabyte");
+    copy_bytes(E->text + R.printed, text, size);
+    R.printed += size;
+    return (ssize_t)size;
+}
+
+static FILE *opened_output(void)
+{
+    FILE *made = fopencookie(NULL, "w", (cookie_io_functions_t){ .write = take_output });
+    setvbuf(made, NULL, _IONBF, 0);
+    return made;
+}
+
+void begin_output(void)
+{
+    E->real_out = stdout;
+    stdout = opened_output();
+    stderr = opened_output();
+}
+
+/* ---- histories */
+
+/* A history by its segments: so many places of one thread; and by the ways that were taken. */
+typedef struct { uint8_t thread; uint64_t places; } segment;
+static struct { segment segments[MOST_SEGMENTS]; int count; uint8_t ways[MOST_DEPTH]; int way_count; int step; FILE *to; size_t shown; } *H;
+
+static void print_head(void) { fprintf(H->to, "%6d  %-*s%*s", H->step, NAME, ME->name, COLUMN * R.me, ""); }
+
+void tell_line(const char *format, ...)
+{
+    va_list arguments;
+    if (!H->to || R.alone)
+        return;
+    bool was_running = E->running;
+    E->running = false;
+    print_head();
+    va_start(arguments, format);
+    vfprintf(H->to, format, arguments);
+    va_end(arguments);
+    fputc('\n', H->to);
+    E->running = was_running;
+}
+
+/* What the program printed in the last step. */
+static void tell_printed(void)
+{
+    if (H->to && R.printed > H->shown) {
+        print_head();
+        fprintf(H->to, "prints %.*s%s", (int)(R.printed - H->shown), E->text + H->shown, E->text[R.printed - 1] == '\n' ? "" : "\n");
+    }
+    H->shown = R.printed;
+}
+
+static void note_segment(int number, uint64_t places)
+{
+    segment *last = H->count ? &H->segments[H->count - 1] : NULL;
+    if (last && last->thread == number)
+        last->places += places;
+    else if (H->count < MOST_SEGMENTS)
+        H->segments[H->count++] = (segment){ (uint8_t)number, places };
+}
+
+static void begin_history(FILE *to)
+{
+    if (!H)
+        H = own_memory(sizeof *H);
+    H->count = H->way_count = H->step = 0;
+    H->shown = 0;
+    H->to = to;
+    E->telling = true;
+    restart_program();
+    H->shown = R.printed;
+}
+
+void run_again(const choice *path, int depth, FILE *to)
+{
+    begin_history(to);
+    note_segment(0, R.threads[0].fine);
+    for (int at = 0; at < depth && E->ending == GOES_ON; at++) {
+        footprint event;
+        thread *of = &R.threads[path[at].thread];
+        uint64_t before = of->fine;
+        H->step = at + 1;
+        if (of->alternatives > 1)
+            H->ways[H->way_count++] = path[at].alternative;
+        make_step(path[at].thread, path[at].alternative, &event);
+        note_segment(path[at].thread, of->fine - before);
+        tell_printed();
+    }
+    E->telling = false;
+}
+
+/* The history as a word, for --replay: letters for threads, each with its places, and =N for each way that is taken. */
+void print_replay(FILE *to)
+{
+    fprintf(to, "replay: --every --replay ");
+    for (int i = 0; i < H->count; i++)
+        fprintf(to, "%c%llu", 'a' + H->segments[i].thread, (unsigned long long)H->segments[i].places);
+    for (int i = 0; i < H->way_count; i++)
+        fprintf(to, "=%u", H->ways[i]);
+    fprintf(to, "\n");
+}
+
+static uint64_t number_in(const char **text)
+{
+    uint64_t number = 0;
+    for (; **text >= '0' && **text <= '9'; ++*text)
+        number = number * 10 + (uint64_t)(**text - '0');
+    return number;
+}
+
+static void read_replay(const char *text)
+{
+    while (*text >= 'a' && *text < 'a' + MOST_THREADS) {
+        uint8_t number = (uint8_t)(*text++ - 'a');
+        note_segment(number, number_in(&text));
+    }
+    while (*text == '=') {
+        text++;
+        H->ways[H->way_count++] = (uint8_t)number_in(&text);
+    }
+    if (*text)
+        stop(2, "this is no history: %s", text);
+    H->way_count = 0;
+}
+
+uint32_t next_replayed_choice(uint32_t alternatives)
+{
+    uint32_t way = H->ways[H->way_count++];
+    if (way >= alternatives)
+        stop(2, "the history is of another program");
+    return way;
+}
+
+/* Runs one history, and says how it ended. */
+void replay(const char *text)
+{
+    footprint event = { 0 };
+    H = own_memory(sizeof *H);
+    read_replay(text);
+    E->replaying = true;
+    E->telling = true;
+    H->to = E->real_out;
+    E->replay_until = H->segments[0].places;
+    restart_program();
+    for (int i = 1; i < H->count && E->ending == GOES_ON && !R.threads[0].is_done; i++) {
+        int number = H->segments[i].thread;
+        if (number >= R.count || R.threads[number].is_done)
+            stop(2, "the history is of another program");
+        H->step = i;
+        E->replay_until = R.threads[number].fine + H->segments[i].places;
+        make_step(number, 0, &event);
+        tell_printed();
+    }
+    fprintf(E->real_out, "%.*s%s\n", (int)R.printed, E->text, E->ending == FAILED ? E->failure : "the schedule ends");
+    fflush(E->real_out);
+}
+
+/* ---- the summary */
+
+static void print_counting(FILE *to)
+{
+    uintptr_t *sites;
+    int count = counting_sites(&sites);
+    for (int i = 0; i < count; i++)
+        fprintf(to, "note: the loop that waits at %s counts its turns; the search leaves that count as it was\n", line_of_code(sites[i]));
+}
+
+void print_result(void)
+{
+    const figures *of = &E->figures;
+    FILE *to = E->real_out;
+    print_outcomes(to);
+    fputc('\n', to);
+    print_races(to);
+    print_counting(to);
+    if (of->whole && !outcomes_found())
+        fprintf(to, "warning: no schedule comes to its end\n");
+    fprintf(to, "%s: %llu states, %d outcome%s, %llu failure%s, %d shared word%s, longest schedule %llu steps, %.1f s\n",
+        of->whole ? "whole" : "given up", (unsigned long long)of->states, outcomes_found(), outcomes_found() == 1 ? "" : "s",
+        (unsigned long long)failures_found(), failures_found() == 1 ? "" : "s", words_shared(), words_shared() == 1 ? "" : "s",
+        (unsigned long long)of->longest, of->seconds);
+    fprintf(to, "The chip's steps and this search are tested, and not proved.\n");
+    fflush(to);
+}
+
+void show_progress(bool last)
+{
+    static const char *const clear = "\r\033[K";
+    double now;
+    if (!E->options.progress || (!last && E->figures.runs % 512) || (!last && (now = seconds_now()) < E->next_progress))
+        return;
+    char line[160];
+    int length = last ? snprintf(line, sizeof line, "%s", clear) :
+        snprintf(line, sizeof line, "%s%llu states, %llu runs, %d outcomes, %llu failures, %.0f s", clear,
+            (unsigned long long)E->figures.states, (unsigned long long)E->figures.runs, outcomes_found(),
+            (unsigned long long)failures_found(), now - E->figures.seconds);
+    E->next_progress = last ? 0 : now + 0.5;
+    if (syscall(SYS_write, 2, line, (size_t)length) < 0)
+        E->options.progress = false;
+}
