@@ -90,7 +90,8 @@ void hash_bytes(uint64_t key[2], const void *at, size_t size)
 static void hash_thread(uint64_t key[2], const thread *of)
 {
     uint64_t bits = (uint64_t)of->is_done | (uint64_t)of->waits_for_quiet << 1 | (uint64_t)of->is_idle << 2 |
-        (uint64_t)of->at_wait << 3 | (uint64_t)of->may_stay << 4 | (uint64_t)of->cpu << 8 | (uint64_t)of->alternatives << 16;
+        (uint64_t)of->at_wait << 3 | (uint64_t)of->may_stay << 4 | (uint64_t)of->is_counting << 5 |
+        (uint64_t)of->counts_on << 6 | (uint64_t)of->cpu << 8 | (uint64_t)of->alternatives << 16;
     hash_two(key, bits, (uint64_t)of->may);
     hash_two(key, (uint64_t)of->about, (uint64_t)of->sp ^ (uint64_t)(unsigned)of->error_number << 48);
     if (!of->is_done)

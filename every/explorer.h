@@ -56,11 +56,11 @@ struct thread {
     uint32_t steps;
     uint64_t fine;              /* calls of step and touch, which are the places of a replay */
     /* Its turn: what it did since its last wait (turns.c). */
-    bool at_wait, is_fresh, is_idle, turn_overflows;
+    bool at_wait, is_fresh, is_idle, is_counting, counts_on, turn_overflows;
     footprint turn, looked;
     const locals *base;
     uintptr_t site, base_site;
-    uint32_t written, passed;
+    uint32_t written, passed, counted;
     old_word old[MOST_WRITES];
     int error_number;
 };
@@ -85,8 +85,9 @@ typedef struct { uint64_t states, runs, ends, restarts, longest; bool whole; dou
 
 typedef struct {
     uint64_t most;
+    uint32_t turns;
     double seconds;
-    bool stops_at_first, histories, progress, no_known, no_sleep, all_steps;
+    bool stops_at_first, histories, progress, brief, no_known, no_sleep, all_steps, no_turns;
     const char *replay;
 } options;
 
@@ -156,6 +157,7 @@ int begin_thread(const char *name, void *(*body)(void *), void *argument);
 
 /* turns.c */
 void end_turn(int thread);
+bool count_on(void);
 void note_write(uintptr_t at);
 int counting_sites(uintptr_t **sites);
 void forget_sites(void);

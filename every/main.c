@@ -15,11 +15,13 @@ static const char help[] =
     "Options behind --every, or in the environment variable CCAN_EVERY:\n"
     "  --most STATES      gives up after so many states (10000000 if left out, 0 for no limit)\n"
     "  --seconds SECONDS  gives up after so many seconds\n"
+    "  --turns N          goes through the first N turns of each loop that counts its turns (0 if left out)\n"
     "  --first            ends at the first failure\n"
     "  --histories        prints a history of each outcome, and not only of the failures\n"
     "  --replay HISTORY   runs one history alone, as it stands below an outcome\n"
     "  --quiet            shows no progress on a terminal\n"
-    "  --all-steps, --no-sleep, --no-known  leave out a part of what makes the search fast; for tests\n"
+    "  --brief            prints what the schedules end in, and nothing else\n"
+    "  --all-steps, --no-sleep, --no-known, --no-turns  leave out a part of what makes the search fast; for tests\n"
     "Statuses: 0 whole and no failure, 6 a failure, 5 given up without one, 2 refused.\n";
 
 /* ---- options */
@@ -39,7 +41,8 @@ static void read_option(char **words, int *at)
     const char *word = words[*at];
     bool *flag = !strcmp(word, "--first") ? &of->stops_at_first : !strcmp(word, "--histories") ? &of->histories :
         !strcmp(word, "--all-steps") ? &of->all_steps : !strcmp(word, "--no-sleep") ? &of->no_sleep :
-        !strcmp(word, "--no-known") ? &of->no_known : NULL;
+        !strcmp(word, "--no-known") ? &of->no_known : !strcmp(word, "--no-turns") ? &of->no_turns :
+        !strcmp(word, "--brief") ? &of->brief : NULL;
     if (flag) {
         *flag = true;
     } else if (!strcmp(word, "--quiet")) {
@@ -48,6 +51,8 @@ static void read_option(char **words, int *at)
         of->most = (uint64_t)number_of(word, words[++*at]);
     } else if (!strcmp(word, "--seconds")) {
         of->seconds = number_of(word, words[++*at]);
+    } else if (!strcmp(word, "--turns")) {
+        of->turns = (uint32_t)number_of(word, words[++*at]);
     } else if (!strcmp(word, "--replay") && words[*at + 1]) {
         of->replay = words[++*at];
     } else if (!strcmp(word, "--help")) {

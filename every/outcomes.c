@@ -74,6 +74,10 @@ bool outcomes_dropped(void) { return O && O->dropped; }
 
 static void print_one(FILE *to, const outcome *of, int number)
 {
+    if (E->options.brief) {
+        fprintf(to, "%s: %s", of->is_failure ? "failure" : "outcome", of->text);
+        return;
+    }
     bool with_history = of->is_failure || E->options.histories;
     fprintf(to, "\n%s %d, by %llu run%s; the shortest has %d step%s\n", of->is_failure ? "failure" : "outcome", number,
         (unsigned long long)of->runs, of->runs == 1 ? "" : "s", of->depth, of->depth == 1 ? "" : "s");

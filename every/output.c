@@ -177,7 +177,13 @@ static void print_counting(FILE *to)
     uintptr_t *sites;
     int count = counting_sites(&sites);
     for (int i = 0; i < count; i++)
-        fprintf(to, "note: the loop that waits at %s counts its turns; the search leaves that count as it was\n", line_of_code(sites[i]));
+        fprintf(to, "note: the loop that waits at %s counts its turns; more than %u of them are not gone through\n", line_of_code(sites[i]), (unsigned)E->options.turns);
+}
+
+static const char *how_far(void)
+{
+    uintptr_t *sites;
+    return !E->figures.whole ? "given up" : counting_sites(&sites) ? "whole but for counted turns" : "whole";
 }
 
 void print_result(void)
@@ -185,13 +191,18 @@ void print_result(void)
     const figures *of = &E->figures;
     FILE *to = E->real_out;
     print_outcomes(to);
+    if (E->options.brief) {
+        fprintf(to, "%s\n", how_far());
+        fflush(to);
+        return;
+    }
     fputc('\n', to);
     print_races(to);
     print_counting(to);
     if (of->whole && !outcomes_found())
         fprintf(to, "warning: no schedule comes to its end\n");
     fprintf(to, "%s: %llu states, %d outcome%s, %llu failure%s, %d shared word%s, longest schedule %llu steps, %.1f s\n",
-        of->whole ? "whole" : "given up", (unsigned long long)of->states, outcomes_found(), outcomes_found() == 1 ? "" : "s",
+        how_far(), (unsigned long long)of->states, outcomes_found(), outcomes_found() == 1 ? "" : "s",
         (unsigned long long)failures_found(), failures_found() == 1 ? "" : "s", words_shared(), words_shared() == 1 ? "" : "s",
         (unsigned long long)of->longest, of->seconds);
     fprintf(to, "The chip's steps and this search are tested, and not proved.\n");

@@ -131,12 +131,14 @@ bool may_step(int number)
     return !of->may || of->may(of);
 }
 
-/* A thread that waits until the others have come to rest may step when no other thread may. */
+/* The threads that may step. One that waits until the others have come to rest may when no other one may, nor counts on. */
 uint32_t threads_that_may(void)
 {
     uint32_t may = 0, at_rest = 0;
     for (int number = 0; number < R.count; number++)
         if (may_step(number))
             *(R.threads[number].waits_for_quiet ? &at_rest : &may) |= 1u << number;
+    if (!may && count_on())
+        return threads_that_may();
     return may ? may : at_rest;
 }

@@ -7,12 +7,12 @@
  *
  * A turn that differs by what the thread counts (`turns++`) would go on for ever. So where the thread comes back to the same wait
  * with another stack, its next turn is tried alone, from the stack that it has now and from the one that it had at the last wait.
- * If both make the same steps, then the thread counts: its stack is put back as it was, and the summary names the wait. */
+ * If both make the same steps, then the thread counts: its stack is put back as it was, and the summary names the wait. With --turns N that begins after N turns. Where no thread may go on, it does count on. */
 #include "explorer.h"
 
 /* ---- stacks at waits */
 
-enum { CHAINS = 1 << 14, MOST_SITES = 64, MOST_TRIED = 512, MOST_PASSED = 4 };
+enum { CHAINS = 1 << 14, MOST_SITES = 64, MOST_TRIED = 512, MOST_PASSED = 4, PATIENCE = 300 };
 static struct {
     locals *chains[CHAINS];
     uintptr_t sites[MOST_SITES];
@@ -155,27 +155,46 @@ void forget_sites(void) { T->site_count = 0; }
 void end_turn(int number)
 {
     thread *of = &R.threads[number];
-    if (of->base && of->base_site != of->site && of->passed++ < MOST_PASSED)
+    if (E->options.no_turns || (of->base && of->base_site != of->site && of->passed++ < MOST_PASSED))
         return;
     const locals *now = locals_of(of);
     of->passed = 0;
+    of->counted = of->base_site == of->site ? of->counted : 0;
     bool is_same_wait = of->base && of->base_site == of->site && of->base->size == now->size;
-    bool is_vain = is_same_wait && changed_nothing(of) && !E->replaying;
+    bool is_vain = is_same_wait && changed_nothing(of) && !E->replaying, only_counted = false;
     if (is_vain && now != of->base) {
-        is_vain = looked_at_something(of) && only_counts(number, now, of->base);
-        if (is_vain) {
+        only_counted = looked_at_something(of) && only_counts(number, now, of->base);
+        is_vain = only_counted && (of->counts_on ? of->counted++ >= PATIENCE : of->counted++ >= E->options.turns);
+        if (only_counted)
             note_site(of->site);
+        if (is_vain && !of->counts_on) {
             put_back(of, of->base);
             now = of->base;
         }
     }
     of->is_idle = is_vain && of->is_fresh;
+    of->is_counting = of->is_idle && only_counted && !of->counts_on;
     of->looked = of->turn;
     of->base = now;
     of->base_site = of->site;
     if (of->is_idle)
         tell("waits for a change of what it looked at");
     begin_turn(of);
+}
+
+/* Where no thread may go on, those that were only counting do: they may give up. Whether there was one. */
+bool count_on(void)
+{
+    bool any = false;
+    for (int number = 0; number < R.count; number++) {
+        thread *of = &R.threads[number];
+        if (of->is_done || !of->is_idle || !of->is_counting)
+            continue;
+        of->is_idle = of->is_counting = false;
+        of->counts_on = any = true;
+        of->counted = 0;
+    }
+    return any;
 }
 
 /* What a step is to the turns of the other threads, and to that of its own. */
@@ -189,6 +208,8 @@ void apply_event(int number, const footprint *event)
             of->is_idle = !conflict(&of->looked, event);
         else if (of->is_fresh)
             of->is_fresh = !conflict(&of->turn, event);
+        if (other != number && !of->is_idle)
+            of->is_counting = of->counts_on = false;
     }
 }
 
