@@ -43,7 +43,7 @@ typedef struct { uintptr_t at; uint64_t before; } old_word;
 typedef struct locals { struct locals *next; uint64_t key[2]; uint32_t size; char bytes[]; } locals;
 
 struct thread {
-    const char *name;
+    const char *name, *body_name;
     void *(*body)(void *);
     void *argument, *result, *stack_top, *sp;
     bool is_done, is_interrupt, waits_for_quiet;

@@ -125,7 +125,7 @@ const char *line_of_code(uintptr_t pc)
     of->pc = pc;
     const char *function = name_of_code(pc - 1);
     if (ask_for_line(pc - 1 - N->base, line, sizeof line))
-        snprintf(of->text, sizeof of->text, "%s, %s", function, line);
+        snprintf(of->text, sizeof of->text, "%s in %s", line, function);
     else
         snprintf(of->text, sizeof of->text, "%s", function);
     E->running = was_running;

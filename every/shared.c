@@ -13,7 +13,7 @@ static struct {
     int used, shared;
     struct { uintptr_t at; uint64_t before; } logged[MOST_LOGGED]; /* the writes of the step that is going on */
     int logs;
-    struct { memory_access one, other; int by[2]; } races[MOST_RACES];
+    struct { memory_access one, other; } races[MOST_RACES];
     int race_count;
 } *S;
 
@@ -98,14 +98,21 @@ void mark(const void *at, size_t size, bool writes)
         log_write((uintptr_t)at, size);
 }
 
-static void tell_access(const memory_access *of)
+/* The value at an access; of a pointer the name of what it points to. */
+static const char *value_text(const memory_access *of)
 {
+    static char text[24];
     uint64_t value = 0;
     copy_bytes(&value, (const void *)of->at, of->size < 8 ? of->size : 8);
-    if (of->writes)
-        tell("writes %s, which was %llx (%s)", name_of_data(of->at), (unsigned long long)value, line_of_code(of->pc));
-    else
-        tell("reads %s: %llx (%s)", name_of_data(of->at), (unsigned long long)value, line_of_code(of->pc));
+    if (is_programs(value))
+        return name_of_data(value);
+    snprintf(text, sizeof text, "0x%llx", (unsigned long long)value);
+    return text;
+}
+
+static void tell_access(const memory_access *of)
+{
+    tell(of->writes ? "writes %s, which was %s (%s)" : "reads %s: %s (%s)", name_of_data(of->at), value_text(of), line_of_code(of->pc));
 }
 
 static void access_memory(const void *at, size_t size, const memory_access *of, condition *may)
@@ -159,14 +166,12 @@ static void note_race(int one, int other)
 {
     const memory_access *a = &R.threads[one].next, *b = &R.threads[other].next;
     for (int i = 0; i < S->race_count; i++)
-        if (S->races[i].one.pc == a->pc && S->races[i].other.pc == b->pc)
+        if ((S->races[i].one.pc == a->pc && S->races[i].other.pc == b->pc) || (S->races[i].one.pc == b->pc && S->races[i].other.pc == a->pc))
             return;
     if (S->race_count == MOST_RACES)
         return;
     S->races[S->race_count].one = *a;
-    S->races[S->race_count].other = *b;
-    S->races[S->race_count].by[0] = one;
-    S->races[S->race_count++].by[1] = other;
+    S->races[S->race_count++].other = *b;
 }
 
 void find_races(uint32_t may)
@@ -185,11 +190,8 @@ void print_races(FILE *to)
 {
     for (int i = 0; i < S->race_count; i++) {
         const memory_access *one = &S->races[i].one, *other = &S->races[i].other;
-        fprintf(to, "warning: a data race at %s: %s %s it at", name_of_data(one->at), R.threads[S->races[i].by[0]].name,
-            one->writes ? "writes" : "reads");
-        fprintf(to, " %s, and", line_of_code(one->pc));
-        fprintf(to, " %s %s it at %s, and nothing orders the two\n", R.threads[S->races[i].by[1]].name,
-            other->writes ? "writes" : "reads", line_of_code(other->pc));
+        fprintf(to, "warning: a data race: %s is %s at %s", name_of_data(one->at), one->writes ? "written" : "read", line_of_code(one->pc));
+        fprintf(to, ", and %s at %s, and nothing orders the two\n", other->writes ? "written" : "read", line_of_code(other->pc));
     }
 }
 

@@ -33,6 +33,27 @@ static void trampoline(void)
     end_run(GOES_ON);
 }
 
+/* The name, with a number behind it where another thread has it. Each is made once. */
+static const char *own_name(const char *name)
+{
+    static struct { const char *name, *made; int number; } made[4 * MOST_THREADS];
+    int number = 1, at = 0;
+    for (int other = 0; other < R.count - 1; other++)
+        number += R.threads[other].body_name == name;
+    if (number == 1)
+        return name;
+    while (at < 4 * MOST_THREADS - 1 && made[at].name && (made[at].name != name || made[at].number != number))
+        at++;
+    if (made[at].name != name || made[at].number != number) {
+        char *text = own_pool(64);
+        snprintf(text, 64, "%s %d", name, number);
+        made[at].name = name;
+        made[at].number = number;
+        made[at].made = text;
+    }
+    return made[at].made;
+}
+
 int begin_thread(const char *name, void *(*body)(void *), void *argument)
 {
     if (R.count == MOST_THREADS)
@@ -46,7 +67,8 @@ int begin_thread(const char *name, void *(*body)(void *), void *argument)
     *--top = 0;
     *--top = (uint64_t)trampoline;
     of->sp = top - 6;
-    of->name = name;
+    of->body_name = name;
+    of->name = own_name(name);
     of->body = body;
     of->argument = argument;
     of->alternatives = 1;
@@ -57,7 +79,7 @@ int begin_thread(const char *name, void *(*body)(void *), void *argument)
         add_footprint(E->event, &creation);
         of->cpu = ME->cpu;
         R.alone = false;
-        tell("starts %s", name);
+        tell("starts %s", of->name);
     }
     return number;
 }
