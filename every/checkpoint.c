@@ -8,7 +8,7 @@ enum { TEXT_BYTES = 1 << 20 };
 
 /* A piece of memory of a state. */
 typedef struct { char *at; size_t size; } piece;
-enum { MOST_PIECES = 4 + 2 * MOST_THREADS };
+enum { MOST_PIECES = 5 + 2 * MOST_THREADS };
 
 struct checkpoint { size_t room; char bytes[]; };
 
@@ -22,6 +22,7 @@ static int pieces_of(piece *into)
     into[count++] = (piece){ chip, size };
     into[count++] = (piece){ E->data, (size_t)(E->own - E->data) };
     into[count++] = (piece){ E->own_end, (size_t)(E->data_end - E->own_end) };
+    into[count++] = (piece){ E->files, (size_t)(E->files_end - E->files) };
     for (int number = 0; number < R.count; number++) {
         thread *of = &R.threads[number];
         if (!of->is_done)

@@ -2,12 +2,12 @@
 #ifndef EXPLORER_H
 #define EXPLORER_H
 #define _GNU_SOURCE
+#include <ccan_every.h>
 #include <stdarg.h>
 #include <stdbool.h>
 #include <stddef.h>
 #include <stdint.h>
 #include <stdio.h>
-#include "../include/ccan_every.h"
 
 enum { MOST_THREADS = 12, MOST_CPUS = 8, MOST_DEPTH = 20000, MOST_WRITES = 16, STACK_BYTES = 256 * 1024 };
 
@@ -16,11 +16,12 @@ enum { MOST_THREADS = 12, MOST_CPUS = 8, MOST_DEPTH = 20000, MOST_WRITES = 16, S
 /* Rows of a footprint, of 64 places each. Of the objects: object k at bit k - 1. */
 enum row {
     ROW_NEWDAT, ROW_MSGLST, ROW_INTPND, ROW_TXRQST, ROW_MSGVAL, ROW_REST, ROW_DATA,
-    ROW_CONTROLLER, ROW_INTERFACES, /* parts of the controller; registers of IF1 from bit 0 on, of IF2 from bit 16 on */
+    ROW_CONTROLLER, ROW_INTERFACES, /* parts of the controller, and PRINTED; registers of IF1 from bit 0 on, of IF2 from bit 16 on */
     ROW_MEMORY,                     /* words of the program that threads share */
     ROW_TOKENS,                     /* processors, ends of threads, the creation of threads */
     ROWS
 };
+#define PRINTED (1ull << 63) /* what the program has printed */
 typedef struct { uint64_t reads[ROWS], writes[ROWS]; } footprint;
 
 bool conflict(const footprint *a, const footprint *b);
@@ -110,6 +111,7 @@ typedef struct explorer {
     uint32_t alternative;       /* the one by which the step goes on */
     void *scheduler_sp;
     char *data, *own, *own_end, *data_end, *data_saved; /* the program's variables, less the explorer's own */
+    char *files, *files_end;    /* stdout and stderr of the program */
     char *stacks, *arena, *text;
     FILE *real_out;
     footprint reach[MOST_THREADS], most_of_next[MOST_THREADS]; /* what each thread has touched in any run so far */

@@ -1,5 +1,7 @@
 /* What the user reads: the summary, the histories, progress; and the replay of one history. */
 #include "explorer.h"
+#include <stdio_ext.h>
+#include <stdlib.h>
 #include <sys/syscall.h>
 #include <unistd.h>
 
@@ -7,10 +9,14 @@ enum { COLUMN = 4, NAME = 12, MOST_SEGMENTS = MOST_DEPTH };
 
 /* ---- the program's own output */
 
+/* Printing is a step, since the order of what is printed is part of an outcome. */
 static ssize_t take_output(void *unused, const char *text, size_t size)
 {
     enum { TEXT_BYTES = 1 << 20 };
+    static const footprint printing = { .reads = { [ROW_CONTROLLER] = PRINTED }, .writes = { [ROW_CONTROLLER] = PRINTED } };
     (void)unused;
+    step(&printing);
+    add_footprint(E->event, &printing);
     if (R.printed + size > TEXT_BYTES)
         ccan_fail("the program prints more than a megabyte");
     copy_bytes(E->text + R.printed, text, size);
@@ -22,14 +28,17 @@ static FILE *opened_output(void)
 {
     FILE *made = fopencookie(NULL, "w", (cookie_io_functions_t){ .write = take_output });
     setvbuf(made, NULL, _IONBF, 0);
+    __fsetlocking(made, FSETLOCKING_BYCALLER); /* a thread may pause in it */
     return made;
 }
 
 void begin_output(void)
 {
     E->real_out = stdout;
+    E->files = malloc(1);
     stdout = opened_output();
     stderr = opened_output();
+    E->files_end = malloc(1);
 }
 
 /* ---- histories */

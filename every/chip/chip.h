@@ -1,8 +1,8 @@
 /* A C_CAN of one thread, whose calls are those of ccan.h, made of steps: each place of a call in the chip's history is a step. */
 #ifndef CHIP_H
 #define CHIP_H
-#include "../../include/ccan.h"
 #include "../explorer.h"
+#include <ccan.h>
 #include <string.h>
 
 enum {

@@ -232,11 +232,10 @@ int main(void)
         ccan_irq("interrupt", kinds & 4 ? 1 : 0, on_interrupt);
     for (long me = 0; me < THREADS; me++)
         pthread_create(&threads[me], NULL, thread_of, (void *)me);
+    for (int me = 0; me < THREADS; me++)
+        pthread_join(threads[me], NULL);
     if (kinds & 1)
         ccan_quiet();
-    else
-        for (int me = 0; me < THREADS; me++)
-            pthread_join(threads[me], NULL);
     must(ccan_end(&chip, &last));
     for (int me = 0; me <= THREADS; me++)
         printf("%s |", text[me]);

@@ -3,10 +3,54 @@ import typing
 
 
 class Fault(typing.NamedTuple):
+    """A text of a file in every/, and what stands there in the wrong one."""
     name: str
     file: str
     old: str
     new: str
 
 
-WRONG = []
+WRONG = [
+    # Footprints.
+    Fault("a transfer that doesn't say what it changed", "chip/host.c", "    changed_object(object, &was);\n", ""),
+    Fault("a picture of flags that doesn't say what it looked at", "chip/host.c",
+          "    E->event->reads[row_of_flag(flag)] |= which;\n", ""),
+    Fault("an event of a round that is no change of the controller", "chip/round.c",
+          "    changed_controller(&before);\n    tell(\"round: the event", "    tell(\"round: the event"),
+    Fault("a mask of the interrupt that is no dependency", "threads.c",
+          "    add_footprint(E->event, &of);\n    R.masked[cpu] = masked;", "    R.masked[cpu] = masked;"),
+    Fault("a write of shared memory that counts for nothing", "shared.c",
+          "                E->event->writes[ROW_MEMORY] |= 1ull << (of->number & 63);", "                continue;"),
+    # Places.
+    Fault("a step that others disturb and that is no place", "steps.c",
+          "        if (other != R.me && conflict(most, &E->reach[other]))\n            return false;\n", ""),
+    Fault("a word that is found to be shared without beginning anew", "shared.c",
+          "            of->number = S->shared++;\n            E->grew = true;", "            of->number = S->shared++;"),
+    Fault("a store of a frame in one step with the look before it", "chip/round.c",
+          "    step_at_object(object, true);\n    ccan_record *record = &C.records[object - 1], before = *record;\n    if (!accepts",
+          "    ccan_record *record = &C.records[object - 1], before = *record;\n    if (!accepts"),
+    Fault("an access to shared memory that is no step", "shared.c", "        step_when(&most, may, at);", "        (void)most;"),
+    # Loops that wait.
+    Fault("a poll ended too soon: what it looked at has changed in its turn", "turns.c",
+          "    of->is_idle = is_vain && of->is_fresh;", "    of->is_idle = is_vain;"),
+    Fault("a poll that nobody wakes", "turns.c", "            of->is_idle = !conflict(&of->looked, event);", "            of->is_idle = true;"),
+    Fault("a turn that keeps something for itself, taken for one that counts", "turns.c",
+          "only_counts(number, now, of->base);", "true;"),
+    Fault("a turn that changed something, taken for one in vain", "turns.c",
+          "is_vain = is_same_wait && changed_nothing(of) && !E->replaying", "is_vain = is_same_wait && !E->replaying"),
+    # States.
+    Fault("states that are one whatever was printed", "checkpoint.c", "    hash_bytes(key, E->text, R.printed);\n", ""),
+    Fault("states that are one whoever is idle", "checkpoint.c", "(uint64_t)of->is_idle << 2 |", ""),
+    Fault("a checkpoint without the memory of malloc", "checkpoint.c", "        if (R.used[number])\n            into", "        if (0)\n            into"),
+    Fault("sleep sets that nobody leaves", "search.c", "        if (conflict(label, &before->event))\n            continue;\n", ""),
+    Fault("a known state from which nothing is done, whoever was asleep", "search.c", "*asleep_before & at->may", "0u"),
+    # Threads.
+    Fault("a mutex that two may hold", "sync.c", "{ return !words_of(of->about)->first; }", "{ return of != NULL; }"),
+    Fault("a handler beside a task of its own processor", "steps.c",
+          "    if (of->cpu && R.handler_on[of->cpu] && R.handler_on[of->cpu] != number + 1)\n        return false;\n", ""),
+    # The chip.
+    Fault("a loaded frame that outlives Init", "chip/round.c", "    if (C.controller.has_left)\n        drop_loaded();\n", ""),
+    Fault("an overrun without MsgLst", "chip/frames.c", "        now.control |= MSGLST;", "        now.control |= 0;"),
+    Fault("a bus off that leaves Init", "chip/round.c", "        of->control |= INIT;\n", ""),
+    Fault("a reset that leaves TxRqst", "chip/opening.c", "~(NEWDAT | INTPND | TXRQST)", "~(NEWDAT | INTPND)"),
+]
