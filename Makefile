@@ -4,7 +4,7 @@ PREFIX ?= /usr/local
 EARLIER ?=
 export SCRIPT PREFIX EARLIER
 
-.PHONY: help run try examples prove wrong test install dist dist-test bench sweep hostile soak c-test c-wrong python-test schema clean
+.PHONY: help run try examples prove wrong test install dist dist-test bench sweep hostile soak c-test c-wrong every-test python-test schema clean
 
 help:
 	@tools/targets
@@ -73,6 +73,9 @@ c-test:
 
 c-wrong:
 	@tools/c_wrong
+
+every-test:
+	@tools/check_every
 
 python-test:
 	@tools/check_python
