@@ -1,10 +1,11 @@
 /* A state: all that a run has come to. The chip, the program's data, the used part of each stack and arena, and run_state. It can
  * be kept, put back, and told from others. */
 #include "explorer.h"
+#include <sys/mman.h>
 
 /* The program's variables, and among them those of the explorer, which are no part of a state (tools/every_library). */
 extern char __data_start, _end, __start_ccan_every_own, __stop_ccan_every_own;
-enum { TEXT_BYTES = 1 << 20 };
+enum { TEXT_BYTES = 1 << 20, GUARD = 4096 };
 
 /* A piece of memory of a state. */
 typedef struct { char *at; size_t size; } piece;
@@ -94,6 +95,7 @@ static void hash_thread(uint64_t key[2], const thread *of)
         (uint64_t)of->at_wait << 3 | (uint64_t)of->may_stay << 4 | (uint64_t)of->is_counting << 5 |
         (uint64_t)of->counts_on << 6 | (uint64_t)of->cpu << 8 | (uint64_t)of->alternatives << 16;
     hash_two(key, bits, (uint64_t)of->may);
+    hash_two(key, (uint64_t)of->result, 0);
     hash_two(key, (uint64_t)of->about, (uint64_t)of->sp ^ (uint64_t)(unsigned)of->error_number << 48);
     if (!of->is_done)
         hash_bytes(key, of->sp, (size_t)((const char *)of->stack_top - (const char *)of->sp));
@@ -154,6 +156,8 @@ void begin_checkpoints(void)
     E->own = (char *)((uintptr_t)&__start_ccan_every_own & ~(uintptr_t)7);
     E->own_end = (char *)(((uintptr_t)&__stop_ccan_every_own + 7) & ~(uintptr_t)7);
     E->stacks = own_memory((size_t)MOST_THREADS * STACK_BYTES);
+    for (int number = 0; number < MOST_THREADS; number++) /* a stack that overflows is a crash */
+        mprotect(E->stacks + (size_t)number * STACK_BYTES, GUARD, PROT_NONE);
     E->arena = own_memory((size_t)MOST_THREADS * ARENA_BYTES);
     E->text = own_memory(TEXT_BYTES);
     chip_reset();

@@ -133,6 +133,16 @@ static inline void copy_bytes(void *to, const void *from, size_t bytes)
     __asm__ volatile("rep movsb" : "+D"(to), "+S"(from), "+c"(bytes) : : "memory");
 }
 
+/* The two may overlap. */
+static inline void move_bytes(void *to, const void *from, size_t bytes)
+{
+    if ((uintptr_t)to - (uintptr_t)from >= bytes)
+        copy_bytes(to, from, bytes);
+    else
+        for (size_t i = bytes; i-- > 0;)
+            ((volatile char *)to)[i] = ((const char *)from)[i];
+}
+
 static inline void clear_bytes(void *at, size_t bytes)
 {
     __asm__ volatile("rep stosb" : "+D"(at), "+c"(bytes) : "a"(0) : "memory");
@@ -172,6 +182,7 @@ void touch_when(const void *at, size_t size, uintptr_t pc, condition *may); /* a
 void mark(const void *at, size_t size, bool writes);                        /* part of the step that is going on */
 void give(void *to, const void *from, size_t size); /* writes an output of a call of ccan.h */
 bool is_programs(uintptr_t at);
+extern bool has_hooks; /* whether any part of the program was compiled with -fsanitize=thread */
 void begin_shared(void);
 void finish_writes(void);
 int words_shared(void);

@@ -4,13 +4,41 @@
 
 #define PC ((uintptr_t)__builtin_return_address(0))
 
-void __tsan_init(void) {}
+/* Called before main by each part of the program that was compiled with hooks. */
+bool has_hooks;
+void __tsan_init(void) { has_hooks = true; }
+
 void __tsan_func_entry(void *pc) { (void)pc; }
 void __tsan_func_exit(void) {}
 void __tsan_ignore_thread_begin(void) {}
 void __tsan_ignore_thread_end(void) {}
 void __tsan_read_range(void *at, size_t size) { touch(at, size, false, false, PC); }
 void __tsan_write_range(void *at, size_t size) { touch(at, size, true, false, PC); }
+
+void *__tsan_memcpy(void *to, const void *from, size_t size)
+{
+    touch(from, size, false, false, PC);
+    touch(to, size, true, false, PC);
+    copy_bytes(to, from, size);
+    return to;
+}
+
+void *__tsan_memset(void *at, int value, size_t size)
+{
+    touch(at, size, true, false, PC);
+    for (size_t i = 0; i < size; i++)
+        ((volatile char *)at)[i] = (char)value;
+    return at;
+}
+
+void *__tsan_memmove(void *to, const void *from, size_t size)
+{
+    touch(from, size, false, false, PC);
+    touch(to, size, true, false, PC);
+    move_bytes(to, from, size);
+    return to;
+}
+
 void __tsan_vptr_read(void **at) { touch(at, sizeof *at, false, false, PC); }
 void __tsan_vptr_update(void **at, void *value) { (void)value; touch(at, sizeof *at, true, false, PC); }
 

@@ -177,6 +177,8 @@ int __wrap_main(int count, char **list)
     E = own_memory(sizeof *E);
     E->options = (options){ .most = 10000000, .progress = isatty(2) };
     take_arguments(count, list);
+    if (!has_hooks)
+        stop(REFUSED, "the program was compiled without -fsanitize=thread, so its memory can't be seen");
     dl_iterate_phdr(look_for_thread_locals, NULL);
     begin_shared();
     begin_turns();

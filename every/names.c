@@ -97,10 +97,11 @@ static bool ask_for_line(uintptr_t at, char *line, size_t size)
     char command[120];
     snprintf(command, sizeof command, "addr2line -s -e /proc/%d/exe 0x%lx 2>/dev/null", (int)getpid(), at);
     FILE *answer = popen(command, "r");
-    bool is_told = answer && fgets(line, (int)size, answer);
+    long length = answer ? syscall(SYS_read, fileno(answer), line, size - 1) : 0;
     if (answer)
         pclose(answer);
-    if (!is_told || line[0] == '?')
+    line[length > 0 ? length : 0] = '\0';
+    if (length <= 0 || line[0] == '?')
         return false;
     for (char *end = line; *end; end++)
         if (*end == '\n' || *end == ' ')

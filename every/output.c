@@ -107,7 +107,8 @@ void run_again(const choice *path, int depth, FILE *to)
         if (of->alternatives > 1)
             H->ways[H->way_count++] = path[at].alternative;
         make_step(path[at].thread, path[at].alternative, &event);
-        note_segment(path[at].thread, of->fine - before);
+        bool has_ended = of->is_done || E->ending != GOES_ON; /* then it is not at a place, but behind its last one */
+        note_segment(path[at].thread, of->fine - before + has_ended);
         tell_printed();
     }
     E->telling = false;

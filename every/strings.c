@@ -31,11 +31,7 @@ void *memmove(void *to, const void *from, size_t size)
 {
     touch(from, size, false, false, PC);
     touch(to, size, true, false, PC);
-    if ((uintptr_t)to - (uintptr_t)from >= size)
-        copy_bytes(to, from, size);
-    else
-        for (size_t i = size; i-- > 0;)
-            ((volatile char *)to)[i] = ((const char *)from)[i];
+    move_bytes(to, from, size);
     return to;
 }
 

@@ -125,6 +125,7 @@ int pthread_join(pthread_t id, void **result)
 
 int pthread_detach(pthread_t id) { return (void)id, 0; }
 pthread_t pthread_self(void) { return (pthread_t)R.me; }
+int pthread_setname_np(pthread_t id, const char *name) { return (void)id, (void)name, 0; }
 
 void pthread_exit(void *result)
 {
