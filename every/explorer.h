@@ -204,6 +204,7 @@ void state_key(uint64_t key[2]);
 
 /* search.c */
 void search(void);
+enum ending stand_still(void);  /* what it is that no thread may step */
 void make_step(int chosen, uint32_t alternative, footprint *event);
 
 /* known.c: the states that were seen, each with the threads that were asleep there */
@@ -218,7 +219,7 @@ uint64_t failures_found(void);
 int outcomes_found(void);
 void print_result(void);
 void print_outcomes(FILE *to);
-void print_replay(FILE *to);
+void print_replay(FILE *to, bool stands_still);
 void begin_output(void);
 void show_progress(bool last);
 void tell_line(const char *format, ...) __attribute__((format(printf, 1, 2)));

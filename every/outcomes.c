@@ -83,7 +83,7 @@ static void print_one(FILE *to, const outcome *of, int number)
         (unsigned long long)of->runs, of->runs == 1 ? "" : "s", of->depth, of->depth == 1 ? "" : "s");
     fprintf(to, "%s", of->text);
     run_again(of->path, of->depth, with_history ? to : NULL);
-    print_replay(to);
+    print_replay(to, of->is_failure && E->ending == GOES_ON);
 }
 
 void print_outcomes(FILE *to)

@@ -114,15 +114,16 @@ void run_again(const choice *path, int depth, FILE *to)
     E->telling = false;
 }
 
-/* The history as a word, for --replay: letters for threads, each with its places, and =N for each way that is taken. */
-void print_replay(FILE *to)
+/* The history as a word, for --replay: letters for threads, each with its places, =N for each way that is taken, and a dot where it
+ * stands still then. */
+void print_replay(FILE *to, bool stands_still)
 {
     fprintf(to, "replay: --every --replay ");
     for (int i = 0; i < H->count; i++)
         fprintf(to, "%c%llu", 'a' + H->segments[i].thread, (unsigned long long)H->segments[i].places);
     for (int i = 0; i < H->way_count; i++)
         fprintf(to, "=%u", H->ways[i]);
-    fprintf(to, "\n");
+    fprintf(to, stands_still ? ".\n" : "\n");
 }
 
 static uint64_t number_in(const char **text)
@@ -133,8 +134,10 @@ static uint64_t number_in(const char **text)
     return number;
 }
 
-static void read_replay(const char *text)
+/* Whether it stands still at its end. */
+static bool read_replay(const char *text)
 {
+    const char *whole = text;
     while (*text >= 'a' && *text < 'a' + MOST_THREADS) {
         uint8_t number = (uint8_t)(*text++ - 'a');
         note_segment(number, number_in(&text));
@@ -143,9 +146,11 @@ static void read_replay(const char *text)
         text++;
         H->ways[H->way_count++] = (uint8_t)number_in(&text);
     }
-    if (*text)
-        stop(2, "this is no history: %s", text);
+    bool stands_still = *text == '.';
+    if (text[stands_still] || !H->count)
+        stop(2, "this is no history: %s", whole);
     H->way_count = 0;
+    return stands_still;
 }
 
 uint32_t next_replayed_choice(uint32_t alternatives)
@@ -161,7 +166,7 @@ void replay(const char *text)
 {
     footprint event = { 0 };
     H = own_memory(sizeof *H);
-    read_replay(text);
+    bool stands_still = read_replay(text);
     E->replaying = true;
     E->telling = true;
     H->to = E->real_out;
@@ -176,6 +181,8 @@ void replay(const char *text)
         make_step(number, 0, &event);
         tell_printed();
     }
+    if (stands_still && E->ending == GOES_ON)
+        E->ending = stand_still();
     fprintf(E->real_out, "%.*s%s\n", (int)R.printed, E->text, E->ending == FAILED ? E->failure : "the schedule ends");
     fflush(E->real_out);
 }
