@@ -18,7 +18,9 @@ WRONG = [
     Fault("an event of a round that is no change of the controller", "chip/round.c",
           "    changed_controller(&before);\n    tell(\"round: the event", "    tell(\"round: the event"),
     Fault("a mask of the interrupt that is no dependency", "threads.c",
-          "    add_footprint(E->event, &of);\n    R.masked[cpu] = masked;", "    R.masked[cpu] = masked;"),
+          "    step(&of);\n    add_footprint(E->event, &of);\n    R.masked[cpu] = masked;", "    R.masked[cpu] = masked;"),
+    Fault("a step of a task that may be made beside its handler's", "steps.c",
+          "    if (me->cpu)\n        E->event->reads[ROW_TOKENS] |= 1ull << (TOKEN_CPU + me->cpu);\n", ""),
     Fault("a write of shared memory that counts for nothing", "shared.c",
           "                E->event->writes[ROW_MEMORY] |= 1ull << (of->number & 63);", "                continue;"),
     # Places.
