@@ -26,8 +26,7 @@ WRONG = [
     # Places.
     Fault("a step that others disturb and that is no place", "steps.c",
           "        if (other != R.me && conflict(most, &E->reach[other]))\n            return false;\n", ""),
-    Fault("a word that is found to be shared without beginning anew", "shared.c",
-          "            of->number = S->shared++;\n            E->grew = true;", "            of->number = S->shared++;"),
+    Fault("a search that goes on with less than it has just learned", "search.c", "        if (E->grew) {", "        if (0) {"),
     Fault("a store of a frame in one step with the look before it", "chip/round.c",
           "    step_at_object(object, true);\n    ccan_record *record = &C.records[object - 1], before = *record;\n    if (!accepts",
           "    ccan_record *record = &C.records[object - 1], before = *record;\n    if (!accepts"),
