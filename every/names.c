@@ -50,7 +50,8 @@ static const Elf64_Sym *symbol_at(uintptr_t at, unsigned char type)
     for (size_t i = 0; i < N->count; i++) {
         const Elf64_Sym *of = &N->symbols[i];
         uintptr_t begin = of->st_value + N->base;
-        if (ELF64_ST_TYPE(of->st_info) == type && of->st_shndx != SHN_UNDEF && at >= begin && at < begin + (of->st_size ? of->st_size : 1))
+        uintptr_t size = of->st_size ? of->st_size : 1;
+        if (ELF64_ST_TYPE(of->st_info) == type && of->st_shndx != SHN_UNDEF && at >= begin && at < begin + size)
             return of;
     }
     return NULL;

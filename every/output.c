@@ -45,7 +45,13 @@ void begin_output(void)
 
 /* A history by its segments: so many places of one thread; and by the ways that were taken. */
 typedef struct { uint8_t thread; uint64_t places; } segment;
-static struct { segment segments[MOST_SEGMENTS]; int count; uint8_t ways[MOST_DEPTH]; int way_count; int step; FILE *to; size_t shown; } *H;
+static struct {
+    segment segments[MOST_SEGMENTS];
+    uint8_t ways[MOST_DEPTH];
+    int count, way_count, step;
+    FILE *to;
+    size_t shown; /* of what the program printed */
+} *H;
 
 static void print_head(void) { fprintf(H->to, "%6d  %-*s%*s", H->step, NAME, ME->name, COLUMN * R.me, ""); }
 
@@ -69,7 +75,8 @@ static void tell_printed(void)
 {
     if (H->to && R.printed > H->shown) {
         print_head();
-        fprintf(H->to, "prints %.*s%s", (int)(R.printed - H->shown), E->text + H->shown, E->text[R.printed - 1] == '\n' ? "" : "\n");
+        const char *end = E->text[R.printed - 1] == '\n' ? "" : "\n";
+        fprintf(H->to, "prints %.*s%s", (int)(R.printed - H->shown), E->text + H->shown, end);
     }
     H->shown = R.printed;
 }
@@ -114,8 +121,8 @@ void run_again(const choice *path, int depth, FILE *to)
     E->telling = false;
 }
 
-/* The history as a word, for --replay: letters for threads, each with its places, =N for each way that is taken, and a dot where it
- * stands still then. */
+/* The history as a word, for --replay: letters for threads, each with its places, =N for each way that is taken, and a dot where
+ * it stands still then. */
 void print_replay(FILE *to, bool stands_still)
 {
     fprintf(to, "replay: --every --replay ");
@@ -194,7 +201,8 @@ static void print_counting(FILE *to)
     uintptr_t *sites;
     int count = counting_sites(&sites);
     for (int i = 0; i < count; i++)
-        fprintf(to, "note: the loop that waits at %s counts its turns; more than %u of them are not gone through\n", line_of_code(sites[i]), (unsigned)E->options.turns);
+        fprintf(to, "note: the loop that waits at %s counts its turns; more than %u of them are not gone through\n",
+            line_of_code(sites[i]), (unsigned)E->options.turns);
 }
 
 static const char *how_far(void)

@@ -112,7 +112,8 @@ static const char *value_text(const memory_access *of)
 
 static void tell_access(const memory_access *of)
 {
-    tell(of->writes ? "writes %s, which was %s (%s)" : "reads %s: %s (%s)", name_of_data(of->at), value_text(of), line_of_code(of->pc));
+    tell(of->writes ? "writes %s, which was %s (%s)" : "reads %s: %s (%s)", name_of_data(of->at), value_text(of),
+        line_of_code(of->pc));
 }
 
 static void access_memory(const void *at, size_t size, const memory_access *of, condition *may)
@@ -165,9 +166,11 @@ static bool is_race(const memory_access *a, const memory_access *b)
 static void note_race(int one, int other)
 {
     const memory_access *a = &R.threads[one].next, *b = &R.threads[other].next;
-    for (int i = 0; i < S->race_count; i++)
-        if ((S->races[i].one.pc == a->pc && S->races[i].other.pc == b->pc) || (S->races[i].one.pc == b->pc && S->races[i].other.pc == a->pc))
+    for (int i = 0; i < S->race_count; i++) {
+        uintptr_t first = S->races[i].one.pc, second = S->races[i].other.pc;
+        if ((first == a->pc && second == b->pc) || (first == b->pc && second == a->pc))
             return;
+    }
     if (S->race_count == MOST_RACES)
         return;
     S->races[S->race_count].one = *a;
@@ -190,8 +193,8 @@ void print_races(FILE *to)
 {
     for (int i = 0; i < S->race_count; i++) {
         const memory_access *one = &S->races[i].one, *other = &S->races[i].other;
-        fprintf(to, "warning: a data race: %s is %s at %s", name_of_data(one->at), one->writes ? "written" : "read", line_of_code(one->pc));
-        fprintf(to, ", and %s at %s, and nothing orders the two\n", other->writes ? "written" : "read", line_of_code(other->pc));
+        fprintf(to, "warning: a data race: %s is %s at %s, and %s at %s, and nothing orders the two\n", name_of_data(one->at),
+            one->writes ? "written" : "read", line_of_code(one->pc), other->writes ? "written" : "read", line_of_code(other->pc));
     }
 }
 

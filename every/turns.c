@@ -7,7 +7,8 @@
  *
  * A turn that differs by what the thread counts (`turns++`) would go on for ever. So where the thread comes back to the same wait
  * with another stack, its next turn is tried alone, from the stack that it has now and from the one that it had at the last wait.
- * If both make the same steps, then the thread counts: its stack is put back as it was, and the summary names the wait. With --turns N that begins after N turns. Where no thread may go on, it does count on. */
+ * If both make the same steps, then the thread counts: its stack is put back as it was, and the summary names the wait. With
+ * --turns N that begins after N turns. Where no thread may go on, it does count on. */
 #include "explorer.h"
 
 /* ---- stacks at waits */
@@ -35,7 +36,10 @@ static const locals *locals_of(const thread *of)
     return *chain = made;
 }
 
-static void put_back(thread *of, const locals *stack) { copy_bytes((char *)of->stack_top - stack->size, stack->bytes, stack->size); }
+static void put_back(thread *of, const locals *stack)
+{
+    copy_bytes((char *)of->stack_top - stack->size, stack->bytes, stack->size);
+}
 
 /* ---- what a turn has written */
 

@@ -97,7 +97,10 @@ uint32_t ccan_get(ccan_host *host, uint32_t reg, uint16_t *out)
 
 /* ---- transfers */
 
-enum { WRITE = 0x80, MASKS = 0x40, ARBITRATION = 0x20, CONTROL = 0x10, CLEAR_INTPND = 0x08, REQUEST = 0x04, DATA_A = 0x02, DATA_B = 0x01 };
+/* In Command Mask. */
+enum {
+    WRITE = 0x80, MASKS = 0x40, ARBITRATION = 0x20, CONTROL = 0x10, CLEAR_INTPND = 0x08, REQUEST = 0x04, DATA_A = 0x02, DATA_B = 0x01
+};
 
 static void take_groups(ccan_record *to, const ccan_record *from, uint16_t mask)
 {

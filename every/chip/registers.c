@@ -1,7 +1,9 @@
 /* Registers by their offsets, in the three layouts, and the interrupt line. */
 #include "chip.h"
 
-enum reg_name { CONTROL, STATUS, ERROR_COUNTER, BIT_TIMING, INTERRUPT, TEST_REGISTER, EXTENSION, OF_INTERFACE, OF_FLAG, NO_REGISTER };
+enum reg_name {
+    CONTROL, STATUS, ERROR_COUNTER, BIT_TIMING, INTERRUPT, TEST_REGISTER, EXTENSION, OF_INTERFACE, OF_FLAG, NO_REGISTER
+};
 static const char *const names[] = { "Control", "Status", "Error Counter", "Bit Timing", "Interrupt", "Test", "BRP Extension" };
 
 /* A register: its number within an interface or a flag, and the interface or the flag. */

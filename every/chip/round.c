@@ -42,7 +42,7 @@ static arrival arrive(void)
 static bool start_object(unsigned object)
 {
     step_at_object(object, true);
-    read_object(object, 1 << ROW_NEWDAT | 1 << ROW_TXRQST | 1 << ROW_MSGVAL | 1 << ROW_REST | 1 << ROW_DATA | 1 << ROW_INTPND | 1 << ROW_MSGLST);
+    read_object(object, ALL_ROWS);
     ccan_record *record = &C.records[object - 1], before = *record;
     if (!is_ready(record)) {
         tell("round: object %u is ready no more", object);
@@ -153,8 +153,8 @@ static void make_event(enum counted what, uint8_t code, uint8_t done)
         of->has_left = true;
     }
     changed_controller(&before);
-    tell("round: the event at the controller: LEC %u%s%s, TEC %u, REC %u%s", code, done & 1 ? ", TxOk" : "", done & 2 ? ", RxOk" : "",
-        of->counters.tec, of->counters.rec, is_off(&of->counters) ? ", bus off" : "");
+    tell("round: the event at the controller: LEC %u%s%s, TEC %u, REC %u%s", code, done & 1 ? ", TxOk" : "",
+        done & 2 ? ", RxOk" : "", of->counters.tec, of->counters.rec, is_off(&of->counters) ? ", bus off" : "");
 }
 
 /* ---- rounds */
@@ -248,7 +248,9 @@ static verdict judge(const contest *of)
 
 static void tell_verdict(const contest *of, const verdict *came, const frame *won)
 {
-    static const char *const words[] = { "", "", "", ", which the controller doesn't hear", ", by two nodes", ", not acknowledged", ", spoiled", "" };
+    static const char *const words[] = {
+        [CCAN_IDLE] = "", [CCAN_SENT] = "", [CCAN_RECEIVED] = "", [CCAN_PASSED] = ", which the controller doesn't hear",
+        [CCAN_COLLISION] = ", by two nodes", [CCAN_NO_ACK] = ", not acknowledged", [CCAN_FAULT] = ", spoiled" };
     tell("round: %s is on the bus, from %s%s", text_of(won), of->winners & 1 ? "the chip" : "another node", words[came->kind]);
 }
 
