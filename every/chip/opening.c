@@ -66,6 +66,37 @@ bool ccan_is_open(const ccan_chip *at)
 
 uint32_t ccan_meet(ccan_chip *at) { return ccan_is_open(at) ? CCAN_DONE : CCAN_CLOSED; }
 
+/* A note has nothing to show here: the one chip has one order of steps, in which each call already sees all that came before. So it
+ * only is told or empty. */
+static uint32_t fill_note(bool is_open, ccan_note *note)
+{
+    if (!is_open)
+        return CCAN_CLOSED;
+    note->ccan_private_full = true;
+    return CCAN_DONE;
+}
+
+static uint32_t empty_note(bool is_open, ccan_note *note)
+{
+    if (!is_open)
+        return CCAN_CLOSED;
+    if (!note->ccan_private_full)
+        return CCAN_UNTOLD;
+    note->ccan_private_full = false;
+    return CCAN_DONE;
+}
+
+uint32_t ccan_tell(ccan_host *host, ccan_note *note) { return fill_note(host->ccan_private_full, note); }
+uint32_t ccan_bus_tell(ccan_bus *bus, ccan_note *note) { return fill_note(bus->ccan_private_full, note); }
+uint32_t ccan_heed(ccan_host *host, ccan_note *note) { return empty_note(host->ccan_private_full, note); }
+uint32_t ccan_bus_heed(ccan_bus *bus, ccan_note *note) { return empty_note(bus->ccan_private_full, note); }
+
+uint32_t ccan_forget(ccan_note *note)
+{
+    note->ccan_private_full = false;
+    return CCAN_DONE;
+}
+
 /* All parts of the chip, as promise 3 of ccan.h has it: nobody else is in a call. */
 static void step_at_all(bool changes)
 {
