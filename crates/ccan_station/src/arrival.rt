@@ -1,0 +1,65 @@
+//! How a frame begins for a chip: the bus's port comes to a controller that may have left the bus meanwhile.
+ghost use Rattle.std.specs.Prelude.{◌≡◌};
+ghost use Rattle.ccan_ram.specs.declared.port.PortName.TheVariants.{Bus};
+ghost use Rattle.ccan_ram.specs.Tries.{most_tries};
+ghost use Rattle.ccan_confine.specs.Controller.{IsController};
+ghost use Rattle.ccan_chip.specs.Arrival.{Arrives, comes_back, may_take_part, takes_part};
+
+use ccan_confine::{Controller, ControllerChange, NodeState};
+use ccan_endless::{EndlessRam, Port};
+use ccan_ram::Tries;
+
+/// How often a change is tried that the bus's port makes of its own: as often as a change may be. What was on the bus can't be
+/// played again.
+const OWN_TRIES: u16 = 1000;
+
+/// The tries of such a change.
+pub(crate) fn own_tries() -> Tries
+    ensures { result ≡ most_tries }
+{
+    match Tries::new(OWN_TRIES) {
+        Some(tries) => tries,
+        None => unreachable!(),
+    }
+}
+
+/// Whether a controller may take part in what is on the bus: Init is 0, and it is not bus off.
+fn may_take_part(controller: &Controller) -> bool
+    ensures { result ≡ may_take_part controller.now }
+{
+    !controller.control.init && !matches!(controller.counters.state(), NodeState::Off)
+}
+
+/// Whether it takes part: it may, and has not left the bus since the port joined last.
+pub(crate) fn takes_part(controller: &Controller) -> bool
+    ensures { result ≡ takes_part controller.now }
+{
+    may_take_part(controller) && !controller.has_left
+}
+
+/// Whether it comes back: it has left the bus, and may take part again.
+fn comes_back(controller: &Controller) -> bool
+    ensures { result ≡ comes_back controller.now }
+{
+    may_take_part(controller) && controller.has_left
+}
+
+/// Comes to the bus: looks at the controller, and where that comes back, joins and looks again. The controllers that the
+/// first and the last look found. Where each try to join was lost to a change of another port, the controller takes no part
+/// this time.
+pub(crate) fn arrive(ram: &EndlessRam, port: &mut Port) -> (Controller, Controller)
+    requires memory { port.old.pass.memory ≡ ram.now.words }
+    requires bus { port.old.pass.port ≡ Bus }
+    ensures arrives { Arrives port.old port.new result.0 result.1 }
+    ensures memory { port.new.pass.memory ≡ port.old.pass.memory }
+    ensures port { port.new.pass.port ≡ port.old.pass.port }
+    ensures is { IsController result.1 }
+{
+    let first = ram.look_controller(port);
+    if !comes_back(&first) {
+        return (first, first);
+    }
+    let _joined = ram.change_controller(port, &ControllerChange::Join, own_tries());
+    let found = ram.look_controller(port);
+    (first, found)
+}

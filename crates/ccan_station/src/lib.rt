@@ -1,0 +1,39 @@
+//! A chip's part in what is on a bus of several, with time between the start and the end of a frame. What is on the bus is
+//! decided by `ccan_wire`, from the members that the chips and the other nodes are.
+//!
+//! ```text
+//!   the start of a frame       until its end              its end
+//!   begin: look, join, load    stay: look                 end: look, finish or store, event
+//!        |                          |                          ^
+//!        v member                   v member                   | wire, place, flaw
+//!        +--> decide --> wire       +--> decide_again --> wire-+
+//! ```
+//!
+//! A [`Station`] keeps what is loaded and what is under way between these calls. Meanwhile hosts do what they like. A request
+//! that they make then is not in this frame. If a host sets Init, the controller has left the bus, also if Init is 0 again
+//! before the next look: `stay` answers a member that is absent, and neither it nor `end` leaves anything under way or loaded,
+//! so the frame is no event to it. Its object stays requested, and the next `begin` joins and chooses anew. A reset of the
+//! chip calls `unload` to the same end.
+//!
+//! Members are settled at the start: who has not begun by then begins with the next frame. Of several `end` calls the order is
+//! the caller's: those who listen first, if a stored frame is to stand before its sender's TxOk.
+//!
+//! A [`Plain`] is a node without a chip.
+#![tactic(auto)]
+
+mod arrival;
+mod begun;
+mod due;
+mod ended;
+mod load;
+mod note;
+mod part;
+mod plain;
+mod station;
+mod stayed;
+
+pub use begun::Begun;
+pub use ended::Ended;
+pub use plain::Plain;
+pub use station::Station;
+pub use stayed::Stayed;

@@ -1,0 +1,249 @@
+ghost use Rattle.std.specs.Prelude.{◌≡◌, ◌<◌, None};
+ghost use Rattle.std.specs.Option.{ForSome};
+ghost use Rattle.ccan_object.specs.Profile.{Holds};
+ghost use Rattle.ccan_ram.specs.declared.port.PortName.TheVariants.{Bus as BusPort};
+ghost use Rattle.ccan_ram.specs.Access.{Goes};
+ghost use Rattle.ccan_ram.specs.SharedRam.{CanSee, passes_of, terms_of};
+ghost use Rattle.ccan_bus.specs.Complete.{Completes};
+ghost use Rattle.ccan_bus.specs.Decide.{IsOf};
+ghost use Rattle.ccan_endless.specs.ChipPort.{AddsNone, SeesOne};
+ghost use Rattle.ccan_endless.specs.Layout.{same_object};
+
+use crate::arrival::{arrive, takes_part};
+use crate::begun::Begun;
+use crate::due::{due, frame_on};
+use crate::ended::Ended;
+use crate::note::note;
+use crate::part::{ending, kept, loaded_frame, may_send, member_now, role_now};
+use crate::stayed::Stayed;
+use ccan_bus::{Decision, LoadAnswer, RoundEnd};
+use ccan_chip::{Earlier, Objects, OwnEvent};
+use ccan_confine::Controller;
+use ccan_endless::{EndlessRam, Port};
+use ccan_object::{ObjectNo, Profile, Record};
+use ccan_ram::Tries;
+use ccan_wire::{Flaw, MOST_MEMBERS, Member, Wire};
+use std::marker::Brand;
+
+/// What a chip on a bus of several keeps between calls: the object whose transmission it has started, and what it is to the frame
+/// that is under way.
+#[derive(Clone, Copy, PartialEq, Eq, Hash, Debug)]
+pub struct Station {
+    pub(crate) profile: Profile,
+    pub(crate) loaded: Option<(ObjectNo, Record)>,
+    pub(crate) under_way: Option<Member>,
+    ghost held: { ForSome loaded (λ found. Holds profile found.0) },
+}
+
+/// The memory steps of a decision, over the objects.
+fn complete_over<E: Earlier>(
+    decided: &Decision,
+    ram: &EndlessRam,
+    port: Port,
+    tries: Tries,
+) -> (RoundEnd, Port)
+    requires memory { port.pass.memory ≡ ram.now.words }
+    requires held { IsOf port.pass.memory.profile decided.now }
+    requires none { AddsNone E.earlier port }
+    ensures none { AddsNone E.earlier result.1 }
+    ensures goes { Goes (passes_of same_object port.pass) (passes_of same_object result.1.pass)
+        (λ terms seen added. Completes terms tries seen added decided.now result.0) }
+{
+    let mut objects = Objects::<E>::new(ram, port);
+    let end = decided.complete(&mut objects, tries);
+    (end, objects.into_port())
+}
+
+impl Station {
+    ghost use Rattle.ccan_station.specs.Station.{Begins, Ends, Loads, Stays, left_by, loaded_before};
+    ghost use Rattle.ccan_station.specs.Station.{member_now, still_loaded, still_under_way};
+
+    /// A chip of this profile, with nothing loaded and nothing under way.
+    pub fn new(profile: Profile) -> Station
+        ensures profile { result.profile ≡ profile }
+        ensures empty { result.loaded ≡ None }
+        ensures rests { result.under_way ≡ None }
+    {
+        Station {
+            profile,
+            loaded: None,
+            under_way: None,
+        }
+    }
+
+    /// The object whose transmission was started and whose frame has not been on the bus yet, with its record after the start.
+    pub fn loaded(&self) -> Option<(ObjectNo, Record)>
+        ensures { result ≡ self.now.loaded }
+    {
+        self.loaded
+    }
+
+    /// What the chip is to the frame that is under way: a member that is absent, where none is or it takes no part in it.
+    pub fn member(&self) -> Member
+        ensures { result ≡ member_now self.now.under_way }
+    {
+        member_now(&self.under_way)
+    }
+
+    /// Drops what is loaded, and takes no more part in a frame that is under way, as a reset does. The object stays requested, so
+    /// that a later load may start it anew.
+    pub fn unload(&mut self)
+        ensures profile { self.new.profile ≡ self.old.profile }
+        ensures empty { self.new.loaded ≡ None }
+        ensures rests { self.new.under_way ≡ None }
+    {
+        self.loaded = None;
+        self.under_way = None;
+    }
+
+    /// Drops what was loaded where the controller has left the bus.
+    fn leave_behind(&mut self, first: &Controller)
+        ensures profile { self.new.profile ≡ self.old.profile }
+        ensures loaded { self.new.loaded ≡ loaded_before first.now self.old.loaded }
+    {
+        if first.has_left {
+            self.unload();
+        }
+    }
+
+    /// Takes what a look found while a frame is under way.
+    fn take(&mut self, found: &Controller)
+        ensures profile { self.new.profile ≡ self.old.profile }
+        ensures loaded { self.new.loaded ≡ still_loaded found.now self.old.loaded }
+        ensures under_way { self.new.under_way ≡ still_under_way found.now self.old.under_way }
+    {
+        if !takes_part(found) {
+            self.unload();
+        }
+    }
+
+    /// After an event nothing is loaded, so that the next load chooses anew; and nothing is under way.
+    fn settle(&mut self, own: &Option<OwnEvent>)
+        ensures profile { self.new.profile ≡ self.old.profile }
+        ensures loaded { self.new.loaded ≡ left_by own.now self.old.loaded }
+        ensures over { self.new.under_way ≡ None }
+    {
+        if own.is_some() {
+            self.loaded = None;
+        }
+        self.under_way = None;
+    }
+
+    /// A load, over the objects.
+    fn load_over<E: Earlier>(
+        &mut self,
+        ram: &EndlessRam,
+        port: Port,
+        sends: bool,
+        tries: Tries,
+    ) -> (LoadAnswer, Port)
+        requires memory { port.pass.memory ≡ ram.now.words }
+        requires profile { port.pass.memory.profile ≡ self.old.profile }
+        requires none { AddsNone E.earlier port }
+        ensures none { AddsNone E.earlier result.1 }
+        ensures profile { self.new.profile ≡ self.old.profile }
+        ensures goes { Goes (passes_of same_object port.pass) (passes_of same_object result.1.pass)
+            (λ terms seen added.
+            Loads sends terms tries seen added self.old.loaded self.new.loaded result.0) }
+    {
+        let mut objects = Objects::<E>::new(ram, port);
+        let answer = self.load(&mut objects, sends, tries);
+        (answer, objects.into_port())
+    }
+
+    /// The start of a frame. The bus's port looks at the controller; where that has left the bus and may take part again, it joins
+    /// and looks again. What was loaded is dropped where the controller has left the bus since. Then an object is chosen and
+    /// started, where nothing is loaded and the controller may send. What the chip is to the bus is under way from here on.
+    pub fn begin(&mut self, ram: &EndlessRam, mut port: Port, tries: Tries) -> (Begun, Port)
+        requires memory { port.pass.memory ≡ ram.now.words }
+        requires bus { port.pass.port ≡ BusPort }
+        requires profile { port.pass.memory.profile ≡ self.old.profile }
+        ensures profile { self.new.profile ≡ self.old.profile }
+        ensures memory { result.1.pass.memory ≡ port.pass.memory }
+        ensures port { result.1.pass.port ≡ port.pass.port }
+        ensures sees { CanSee result.1.pass }
+        ensures one { SeesOne result.1 }
+        ensures begins { Begins (terms_of same_object port.pass.memory BusPort) tries port result.1
+            self.old.loaded self.new.loaded self.new.under_way result.0 }
+    {
+        let (first, found) = arrive(ram, &mut port);
+        self.leave_behind(&first);
+        let role = role_now(&found);
+        let (loading, port) = self.load_over::<Brand>(ram, port, may_send(role), tries);
+        let member = Member {
+            role,
+            frame: loaded_frame(&self.loaded),
+            flaw: None,
+        };
+        self.under_way = kept(&member);
+        (
+            Begun {
+                found,
+                loading,
+                member,
+            },
+            port,
+        )
+    }
+
+    /// One more look at the controller while a frame is under way, and what the chip is to the bus from there. Where the controller
+    /// has left the bus since the start, also if it is back, it takes no part in the rest: nothing is under way, nothing is loaded.
+    pub fn stay(&mut self, ram: &EndlessRam, port: &mut Port) -> Stayed
+        requires memory { port.old.pass.memory ≡ ram.now.words }
+        ensures profile { self.new.profile ≡ self.old.profile }
+        ensures memory { port.new.pass.memory ≡ port.old.pass.memory }
+        ensures port { port.new.pass.port ≡ port.old.pass.port }
+        ensures stays { Stays port.old port.new self.old.loaded self.new.loaded
+            self.old.under_way self.new.under_way result }
+    {
+        let found = ram.look_controller(port);
+        self.take(&found);
+        Stayed {
+            found,
+            member: member_now(&self.under_way),
+        }
+    }
+
+    /// The end of a frame, to the chip at this place on the bus, which finds this error by itself. It looks at the controller: one
+    /// that has left the bus since the start, also if it is back, has no event, and nothing is loaded. Else the memory steps come
+    /// that the event calls for, and then the event at the controller, in up to 1,000 tries. Nothing is under way afterwards.
+    pub fn end(
+        &mut self,
+        ram: &EndlessRam,
+        mut port: Port,
+        wire: &Wire,
+        place: usize,
+        flaw: Option<Flaw>,
+        tries: Tries,
+    ) -> (Ended, Port)
+        requires within { place < MOST_MEMBERS }
+        requires memory { port.pass.memory ≡ ram.now.words }
+        requires bus { port.pass.port ≡ BusPort }
+        requires profile { port.pass.memory.profile ≡ self.old.profile }
+        ensures profile { self.new.profile ≡ self.old.profile }
+        ensures memory { result.1.pass.memory ≡ port.pass.memory }
+        ensures port { result.1.pass.port ≡ port.pass.port }
+        ensures sees { CanSee result.1.pass }
+        ensures one { SeesOne result.1 }
+        ensures ends { Ends (terms_of same_object port.pass.memory BusPort) tries port result.1
+            wire.now place flaw self.old.loaded self.new.loaded self.old.under_way result.0 }
+        ensures over { self.new.under_way ≡ None }
+    {
+        let found = ram.look_controller(&mut port);
+        self.take(&found);
+        let own = wire.event(place, &ending(&self.under_way, flaw));
+        let decided = due(self.profile, &own, &self.loaded, frame_on(wire));
+        let (end, mut port) = complete_over::<Brand>(&decided, ram, port, tries);
+        self.settle(&own);
+        let noted = note(ram, &mut port, &own);
+        (
+            Ended {
+                found,
+                own,
+                end,
+                noted,
+            },
+            port,
+        )
+    }
+}
