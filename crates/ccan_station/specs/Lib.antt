@@ -1,2 +1,3 @@
 pub mod Station
 pub mod Plain
+pub mod Laws

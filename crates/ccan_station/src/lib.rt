@@ -25,6 +25,7 @@ mod arrival;
 mod begun;
 mod due;
 mod ended;
+pub mod laws;
 mod load;
 mod note;
 mod part;

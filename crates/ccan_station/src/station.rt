@@ -92,8 +92,7 @@ impl Station {
         ensures empty { self.new.loaded ≡ None }
         ensures rests { self.new.under_way ≡ None }
     {
-        self.loaded = None;
-        self.under_way = None;
+        *self = Station::new(self.profile);
     }
 
     /// Drops what was loaded where the controller has left the bus.

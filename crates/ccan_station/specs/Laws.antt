@@ -1,0 +1,44 @@
+-- Laws of frames that are under way while controllers leave the bus. Source: CAN Specification 2.0, part B, section 2 (arbitration:
+-- the frame that is left goes on, and no bit of it is lost) and 3.1.3 (who sends nothing is seen as six recessive bits, which break
+-- the stuff rule); C_CAN User's Manual 1.2, "CAN Control Register" (Init: setting it stops all transfer of messages). That a sender
+-- leaves before the end of the check sequence is (own).
+use Rattle.std.specs.Prelude.{ℕ, ◌≡◌, true, false, Option, Some, None}
+use Rattle.ccan_confine.specs.declared.controller.Controller.{Controller}
+use Rattle.ccan_chip.specs.Arrival.{takes_part}
+use Rattle.ccan_wire.specs.declared.flaw.Flaw.{Flaw}
+use Rattle.ccan_wire.specs.declared.member.Member.{Member}
+use Rattle.ccan_wire.specs.declared.start.Start.TheVariants.{Won}
+use Rattle.ccan_wire.specs.declared.wire.Wire.{Wire}
+use Rattle.ccan_wire.specs.declared.wire.Wire.TheVariants.{Broken}
+use Rattle.ccan_wire.specs.declared.winner.Part.TheVariants.{Sender}
+use Rattle.ccan_wire.specs.declared.winner.Winner.{Winner}
+use Rattle.ccan_wire.specs.Event.{event_of}
+use Rattle.ccan_wire.specs.Winner.{part_of}
+use Rattle.ccan_wire.specs.Wire.{Carries, Continues, start_of}
+use Rattle.ccan_station.specs.Station.{ending, still_under_way}
+
+-- what a look that found this controller leaves of a member that was under way, with the error that it finds by itself
+abbrev pub after_look : Controller → Option Flaw → Member → Member
+after_look found flaw m = ending (still_under_way found (Some m)) flaw
+
+-- Whoever leaves while a frame is under way, and whatever errors are found: where the members that are left are asked anew, the
+-- frame that won at the start wins, if one of its senders is left.
+abbrev pub WhoLeavesChangesNoWinner : Type 0
+WhoLeavesChangesNoWinner =
+    (m : ℕ → Member) (found : ℕ → Controller) (flaw : ℕ → Option Flaw) (wire later : Wire) (winner : Winner) (sender : ℕ)
+    → Carries m wire → start_of wire ≡ Won winner → part_of winner sender ≡ Sender → takes_part (found sender) ≡ true
+    → Carries (λ k. after_look (found k) (flaw k) (m k)) later
+    → (left : Winner) × (start_of later ≡ Won left) × (left.frame ≡ winner.frame)
+
+-- a frame whose senders have all left the bus is cut off, whatever the others do
+abbrev pub FramesOfWhoLeftAreCutOff : Type 0
+FramesOfWhoLeftAreCutOff =
+    (m : ℕ → Member) (found : ℕ → Controller) (flaw : ℕ → Option Flaw) (wire later : Wire) (winner : Winner)
+    → start_of wire ≡ Won winner → ((k : ℕ) → part_of winner k ≡ Sender → takes_part (found k) ≡ false)
+    → Continues wire (λ k. after_look (found k) (flaw k) (m k)) later → later ≡ Broken winner
+
+-- who has left the bus has no event, whatever is on it
+abbrev pub WhoLeftHasNoEvent : Type 0
+WhoLeftHasNoEvent =
+    (on : Wire) (place : ℕ) (found : Controller) (flaw : Option Flaw) (m : Member) → takes_part found ≡ false
+    → event_of on place (after_look found flaw m) ≡ None

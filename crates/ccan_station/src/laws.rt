@@ -1,0 +1,19 @@
+//! Laws of frames that are under way while controllers leave the bus. The functions do nothing: their contracts are the laws.
+
+ghost use Rattle.ccan_station.specs.Laws.{FramesOfWhoLeftAreCutOff, WhoLeavesChangesNoWinner, WhoLeftHasNoEvent};
+
+/// Whoever leaves while a frame is under way: if one of its senders is left, the frame that won at the start wins where the
+/// members are asked anew.
+pub fn who_leaves_changes_no_winner()
+    ensures { WhoLeavesChangesNoWinner }
+{}
+
+/// A frame whose senders have all left the bus is cut off, so nobody receives it.
+pub fn frames_of_who_left_are_cut_off()
+    ensures { FramesOfWhoLeftAreCutOff }
+{}
+
+/// Who has left the bus has no event, whatever is on it.
+pub fn who_left_has_no_event()
+    ensures { WhoLeftHasNoEvent }
+{}
