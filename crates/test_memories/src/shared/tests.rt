@@ -4,6 +4,7 @@ use crate::expect::{CONTROL, MESSAGE, change_of};
 mod chip_rounds;
 mod orders;
 mod pictures;
+mod stations;
 mod threads;
 
 use ccan_endless::EndlessRam;

@@ -1,0 +1,321 @@
+//! Rounds of two chips and a node without one on one bus, with time between the start of a frame and its end: worked examples
+//! from CAN Specification 2.0 and the C_CAN User's Manual 1.2, "CAN Control Register", "Test Register" and section 4.2.
+ghost use Rattle.std.specs.Prelude.{◌≡◌, ◌<◌};
+ghost use Rattle.ccan_ram.specs.declared.port.PortName.TheVariants.{If1, If2, Bus};
+ghost use Rattle.ccan_object.specs.declared.profile.Profile.TheVariants.{One};
+
+use super::message;
+use crate::expect::{BYTES, RECEIVER, change_of, holds, same, shown, tries};
+use crate::shared::chips::{changed, looked};
+use ccan_bus::LoadAnswer;
+use ccan_chip::OwnEvent;
+use ccan_confine::{
+    BusEvent, ControlRegister, Controller, ControllerChange, Counters, StatusEvent, TestRegister,
+};
+use ccan_endless::{EndlessRam, Port};
+use ccan_object::{Profile, Record, Reg};
+use ccan_ram::{Change, Changed, SharedRam, Tries};
+use ccan_station::{Plain, Station, laws};
+use ccan_wire::{MOST_MEMBERS, Member, Role, Wire, decide, decide_again};
+use std::alloc::Global;
+use std::process::Abort;
+
+/// A chip on the bus. The host's calls are IF1's, and concern its last object. The calls promise nothing.
+#[derive(Drop)]
+struct Seat {
+    ram: EndlessRam,
+    if1: Port,
+    if2: Port,
+    port: Port,
+    station: Station,
+    tries: Tries,
+    ghost first: { (if1.pass.memory ≡ ram.words) × (if1.pass.port ≡ If1) },
+    ghost second: { (if2.pass.memory ≡ ram.words) × (if2.pass.port ≡ If2) },
+    ghost third: { (port.pass.memory ≡ ram.words) × (port.pass.port ≡ Bus) },
+    ghost profile: { port.pass.memory.profile ≡ station.profile },
+    ghost objects: { port.pass.memory.profile ≡ One },
+}
+
+impl Seat {
+    /// A chip after its reset: Init is 1.
+    fn open(rt: &impl Abort, alloc: Global) -> Seat {
+        match EndlessRam::open_reset(alloc, Profile::One, 64) {
+            Ok((ram, if1, if2, port)) => Seat {
+                ram,
+                if1,
+                if2,
+                port,
+                station: Station::new(Profile::One),
+                tries: tries(8),
+            },
+            Err(_) => panic!(rt; "no memory"),
+        }
+    }
+
+    /// The host's change of the controller. Whether it was made.
+    fn control(&mut self, control: ControlRegister) -> bool {
+        let written = ControllerChange::WriteControl(control);
+        changed(&self.ram, &mut self.if1, &written, self.tries).is_some()
+    }
+
+    /// The host writes Init, and the other bits of the Control register as 0.
+    fn init(&mut self, init: bool) -> bool {
+        self.control(ControlRegister {
+            init,
+            ..ControlRegister::default()
+        })
+    }
+
+    /// The host sets Test, and then Silent.
+    fn silence(&mut self) -> bool {
+        let test = self.control(ControlRegister {
+            test: true,
+            ..ControlRegister::default()
+        });
+        let silent = ControllerChange::WriteTest(TestRegister {
+            silent: true,
+            ..TestRegister::default()
+        });
+        test && changed(&self.ram, &mut self.if1, &silent, self.tries).is_some()
+    }
+
+    fn controller(&mut self) -> Controller {
+        looked(&self.ram, &mut self.if1)
+    }
+
+    /// The host's change of the object. Whether it was made.
+    fn change(&mut self, change: &Change) -> bool {
+        let object = self.ram.profile().last();
+        let made = self.ram.change(&mut self.if1, object, change, self.tries);
+        matches!(made, Ok(Changed::Done { .. }))
+    }
+
+    fn record(&mut self) -> Record {
+        let object = self.ram.profile().last();
+        self.ram.look(&mut self.if1, object)
+    }
+
+    /// The chip's start of a frame: what came of its load, and what it is to the bus.
+    fn begin(self) -> (Seat, LoadAnswer, Member) {
+        let Seat {
+            ram,
+            if1,
+            if2,
+            port,
+            mut station,
+            tries,
+        } = self;
+        let (begun, port) = station.begin(&ram, port, tries);
+        (
+            Seat {
+                ram,
+                if1,
+                if2,
+                port,
+                station,
+                tries,
+            },
+            begun.loading,
+            begun.member,
+        )
+    }
+
+    /// What it is to the bus while a frame is under way.
+    fn stay(&mut self) -> Member {
+        self.station.stay(&self.ram, &mut self.port).member
+    }
+
+    /// The end of a frame, to the chip at this place: its event.
+    fn end(self, wire: &Wire, place: usize) -> (Seat, Option<OwnEvent>)
+        requires { place < MOST_MEMBERS }
+    {
+        let Seat {
+            ram,
+            if1,
+            if2,
+            port,
+            mut station,
+            tries,
+        } = self;
+        let (ended, port) = station.end(&ram, port, wire, place, None, tries);
+        (
+            Seat {
+                ram,
+                if1,
+                if2,
+                port,
+                station,
+                tries,
+            },
+            ended.own,
+        )
+    }
+}
+
+const SENT: Option<OwnEvent> = Some((BusEvent::Sent, StatusEvent::Sent));
+
+const RECEIVED: Option<OwnEvent> = Some((BusEvent::Received, StatusEvent::Received));
+
+/// A chip that requests to send 0x123, another one that receives it, and a node without a chip. The places are theirs.
+#[derive(Drop)]
+struct Network {
+    a: Seat,
+    b: Seat,
+    c: Plain,
+}
+
+impl Network {
+    /// Both chips are out of their reset, and A takes part.
+    fn open(rt: &impl Abort, alloc: Global) -> Network {
+        let mut a = Seat::open(rt, alloc);
+        let mut b = Seat::open(rt, alloc);
+        holds(rt, a.init(false));
+        holds(rt, a.change(&message(0x0188)));
+        holds(rt, b.change(&change_of(&RECEIVER, &[(Reg::Ctrl, 0x0088)])));
+        Network {
+            a,
+            b,
+            c: Plain {
+                counters: Counters::new(false),
+            },
+        }
+    }
+
+    /// The start of a frame.
+    fn start(self) -> (Network, Wire) {
+        let Network { a, b, c } = self;
+        let (a, _, first) = a.begin();
+        let (b, _, second) = b.begin();
+        let wire = decide(&[first, second, c.member(None, None)]);
+        (Network { a, b, c }, wire)
+    }
+
+    /// Its end, those who listen first. The events of A and B.
+    fn end(self, start: &Wire) -> (Network, Option<OwnEvent>, Option<OwnEvent>) {
+        let Network {
+            mut a,
+            mut b,
+            mut c,
+        } = self;
+        let third = c.member(None, None);
+        let wire = decide_again(start, &[a.stay(), b.stay(), third]);
+        let (b, to_b) = b.end(&wire, 1);
+        let (a, to_a) = a.end(&wire, 0);
+        c.end(&wire, 2, &third);
+        (Network { a, b, c }, to_a, to_b)
+    }
+
+    /// Whether A's request stands, and whether A has something loaded.
+    fn waits(&mut self) -> (bool, bool) {
+        (self.a.record().txrqst, self.a.station.loaded().is_some())
+    }
+}
+
+#[test]
+fn a_chip_joins_with_the_next_frame(rt: HostRuntime) {
+    let network = Network::open(&rt, rt.alloc());
+    // Init of B is 1: the node without a chip acknowledges.
+    let (network, wire) = network.start();
+    holds(&rt, matches!(wire, Wire::Carried(_)));
+    let (mut network, to_a, to_b) = network.end(&wire);
+    same(&rt, (to_a, to_b), (SENT, None));
+    same(&rt, network.waits(), (false, false));
+    // TxOk; and nothing.
+    same(&rt, network.a.controller().status_word(), 0x0008);
+    same(&rt, network.b.controller().status_word(), 0x0000);
+    holds(&rt, network.b.init(false));
+    holds(&rt, network.a.change(&message(0x0188)));
+    let (mut network, wire) = network.start();
+    same(&rt, network.waits(), (true, true));
+    let (mut network, to_a, to_b) = network.end(&wire);
+    same(&rt, (to_a, to_b), (SENT, RECEIVED));
+    same(&rt, network.waits(), (false, false));
+    // NewDat, EoB and eight bytes; RxOk.
+    let (_, _, control, bytes) = shown(&network.b.record());
+    same(&rt, (control, bytes), (0x8088, BYTES));
+    same(&rt, network.b.controller().status_word(), 0x0010);
+    same(&rt, network.c.counters.rec(), 0);
+}
+
+/// A's host sets Init in mid-frame, and clears it again or not. B has so many receive errors then.
+fn cut_off(rt: &impl Abort, network: Network, is_cleared: bool, errors: u8) -> Network {
+    let (mut network, wire) = network.start();
+    holds(rt, matches!(wire, Wire::Carried(_)));
+    same(rt, network.waits(), (true, true));
+    holds(rt, network.a.init(true));
+    holds(rt, !is_cleared || network.a.init(false));
+    let (mut network, to_a, to_b) = network.end(&wire);
+    let stuff = Some((BusEvent::ReceiveFault, StatusEvent::Fault(1)));
+    same(rt, (to_a, to_b), (None, stuff));
+    same(rt, network.waits(), (true, false));
+    let (a, b) = (network.a.controller(), network.b.controller());
+    same(rt, (a.status_word(), a.counters.tec()), (0, 0));
+    same(rt, (b.status_word(), b.counters.rec()), (1, errors));
+    same(rt, network.c.counters.rec(), errors);
+    network
+}
+
+#[test]
+fn init_in_mid_frame_cuts_the_frame_off(rt: HostRuntime) {
+    let mut network = Network::open(&rt, rt.alloc());
+    holds(&rt, network.b.init(false));
+    let network = cut_off(&rt, network, false, 1);
+    // While Init is 1 nobody sends; then the object is chosen anew.
+    let (network, wire) = network.start();
+    same(&rt, wire, Wire::Idle);
+    let (mut network, to_a, to_b) = network.end(&wire);
+    same(&rt, (to_a, to_b), (None, None));
+    holds(&rt, network.a.init(false));
+    let network = cut_off(&rt, network, true, 2);
+    let (network, wire) = network.start();
+    let (mut network, to_a, to_b) = network.end(&wire);
+    same(&rt, (to_a, to_b), (SENT, RECEIVED));
+    same(&rt, network.waits(), (false, false));
+}
+
+#[test]
+fn the_end_sees_who_left_by_itself(rt: HostRuntime) {
+    let network = Network::open(&rt, rt.alloc());
+    let (mut network, wire) = network.start();
+    // No look until the end, and Init is 0 again.
+    holds(&rt, network.a.init(true) && network.a.init(false));
+    let Network { a, b, c } = network;
+    let (a, to_a) = a.end(&wire, 0);
+    same(&rt, to_a, None);
+    let mut network = Network { a, b, c };
+    same(&rt, network.waits(), (true, false));
+    // A reset in mid-frame, at the station.
+    let (mut network, wire) = network.start();
+    same(&rt, network.waits(), (true, true));
+    same(&rt, network.a.station.member().role, Role::Active);
+    network.a.station.unload();
+    same(&rt, network.a.station.member().role, Role::Absent);
+    let Network { a, b, c } = network;
+    let (a, to_a) = a.end(&wire, 0);
+    same(&rt, to_a, None);
+    let mut network = Network { a, b, c };
+    same(&rt, network.waits(), (true, false));
+}
+
+#[test]
+fn a_silent_chip_loads_nothing_and_hears(rt: HostRuntime) {
+    let mut network = Network::open(&rt, rt.alloc());
+    // B requests to send, too, while it is silent.
+    holds(&rt, network.b.change(&message(0x0188)));
+    holds(&rt, network.b.silence());
+    let Network { a, b, c } = network;
+    let (b, loading, member) = b.begin();
+    same(
+        &rt,
+        (loading, member.role, member.frame),
+        (LoadAnswer::Nothing, Role::Silent, None),
+    );
+    let (network, wire) = Network { a, b, c }.start();
+    let (mut network, to_a, to_b) = network.end(&wire);
+    // It stores nothing, since no object receives.
+    same(&rt, (to_a, to_b), (SENT, RECEIVED));
+    holds(&rt, network.b.record().txrqst);
+    laws::who_leaves_changes_no_winner();
+    laws::frames_of_who_left_are_cut_off();
+    laws::who_left_has_no_event();
+}
