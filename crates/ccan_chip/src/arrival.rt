@@ -14,7 +14,7 @@ use ccan_ram::Tries;
 const OWN_TRIES: u16 = 1000;
 
 /// The tries of such a change.
-pub(crate) fn own_tries() -> Tries
+pub fn own_tries() -> Tries
     ensures { result ≡ most_tries }
 {
     match Tries::new(OWN_TRIES) {
@@ -31,7 +31,7 @@ fn may_take_part(controller: &Controller) -> bool
 }
 
 /// Whether it takes part: it may, and has not left the bus since the port joined last.
-pub(crate) fn takes_part(controller: &Controller) -> bool
+pub fn takes_part(controller: &Controller) -> bool
     ensures { result ≡ takes_part controller.now }
 {
     may_take_part(controller) && !controller.has_left
@@ -47,7 +47,7 @@ fn comes_back(controller: &Controller) -> bool
 /// Comes to the bus: looks at the controller, and where that comes back, joins and looks again. The controllers that the
 /// first and the last look found. Where each try to join was lost to a change of another port, the controller takes no part
 /// this time.
-pub(crate) fn arrive(ram: &EndlessRam, port: &mut Port) -> (Controller, Controller)
+pub fn arrive(ram: &EndlessRam, port: &mut Port) -> (Controller, Controller)
     requires memory { port.old.pass.memory ≡ ram.now.words }
     requires bus { port.old.pass.port ≡ Bus }
     ensures arrives { Arrives port.old port.new result.0 result.1 }

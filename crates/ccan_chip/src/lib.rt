@@ -34,6 +34,7 @@ pub mod laws;
 mod objects;
 mod own_event;
 
+pub use arrival::{arrive, own_tries, takes_part};
 pub use chip_bus::ChipBus;
 pub use chip_report::ChipReport;
 pub use objects::{Earlier, Objects};

@@ -59,7 +59,7 @@ may_send Alone = true
 may_send Passive = true
 may_send Active = true
 
--- what was loaded is dropped where the controller has left the bus, be it but for a moment
+-- what was loaded is dropped if the controller has left the bus, even for a moment
 abbrev pub loaded_before : Controller → Loaded → Loaded
 loaded_before first loaded = if first.has_left then None else loaded
 

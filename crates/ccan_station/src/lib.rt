@@ -21,7 +21,6 @@
 //! A [`Plain`] is a node without a chip.
 #![tactic(auto)]
 
-mod arrival;
 mod begun;
 mod due;
 mod ended;

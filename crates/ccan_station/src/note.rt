@@ -8,8 +8,7 @@ ghost use Rattle.ccan_confine.specs.StatusEvent.{HasFaultCode};
 ghost use Rattle.ccan_endless.specs.ChipPort.{SeesOne};
 ghost use Rattle.ccan_chip.specs.Round.{Notes};
 
-use crate::arrival::own_tries;
-use ccan_chip::OwnEvent;
+use ccan_chip::{OwnEvent, own_tries};
 use ccan_confine::ControllerChange;
 use ccan_endless::{ControllerBusy, ControllerChanged, EndlessRam, Port};
 

@@ -4,8 +4,8 @@ ghost use Rattle.std.specs.Prelude.{◌≡◌, Some};
 ghost use Rattle.ccan_wire.specs.Member.{nobody};
 ghost use Rattle.ccan_station.specs.Station.{ending, loaded_frame, may_send, member_now, role_now};
 
-use crate::arrival::takes_part;
 use ccan_accept::{Frame, frame_of};
+use ccan_chip::takes_part;
 use ccan_confine::Controller;
 use ccan_object::{ObjectNo, Record};
 use ccan_wire::{Flaw, Member, Role};

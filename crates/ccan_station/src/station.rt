@@ -9,7 +9,6 @@ ghost use Rattle.ccan_bus.specs.Decide.{IsOf};
 ghost use Rattle.ccan_endless.specs.ChipPort.{AddsNone, SeesOne};
 ghost use Rattle.ccan_endless.specs.Layout.{same_object};
 
-use crate::arrival::{arrive, takes_part};
 use crate::begun::Begun;
 use crate::due::{due, frame_on};
 use crate::ended::Ended;
@@ -17,7 +16,7 @@ use crate::note::note;
 use crate::part::{ending, kept, loaded_frame, may_send, member_now, role_now};
 use crate::stayed::Stayed;
 use ccan_bus::{Decision, LoadAnswer, RoundEnd};
-use ccan_chip::{Earlier, Objects, OwnEvent};
+use ccan_chip::{Earlier, Objects, OwnEvent, arrive, takes_part};
 use ccan_confine::Controller;
 use ccan_endless::{EndlessRam, Port};
 use ccan_object::{ObjectNo, Profile, Record};
