@@ -10,7 +10,6 @@ void ccan_private_refuse(const char *call, const char *why);
         ccan_private_refuse(#call, why); \
         return -1; \
     }
-#pragma GCC diagnostic ignored "-Wbuiltin-declaration-mismatch"
 
 #define FILES "files are no part of a state, and a search goes back and forth between states"
 REFUSED(open, FILES)

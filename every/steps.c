@@ -26,9 +26,8 @@ bool add_footprint(footprint *to, const footprint *from)
 /* ---- the switch */
 
 /* Saves the registers that a call keeps on this stack and its top in `from`, and goes on at the stack `to`. */
-__attribute__((naked, noinline)) static void switch_stacks(void **from, void *to)
+__attribute__((naked, noinline)) static void switch_stacks(__attribute__((unused)) void **from, __attribute__((unused)) void *to)
 {
-    (void)from, (void)to;
     __asm__("pushq %rbp; pushq %rbx; pushq %r12; pushq %r13; pushq %r14; pushq %r15; movq %rsp, (%rdi); movq %rsi, %rsp;"
             "popq %r15; popq %r14; popq %r13; popq %r12; popq %rbx; popq %rbp; ret");
 }

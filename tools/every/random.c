@@ -13,7 +13,7 @@
 enum { THREADS = 3, MOST = 6, IF1 = 0, IF2 = 1, BUS = 2 };
 enum kind {
     TRANSFER, MORE_TRANSFER, FLAGS, INTERRUPT, STATUS, CONTROL, LINE, READ_CONTROL, STORE, LOAD, ADD, LOCKED, CHOOSE, MASKED, POLL,
-    COUNTED_POLL, UNTIL, PLAIN, COPY, SIGNAL, AWAIT, POST, TAKE, DELAY, TWO_LOOKS, HOST_KINDS,
+    POLL_BOTH, COUNTED_POLL, UNTIL, PLAIN, COPY, SIGNAL, AWAIT, POST, TAKE, DELAY, TWO_LOOKS, HOST_KINDS,
     ROUND, MORE_ROUNDS, LOAD_FRAME, INIT, BUS_KINDS
 };
 typedef struct { int kind, a, b, c; } operation;
@@ -78,6 +78,13 @@ static void poll_cell(int me, int cell, int counted)
     SAW(" w%d", atomic_load(&cells[cell]));
 }
 
+static void poll_both(int me)
+{
+    while (atomic_load(&cells[0]) == 0 && atomic_load(&cells[1]) == 0)
+        sched_yield();
+    SAW(" b%d", atomic_load(&cells[1]));
+}
+
 /* A loop that goes on by what it looked at, and keeps it in a variable of its own. */
 static void two_looks(int me)
 {
@@ -132,6 +139,7 @@ static void work_of_host(int me, ccan_host *host, const operation *of)
     case CHOOSE: SAW(" x%u", ccan_choose(2)); break;
     case MASKED: ccan_irq_off(); read_one(me, host, CCAN_OFFSET_INTERRUPT, 'I'); read_one(me, host, CCAN_OFFSET_CONTROL, 'C'); ccan_irq_on(); break;
     case POLL: poll_cell(me, of->a & 1, 0); break;
+    case POLL_BOTH: poll_both(me); break;
     case COUNTED_POLL: poll_cell(me, of->a & 1, counts_turns); break;
     case UNTIL: must(ccan_until(host, 1 + (uint32_t)of->a % 3, (uint32_t)of->b % 5, 1 + (uint32_t)of->c % 3, &found)); SAW(" u%u", (unsigned)found); break;
     case PLAIN: plain[of->a & 1] = plain[of->b & 1] * 2 + 1; break;

@@ -1,0 +1,28 @@
+/* A poll of two flags, the first of which is set while it looks at the second: it has to look once more. */
+#include <ccan_every.h>
+#include <sched.h>
+#include <stdatomic.h>
+#include <stdio.h>
+
+static atomic_int first, second;
+
+static void poll(void)
+{
+    while (!first && !second)
+        sched_yield();
+    printf("seen\n");
+}
+
+static void set(void)
+{
+    second = 0; /* so that both are words that threads share */
+    first = 1;
+}
+
+int main(void)
+{
+    ccan_thread("poll", poll);
+    ccan_thread("set", set);
+    ccan_quiet();
+    return 0;
+}
