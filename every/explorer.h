@@ -54,7 +54,8 @@ struct thread {
     const void *about;
     uint32_t alternatives;      /* in how many ways its next step goes on */
     memory_access next;
-    uint32_t steps;
+    uint32_t steps, accesses;   /* accesses: since its last place */
+    bool gives_way;
     uint64_t fine;              /* calls of step and touch, which are the places of a replay */
     /* Its turn: what it did since its last wait (turns.c). */
     bool at_wait, is_fresh, is_idle, is_counting, counts_on, turn_overflows;

@@ -116,6 +116,17 @@ static void tell_access(const memory_access *of)
         line_of_code(of->pc));
 }
 
+/* A thread that goes on for long without a place, as a loop on a word that nobody has written yet, lets the others go first. */
+static void give_way(void)
+{
+    enum { LONG = 20000 };
+    if (++ME->accesses < LONG)
+        return;
+    ME->gives_way = true;
+    pause_here(NULL, NULL, 1);
+    ME->gives_way = false;
+}
+
 static void access_memory(const void *at, size_t size, const memory_access *of, condition *may)
 {
     if (!E || !E->running || !is_programs((uintptr_t)at))
@@ -130,6 +141,7 @@ static void access_memory(const void *at, size_t size, const memory_access *of, 
         ME->next.size = 0;
     } else {
         ME->fine++;
+        give_way();
     }
     mark(at, size, of->writes);
     if (bits && of->pc && E->telling)

@@ -77,6 +77,7 @@ void pause_here(condition *may, const void *about, uint32_t alternatives)
     me->may = may;
     me->about = about;
     me->alternatives = alternatives;
+    me->accesses = 0;
     to_scheduler();
     me = ME;
     me->may = NULL;

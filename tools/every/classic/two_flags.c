@@ -1,4 +1,4 @@
-/* A poll of two flags, the first of which is set while it looks at the second: it has to look once more. */
+/* A poll of two flags, the first of which is set for good while it looks at the second: it has to look once more. */
 #include <ccan_every.h>
 #include <sched.h>
 #include <stdatomic.h>
@@ -15,7 +15,8 @@ static void poll(void)
 
 static void set(void)
 {
-    second = 0; /* so that both are words that threads share */
+    second = 1;
+    second = 0;
     first = 1;
 }
 
