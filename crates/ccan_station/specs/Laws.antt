@@ -2,20 +2,28 @@
 -- the frame that is left goes on, and no bit of it is lost) and 3.1.3 (who sends nothing is seen as six recessive bits, which break
 -- the stuff rule); C_CAN User's Manual 1.2, "CAN Control Register" (Init: setting it stops all transfer of messages). That a sender
 -- leaves before the end of the check sequence is (own).
-use Rattle.std.specs.Prelude.{ℕ, ◌≡◌, true, false, Option, Some, None}
+use Rattle.std.specs.Prelude.{ℕ, ◌≡◌, ◌≢◌, true, false, Option, Some, None}
+use Rattle.ccan_ram.specs.Terms.{Terms}
 use Rattle.ccan_confine.specs.declared.controller.Controller.{Controller}
+use Rattle.ccan_bus.specs.declared.choice.Choice.TheVariants.{AtOnce}
+use Rattle.ccan_bus.specs.Past.{BusPast}
+use Rattle.ccan_endless.specs.ChipPort.{ChipPass}
 use Rattle.ccan_chip.specs.Arrival.{takes_part}
+use Rattle.ccan_chip.specs.Load.{ChipLoad}
 use Rattle.ccan_wire.specs.declared.flaw.Flaw.{Flaw}
 use Rattle.ccan_wire.specs.declared.member.Member.{Member}
+use Rattle.ccan_wire.specs.declared.role.Role.TheVariants.{Silent}
 use Rattle.ccan_wire.specs.declared.start.Start.TheVariants.{Won}
 use Rattle.ccan_wire.specs.declared.wire.Wire.{Wire}
 use Rattle.ccan_wire.specs.declared.wire.Wire.TheVariants.{Broken}
 use Rattle.ccan_wire.specs.declared.winner.Part.TheVariants.{Sender}
 use Rattle.ccan_wire.specs.declared.winner.Winner.{Winner}
 use Rattle.ccan_wire.specs.Event.{event_of}
+use Rattle.ccan_wire.specs.Role.{role_of}
 use Rattle.ccan_wire.specs.Winner.{part_of}
 use Rattle.ccan_wire.specs.Wire.{Carries, Continues, start_of}
-use Rattle.ccan_station.specs.Station.{ending, still_under_way}
+use Rattle.ccan_station.specs.declared.begun.Begun.{Begun}
+use Rattle.ccan_station.specs.Station.{Begins, Loaded, ending, still_under_way}
 
 -- what a look that found this controller leaves of a member that was under way, with the error that it finds by itself
 abbrev pub after_look : Controller → Option Flaw → Member → Member
@@ -42,3 +50,12 @@ abbrev pub WhoLeftHasNoEvent : Type 0
 WhoLeftHasNoEvent =
     (on : Wire) (place : ℕ) (found : Controller) (flaw : Option Flaw) (m : Member) → takes_part found ≡ false
     → event_of on place (after_look found flaw m) ≡ None
+
+-- A start of a frame is a load of the bus of one chip, and leaves the same loaded, where the controller is not silent: that bus
+-- knows no silent controller.
+abbrev pub BeginsAreLoads : Type 0
+BeginsAreLoads =
+    (terms : Terms) (tries : ℕ) (old new : ChipPass) (past : BusPast) (loaded : Loaded) (under_way : Option Member)
+    (told : Begun) → past.choice ≡ AtOnce → Begins terms tries old new past.loaded loaded under_way told
+    → role_of told.found ≢ Silent
+    → (after : BusPast) × ChipLoad terms tries old new past after told.found told.loading × (after.loaded ≡ loaded)

@@ -1,6 +1,7 @@
-//! Laws of frames that are under way while controllers leave the bus. The functions do nothing: their contracts are the laws.
+//! Laws of frames that are under way while controllers leave the bus, and of how a frame starts. The functions do nothing: their contracts are the laws.
 
-ghost use Rattle.ccan_station.specs.Laws.{FramesOfWhoLeftAreCutOff, WhoLeavesChangesNoWinner, WhoLeftHasNoEvent};
+ghost use Rattle.ccan_station.specs.Laws.{BeginsAreLoads, FramesOfWhoLeftAreCutOff};
+ghost use Rattle.ccan_station.specs.Laws.{WhoLeavesChangesNoWinner, WhoLeftHasNoEvent};
 
 /// Whoever leaves while a frame is under way: if one of its senders is left, the frame that won at the start wins where the
 /// members are asked anew.
@@ -16,4 +17,9 @@ pub fn frames_of_who_left_are_cut_off()
 /// Who has left the bus has no event, whatever is on it.
 pub fn who_left_has_no_event()
     ensures { WhoLeftHasNoEvent }
+{}
+
+/// The start of a frame is a load of `ccan_chip::ChipBus`, where the controller is not silent.
+pub fn begins_are_loads()
+    ensures { BeginsAreLoads }
 {}

@@ -237,36 +237,57 @@ fn a_chip_joins_with_the_next_frame(rt: HostRuntime) {
     same(&rt, network.c.counters.rec(), 0);
 }
 
-/// A's host sets Init in mid-frame, and clears it again or not. B has so many receive errors then.
-fn cut_off(rt: &impl Abort, network: Network, is_cleared: bool, errors: u8) -> Network {
-    let (mut network, wire) = network.start();
-    holds(rt, matches!(wire, Wire::Carried(_)));
+/// A's host sets Init in mid-frame, and clears it again or not. The events of A and B.
+fn leave(
+    rt: &impl Abort,
+    mut network: Network,
+    start: &Wire,
+    is_cleared: bool,
+) -> (Network, Option<OwnEvent>, Option<OwnEvent>) {
+    holds(rt, matches!(start, Wire::Carried(_)));
     same(rt, network.waits(), (true, true));
     holds(rt, network.a.init(true));
-    holds(rt, !is_cleared || network.a.init(false));
-    let (mut network, to_a, to_b) = network.end(&wire);
+    if is_cleared {
+        holds(rt, network.a.init(false));
+    }
+    network.end(start)
+}
+
+/// Sees that a frame of A was cut off so. B has so many receive errors then.
+fn was_cut_off(
+    rt: &impl Abort,
+    network: &mut Network,
+    to_a: Option<OwnEvent>,
+    to_b: Option<OwnEvent>,
+    errors: u8,
+) {
     let stuff = Some((BusEvent::ReceiveFault, StatusEvent::Fault(1)));
     same(rt, (to_a, to_b), (None, stuff));
     same(rt, network.waits(), (true, false));
-    let (a, b) = (network.a.controller(), network.b.controller());
+    let a = network.a.controller();
     same(rt, (a.status_word(), a.counters.tec()), (0, 0));
+    let b = network.b.controller();
     same(rt, (b.status_word(), b.counters.rec()), (1, errors));
     same(rt, network.c.counters.rec(), errors);
-    network
 }
 
 #[test]
 fn init_in_mid_frame_cuts_the_frame_off(rt: HostRuntime) {
     let mut network = Network::open(&rt, rt.alloc());
     holds(&rt, network.b.init(false));
-    let network = cut_off(&rt, network, false, 1);
+    let (network, wire) = network.start();
+    let (mut network, to_a, to_b) = leave(&rt, network, &wire, false);
+    was_cut_off(&rt, &mut network, to_a, to_b, 1);
     // While Init is 1 nobody sends; then the object is chosen anew.
     let (network, wire) = network.start();
     same(&rt, wire, Wire::Idle);
     let (mut network, to_a, to_b) = network.end(&wire);
     same(&rt, (to_a, to_b), (None, None));
     holds(&rt, network.a.init(false));
-    let network = cut_off(&rt, network, true, 2);
+    // Init is set and cleared: the same.
+    let (network, wire) = network.start();
+    let (mut network, to_a, to_b) = leave(&rt, network, &wire, true);
+    was_cut_off(&rt, &mut network, to_a, to_b, 2);
     let (network, wire) = network.start();
     let (mut network, to_a, to_b) = network.end(&wire);
     same(&rt, (to_a, to_b), (SENT, RECEIVED));
@@ -318,4 +339,5 @@ fn a_silent_chip_loads_nothing_and_hears(rt: HostRuntime) {
     laws::who_leaves_changes_no_winner();
     laws::frames_of_who_left_are_cut_off();
     laws::who_left_has_no_event();
+    laws::begins_are_loads();
 }

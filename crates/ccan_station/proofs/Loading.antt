@@ -1,0 +1,185 @@
+-- The start of a frame, as a load of the bus of one chip.
+use Rattle.std.proofs.Common.{ℕ, ◌≡◌, ◌≢◌, Bool, true, false, ◌&&◌, not, List, [], refl, sym, subst, ◌∙◌, inl, inr}
+use Rattle.std.specs.Prelude.{Option, Some, None, Ok, Err, if◌then◌else◌}
+use Rattle.ccan_object.specs.declared.record.Record.{Record}
+use Rattle.ccan_ram.specs.declared.change.Refused.{Refused}
+use Rattle.ccan_ram.specs.declared.change.Refused.TheVariants.{Busy, Spent}
+use Rattle.ccan_ram.specs.declared.event.Event.{Event}
+use Rattle.ccan_ram.specs.Terms.{Terms}
+use Rattle.ccan_handler.specs.Moment.{Chosen, ChoosesAtOnce}
+use Rattle.ccan_confine.specs.declared.controller.Controller.{Controller}
+use Rattle.ccan_confine.specs.declared.node_state.NodeState.TheVariants.{Off, Passive, Active}
+use Rattle.ccan_confine.specs.Counters.{NodeEvent, faults_to_off, is_off, passive_limit, reaches, state_of}
+use Rattle.ccan_bus.specs.declared.answer.LoadAnswer.{LoadAnswer}
+use Rattle.ccan_bus.specs.declared.answer.LoadAnswer.TheVariants as load
+use Rattle.ccan_bus.specs.declared.choice.Choice.TheVariants.{AtOnce}
+use Rattle.ccan_bus.specs.Choice.{Chooses}
+use Rattle.ccan_bus.specs.Controller.{with_controller}
+use Rattle.ccan_bus.specs.Load as bus
+use Rattle.ccan_bus.specs.Past.{BusPast, is_on}
+use Rattle.ccan_endless.specs.ChipPort.{ChipPass}
+use Rattle.ccan_chip.specs.Arrival.{left_behind, may_take_part, takes_part, unloaded}
+use Rattle.ccan_chip.specs.Load.{ChipLoad}
+use Rattle.ccan_chip.specs.Round.{events_in, loops_back}
+use Rattle.ccan_chip.proofs.Ports.{counters_found}
+use Rattle.ccan_chip.proofs.Rounds.{found_on}
+use Rattle.ccan_wire.specs.declared.member.Member.{Member}
+use Rattle.ccan_wire.specs.declared.role.Role.{Role}
+use Rattle.ccan_wire.specs.declared.role.Role.TheVariants.{Absent, Silent, Alone}
+use Rattle.ccan_wire.specs.declared.role.Role.TheVariants as role
+use Rattle.ccan_wire.specs.Role.{role_of, role_of_running}
+use Rattle.ccan_station.specs.declared.begun.Begun.{Begun}
+use Rattle.ccan_station.specs.Station.{Begins, Loaded, Loads, answer_of, loaded_by, may_send, role_now}
+
+-- ---- who takes part and is not silent may send
+
+first : (a b : Bool) → (a && b) ≡ true → a ≡ true
+first true b h = refl
+first false b h = absurd cc
+
+second : (a b : Bool) → (a && b) ≡ true → b ≡ true
+second true b h = h
+second false b h = absurd cc
+
+not_so : (b : Bool) → not b ≡ true → b ≡ false
+not_so true h = absurd cc
+not_so false h = refl
+
+in_mode_sends : (alone silent : Bool) (r : Role) → may_send r ≡ true
+    → (if alone then Alone else (if silent then Silent else r)) ≢ Silent
+    → may_send (if alone then Alone else (if silent then Silent else r)) ≡ true
+in_mode_sends true silent r h drives = refl
+in_mode_sends false true r h drives = absurd (drives refl)
+in_mode_sends false false r h drives = h
+
+running_sends : (c : Controller) (off passive : Bool) → off ≡ false
+    → role_of_running c (if off then Off else (if passive then Passive else Active)) ≢ Silent
+    → may_send (role_of_running c (if off then Off else (if passive then Passive else Active))) ≡ true
+running_sends c true passive is drives = absurd cc
+running_sends c false true is drives =
+    in_mode_sends (c.control.test && c.test.lback) (c.control.test && c.test.silent) role.Passive refl drives
+running_sends c false false is drives =
+    in_mode_sends (c.control.test && c.test.lback) (c.control.test && c.test.silent) role.Active refl drives
+
+init_sends : (init : Bool) (r : Role) → init ≡ false → (r ≢ Silent → may_send r ≡ true)
+    → (if init then Absent else r) ≢ Silent → may_send (if init then Absent else r) ≡ true
+init_sends true r is h drives = absurd cc
+init_sends false r is h drives = h drives
+
+role_sends : (c : Controller) → takes_part c ≡ true → role_of c ≢ Silent → may_send (role_of c) ≡ true
+role_sends c takes drives =
+    let may = first (may_take_part c) (not c.has_left) takes in
+    let on = first (not c.control.init) (not (is_off c.counters.levels)) may in
+    let not_off = second (not c.control.init) (not (is_off c.counters.levels)) may in
+    init_sends c.control.init (role_of_running c (state_of c.counters.levels)) (not_so _ on)
+    (λ d. running_sends c (is_off c.counters.levels) (reaches passive_limit c.counters.levels) (not_so _ not_off) d) drives
+
+-- ---- the load
+
+module _ (terms : Terms) (tries : ℕ) (seen added : List Event) where
+  -- a load of that bus from this past, with this left loaded
+  abbrev IsLoad : BusPast → Loaded → LoadAnswer → Type 0
+  IsLoad past new told = (after : BusPast) × bus.Loads terms tries seen added past after told × (after.loaded ≡ new)
+
+  -- nothing is loaded by a controller that takes no part
+  off : (p : BusPast) (new : Loaded) (told : LoadAnswer) → p.loaded ≡ None → is_on p 0 ≡ false → added ≡ [] → new ≡ None
+      → told ≡ load.Nothing → IsLoad p new told
+  off p new told empty out quiet new_is told_is = (
+    p,
+    subst (λ t. bus.Loads terms tries seen added p p t) (sym told_is)
+        (inl (record { empty = empty; off = out; quiet = quiet; same = refl })),
+    empty ∙ sym new_is,
+  )
+
+  module _ (p : BusPast) (choice : p.choice ≡ AtOnce) (on : is_on p 0 ≡ true) where
+    held : (started : ℕ × Record) (new : Loaded) (told : LoadAnswer) → p.loaded ≡ Some started → added ≡ []
+        → new ≡ Some started → told ≡ load.Held started.0 → IsLoad p new told
+    held started new told is quiet new_is told_is = (
+      p,
+      subst (λ t. bus.Loads terms tries seen added p p t) (sym told_is)
+          (record { started = started.1; held = is; quiet = quiet; same = refl }),
+      is ∙ sym new_is,
+    )
+
+    module _ (empty : p.loaded ≡ None) where
+      chosen_at : (chosen : Chosen) → ChoosesAtOnce terms tries seen added chosen
+          → bus.IsLoadChoice terms tries seen added p chosen
+      chosen_at chosen h =
+          record {
+            empty = empty;
+            on = on;
+            chooses = subst (λ c. Chooses c terms tries seen added chosen) (sym choice) h;
+          }
+
+      refused_at : (at : ℕ) (why : Refused) → ChoosesAtOnce terms tries seen added (Err (record { at = at; why = why }))
+          → bus.Loads terms tries seen added p p (bus.refusal_of_load at why)
+      refused_at at (Busy told now) h = (told, now, record { choice = chosen_at _ h; same = refl })
+      refused_at at Spent h = record { choice = chosen_at _ h; same = refl }
+
+      chosen_by : (chosen : Chosen) → ChoosesAtOnce terms tries seen added chosen
+          → IsLoad p (loaded_by chosen) (answer_of chosen)
+      chosen_by (Ok None) h = (p, inr (record { choice = chosen_at _ h; same = refl }), empty)
+      chosen_by (Ok (Some found)) h =
+          (record p { loaded = Some found }, record { choice = chosen_at _ h; now_loaded = refl }, refl)
+      chosen_by (Err refused) h = (p, refused_at refused.at refused.why h, empty)
+
+      chooses : (new : Loaded) (told : LoadAnswer) (chosen : Chosen) → ChoosesAtOnce terms tries seen added chosen
+          → new ≡ loaded_by chosen → told ≡ answer_of chosen → IsLoad p new told
+      chooses new told chosen h new_is told_is =
+          subst (λ (u : Loaded × LoadAnswer). IsLoad p u.0 u.1) (λ i. (sym new_is i, sym told_is i)) (chosen_by chosen h)
+
+    runs : (old new : Loaded) (told : LoadAnswer) → p.loaded ≡ old → Loads true terms tries seen added old new told
+        → IsLoad p new told
+    runs (Some started) new told is h = held started new told is h.0 h.1 h.2
+    runs None new told is h = chooses is new told h.0 h.1 h.2 h.3
+
+  -- by whether the controller takes part
+  module _ (c : Controller) (events : List NodeEvent) (past : BusPast) (choice : past.choice ≡ AtOnce) where
+    abbrev past_by : Bool → BusPast
+    past_by takes =
+        if takes then with_controller events (loops_back c) past else unloaded (with_controller faults_to_off false past)
+
+    by_part : (takes : Bool) → is_on (past_by takes) 0 ≡ takes → (takes ≡ true → may_send (role_of c) ≡ true)
+        → (new : Loaded) (told : LoadAnswer)
+        → Loads (may_send (if takes then role_of c else Absent)) terms tries seen added past.loaded new told
+        → IsLoad (past_by takes) new told
+    by_part true on sends new told h =
+        runs (past_by true) choice on past.loaded new told refl
+        (subst (λ s. Loads s terms tries seen added past.loaded new told) (sends refl) h)
+    by_part false out sends new told h = off (past_by false) new told refl out h.0 h.1 h.2
+
+loaded_left : (left : Bool) (past : BusPast)
+    → (if left then unloaded past else past).loaded ≡ (if left then None else past.loaded)
+loaded_left true past = refl
+loaded_left false past = refl
+
+choice_left : (left : Bool) (past : BusPast) → (if left then unloaded past else past).choice ≡ past.choice
+choice_left true past = refl
+choice_left false past = refl
+
+pub begins_as_load : (terms : Terms) (tries : ℕ) (old new : ChipPass) (past : BusPast) (loaded : Loaded)
+    (under_way : Option Member) (told : Begun) → past.choice ≡ AtOnce
+    → Begins terms tries old new past.loaded loaded under_way told → role_of told.found ≢ Silent
+    → (after : BusPast) × ChipLoad terms tries old new past after told.found told.loading × (after.loaded ≡ loaded)
+begins_as_load terms tries old new past loaded under_way told choice b drives =
+    let c = told.found in
+    let looked = b.looked in
+    let events = events_in looked.whole in
+    let left = left_behind b.first past in
+    let counts = counters_found b.arrives.before looked c b.arrives.looks.adds in
+    let loads = subst (λ l. Loads (may_send (role_now c)) terms tries looked.pass.seen b.added l loaded told.loading)
+    (sym (loaded_left b.first.has_left past)) b.loads in
+    let made = by_part terms tries looked.pass.seen b.added c events left (choice_left b.first.has_left past ∙ choice)
+    (takes_part c) (found_on c events left counts) (λ takes. role_sends c takes drives) loaded told.loading loads in (
+      made.0,
+      record {
+        looked = looked;
+        first = b.first;
+        arrives = b.arrives;
+        rests = b.rests;
+        added = b.added;
+        adds = b.adds;
+        loads = made.1;
+      },
+      made.2,
+    )
