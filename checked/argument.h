@@ -14,7 +14,7 @@ enum call {
 /* Which handle of a chip one is, or only that it is a host's. */
 enum port { PORT_HOST, PORT_IF1, PORT_IF2, PORT_BUS };
 
-enum kind { KIND_END, KIND_HOST, KIND_BUS, KIND_CHIP, KIND_READ, KIND_WRITTEN };
+enum kind { KIND_END, KIND_HOST, KIND_BUS, KIND_CHIP, KIND_NOTE, KIND_READ, KIND_WRITTEN };
 
 /* A pointer that a call is given. */
 struct argument {
@@ -32,6 +32,7 @@ struct argument {
 #define BUS(bus) ARGUMENT(KIND_BUS, PORT_BUS, bus, 1)
 #define CHIP(chip) ARGUMENT(KIND_CHIP, PORT_HOST, chip, 1)
 #define CHIPS(chips, count) ARGUMENT(KIND_CHIP, PORT_HOST, chips, count)
+#define NOTE(note) ARGUMENT(KIND_NOTE, PORT_HOST, note, 1)
 #define READS(from, count) ARGUMENT(KIND_READ, PORT_HOST, from, count)
 #define WRITES(to, count) ARGUMENT(KIND_WRITTEN, PORT_HOST, to, count)
 #define END { KIND_END, PORT_HOST, NULL, 0, 0, 1 }

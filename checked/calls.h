@@ -9,6 +9,7 @@
  *   BUS(bus)              the same for a bus's handle
  *   CHIP(chip)            a whole chip: no other call may use one of its handles meanwhile (promise 3)
  *   CHIPS(chips, count)   the same for an array of chips
+ *   NOTE(note)            a note, which a handle of another chip may not heed (promise 8)
  *   READS(from, count)    an array that the call reads
  *   WRITES(to, count)     an array that the call writes
  *
@@ -34,11 +35,11 @@ CALL(uint32_t, ccan_restore, (ccan_chip *chip, const ccan_saved *saved), (chip, 
 CALL(uint32_t, ccan_reset, (ccan_chip *chip), (chip), CHIP(chip))
 
 /* ---- notes */
-CALL(uint32_t, ccan_tell, (ccan_host *host, ccan_note *note), (host, note), HOST(host) WRITES(note, 1))
-CALL(uint32_t, ccan_bus_tell, (ccan_bus *bus, ccan_note *note), (bus, note), BUS(bus) WRITES(note, 1))
-CALL(uint32_t, ccan_heed, (ccan_host *host, ccan_note *note), (host, note), HOST(host) WRITES(note, 1))
-CALL(uint32_t, ccan_bus_heed, (ccan_bus *bus, ccan_note *note), (bus, note), BUS(bus) WRITES(note, 1))
-CALL(uint32_t, ccan_forget, (ccan_note *note), (note), WRITES(note, 1))
+CALL(uint32_t, ccan_tell, (ccan_host *host, ccan_note *note), (host, note), HOST(host) NOTE(note))
+CALL(uint32_t, ccan_bus_tell, (ccan_bus *bus, ccan_note *note), (bus, note), BUS(bus) NOTE(note))
+CALL(uint32_t, ccan_heed, (ccan_host *host, ccan_note *note), (host, note), HOST(host) NOTE(note))
+CALL(uint32_t, ccan_bus_heed, (ccan_bus *bus, ccan_note *note), (bus, note), BUS(bus) NOTE(note))
+CALL(uint32_t, ccan_forget, (ccan_note *note), (note), NOTE(note))
 
 /* ---- registers by their offsets */
 CALL(uint32_t, ccan_read16, (ccan_host *host, uint32_t offset, uint16_t *out), (host, offset, out), HOST(host) WRITES(out, 1))

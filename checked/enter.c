@@ -1,5 +1,6 @@
 #define _GNU_SOURCE
 #include "enter.h"
+#include "notes.h"
 #include "report.h"
 #include "sanitizer.h"
 #include <pthread.h>
@@ -14,6 +15,7 @@ static _Thread_local struct {
     enum call call;    /* the call that it is in, CALL_NONE where it is in none */
     struct subject on; /* the first handle or chip of that call */
     bool several;      /* whether the process had several threads when this thread called fork */
+    const void *block; /* what the note of that call told before it, NULL for nothing */
 } self;
 
 /* ---- forks (promise 6) */
@@ -59,7 +61,8 @@ static void check_pointer(const struct user *user, const struct argument *argume
         report_pointer(user, argument);
 }
 
-static bool is_data(const struct argument *argument) { return argument->kind == KIND_READ || argument->kind == KIND_WRITTEN; }
+static bool is_written(const struct argument *argument) { return argument->kind == KIND_WRITTEN || argument->kind == KIND_NOTE; }
+static bool is_data(const struct argument *argument) { return argument->kind == KIND_READ || is_written(argument); }
 
 /* Where the memory of an argument begins, and how many bytes it has: for a handle those of its chip, if it is known which. */
 static uintptr_t memory_of(const struct argument *argument, size_t *bytes)
@@ -91,7 +94,7 @@ static void touch(const struct argument *argument)
     volatile unsigned char *bytes = (volatile unsigned char *)argument->at;
     for (size_t i = 0; i < argument->bytes; i++) {
         unsigned char byte = bytes[i];
-        if (argument->kind == KIND_WRITTEN)
+        if (is_written(argument))
             bytes[i] = byte;
     }
 }
@@ -161,6 +164,46 @@ static void leave_handle(uintptr_t handle)
     table_leave(handle, held.first == 1, held.insides);
 }
 
+/* ---- notes (promise 8) */
+
+/* What a note leads to, NULL where it is empty. */
+static const void *block_of(uintptr_t note)
+{
+    ccan_note told;
+    memcpy(&told, (const void *)note, sizeof told);
+    return told.ccan_private_full ? told.ccan_private_at : NULL;
+}
+
+/* Where the chip of a call's open handle begins; 0 where it is closed, or where it is not known which handle that is. */
+static uintptr_t chip_of(const struct argument *arguments)
+{
+    bool is_handle = arguments->kind == KIND_HOST || arguments->kind == KIND_BUS;
+    if (!is_handle || arguments->port == PORT_HOST || held_by(arguments->at).first != 1)
+        return 0;
+    return arguments->at - port_offset(arguments->port);
+}
+
+static void enter_note(const struct user *user, const struct argument *arguments, const struct argument *note)
+{
+    self.block = block_of(note->at);
+    if (self.block == NULL || (user->call != CALL_ccan_heed && user->call != CALL_ccan_bus_heed))
+        return;
+    uintptr_t chip = chip_of(arguments), told_by = notes_chip(self.block);
+    if (chip != 0 && told_by != 0 && chip != told_by)
+        report_other_chip(user, (struct subject){ arguments->at, arguments->port, false }, told_by);
+}
+
+static void leave_note(const struct argument *arguments, const struct argument *note)
+{
+    const void *block = block_of(note->at);
+    if (block == self.block)
+        return;
+    if (self.block != NULL)
+        notes_drop(self.block);
+    if (block != NULL && chip_of(arguments) != 0)
+        notes_keep(block, chip_of(arguments));
+}
+
 /* ---- arguments */
 
 static void enter_argument(const struct user *user, struct argument *argument)
@@ -175,6 +218,7 @@ static void enter_argument(const struct user *user, struct argument *argument)
             for (enum port port = PORT_IF1; port <= PORT_BUS; port++)
                 enter_handle(user, chip + port_offset(port), port);
         break;
+    case KIND_NOTE:
     case KIND_READ:
     case KIND_WRITTEN:
     case KIND_END:
@@ -194,6 +238,7 @@ static void leave_argument(const struct argument *argument)
             for (enum port port = PORT_IF1; port <= PORT_BUS; port++)
                 leave_handle(chip + port_offset(port));
         break;
+    case KIND_NOTE:
     case KIND_READ:
     case KIND_WRITTEN:
     case KIND_END:
@@ -244,6 +289,8 @@ void checked_enter(enum call call, struct argument *arguments)
             check_apart(&user, other, argument);
         if ((FOR_THREAD_SANITIZER || FOR_ADDRESS_SANITIZER) && is_data(argument))
             touch(argument);
+        if (argument->kind == KIND_NOTE)
+            enter_note(&user, arguments, argument);
     }
 }
 
@@ -251,8 +298,11 @@ void checked_leave(const struct argument *arguments)
 {
     if (is_given_nothing(arguments))
         return;
-    for (const struct argument *argument = arguments; argument->kind != KIND_END; argument++)
+    for (const struct argument *argument = arguments; argument->kind != KIND_END; argument++) {
+        if (argument->kind == KIND_NOTE)
+            leave_note(arguments, argument);
         leave_argument(argument);
+    }
     atomic_signal_fence(memory_order_seq_cst);
     self.call = CALL_NONE;
 }

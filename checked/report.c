@@ -240,6 +240,15 @@ _Noreturn void report_overlap(const struct user *user, const struct argument *on
     end(&line, "promise 5");
 }
 
+_Noreturn void report_other_chip(const struct user *user, struct subject handle, uintptr_t told_by)
+{
+    struct line line = begin_call_on(user, handle);
+    add(&line, " with a note that a handle of the chip at ");
+    add_address(&line, told_by);
+    add(&line, " told");
+    end(&line, "promise 8");
+}
+
 _Noreturn void report_no_room(const struct user *user, struct subject handle)
 {
     struct line line = begin_call_on(user, handle);

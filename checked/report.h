@@ -38,6 +38,9 @@ _Noreturn void report_pointer(const struct user *user, const struct argument *ar
 /* Promise 5: two arguments that overlap. */
 _Noreturn void report_overlap(const struct user *user, const struct argument *one, const struct argument *other);
 
+/* Promise 8: a note that a handle of another chip told. */
+_Noreturn void report_other_chip(const struct user *user, struct subject handle, uintptr_t told_by);
+
 /* The table is full. */
 _Noreturn void report_no_room(const struct user *user, struct subject handle);
 

@@ -157,6 +157,14 @@ static void an_output_in_the_chip(void) { ignore(ccan_line(&chip.if2, (uint32_t 
 static void the_bus_as_a_host(void) { ignore(ccan_request((ccan_host *)&chip.bus, 1)); }
 static void a_host_as_the_bus(void) { ignore(ccan_init((ccan_bus *)&chip.if2)); }
 
+static void a_note_of_another_chip(void)
+{
+    ccan_note note = CCAN_NOTE_EMPTY;
+    ignore(ccan_open(&other, 1, 0, 1));
+    ignore(ccan_tell(&chip.if1, &note));
+    ignore(ccan_heed(&other.if2, &note));
+}
+
 static void a_copied_chip(void)
 {
     memcpy(&other, &chip, sizeof chip);
@@ -257,6 +265,8 @@ static const struct misuse misuses[] = {
         " (promise 5 of ccan.h)"),
     MISUSE(a_host_as_the_bus, "thread < calls ccan_init on handle if2 of the chip at @, passed as handle bus"
         " (promise 5 of ccan.h)"),
+    MISUSE(a_note_of_another_chip, "thread < calls ccan_heed on handle if2 of the chip at # with a note that a handle of the chip"
+        " at @ told (promise 8 of ccan.h)"),
     MISUSE(a_copied_chip, "thread < calls ccan_set on a host's handle at 0x*, which is open, but no call opened it at this"
         " address: it was copied or moved from handle if2 of the chip at @ (promise 1 of ccan.h)"),
     MISUSE(a_copied_chip_that_ends, "thread < calls ccan_end on handle if1 of the chip at #, which is open, but no call opened"
