@@ -95,7 +95,7 @@ static void hash_thread(uint64_t key[2], const thread *of)
         (uint64_t)of->at_wait << 3 | (uint64_t)of->may_stay << 4 | (uint64_t)of->is_counting << 5 |
         (uint64_t)of->counts_on << 6 | (uint64_t)of->cpu << 8 | (uint64_t)of->alternatives << 16;
     hash_two(key, bits, (uint64_t)of->may);
-    hash_two(key, (uint64_t)of->result, 0);
+    hash_two(key, (uint64_t)of->result, of->passed ? of->base_site + of->passed : 0); /* how far a turn over several waits is */
     hash_two(key, (uint64_t)of->about, (uint64_t)of->sp ^ (uint64_t)(unsigned)of->error_number << 48);
     if (!of->is_done)
         hash_bytes(key, of->sp, (size_t)((const char *)of->stack_top - (const char *)of->sp));
