@@ -1,3 +1,4 @@
 pub mod Added
 pub mod Grown
 pub mod Inserted
+pub mod Joined
