@@ -7,4 +7,4 @@ pub mod states;
 
 pub use graph::{Edge, Graph, Node};
 pub use letter::Letter;
-pub use states::{State, Step, words_of_each};
+pub use states::{State, Step, steps_lead_back, words_of_each};
