@@ -1,0 +1,116 @@
+//! The words of a machine with two places, worked by hand. Its states stand from the end on: 0 ends. From 1 one says answer 0 at
+//! place 1, from 2 answer 1 at place 0, and from 3 answer 0 at place 0. Two steps leave 4: with answer 0 at place 0 to 1, and with
+//! answer 1 at place 1 to 2. So its words are 0 0 and 1 1, and 0 1 and 1 0 are none. Two steps leave 5, which come to the same
+//! word in either order: with answer 0 at place 0 to 1, and with answer 0 at place 1 to 3.
+use crate::expect::holds;
+use ccan_language::{Graph, Letter, State, Step, steps_lead_back, words_of_each};
+use std::alloc::{AllocError, Global};
+use std::process::Abort;
+
+/// A letter.
+fn letter(place: usize, answer: usize) -> Letter {
+    Letter { place, answer }
+}
+
+/// A step that says one letter.
+fn step(alloc: Global, said: Letter, to: usize) -> Result<Step, AllocError> {
+    Ok(Step {
+        letters: Vec::from_slice(alloc, &[said])?,
+        to,
+    })
+}
+
+/// A state where no way ends, with these steps.
+fn state(alloc: Global, steps: &[(Letter, usize)]) -> Result<State, AllocError> {
+    let mut all = Vec::new(alloc);
+    for (said, to) in steps {
+        all.push(step(alloc, *said, *to)?)?;
+    }
+    Ok(State {
+        ends: false,
+        steps: all,
+    })
+}
+
+/// The states, from the end on.
+fn states(alloc: Global) -> Result<Vec<State>, AllocError> {
+    let mut all = Vec::new(alloc);
+    all.push(State {
+        ends: true,
+        steps: Vec::new(alloc),
+    })?;
+    all.push(state(alloc, &[(letter(1, 0), 0)])?)?;
+    all.push(state(alloc, &[(letter(0, 1), 0)])?)?;
+    all.push(state(alloc, &[(letter(0, 0), 0)])?)?;
+    all.push(state(alloc, &[(letter(0, 0), 1), (letter(1, 1), 2)])?)?;
+    all.push(state(alloc, &[(letter(0, 0), 1), (letter(1, 0), 3)])?)?;
+    Ok(all)
+}
+
+/// Holds whether the word of these answers, in the order of the places, is one from the state of this index.
+fn says(rt: &impl Abort, alloc: Global, index: usize, answers: (usize, usize), want: bool) {
+    let Ok(all) = states(alloc) else {
+        panic!(rt; "no memory")
+    };
+    let states = all.as_slice();
+    if !steps_lead_back(states) {
+        panic!(rt; "a step leads on")
+    }
+    let mut graph = Graph::new(alloc);
+    let Ok(made) = words_of_each(&mut graph, alloc, states) else {
+        panic!(rt; "no memory")
+    };
+    let Some(node) = made.as_slice().get(index) else {
+        panic!(rt; "no such state")
+    };
+    if *node >= graph.nodes.len() {
+        panic!(rt; "no such node")
+    }
+    let word = [letter(0, answers.0), letter(1, answers.1)];
+    holds(rt, graph.contains(*node, &word) == want);
+}
+
+#[test]
+fn says_just_the_words_of_its_ways(rt: HostRuntime) {
+    says(&rt, rt.alloc(), 4, (0, 0), true);
+    says(&rt, rt.alloc(), 4, (1, 1), true);
+    says(&rt, rt.alloc(), 4, (0, 1), false);
+    says(&rt, rt.alloc(), 4, (1, 0), false);
+}
+
+#[test]
+fn puts_letters_in_the_order_of_their_places(rt: HostRuntime) {
+    says(&rt, rt.alloc(), 5, (0, 0), true);
+    says(&rt, rt.alloc(), 5, (1, 0), false);
+}
+
+/// A step to the state itself doesn't lead back.
+#[test]
+fn knows_a_step_that_leads_on(rt: HostRuntime) {
+    let Ok(one) = state(rt.alloc(), &[(letter(0, 0), 0)]) else {
+        panic!(&rt; "no memory")
+    };
+    holds(&rt, !steps_lead_back(&[one]));
+}
+
+/// The words of one node are no longer so many, once it is united with another: the empty word and one of a letter.
+#[test]
+fn unites_the_words_of_two_nodes(rt: HostRuntime) {
+    let alloc = rt.alloc();
+    let mut graph = Graph::new(alloc);
+    let Ok(end) = graph.only(alloc, true) else {
+        panic!(&rt; "no memory")
+    };
+    let Ok(one) = graph.with(alloc, end, letter(0, 1)) else {
+        panic!(&rt; "no memory")
+    };
+    if end >= graph.nodes.len() {
+        panic!(&rt; "no such node")
+    }
+    let Ok(both) = graph.union(alloc, end, one) else {
+        panic!(&rt; "no memory")
+    };
+    holds(&rt, graph.contains(both, &[]));
+    holds(&rt, graph.contains(both, &[letter(0, 1)]));
+    holds(&rt, !graph.contains(both, &[letter(0, 0)]));
+}
