@@ -235,6 +235,34 @@ static void random_bus_call(void)
         BOTH(uint32_t, bus_line, &chip->bus, to);
 }
 
+/* Init for a moment, between two loads. */
+static void random_absence(void)
+{
+    DOING("a load, Init set and cleared, a load");
+    BOTH(ccan_loaded, load, &chip->bus, to);
+    BOTH(char, bus_write16, &chip->bus, CCAN_OFFSET_CONTROL, 0x0003);
+    if (chance(3))
+        BOTH(ccan_loaded, load, &chip->bus, to);
+    BOTH(char, init, &chip->bus);
+    BOTH(ccan_loaded, load, &chip->bus, to);
+}
+
+/* A frame of the chip, and so many spoiled rounds that it may go bus off. */
+static void random_storm(void)
+{
+    static const uint16_t values[][2] = { { CCAN_CMASK, 0x00b4 }, { CCAN_ARB1, 0 }, { CCAN_ARB2, 0xa400 }, { CCAN_CTRL, 0x0982 } };
+    unsigned rounds = 20 + dice(30);
+    ccan_offer none = { .node = 1 };
+    DOING("a storm of %u rounds", rounds);
+    for (int i = 0; i < 4; i++)
+        BOTH(char, set, &chip->if1, values[i][0], values[i][1]);
+    BOTH(char, request, &chip->if1, 1);
+    BOTH(char, init, &chip->bus);
+    for (unsigned i = 0; i < rounds; i++)
+        BOTH(ccan_outcome, round, &chip->bus, &none, 0, CCAN_BIT1, to);
+    BOTH(uint16_t, bus_read16, &chip->bus, CCAN_OFFSET_CONTROL, to);
+}
+
 /* ---- the whole chip */
 
 static void compare_all(void)
@@ -287,6 +315,10 @@ static void random_call(void)
         random_bus_call();
     if (chance(20))
         BOTH(char, meet, chip);
+    if (chance(30))
+        random_absence();
+    if (chance(400))
+        random_storm();
     if (chance(400)) {
         DOING("ccan_reset");
         BOTH(char, reset, chip);
