@@ -8,9 +8,8 @@ ghost use Rattle.ccan_c.specs.Seals.{seal_owns, held_coded};
 mod note;
 mod parts;
 
-pub use note::NoteSeal;
-
 use crate::held::Held;
+pub use note::NoteSeal;
 use parts::Parts;
 use std::alloc::Global;
 use std::marker::Model;

@@ -3,9 +3,9 @@
 use crate::expect::same;
 use ccan_bus::{Fault, LoadAnswer, MemoryStep, RoundAnswer, RoundEnd, RoundReport};
 use ccan_c::{
-    BusHandle, Chip, HostHandle, NO_NODE, NOT_NOTED, NoteHandle, Offer, SavedChip, ShownCounters, ShownFinal,
-    ShownFrame, ShownLoad, ShownOutcome, ShownRecord, ccan_version, code, fault_numbered,
-    flag_numbered, map_numbered, register_numbered, state_number, step_number,
+    BusHandle, Chip, HostHandle, NO_NODE, NOT_NOTED, NoteHandle, Offer, SavedChip, ShownCounters,
+    ShownFinal, ShownFrame, ShownLoad, ShownOutcome, ShownRecord, ccan_version, code,
+    fault_numbered, flag_numbered, map_numbered, register_numbered, state_number, step_number,
 };
 use ccan_chip::ChipReport;
 use ccan_confine::{Controller, NodeState};
