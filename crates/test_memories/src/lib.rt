@@ -1,5 +1,5 @@
 //! Tests of what lies below scripts, by worked examples whose expected values come from the rules and not from the program:
-//! objects, frames, fault confinement, the controller's registers, and where the registers of the chip stand; the bus, over a
+//! objects, frames and how long they are, fault confinement, the controller's registers, and where the registers of the chip stand; the bus, over a
 //! plain memory, and the message handler, over that and over one whose tries are lost on purpose; the memories that threads
 //! share; saved chips, which were led through many states and come back from their bytes; the library for C; and the texts of
 //! errors and names. There is nothing here but tests.
@@ -37,5 +37,7 @@ mod saved_bytes;
 mod shared;
 #[cfg(test)]
 mod texts;
+#[cfg(test)]
+mod times;
 #[cfg(test)]
 mod wire;
