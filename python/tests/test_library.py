@@ -83,7 +83,7 @@ def test_texts() -> None:
     body = re.search(r"texts\[\] = \{(.*?)\};", HEADER, re.DOTALL)
     assert body is not None
     assert list(_library.TEXTS) == re.findall(r'"(.*?)"', body[1])
-    assert _library.ccan_text(25) == "no code"
+    assert _library.ccan_text(26) == "no code"
 
 
 def field_types(fields: str) -> List[object]:
