@@ -1,7 +1,7 @@
 #!/usr/bin/env python3
 """How many bits a frame has on the bus, and its CRC sequence, bit by bit after CAN Specification 2.0: the second computation from
 which the table of `times.rt` in test_memories comes. `canframelen` of can-utils counts the same for data frames, with the three
-bits of the intermission. Usage: tools/frame_bits.py FRAME.., each as candump writes it: 123#1122, 18FF1234#DEAD, 123#R8."""
+bits of the intermission. Usage: tools/frame_bits.py FRAME.., each as candump writes it: 123#1122, 18FF1234#DEAD, 123#R."""
 import sys
 
 GENERATOR = 0b1100010110011001  # x^15 + x^14 + x^10 + x^8 + x^7 + x^4 + x^3 + 1
