@@ -41,10 +41,10 @@
  *    CCAN_SHARED, and of which number ccan_restore answers for the bytes of a saved chip that it doesn't open. If a call is
  *    refused, that is for each number but CCAN_DONE, CCAN_BUSY, CCAN_SPENT and CCAN_SHARED, handle and output stay as they were.
  * Read off the sources: that a call takes no lock, except those of malloc, realloc and free in ccan_open, ccan_open_reset,
- * ccan_restore, ccan_end and the calls that are given a note; and that a round's event, and the change by which the bus joins, are tried 1000 times, however few
- * tries the chip was opened with. Only tested: that no call but the three that open and the two that tell takes memory,
- * that a call needs at most 16 KiB of stack, that CCAN_SHARED never comes where C keeps its promises, and that this header has the numbers, sizes and
- * offsets of the library.
+ * ccan_restore, ccan_end and the calls that are given a note; and that a round's event, and the change by which the bus joins,
+ * are tried 1000 times, however few tries the chip was opened with. Only tested: that no call but the three that open,
+ * ccan_tell and ccan_bus_tell takes memory, that a call needs at most 16 KiB of stack, that CCAN_SHARED never comes where C
+ * keeps its promises, and that this header has the numbers, sizes and offsets of the library.
  * Not proved, and not claimed: how long a call takes, and that a thread is ever run. A look at objects begins anew where another
  * port changed what it looks at meanwhile: one object for ccan_request, ccan_until, ccan_peek and a write of Command Request, any
  * object for flags, interrupt values and the interrupt line.
