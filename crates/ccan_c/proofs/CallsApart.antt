@@ -2,7 +2,7 @@
 -- history that is the message RAM's, of which that is known already; a step at the controller is the same under all terms of one
 -- port.
 use Rattle.std.proofs.Common.{◌≤◌, inl, inr, ℕ, Bool, true, false, List, ◌++◌, refl, Some, None, Ok, Err, ◌+◌, ◌/◌, ◌%◌, ◌^◌, ◌==◌}
-use Rattle.std.specs.Prelude.{◌⊎◌, MatchBool, MatchOption, length, nat_le}
+use Rattle.std.specs.Prelude.{◌⊎◌, MatchBool, MatchOption, length, nat_le, nat_lt}
 use Rattle.std.specs.declared.option.Option.{Option}
 use Rattle.std.specs.declared.result.Result.{Result}
 use Rattle.std.specs.List.{list_all}
@@ -26,6 +26,7 @@ use Rattle.ccan_handler.specs.Moment.{FlagsAtOnce, InterruptAtOnce}
 use Rattle.ccan_handler.specs.Scan.{Nowhere, MadeAt, RefusedAt, Scans}
 use Rattle.ccan_bus.specs.declared.answer.LoadAnswer.{LoadAnswer}
 use Rattle.ccan_bus.specs.declared.answer.RoundAnswer.{RoundAnswer}
+use Rattle.ccan_bus.specs.declared.choice.Choice.TheVariants.{AtOnce}
 use Rattle.ccan_bus.specs.declared.decision.Decision.{Decision}
 use Rattle.ccan_bus.specs.declared.decision.Decision.TheVariants as decision
 use Rattle.ccan_bus.specs.declared.round_end.RoundEnd.{RoundEnd}
@@ -45,6 +46,7 @@ use Rattle.ccan_endless.specs.declared.controller_changed.ControllerChanged.{Con
 use Rattle.ccan_endless.specs.Chip.{ChipHistory, ram_of}
 use Rattle.ccan_line.specs.declared.line_answer.LineAnswer.{LineAnswer}
 use Rattle.ccan_line.specs.Limits.{most_frames, most_groups, most_turns}
+use Rattle.ccan_line.proofs.ChoicesApart.{choices_apart}
 use Rattle.ccan_line.proofs.LinesApart.{host_apart}
 use Rattle.ccan_line.proofs.RoundsApart.{loads_apart}
 use Rattle.ccan_line.proofs.ScansApart.{apart, scans_apart, watches_apart}
@@ -54,22 +56,35 @@ use Rattle.ccan_map.specs.declared.register.Register.TheVariants as register
 use Rattle.ccan_registers.specs.declared.access_error.AccessError.{AccessError}
 use Rattle.ccan_registers.specs.declared.interface_set.InterfaceSet.{InterfaceSet}
 use Rattle.ccan_registers.specs.ChipSteps.{AtController, OnObjects, Then}
+use Rattle.ccan_registers.specs.Frames.{BeginsOnChip, EndsOnChip, StationState}
 use Rattle.ccan_registers.specs.InterfaceSet.{Transferred}
 use Rattle.ccan_registers.specs.Objects.{ShowsFlags, ShowsInterrupt, ShowsObject, WaitsFor, transfer}
 use Rattle.ccan_registers.specs.Register as access
 use Rattle.ccan_registers.specs.Register.{InterruptValue, PullsLine, Reads, ReadsApart, ReadsAt, ReadsFlags, ReadsHalves, ReadsWord, Writes, WritesAt, WritesRest, WritesWord, is_refused}
 use Rattle.ccan_registers.specs.Register.{change_by, is_own}
 use Rattle.ccan_registers.specs.Rounds.{LoadsOnChip, RecoversOnChip, RoundOnChip}
+use Rattle.ccan_station.specs.declared.begun.Begun.{Begun}
+use Rattle.ccan_station.specs.declared.ended.Ended.{Ended}
+use Rattle.ccan_station.specs.Station as station
+use Rattle.ccan_station.specs.Station.{Loaded, due, frame_won, loaded_before, may_send, role_now, still_loaded}
+use Rattle.ccan_wire.specs.declared.flaw.Flaw.{Flaw}
+use Rattle.ccan_wire.specs.declared.wire.Wire.{Wire}
+use Rattle.ccan_wire.specs.Wire.{start_of}
 use Rattle.ccan_c.specs.declared.offer.Offer.{Offer}
+use Rattle.ccan_c.specs.declared.shown_finished.ShownFinished.{ShownFinished}
+use Rattle.ccan_c.specs.declared.shown_wire.ShownWire.{ShownWire}
 use Rattle.ccan_c.specs.declared.shown_outcome.ShownOutcome.{ShownOutcome}
 use Rattle.ccan_c.specs.Bus.{is_on}
 use Rattle.ccan_c.specs.BusCall as bus
 use Rattle.ccan_c.specs.BusCall.{BusCall, BusCallMeans, LoopsBack, RoundTried}
+use Rattle.ccan_c.specs.FrameCall as frame
+use Rattle.ccan_c.specs.FrameCall.{BusState, CallOnBus, CallOnBusMeans, FrameCall, FrameCallMeans, FrameEnds, of_frames, of_rounds}
 use Rattle.ccan_c.specs.Host.{flag_numbered, is_object}
 use Rattle.ccan_c.specs.HostCall as host
 use Rattle.ccan_c.specs.HostCall.{HostCall, HostCallMeans, ReadsAtOffset, WritesAtOffset}
 use Rattle.ccan_c.specs.Round.{fault_numbered, is_frame}
 use Rattle.ccan_c.specs.Settings.{is_from_one_to}
+use Rattle.ccan_c.specs.Wire.{flaw_in, is_flaw, is_wire, most_members, wire_in}
 use Rattle.ccan_c.proofs.OwnEvents.{ActsAlone, alone_at_objects, alone_in_parts}
 
 known_or_not : {X : Type 0} (o : Option X) (P P' : Type 0) (Q Q' : X → Type 0) → (P → P') → ((x : X) → Q x → Q' x)
@@ -419,6 +434,57 @@ module _ (terms : Terms) (tries : ℕ) (some : 1 ≤ tries) where
         notes = h.notes;
       }
 
+  -- ---- a chip's part in a frame on a bus of several
+
+  station_loads_apart : (sends : Bool) (seen added : List Event) (old new : Loaded) (loading : LoadAnswer)
+      → NobodyElse terms.port added
+      → station.Loads sends terms tries seen added old new loading → station.Loads sends single tries seen added old new loading
+  station_loads_apart false seen added old new loading alone h = h
+  station_loads_apart true seen added (Some started) new loading alone h = h
+  station_loads_apart true seen added None new loading alone (chosen, h, is, told) =
+      (chosen, choices_apart terms tries some AtOnce seen added chosen alone h, is, told)
+
+  begins_apart : (old new : StationState) (told : Begun) (seen added : ChipHistory) → ActsAlone terms.port added
+      → BeginsOnChip terms tries old seen added new told → BeginsOnChip single tries old seen added new told
+  begins_apart old new told seen added alone h =
+      let parts = alone_in_parts terms.port h.later h.looked added h.whole alone in
+      record {
+        looked = h.looked;
+        later = h.later;
+        whole = h.whole;
+        first = h.first;
+        arrives = h.arrives;
+        loads =
+            objects_apart _ _ (h.looked ++ seen) h.later parts.0
+            (λ s a only. station_loads_apart (may_send (role_now told.found)) s a (loaded_before h.first old.loaded) new.loaded
+            told.loading only) h.loads;
+        member = h.member;
+        waits = h.waits;
+      }
+
+  ends_apart : (on : Wire) (place : ℕ) (flaw : Option Flaw) (old new : StationState) (told : Ended) (seen added : ChipHistory)
+      → ActsAlone terms.port added
+      → EndsOnChip terms tries on place flaw old seen added new told
+      → EndsOnChip single tries on place flaw old seen added new told
+  ends_apart on place flaw old new told seen added alone h =
+      let outer = alone_in_parts terms.port h.last (h.steps ++ h.looked) added h.whole alone in
+      let inner = alone_in_parts terms.port h.steps h.looked (h.steps ++ h.looked) refl outer.1 in
+      let decided = due told.own (still_loaded told.found old.loaded) (frame_won (start_of on)) in
+      record {
+        looked = h.looked;
+        steps = h.steps;
+        last = h.last;
+        whole = h.whole;
+        looks = h.looks;
+        own = h.own;
+        completes =
+            objects_apart _ _ (h.looked ++ seen) h.steps inner.0
+            (λ s a only. completes_apart s a decided told.end only) h.completes;
+        left = h.left;
+        over = h.over;
+        notes = h.notes;
+      }
+
   -- ---- calls
 
   module _ (layout : Map) (seen added : ChipHistory) (alone : ActsAlone terms.port added) where
@@ -502,7 +568,7 @@ module _ (terms : Terms) (tries : ℕ) (some : 1 ≤ tries) where
     })
     tried_apart nodes offers fault past after result out (inr h) = inr h
 
-    pub bus_call_apart : (nodes : ℕ) (call : BusCall) (past after : BusPast)
+    bus_call_apart : (nodes : ℕ) (call : BusCall) (past after : BusPast)
         → BusCallMeans terms tries nodes layout call past seen added after
         → BusCallMeans single tries nodes layout call past seen added after
     bus_call_apart nodes (bus.load result out) past after (found, loading, h, code, shows) =
@@ -537,3 +603,32 @@ module _ (terms : Terms) (tries : ℕ) (some : 1 ≤ tries) where
         (code, (pulls, is, line_apart pulls seen added alone h), keeps)
     bus_call_apart nodes (bus.tell note result) past after h = h
     bus_call_apart nodes (bus.heed note result) past after h = h
+
+    frame_ends_apart : (on : ShownWire) (place fault : ℕ) (old new : BusState) (result : ℕ) (out : ShownFinished)
+        → FrameEnds terms tries on place fault old seen added new result out
+        → FrameEnds single tries on place fault old seen added new result out
+    frame_ends_apart on place fault old new result out h = record {
+      told = h.told;
+      ends = ends_apart (wire_in on) place (flaw_in fault) old.station new.station h.told seen added alone h.ends;
+      code_is = h.code_is;
+      shows = h.shows;
+      keeps = h.keeps;
+    }
+
+    frame_call_apart : (call : FrameCall) (old new : BusState) → FrameCallMeans terms tries call old seen added new
+        → FrameCallMeans single tries call old seen added new
+    frame_call_apart (frame.begin result out) old new (told, h, code, shows, keeps) =
+        (told, begins_apart old.station new.station told seen added alone h, code, shows, keeps)
+    frame_call_apart (frame.stay result out) old new (told, h, code, shows, keeps) =
+        (told, record { looks = h.looks; kept = h.kept; held = h.held; member = h.member }, code, shows, keeps)
+    frame_call_apart (frame.finish on place fault result out) old new h =
+        passed_or_not (is_wire on) _ _ _ _
+        (passed_or_not (nat_lt place most_members) _ _ _ _
+        (passed_or_not (is_flaw fault) _ _ _ _ (frame_ends_apart on place fault old new result out) same) same) same h
+    frame_call_apart (frame.retry lost result) old new h = h
+
+    pub call_on_bus_apart : (nodes : ℕ) (call : CallOnBus) (old new : BusState)
+        → CallOnBusMeans terms tries nodes layout call old seen added new
+        → CallOnBusMeans single tries nodes layout call old seen added new
+    call_on_bus_apart nodes (of_rounds call) old new (h, station) = (bus_call_apart nodes call old.past new.past h, station)
+    call_on_bus_apart nodes (of_frames call) old new h = frame_call_apart call old new h

@@ -2,7 +2,7 @@
 -- a decision leave; what a look at the controller tells the bus beforehand leaves the choice, and other calls leave the past, or
 -- are groups of recessive bits.
 use Rattle.std.proofs.Common.{◌≡◌, ℕ, Bool, true, false, List, Option, Some, None, Ok, Err, inl, inr, ap, refl, cond, ◌++◌, ◌∙◌}
-use Rattle.std.specs.Prelude.{◌==◌, MatchBool, MatchOption, length, nat_le}
+use Rattle.std.specs.Prelude.{◌==◌, MatchBool, MatchOption, length, nat_le, nat_lt}
 use Rattle.std.specs.List.{list_all}
 use Rattle.std.specs.declared.result.Result.{Result}
 use Rattle.ccan_confine.specs.declared.controller.Controller.{Controller}
@@ -34,10 +34,15 @@ use Rattle.ccan_registers.specs.Rounds.{RecoversOnChip}
 use Rattle.ccan_c.specs.declared.offer.Offer.{Offer}
 use Rattle.ccan_c.specs.declared.shown_outcome.ShownOutcome.{ShownOutcome}
 use Rattle.ccan_c.specs.BusCall as bus
-use Rattle.ccan_c.specs.BusCall.{BusCall, BusCallMeans, CallsKeepTheChoice, RoundTried}
+use Rattle.ccan_c.specs.BusCall.{BusCall, BusCallMeans, RoundTried}
+use Rattle.ccan_c.specs.FrameCall as frame
+use Rattle.ccan_c.specs.FrameCall.{BusState, CallsKeepTheChoice, FrameCall, FrameCallMeans, of_frames, of_rounds}
+use Rattle.ccan_c.specs.Finished.{event_in}
 use Rattle.ccan_c.specs.Host.{flag_numbered}
 use Rattle.ccan_c.specs.Round.{fault_numbered, is_frame}
 use Rattle.ccan_c.specs.Settings.{is_from_one_to}
+use Rattle.ccan_c.specs.Wire.{is_flaw, is_wire, most_members}
+use Rattle.ccan_map.specs.declared.map.Map.{Map}
 
 same_choice : (p q : BusPast) → p ≡ q → p.choice ≡ q.choice
 same_choice p q is = ap (λ (past : BusPast). past.choice) is
@@ -128,7 +133,8 @@ passed_or_not : (b : Bool) (P Q R : Type 0) → (P → R) → (Q → R) → Matc
 passed_or_not true P Q R f g h = f h
 passed_or_not false P Q R f g h = g h
 
-pub calls_keep : CallsKeepTheChoice
+calls_keep : (terms : Terms) (tries nodes : ℕ) (layout : Map) (call : BusCall) (past after : BusPast)
+    (seen added : ChipHistory) → BusCallMeans terms tries nodes layout call past seen added after → after.choice ≡ past.choice
 calls_keep terms tries nodes layout (bus.load result out) past after seen added (found, loading, h, _, _) =
     load_keeps terms tries (ram_of (h.looked ++ seen)) (ram_of h.later)
     (as_found found (events_in (h.looked ++ seen)) (left_behind h.first past)) after loading h.loads.means
@@ -169,3 +175,31 @@ calls_keep terms tries nodes layout (bus.tell note result) past after seen added
 calls_keep terms tries nodes layout (bus.tell note result) past after seen added (inr h) = same_choice after past h.leaves
 calls_keep terms tries nodes layout (bus.heed None result) past after seen added h = same_choice after past h.leaves
 calls_keep terms tries nodes layout (bus.heed (Some told) result) past after seen added h = same_choice after past h.2
+
+-- ---- a chip's part in a frame on a bus of several
+
+same_past : (p q : BusState) → p ≡ q → p.past.choice ≡ q.past.choice
+same_past p q is = ap (λ (state : BusState). state.past.choice) is
+
+frames_keep : (terms : Terms) (tries : ℕ) (call : FrameCall) (old new : BusState) (seen added : ChipHistory)
+    → FrameCallMeans terms tries call old seen added new → new.past.choice ≡ old.past.choice
+frames_keep terms tries (frame.begin result out) old new seen added (told, h, code, shows, is) = same_choice new.past _ is
+frames_keep terms tries (frame.stay result out) old new seen added (told, h, code, shows, is) = same_choice new.past _ is
+frames_keep terms tries (frame.finish on place fault result out) old new seen added h =
+    passed_or_not (is_wire on) _ _ _
+    (passed_or_not (nat_lt place most_members) _ _ _
+    (passed_or_not (is_flaw fault) _ _ _
+    (λ ends. same_choice new.past _ ends.keeps)
+    (λ rests. same_past new old rests.leaves))
+    (λ rests. same_past new old rests.leaves))
+    (λ rests. same_past new old rests.leaves) h
+frames_keep terms tries (frame.retry lost result) old new seen added h =
+    known_or_not (event_in lost) _ _ _
+    (λ rests. same_past new old rests.leaves)
+    (λ own (made, is). same_past new old is) h
+
+pub calls_on_bus_keep : CallsKeepTheChoice
+calls_on_bus_keep terms tries nodes layout (of_rounds call) old new seen added h =
+    calls_keep terms tries nodes layout call old.past new.past seen added h.0
+calls_on_bus_keep terms tries nodes layout (of_frames call) old new seen added h =
+    frames_keep terms tries call old new seen added h

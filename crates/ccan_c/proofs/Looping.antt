@@ -24,6 +24,7 @@ kept_through old mid new f s = record {
   };
   own = s.own ∙ f.own;
   bus = s.bus ∙ f.bus;
+  station = s.station ∙ f.station;
 }
 
 pub loops : (old mid new : Held) (unit : Unit {0}) (told : Result (Unit {0}) AccessError)

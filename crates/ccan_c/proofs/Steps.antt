@@ -1,5 +1,5 @@
 -- Calls on an open handle, as steps in what its port has seen of the chip.
-use Rattle.std.proofs.Common.{◌≡◌, ℕ, List, [], ◌∷◌, ◌++◌, Some, refl, sym, ap₂, subst, ◌∙◌}
+use Rattle.std.proofs.Common.{◌≡◌, ℕ, List, [], ◌∷◌, ◌++◌, Some, refl, sym, ap, ap₂, subst, ◌∙◌}
 use Rattle.std.specs.declared.option.Option.{Option}
 use Rattle.ccan_ram.specs.declared.port.PortName.{PortName}
 use Rattle.ccan_ram.specs.SharedRam.{Memory, IsSamePort, terms_of}
@@ -7,13 +7,15 @@ use Rattle.ccan_ram.specs.Terms.{Terms}
 use Rattle.ccan_endless.specs.Chip.{ChipHistory}
 use Rattle.ccan_endless.specs.Layout.{same_object}
 use Rattle.ccan_bus.specs.Bus.{LedTo}
-use Rattle.ccan_bus.specs.Past.{BusPast}
+use Rattle.ccan_chip.specs.declared.chip_bus.ChipBus.{ChipBus}
 use Rattle.ccan_map.specs.declared.map.Map.{Map}
 use Rattle.ccan_registers.specs.declared.interface_set.InterfaceSet.{InterfaceSet}
 use Rattle.ccan_registers.specs.ChipSteps.{SeesChip, terms_at}
+use Rattle.ccan_registers.specs.Frames.{StationState}
 use Rattle.ccan_c.specs.declared.held.Held.{Held}
-use Rattle.ccan_c.specs.BusCall.{BusCall, BusCallDoes, BusCallMeans}
-use Rattle.ccan_c.specs.Held.{WorksAsBefore, pass_of, port_of}
+use Rattle.ccan_c.specs.BusCall.{station_after}
+use Rattle.ccan_c.specs.FrameCall.{BusState, CallOnBus, CallOnBusDoes, CallOnBusMeans, FrameCallMeans, of_frames, of_rounds}
+use Rattle.ccan_c.specs.Held.{IsKept, WorksAsBefore, pass_of, port_of, station_of}
 use Rattle.ccan_c.specs.HostCall.{HostCall, HostCallDoes, HostCallMeans}
 use Rattle.ccan_c.specs.Opening.{Set}
 use Rattle.ccan_c.specs.Step.{Place, CallsMean, Leads}
@@ -62,17 +64,22 @@ host_step call held after own sees is (new, is_open, runs) =
           (sym is) a.3;
     }
 
--- ---- those of the bus on its past
+-- ---- those of the bus on its past, and on its part in frames
 
-abbrev pub HasPast : BusPast → Held → Type 0
-HasPast past held = LedTo past held.bus.bus
+abbrev pub HasBus : BusState → Held → Type 0
+HasBus state held = LedTo state.past held.bus.bus × (state.station ≡ station_of held)
 
-pub bus_step : (call : BusCall) (held : Held) (after : Option Held) (past : BusPast) → SeesChip (port_of held)
-    → HasPast past held → BusCallDoes call (Some held) after
-    → Step HasPast held after
-    (λ added left. BusCallMeans (here held) held.tries held.nodes held.map call past (port_of held).whole added left)
-bus_step call held after past sees led (new, is_open, runs) =
-    let g = runs.goes past led in
+-- where nothing but the port changed
+pub still_on : (state : BusState) (old new : Held) → IsKept old new → HasBus state old → HasBus state new
+still_on state old new kept led =
+    (subst (λ (b : ChipBus). LedTo state.past b.bus) (sym kept.bus) led.0, led.1 ∙ sym kept.station)
+
+pub bus_step : (call : CallOnBus) (held : Held) (after : Option Held) (state : BusState) → SeesChip (port_of held)
+    → HasBus state held → CallOnBusDoes call (Some held) after
+    → Step HasBus held after
+    (λ added left. CallOnBusMeans (here held) held.tries held.nodes held.map call state (port_of held).whole added left)
+bus_step (of_rounds call) held after state sees led (new, is_open, runs) =
+    let g = runs.goes state.past led.0 in
     let a = g.2.each sees in
     record {
       new = new;
@@ -82,9 +89,27 @@ bus_step call held after past sees led (new, is_open, runs) =
       sees = a.1;
       added = a.0;
       seen = a.2;
-      left = g.0;
-      leads = g.1;
-      means = a.3;
+      left = record { past = g.0; station = station_of new };
+      leads = (g.1, refl);
+      means = (a.3, runs.station ∙ ap (λ (s : StationState). station_after call s) (sym led.1));
+    }
+bus_step (of_frames call) held after state sees led (new, is_open, runs) =
+    let g = runs.goes state.past led.0 in
+    let a = g.2.each sees in
+    let left : BusState = record { past = g.0; station = station_of new } in
+    record {
+      new = new;
+      is_open = is_open;
+      same = g.2.same;
+      works = runs.works;
+      sees = a.1;
+      added = a.0;
+      seen = a.2;
+      left = left;
+      leads = (g.1, refl);
+      means =
+          subst (λ (s : StationState). FrameCallMeans (here held) held.tries call
+          (record { past = state.past; station = s }) (port_of held).whole a.0 left) (sym led.1) a.3;
     }
 
 -- ---- calls, one after another

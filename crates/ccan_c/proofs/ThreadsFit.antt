@@ -16,14 +16,10 @@ use Rattle.ccan_endless.specs.Chip.{ChipHistory, ram_of, steps_of}
 use Rattle.ccan_endless.specs.ChipEnding.{ChipEnds, IsChipPart}
 use Rattle.ccan_endless.specs.ChipPort.{ChipPass, reset_history}
 use Rattle.ccan_endless.specs.Layout.{most, same_object}
-use Rattle.ccan_bus.specs.Bus.{LedTo}
-use Rattle.ccan_bus.specs.Past.{BusPast, opened_at_once}
-use Rattle.ccan_chip.specs.declared.chip_bus.ChipBus.{ChipBus}
 use Rattle.ccan_registers.specs.declared.access_error.AccessError.{AccessError}
 use Rattle.ccan_registers.specs.declared.interface_set.InterfaceSet.{InterfaceSet}
 use Rattle.ccan_registers.specs.ChipSteps.{SeesChip, terms_at}
 use Rattle.ccan_registers.specs.InterfaceSet.{reset_set}
-use Rattle.ccan_chip.specs.Arrival.{unloaded}
 use Rattle.ccan_registers.specs.Resetting.{ResetsChip}
 use Rattle.ccan_saved.specs.declared.saved.Saved.{Saved}
 use Rattle.ccan_saved.specs.Format.{text_of}
@@ -33,7 +29,7 @@ use Rattle.ccan_c.specs.declared.chip.Chip.{Chip}
 use Rattle.ccan_c.specs.declared.held.Held.{Held}
 use Rattle.ccan_c.specs.declared.shown_final.ShownFinal.{ShownFinal}
 use Rattle.ccan_c.specs.Bus.{held_on}
-use Rattle.ccan_c.specs.BusCall.{BusCall, BusCallDoes, BusCallMeans}
+use Rattle.ccan_c.specs.FrameCall.{BusState, CallOnBus, CallOnBusDoes, CallOnBusMeans}
 use Rattle.ccan_c.specs.Chip.{AllOpen, EndsWith, Opens}
 use Rattle.ccan_c.specs.Held.{IsHolding, WorksAsBefore, pass_of, port_of}
 use Rattle.ccan_c.specs.Host.{held_by}
@@ -47,10 +43,10 @@ use Rattle.ccan_c.specs.Step.{Place, CallsMean, Leads, own_of}
 use Rattle.ccan_c.specs.Steps.{Steps}
 use Rattle.ccan_c.specs.Threads.{Beginning, opened_with, restored_as, set_of, Begins, BeginsAt}
 use Rattle.ccan_c.specs.Threads.{Part, at_once, meeting, saving, resetting, PartDoes, PartsDo, Places, PartMeans, PartsMean}
-use Rattle.ccan_c.specs.Threads.{MeetsAll, HaveMetAll, ResetsAll, SavesAll}
+use Rattle.ccan_c.specs.Threads.{MeetsAll, HaveMetAll, ResetsAll, SavesAll, bus_unloaded, opening_bus}
 use Rattle.ccan_c.specs.Threads.{IsPartOf, FitOneHistory, CallsFitOneHistory}
 use Rattle.ccan_c.proofs.OwnEvents.{none_own, own_of-append}
-use Rattle.ccan_c.proofs.Steps.{IsAt, HasPast, HasSet, bus_step, host_step, reached}
+use Rattle.ccan_c.proofs.Steps.{IsAt, HasBus, HasSet, bus_step, host_step, reached, still_on}
 
 -- an open handle stands for one thing
 same_open : (o : Option Held) (h k : Held) → o ≡ Some h → o ≡ Some k → h ≡ k
@@ -60,14 +56,14 @@ same_open o h k e f = cc
 abbrev pub place : Held → Place InterfaceSet
 place held = record { state = held.own; seen = (port_of held).whole }
 
-abbrev pub bus_place : BusPast → Held → Place BusPast
+abbrev pub bus_place : BusState → Held → Place BusState
 bus_place past held = record { state = past; seen = (port_of held).whole }
 
-abbrev pub all_places : Held → Held → Held → BusPast → Places
+abbrev pub all_places : Held → Held → Held → BusState → Places
 all_places first second third past = record { if1 = place first; if2 = place second; bus = bus_place past third }
 
 -- where they stand by what their ports have seen
-abbrev pub places_of : InterfaceSet → InterfaceSet → BusPast → ChipPass → ChipPass → ChipPass → Places
+abbrev pub places_of : InterfaceSet → InterfaceSet → BusState → ChipPass → ChipPass → ChipPass → Places
 places_of first second past a b d =
     record {
       if1 = record { state = first; seen = a.whole };
@@ -137,8 +133,8 @@ module _ (memory : Memory) (set : Set) where
     pub if1_at : IsAt memory If1 set first
     pub if2_at : IsAt memory If2 set second
     pub bus_at : IsAt memory Bus set third
-    pub past : BusPast
-    pub led : LedTo past third.bus.bus
+    pub past : BusState
+    pub led : HasBus past third
 
   abbrev pub places : {chip : Chip} → ChipAt chip → Places
   places c = all_places c.first c.second c.third c.past
@@ -171,13 +167,13 @@ module _ (memory : Memory) (set : Set) where
             (record { state = s; seen = (port_of r.new).whole })) r.leads r.mean_all,
       )
 
-  bus_calls : (calls : List BusCall) (held : Held) (past : BusPast) (before after : Option Held)
-      → IsAt memory Bus set held → LedTo past held.bus.bus → before ≡ Some held → Leads BusCallDoes calls before after
-      → (new : Held) × (left : BusPast) × (after ≡ Some new) × IsAt memory Bus set new × LedTo left new.bus.bus
-      × CallsMean (BusCallMeans (terms Bus) set.tries set.nodes set.map) calls (bus_place past held) (bus_place left new)
+  bus_calls : (calls : List CallOnBus) (held : Held) (past : BusState) (before after : Option Held)
+      → IsAt memory Bus set held → HasBus past held → before ≡ Some held → Leads CallOnBusDoes calls before after
+      → (new : Held) × (left : BusState) × (after ≡ Some new) × IsAt memory Bus set new × HasBus left new
+      × CallsMean (CallOnBusMeans (terms Bus) set.tries set.nodes set.map) calls (bus_place past held) (bus_place left new)
   bus_calls calls held past before after at led is leads =
-      let r = reached HasPast BusCallDoes BusCallMeans bus_step memory Bus set calls held after past at led
-      (subst (λ (o : Option Held). Leads BusCallDoes calls o after) is leads) in
+      let r = reached HasBus CallOnBusDoes CallOnBusMeans bus_step memory Bus set calls held after past at led
+      (subst (λ (o : Option Held). Leads CallOnBusDoes calls o after) is leads) in
       (r.new, r.left, r.is_open, r.at, r.leads, r.mean_all)
 
   -- ---- meetings
@@ -195,7 +191,7 @@ module _ (memory : Memory) (set : Set) where
     sees = met.sees;
   }
 
-  meets : {State : Type 0} (port : PortName) (first second : InterfaceSet) (past : BusPast) (a b d from to : ChipPass)
+  meets : {State : Type 0} (port : PortName) (first second : InterfaceSet) (past : BusState) (a b d from to : ChipPass)
       (before after : State) → from.pass.port ≡ port → after ≡ before → HasMet a b d from to
       → MeetsAll port (places_of first second past a b d)
       (record { state = before; seen = from.whole }) (record { state = after; seen = to.whole })
@@ -208,7 +204,7 @@ module _ (memory : Memory) (set : Set) where
   }
 
   -- the ports of the three handles have met, whatever the handles' registers were before
-  have_met_all : (first second : InterfaceSet) (past : BusPast) (a b d : ChipPass) (h k l : Held)
+  have_met_all : (first second : InterfaceSet) (past : BusState) (a b d : ChipPass) (h k l : Held)
       → a.pass.port ≡ If1 → b.pass.port ≡ If2 → d.pass.port ≡ Bus → h.own ≡ first → k.own ≡ second
       → HaveMet a b d (port_of h) (port_of k) (port_of l)
       → HaveMetAll (places_of first second past a b d) (all_places h k l past)
@@ -221,14 +217,14 @@ module _ (memory : Memory) (set : Set) where
   -- ---- calls that take the whole chip
 
   -- three handles, each in its place
-  record ThreeAt (first second third : Held) (past : BusPast) : Type 0 where
+  record ThreeAt (first second third : Held) (past : BusState) : Type 0 where
     if1_at : IsAt memory If1 set first
     if2_at : IsAt memory If2 set second
     bus_at : IsAt memory Bus set third
-    led : LedTo past third.bus.bus
+    led : HasBus past third
 
   -- the three have met
-  met_at : (h k l h' k' l' : Held) (past : BusPast) → ThreeAt h k l past → MeetHeld h k l h' k' l'
+  met_at : (h k l h' k' l' : Held) (past : BusState) → ThreeAt h k l past → MeetHeld h k l h' k' l'
       → ThreeAt h' k' l' past × HaveMetAll (all_places h k l past) (all_places h' k' l' past)
   met_at h k l h' k' l' past t meet =
       let ports = meet.ports in (
@@ -236,7 +232,7 @@ module _ (memory : Memory) (set : Set) where
           if1_at = at_meeting If1 _ _ _ (port_of h) h h' t.if1_at (same_itself (port_of h)) meet.keeps_if1.works ports.if1_met;
           if2_at = at_meeting If2 _ _ _ (port_of k) k k' t.if2_at (same_itself (port_of k)) meet.keeps_if2.works ports.if2_met;
           bus_at = at_meeting Bus _ _ _ (port_of l) l l' t.bus_at (same_itself (port_of l)) meet.keeps_bus.works ports.bus_met;
-          led = subst (λ (b : ChipBus). LedTo past b.bus) (sym meet.keeps_bus.bus) t.led;
+          led = still_on past l l' meet.keeps_bus t.led;
         },
         have_met_all h.own k.own past (port_of h) (port_of k) (port_of l) h' k' l' t.if1_at.port_is t.if2_at.port_is
             t.bus_at.port_is meet.keeps_if1.own meet.keeps_if2.own ports,
@@ -261,7 +257,7 @@ module _ (memory : Memory) (set : Set) where
         let g = steps.goes.each at.sees in
         (g.0, g.2, subst (λ (t : Terms). what t (port_of old).whole g.0) (terms_are Bus old at) g.3)
 
-  module _ (h k l : Held) (past : BusPast) (t : ThreeAt h k l past) where
+  module _ (h k l : Held) (past : BusState) (t : ThreeAt h k l past) where
     -- a saving: the bus's port looks
     saved_at : (text : List ℕ) (bus : Held) (saved : Saved) → text ≡ text_of saved → IsSavedOf h k l bus saved
         → ThreeAt h k bus past × SavesAll terms set text (all_places h k l past) (all_places h k bus past)
@@ -273,7 +269,7 @@ module _ (memory : Memory) (set : Set) where
             if1_at = t.if1_at;
             if2_at = t.if2_at;
             bus_at = stepped_at looking l bus t.bus_at is.looks;
-            led = subst (λ (b : ChipBus). LedTo past b.bus) (sym is.looks.kept.bus) t.led;
+            led = still_on past l bus is.looks.kept t.led;
           },
           record {
             saved = saved;
@@ -299,7 +295,7 @@ module _ (memory : Memory) (set : Set) where
 
     abbrev LeftReset : ℕ → Held → Held → Held → Type 0
     LeftReset code h' k' l' =
-        (after : BusPast) × ThreeAt h' k' l' after
+        (after : BusState) × ThreeAt h' k' l' after
         × ResetsAll terms set code (all_places h k l past) (all_places h' k' l' after)
 
     -- a reset: the bus's port resets the controller and the objects, nothing is loaded, and then the three meet
@@ -307,7 +303,7 @@ module _ (memory : Memory) (set : Set) where
     reset_at code h' k' l' code_is r =
         let g = r.goes.each t.bus_at.sees in
         let mean = subst (λ (u : Terms). making (Ok tt) u (port_of l).whole g.0) (terms_are Bus l t.bus_at) g.3 in
-        let after = unloaded past in
+        let after = bus_unloaded past in
         let met = have_met_all reset_set reset_set after (port_of h) (port_of k) r.put h' k' l'
         t.if1_at.port_is t.if2_at.port_is (r.goes.same.port ∙ t.bus_at.port_is) r.if1.own r.if2.own r.met in (
           after,
@@ -315,7 +311,7 @@ module _ (memory : Memory) (set : Set) where
             if1_at = at_meeting If1 _ _ _ (port_of h) h h' t.if1_at (same_itself (port_of h)) r.if1.works r.met.if1_met;
             if2_at = at_meeting If2 _ _ _ (port_of k) k k' t.if2_at (same_itself (port_of k)) r.if2.works r.met.if2_met;
             bus_at = at_meeting Bus _ _ _ r.put l l' t.bus_at r.goes.same r.bus.works r.met.bus_met;
-            led = r.bus.drops past t.led;
+            led = (r.bus.drops past.past t.led.0, sym r.bus.station);
           },
           record {
             told = Ok tt;
@@ -341,7 +337,7 @@ module _ (memory : Memory) (set : Set) where
             if1_at = subst (λ (x : Held). IsAt memory If1 set x) (sym first) t.if1_at;
             if2_at = subst (λ (x : Held). IsAt memory If2 set x) (sym second) t.if2_at;
             bus_at = stepped_at (making (Err why)) l l' t.bus_at steps;
-            led = subst (λ (b : ChipBus). LedTo past b.bus) (sym steps.kept.bus) t.led;
+            led = still_on past l l' steps.kept t.led;
           },
           record {
             told = Err why;
@@ -370,7 +366,7 @@ module _ (memory : Memory) (set : Set) where
   three_of : (chip : Chip) (c : ChipAt chip) → ThreeAt c.first c.second c.third c.past
   three_of chip c = record { if1_at = c.if1_at; if2_at = c.if2_at; bus_at = c.bus_at; led = c.led }
 
-  abbrev chip_of : (chip : Chip) (h k l : Held) (past : BusPast) → held_by chip.if1 ≡ Some h → held_by chip.if2 ≡ Some k
+  abbrev chip_of : (chip : Chip) (h k l : Held) (past : BusState) → held_by chip.if1 ≡ Some h → held_by chip.if2 ≡ Some k
       → held_on chip.bus ≡ Some l → ThreeAt h k l past → ChipAt chip
   chip_of chip h k l past e f g t = record {
     first = h;
@@ -515,13 +511,13 @@ first_opened profile set chip opens =
         if1_at = at_holding memory If1 set (begins_as memory If1 set.opening) set.opening.own h refl refl first;
         if2_at = at_holding memory If2 set (begins_as memory If2 set.opening) set.opening.own k refl refl second;
         bus_at = at_holding memory Bus set (begins_as memory Bus set.opening) set.opening.own l refl refl third;
-        past = opened_at_once set.nodes;
-        led = third.bus_is;
+        past = opening_bus set.nodes;
+        led = (third.bus_is, sym third.station_is);
       };
       begins = λ i. record {
         if1 = record { state = first.own_is i; seen = (first.port_is i).whole };
         if2 = record { state = second.own_is i; seen = (second.port_is i).whole };
-        bus = record { state = opened_at_once set.nodes; seen = (third.port_is i).whole };
+        bus = record { state = opening_bus set.nodes; seen = (third.port_is i).whole };
       };
     }
 
@@ -530,7 +526,7 @@ first_restored : (saved : Saved) (chip : Chip) → RestoresAs saved chip → Fir
 first_restored saved chip r =
     let memory = r.memory in
     let set = set_of (restored_as saved) in
-    let past = opened_at_once saved.others in
+    let past = opening_bus saved.others in
     let (h, k, l, e, f, g, (first, second, third)) = r.handles in
     let started = begins_as memory Bus after_reset in
     let goes = r.goes.each (sees_reset memory) in
@@ -556,7 +552,7 @@ first_restored saved chip r =
         bus_at = at_holding memory Bus set r.bus reset_set l (r.met.bus_met.same.memory ∙ r.goes.same.memory)
             (r.met.bus_met.same.port ∙ r.goes.same.port) third;
         past = past;
-        led = third.bus_is;
+        led = (third.bus_is, sym third.station_is);
       };
       begins = record {
         added = goes.0;

@@ -10,11 +10,10 @@ use Rattle.ccan_ram.specs.SharedRam.{Memory, IsMemoryOf, terms_of}
 use Rattle.ccan_ram.specs.Terms.{Terms, one_thread_terms}
 use Rattle.ccan_endless.specs.Chip.{ChipHistory, GoesFrom}
 use Rattle.ccan_endless.specs.Layout.{most, same_object}
-use Rattle.ccan_bus.specs.Past.{BusPast}
 use Rattle.ccan_line.proofs.Apart.{same_or_not}
 use Rattle.ccan_registers.specs.declared.interface_set.InterfaceSet.{InterfaceSet}
 use Rattle.ccan_c.specs.declared.shown_final.ShownFinal.{ShownFinal}
-use Rattle.ccan_c.specs.BusCall.{BusCall, BusCallMeans}
+use Rattle.ccan_c.specs.FrameCall.{BusState, CallOnBus, CallOnBusMeans}
 use Rattle.ccan_c.specs.HostCall.{HostCall, HostCallMeans}
 use Rattle.ccan_c.specs.OneThread.{Turn, on_if1, on_if2, on_bus, turn_alone, met_turns, in_turns, calls_of_turn, calls_of}
 use Rattle.ccan_c.specs.OneThread.{PortCall, of_if1, of_if2, of_bus, PortCallMeans, Three, opening_three, single_terms}
@@ -22,7 +21,7 @@ use Rattle.ccan_c.specs.OneThread.{RunInOrder, TurnsRunInOrder}
 use Rattle.ccan_c.specs.Opening.{Set}
 use Rattle.ccan_c.specs.Step.{Place, CallsMean, own_of}
 use Rattle.ccan_c.specs.Threads.{Places, opened_with, opening, PartMeans, PartsMean, MeetsAll, HaveMetAll, FitOneHistory}
-use Rattle.ccan_c.proofs.CallsApart.{host_call_apart, bus_call_apart}
+use Rattle.ccan_c.proofs.CallsApart.{host_call_apart, call_on_bus_apart}
 use Rattle.ccan_c.proofs.OwnEvents.{ActsAlone, alone_in_parts, both_empty, no_others, none_of_all, own_of-append}
 use Rattle.ccan_c.proofs.ThreadsFit.{fit_one_history}
 
@@ -210,12 +209,12 @@ module _ (profile : Profile) (set : Set) where
         subst (λ (t : Terms). HostCallMeans t set.tries set.map call own seen added left) (single_is port)
         (host_call_apart (shared port) set.tries some set.map seen added alone call own left h)
 
-    bus_apart_at : (call : BusCall) (past : BusPast) (seen added : ChipHistory) (left : BusPast) → ActsAlone Bus added
-        → BusCallMeans (shared Bus) set.tries set.nodes set.map call past seen added left
-        → BusCallMeans (single_terms profile Bus) set.tries set.nodes set.map call past seen added left
+    bus_apart_at : (call : CallOnBus) (past : BusState) (seen added : ChipHistory) (left : BusState) → ActsAlone Bus added
+        → CallOnBusMeans (shared Bus) set.tries set.nodes set.map call past seen added left
+        → CallOnBusMeans (single_terms profile Bus) set.tries set.nodes set.map call past seen added left
     bus_apart_at call past seen added left alone h =
-        subst (λ (t : Terms). BusCallMeans t set.tries set.nodes set.map call past seen added left) (single_is Bus)
-        (bus_call_apart (shared Bus) set.tries some set.map seen added alone set.nodes call past left h)
+        subst (λ (t : Terms). CallOnBusMeans t set.tries set.nodes set.map call past seen added left) (single_is Bus)
+        (call_on_bus_apart (shared Bus) set.tries some set.map seen added alone set.nodes call past left h)
 
     -- a handle that made no call after the meeting
     quiet : {State : Type 0} (port : PortName) (all : Places) (old met new : Place State) → MeetsAll port all old met → new ≡ met
@@ -293,10 +292,10 @@ module _ (profile : Profile) (set : Set) where
     turned (on_bus calls) old met new m h =
         let first = quiet If1 old old.if1 met.if1 new.if1 m.if1_meets h.if1_means in
         let second = quiet If2 old old.if2 met.if2 new.if2 m.if2_meets h.if2_means in
-        let r = calls_apart Bus (BusCallMeans (shared Bus) set.tries set.nodes set.map)
-        (BusCallMeans (single_terms profile Bus) set.tries set.nodes set.map)
+        let r = calls_apart Bus (CallOnBusMeans (shared Bus) set.tries set.nodes set.map)
+        (CallOnBusMeans (single_terms profile Bus) set.tries set.nodes set.map)
         bus_apart_at calls met.bus new.bus h.bus_means in
-        let among : BusPast → Three = λ past. record (three_in old) { bus = past } in
+        let among : BusState → Three = λ past. record (three_in old) { bus = past } in
         let old_is : among met.bus.state ≡ three_in old = ap among m.bus_meets.keeps in
         let new_is : among new.bus.state ≡ three_in new =
         λ i. record { first = sym first.0 i; second = sym second.0 i; bus = new.bus.state } in (
@@ -313,7 +312,7 @@ module _ (profile : Profile) (set : Set) where
             runs = λ alone.
                 subst (λ (t : Three). Runs (map of_bus calls) t met.bus.seen (three_in new) new.bus.seen) old_is
                 (subst (λ (t : Three). Runs (map of_bus calls) (among met.bus.state) met.bus.seen t new.bus.seen) new_is
-                (calls_among (BusCallMeans (single_terms profile Bus) set.tries set.nodes set.map) Means of_bus among
+                (calls_among (CallOnBusMeans (single_terms profile Bus) set.tries set.nodes set.map) Means of_bus among
                 (λ call state seen added left k. (left, k, refl)) calls met.bus new.bus (r.2 alone)));
           },
         )

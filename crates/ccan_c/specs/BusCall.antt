@@ -1,6 +1,6 @@
 -- The calls on the bus's handle, and what each stands for in the history of the chip. Source: this project's own, over the
 -- definitions of the steps of a round, of looks of one moment, and of the registers of the chip.
-use Rattle.std.specs.Prelude.{ℕ, ◌≡◌, ◌==◌, ◌⊎◌, Bool, true, false, List, map, length, Option, Some, Result, Ok, Err, MatchBool, MatchOption, nat_le}
+use Rattle.std.specs.Prelude.{ℕ, ◌≡◌, ◌==◌, ◌||◌, ◌⊎◌, if◌then◌else◌, Bool, true, false, List, map, length, Option, Some, Result, Ok, Err, MatchBool, MatchOption, nat_le}
 use Rattle.std.specs.List.{list_all}
 use Rattle.ccan_ram.specs.Terms.{Terms}
 use Rattle.ccan_confine.specs.declared.controller.Controller.{Controller}
@@ -25,6 +25,7 @@ use Rattle.ccan_map.specs.declared.map.Map.{Map}
 use Rattle.ccan_registers.specs.declared.access_error.AccessError.{AccessError}
 use Rattle.ccan_registers.specs.declared.interface_set.InterfaceSet.{InterfaceSet}
 use Rattle.ccan_registers.specs.ChipSteps.{AtController, ChipGoes, Then}
+use Rattle.ccan_registers.specs.Frames.{StationState, at_rest}
 use Rattle.ccan_registers.specs.Objects.{ShowsFlags}
 use Rattle.ccan_registers.specs.Register.{InterruptValue, Makes, PullsLine, ReadsStatus}
 use Rattle.ccan_registers.specs.Rounds.{LoadsOnChip, RecoversOnChip, RoundOnChip}
@@ -36,8 +37,8 @@ use Rattle.ccan_c.specs.declared.shown_outcome.ShownOutcome.{ShownOutcome}
 use Rattle.ccan_c.specs.Answer.{c_counters, code_of, state_number}
 use Rattle.ccan_c.specs.Bus.{enabling, is_on, looping, starting, testing}
 use Rattle.ccan_c.specs.Call.{IsCall}
-use Rattle.ccan_c.specs.Codes.{busy, done, fault_range, flag_range, frame_range, frames_range, groups_range, node_range, senders}
-use Rattle.ccan_c.specs.Held.{IsOpenAs, WorksAsBefore, port_of}
+use Rattle.ccan_c.specs.Codes.{busy, done, spent, fault_range, flag_range, frame_range, frames_range, groups_range, node_range, senders}
+use Rattle.ccan_c.specs.Held.{IsOpenAs, WorksAsBefore, port_of, station_of}
 use Rattle.ccan_c.specs.Host.{flag_numbered, number_of}
 use Rattle.ccan_c.specs.HostCall.{IsRead, ReadsAtOffset, ReadsWordAtOffset, WritesAtOffset, WritesWordAtOffset, code_of_access}
 use Rattle.ccan_c.specs.Load.{c_load}
@@ -202,11 +203,24 @@ BusCallMeans terms tries nodes map (line result out) past seen added after =
 BusCallMeans terms tries nodes map (tell note result) past seen added after = Tells note past seen added result after
 BusCallMeans terms tries nodes map (heed note result) past seen added after = HeedsNote terms note past seen added result after
 
+-- ---- its part in a frame on a bus of several
+
+-- a round was played, whether or not a step of it was refused
+abbrev pub is_played : ℕ → Bool
+is_played result = result == done || result == busy || result == spent
+
+-- a load or a round drops what the start of a frame has loaded, and what is under way; each other call leaves it
+abbrev pub station_after : BusCall → StationState → StationState
+station_after (load result out) old = at_rest
+station_after (round offers fault result out) old = if is_played result then at_rest else old
+station_after call old = old
+
 -- a call on an open handle: each past that may have led to the bus goes on to one that may have led to it afterwards, what its
 -- port had seen goes on by what the call stands for, and all else of the handle stays
 pub record BusRuns (call : BusCall) (old new : Held) : Type 0 where
   pub works : WorksAsBefore old new
   pub own : new.own ≡ old.own
+  pub station : station_of new ≡ station_after call (station_of old)
   pub goes : (past : BusPast) → LedTo past old.bus.bus
       → (after : BusPast) × LedTo after new.bus.bus
       × ChipGoes (port_of old) (port_of new) (λ terms seen added.
@@ -215,9 +229,3 @@ pub record BusRuns (call : BusCall) (old new : Held) : Type 0 where
 -- what the contract of the call says of what the handle stands for before and after it
 abbrev pub BusCallDoes : BusCall → Option Held → Option Held → Type 0
 BusCallDoes call before after = IsCall before after (code_got call) (λ held. IsOpenAs (BusRuns call held) after)
-
--- a call of the bus keeps how the bus chooses what it sends next: a chip's always does so at one moment
-abbrev pub CallsKeepTheChoice : Type 0
-CallsKeepTheChoice =
-    (terms : Terms) (tries nodes : ℕ) (layout : Map) (call : BusCall) (past after : BusPast) (seen added : ChipHistory)
-    → BusCallMeans terms tries nodes layout call past seen added after → after.choice ≡ past.choice

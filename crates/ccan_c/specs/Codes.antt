@@ -76,3 +76,18 @@ no_chip = 24
 
 abbrev pub untold : ℕ
 untold = 25
+
+abbrev pub members_range : ℕ
+members_range = 26
+
+abbrev pub member_range : ℕ
+member_range = 27
+
+abbrev pub wire_range : ℕ
+wire_range = 28
+
+abbrev pub place_range : ℕ
+place_range = 29
+
+abbrev pub event_range : ℕ
+event_range = 30

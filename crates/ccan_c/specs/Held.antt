@@ -7,6 +7,7 @@ use Rattle.ccan_bus.specs.Past as past
 use Rattle.ccan_map.specs.declared.map.Map.{Map}
 use Rattle.ccan_registers.specs.declared.interface_set.InterfaceSet.{InterfaceSet}
 use Rattle.ccan_registers.specs.ChipSteps.{SeesChip}
+use Rattle.ccan_registers.specs.Frames.{StationState, at_rest, state_of}
 use Rattle.ccan_c.specs.declared.held.Held.{Held}
 use Rattle.ccan_c.specs.Opening.{Set}
 use Rattle.ccan_registers.specs.PortHolder.{port_at}
@@ -19,8 +20,12 @@ port_of held = port_at held.port
 abbrev pub pass_of : Held → Pass
 pass_of held = (port_of held).pass
 
+-- its part in the frames of a bus of several
+abbrev pub station_of : Held → StationState
+station_of held = state_of held.station
+
 -- a handle that stands for this port, with these settings and registers; nothing happened to its bus, which chooses what it
--- sends at one moment
+-- sends at one moment, and it has no part in a frame
 pub record IsHolding (port : ChipPass) (nodes tries : ℕ) (map : Map) (own : InterfaceSet) (held : Held) : Type 0 where
   pub port_is : port_of held ≡ port
   pub sees : SeesChip (port_of held)
@@ -29,6 +34,7 @@ pub record IsHolding (port : ChipPass) (nodes tries : ℕ) (map : Map) (own : In
   pub map_is : held.map ≡ map
   pub own_is : held.own ≡ own
   pub bus_is : LedTo (past.opened_at_once nodes) held.bus.bus
+  pub station_is : station_of held ≡ at_rest
 
 -- a handle as it opens, with what a chip is opened with
 abbrev pub IsOpening : ChipPass → Set → Held → Type 0
@@ -45,6 +51,7 @@ pub record IsKept (old new : Held) : Type 0 where
   pub works : WorksAsBefore old new
   pub own : new.own ≡ old.own
   pub bus : new.bus ≡ old.bus
+  pub station : station_of new ≡ station_of old
 
 -- it is open, and this holds of what it stands for
 abbrev pub IsOpenAs : (Held → Type 0) → Option Held → Type 0

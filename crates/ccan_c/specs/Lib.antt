@@ -17,11 +17,16 @@ pub mod Bus
 pub mod Outcome
 pub mod Load
 pub mod Round
+pub mod Wire
+pub mod Deciding
+pub mod Lengths
+pub mod Finished
 pub mod Steps
 pub mod Step
 pub mod Note
 pub mod HostCall
 pub mod BusCall
+pub mod FrameCall
 pub mod Threads
 pub mod OneThread
 pub mod Saving

@@ -8,16 +8,15 @@ use Rattle.ccan_ram.specs.History.{IsLegal}
 use Rattle.ccan_ram.specs.Terms.{Terms, one_thread_terms}
 use Rattle.ccan_endless.specs.Chip.{ChipHistory, IsControllerLegal, ram_of}
 use Rattle.ccan_endless.specs.Layout.{most}
-use Rattle.ccan_bus.specs.Past.{BusPast, opened_at_once}
 use Rattle.ccan_registers.specs.declared.interface_set.InterfaceSet.{InterfaceSet}
 use Rattle.ccan_c.specs.declared.chip.Chip.{Chip}
 use Rattle.ccan_c.specs.declared.shown_final.ShownFinal.{ShownFinal}
-use Rattle.ccan_c.specs.BusCall.{BusCall, BusCallMeans}
+use Rattle.ccan_c.specs.FrameCall.{BusState, CallOnBus, CallOnBusMeans}
 use Rattle.ccan_c.specs.Chip.{Opens, EndsWith}
 use Rattle.ccan_c.specs.HostCall.{HostCall, HostCallMeans}
 use Rattle.ccan_c.specs.Opening.{Set}
 use Rattle.ccan_c.specs.Step.{CallsMean}
-use Rattle.ccan_c.specs.Threads.{Part, at_once, meeting, PartsDo, Shows}
+use Rattle.ccan_c.specs.Threads.{Part, at_once, meeting, opening_bus, PartsDo, Shows}
 
 -- ---- what C does
 
@@ -25,7 +24,7 @@ use Rattle.ccan_c.specs.Threads.{Part, at_once, meeting, PartsDo, Shows}
 pub data Turn : Type 0 where
   on_if1 : List HostCall → Turn
   on_if2 : List HostCall → Turn
-  on_bus : List BusCall → Turn
+  on_bus : List CallOnBus → Turn
 
 abbrev pub turn_alone : Turn → Part
 turn_alone (on_if1 calls) = at_once calls [] []
@@ -48,7 +47,7 @@ in_turns (turn ∷ turns) = turn_alone turn ∷ met_turns turns
 pub data PortCall : Type 0 where
   of_if1 : HostCall → PortCall
   of_if2 : HostCall → PortCall
-  of_bus : BusCall → PortCall
+  of_bus : CallOnBus → PortCall
 
 abbrev pub calls_of_turn : Turn → List PortCall
 calls_of_turn (on_if1 calls) = map of_if1 calls
@@ -64,11 +63,11 @@ calls_of (turn ∷ turns) = calls_of_turn turn ++ calls_of turns
 pub record Three : Type 0 where
   pub first : InterfaceSet
   pub second : InterfaceSet
-  pub bus : BusPast
+  pub bus : BusState
 
--- as a chip opens: registers as they begin, and a bus that chooses at one moment and to which nothing happened
+-- as a chip opens: registers as they begin, and a bus as it opens
 abbrev pub opening_three : Set → Three
-opening_three set = record { first = set.opening.own; second = set.opening.own; bus = opened_at_once set.nodes }
+opening_three set = record { first = set.opening.own; second = set.opening.own; bus = opening_bus set.nodes }
 
 -- a call on some handle works on what is that handle's, under its port's terms, and the rest stays
 abbrev pub PortCallMeans : (PortName → Terms) → Set → PortCall → Three → ChipHistory → ChipHistory → Three → Type 0
@@ -79,7 +78,7 @@ PortCallMeans terms set (of_if2 call) three seen added left =
     (after : InterfaceSet) × HostCallMeans (terms If2) set.tries set.map call three.second seen added after
     × (left ≡ record three { second = after })
 PortCallMeans terms set (of_bus call) three seen added left =
-    (after : BusPast) × BusCallMeans (terms Bus) set.tries set.nodes set.map call three.bus seen added after
+    (after : BusState) × CallOnBusMeans (terms Bus) set.tries set.nodes set.map call three.bus seen added after
     × (left ≡ record three { bus = after })
 
 -- the terms of a memory of one thread, whose ports may make as many changes as the memory numbers

@@ -8,12 +8,13 @@ use Rattle.ccan_chip.specs.Arrival.{unloaded}
 use Rattle.ccan_endless.specs.ChipPort.{ChipPass}
 use Rattle.ccan_registers.specs.declared.access_error.AccessError.{AccessError}
 use Rattle.ccan_registers.specs.ChipSteps.{ChipGoes}
+use Rattle.ccan_registers.specs.Frames.{at_rest}
 use Rattle.ccan_registers.specs.InterfaceSet.{reset_set}
 use Rattle.ccan_registers.specs.Resetting.{ResetsChip}
 use Rattle.ccan_c.specs.declared.chip.Chip.{Chip}
 use Rattle.ccan_c.specs.declared.held.Held.{Held}
 use Rattle.ccan_c.specs.Chip.{AllOpen}
-use Rattle.ccan_c.specs.Held.{WorksAsBefore, port_of}
+use Rattle.ccan_c.specs.Held.{WorksAsBefore, port_of, station_of}
 use Rattle.ccan_c.specs.HostCall.{code_of_access}
 use Rattle.ccan_c.specs.Meeting.{HaveMet, MeetHeld}
 use Rattle.ccan_c.specs.Steps.{Steps}
@@ -24,11 +25,12 @@ pub record HasResetInterface (old new : Held) : Type 0 where
   pub bus : new.bus ≡ old.bus
   pub own : new.own ≡ reset_set
 
--- the bus's handle, with which nothing is loaded any more
+-- the bus's handle, with which nothing is loaded any more, and no frame is under way
 pub record DropsLoaded (old new : Held) : Type 0 where
   pub works : WorksAsBefore old new
   pub own : new.own ≡ old.own
   pub drops : (past : BusPast) → LedTo past old.bus.bus → LedTo (unloaded past) new.bus.bus
+  pub station : station_of new ≡ at_rest
 
 -- the bus's port resets the controller and each object, and then the three ports meet
 pub record IsReset (h k l h' k' l' : Held) : Type 0 where

@@ -7,8 +7,9 @@ use Rattle.ccan_bus.specs.Past.{BusPast}
 use Rattle.ccan_endless.specs.Chip.{ChipHistory}
 use Rattle.ccan_registers.specs.declared.interface_set.InterfaceSet.{InterfaceSet}
 use Rattle.ccan_registers.specs.ChipSteps.{ChipGoes}
+use Rattle.ccan_registers.specs.Frames.{StationState}
 use Rattle.ccan_c.specs.declared.held.Held.{Held}
-use Rattle.ccan_c.specs.Held.{IsKept, WorksAsBefore, pass_of, port_of}
+use Rattle.ccan_c.specs.Held.{IsKept, WorksAsBefore, pass_of, port_of, station_of}
 
 -- the port makes steps of which this holds, and all else of the handle stays
 pub record Steps (what : Terms → ChipHistory → ChipHistory → Type 0) (old new : Held) : Type 0 where
@@ -19,6 +20,7 @@ pub record Steps (what : Terms → ChipHistory → ChipHistory → Type 0) (old 
 pub record HostSteps (what : Terms → ChipHistory → ChipHistory → InterfaceSet → Type 0) (old new : Held) : Type 0 where
   pub works : WorksAsBefore old new
   pub bus : new.bus ≡ old.bus
+  pub station : station_of new ≡ station_of old
   pub goes : ChipGoes (port_of old) (port_of new) (λ terms seen added. what terms seen added new.own)
 
 -- the same of the bus: each past that may have led to it goes on
@@ -29,3 +31,11 @@ pub record BusSteps (what : Terms → BusPast → ChipHistory → ChipHistory �
   pub goes : (past : BusPast) → LedTo past old.bus.bus
       → (after : BusPast) × LedTo after new.bus.bus
       × ChipGoes (port_of old) (port_of new) (λ terms seen added. what terms past seen added after)
+
+-- the same of its part in a frame on a bus of several
+pub record StationSteps (what : Terms → StationState → ChipHistory → ChipHistory → StationState → Type 0) (old new : Held)
+    : Type 0 where
+  pub works : WorksAsBefore old new
+  pub own : new.own ≡ old.own
+  pub goes : ChipGoes (port_of old) (port_of new)
+      (λ terms seen added. what terms (station_of old) seen added (station_of new))

@@ -12,9 +12,10 @@ use Rattle.ccan_ram.specs.Terms.{Terms}
 use Rattle.ccan_endless.specs.Chip.{ChipHistory, GoesFrom, IsControllerLegal, ram_of}
 use Rattle.ccan_endless.specs.ChipPort.{reset_history}
 use Rattle.ccan_endless.specs.Layout.{most, same_object}
-use Rattle.ccan_bus.specs.Past.{BusPast, opened_at_once}
+use Rattle.ccan_bus.specs.Past.{opened_at_once}
 use Rattle.ccan_registers.specs.declared.access_error.AccessError.{AccessError}
 use Rattle.ccan_registers.specs.declared.interface_set.InterfaceSet.{InterfaceSet}
+use Rattle.ccan_registers.specs.Frames.{at_rest}
 use Rattle.ccan_registers.specs.InterfaceSet.{reset_set}
 use Rattle.ccan_chip.specs.Arrival.{unloaded}
 use Rattle.ccan_registers.specs.Resetting.{ResetsChip}
@@ -25,7 +26,7 @@ use Rattle.ccan_saved.specs.PutBack.{PutsBack}
 use Rattle.ccan_c.specs.declared.chip.Chip.{Chip}
 use Rattle.ccan_c.specs.declared.shown_final.ShownFinal.{ShownFinal}
 use Rattle.ccan_c.specs.Bus.{held_on}
-use Rattle.ccan_c.specs.BusCall.{BusCall, BusCallDoes, BusCallMeans}
+use Rattle.ccan_c.specs.FrameCall.{BusState, CallOnBus, CallOnBusDoes, CallOnBusMeans}
 use Rattle.ccan_c.specs.Chip.{Opens, EndsWith}
 use Rattle.ccan_c.specs.Host.{held_by}
 use Rattle.ccan_c.specs.HostCall.{HostCall, HostCallDoes, HostCallMeans, code_of_access}
@@ -56,16 +57,16 @@ Begins profile (restored_as saved) chip = (saved.profile ≡ profile) × Restore
 -- others; or a call that takes the whole chip: a meeting of the three; a saving, which gives C this text; or a reset in its
 -- place, which answers this code
 pub data Part : Type 0 where
-  at_once : List HostCall → List HostCall → List BusCall → Part
+  at_once : List HostCall → List HostCall → List CallOnBus → Part
   meeting : Part
   saving : List ℕ → Part
   resetting : ℕ → Part
 
 -- each call has its contract, and so they lead from the one chip to the other
-pub record LeadAtOnce (if1 if2 : List HostCall) (bus : List BusCall) (old new : Chip) : Type 0 where
+pub record LeadAtOnce (if1 if2 : List HostCall) (bus : List CallOnBus) (old new : Chip) : Type 0 where
   pub if1_leads : Leads HostCallDoes if1 (held_by old.if1) (held_by new.if1)
   pub if2_leads : Leads HostCallDoes if2 (held_by old.if2) (held_by new.if2)
-  pub bus_leads : Leads BusCallDoes bus (held_on old.bus) (held_on new.bus)
+  pub bus_leads : Leads CallOnBusDoes bus (held_on old.bus) (held_on new.bus)
 
 abbrev pub PartDoes : Part → Chip → Chip → Type 0
 PartDoes (at_once if1 if2 bus) old new = LeadAtOnce if1 if2 bus old new
@@ -83,16 +84,23 @@ PartsDo (part ∷ parts) old new = (between : Chip) × PartDoes part old between
 pub record Places : Type 0 where
   pub if1 : Place InterfaceSet
   pub if2 : Place InterfaceSet
-  pub bus : Place BusPast
+  pub bus : Place BusState
 
--- as a chip opens: registers as they begin, a bus that chooses at one moment and to which nothing happened, and the reset seen,
--- if there was one
+-- the bus's handle as a chip opens: its bus chooses at one moment, nothing happened to it, and it has no part in a frame
+abbrev pub opening_bus : ℕ → BusState
+opening_bus nodes = record { past = opened_at_once nodes; station = at_rest }
+
+-- and where nothing is loaded any more, and no frame is under way
+abbrev pub bus_unloaded : BusState → BusState
+bus_unloaded old = record { past = unloaded old.past; station = at_rest }
+
+-- as a chip opens: registers as they begin, a bus as it opens, and the reset seen, if there was one
 abbrev pub opening : Set → Places
 opening set =
     record {
       if1 = record { state = set.opening.own; seen = set.opening.begun };
       if2 = record { state = set.opening.own; seen = set.opening.begun };
-      bus = record { state = opened_at_once set.nodes; seen = set.opening.begun };
+      bus = record { state = opening_bus set.nodes; seen = set.opening.begun };
     }
 
 -- the bus's port has added events to what it had seen
@@ -100,10 +108,10 @@ abbrev pub bus_adds : ChipHistory → Places → Places
 bus_adds added all =
     record { if1 = all.if1; if2 = all.if2; bus = record { state = all.bus.state; seen = added ++ all.bus.seen } }
 
--- nothing is loaded
+-- nothing is loaded, and no frame is under way
 abbrev pub bus_unloads : Places → Places
 bus_unloads all =
-    record { if1 = all.if1; if2 = all.if2; bus = record { state = unloaded all.bus.state; seen = all.bus.seen } }
+    record { if1 = all.if1; if2 = all.if2; bus = record { state = bus_unloaded all.bus.state; seen = all.bus.seen } }
 
 -- the hosts have these interface registers
 abbrev pub hosts_have : InterfaceSet → InterfaceSet → Places → Places
@@ -115,11 +123,11 @@ hosts_have first second all =
     }
 
 -- the calls of each handle stand for events of its port's history
-pub record MeanAtOnce (terms : PortName → Terms) (set : Set) (if1 if2 : List HostCall) (bus : List BusCall)
+pub record MeanAtOnce (terms : PortName → Terms) (set : Set) (if1 if2 : List HostCall) (bus : List CallOnBus)
     (old new : Places) : Type 0 where
   pub if1_means : CallsMean (HostCallMeans (terms If1) set.tries set.map) if1 old.if1 new.if1
   pub if2_means : CallsMean (HostCallMeans (terms If2) set.tries set.map) if2 old.if2 new.if2
-  pub bus_means : CallsMean (BusCallMeans (terms Bus) set.tries set.nodes set.map) bus old.bus new.bus
+  pub bus_means : CallsMean (CallOnBusMeans (terms Bus) set.tries set.nodes set.map) bus old.bus new.bus
 
 -- a handle has met the others: its port has seen at least what each of the three had, it made no event, and the state stays
 pub record MeetsAll {State : Type 0} (port : PortName) (all : Places) (old new : Place State) : Type 0 where

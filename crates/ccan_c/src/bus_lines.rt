@@ -27,13 +27,14 @@ impl Held {
     ghost use Rattle.ccan_endless.specs.declared.chip.ControllerStep.TheVariants.{Look};
     ghost use Rattle.ccan_endless.specs.Chip.{MayMake};
     ghost use Rattle.ccan_registers.specs.ChipSteps.{AtController};
+    ghost use Rattle.ccan_registers.specs.Frames.{at_rest};
     ghost use Rattle.ccan_registers.specs.Register.{Makes, ReadsStatus};
     ghost use Rattle.ccan_registers.specs.Resetting.{ResetsChip};
     ghost use Rattle.ccan_registers.specs.Rounds.{LoadsOnChip, RecoversOnChip, RoundOnChip};
     ghost use Rattle.ccan_c.specs.Answer.{c_counters};
     ghost use Rattle.ccan_c.specs.BusCall.{Counts0, LoopsBack};
     ghost use Rattle.ccan_c.specs.Codes.{done};
-    ghost use Rattle.ccan_c.specs.Held.{pass_of, port_of};
+    ghost use Rattle.ccan_c.specs.Held.{pass_of, port_of, station_of};
     ghost use Rattle.ccan_c.specs.HostCall.{code_of_access};
     ghost use Rattle.ccan_c.specs.Resetting.{DropsLoaded};
     ghost use Rattle.ccan_c.specs.Steps.{BusSteps, Steps};
@@ -41,9 +42,10 @@ impl Held {
     /// Chooses an object to send, and starts it. With the controller that was found.
     fn load_next(&mut self) -> (Controller, LoadAnswer)
         requires { (pass_of self.old).port ≡ Bus }
-        ensures { BusSteps (λ terms past seen added after.
+        ensures steps { BusSteps (λ terms past seen added after.
             LoadsOnChip terms self.old.tries past seen added after result.0 result.1)
             self.old self.new }
+        ensures station { station_of self.new ≡ station_of self.old }
     {
         load(&mut self.bus, &self.ram, &mut self.port, self.tries)
     }
@@ -55,13 +57,16 @@ impl Held {
         self.bus.loaded()
     }
 
-    /// Chooses an object to send, and starts it. With the controller that was found, and with what is loaded then.
+    /// Chooses an object to send, and starts it. With the controller that was found, and with what is loaded then. What the start
+    /// of a frame has loaded is dropped.
     pub(crate) fn load(&mut self) -> (Controller, LoadAnswer, Option<(ObjectNo, Record)>)
         requires { (pass_of self.old).port ≡ Bus }
-        ensures { BusSteps (λ terms past seen added after.
+        ensures steps { BusSteps (λ terms past seen added after.
             LoadsOnChip terms self.old.tries past seen added after result.0 result.1
             × (result.2 ≡ after.loaded)) self.old self.new }
+        ensures rests { station_of self.new ≡ at_rest }
     {
+        self.station.unload();
         let (found, loading) = self.load_next();
         (found, loading, self.loaded())
     }
@@ -69,14 +74,16 @@ impl Held {
     /// Plays the round of a line.
     fn run_round(&mut self, line: &RoundLine) -> ChipReport
         requires { (pass_of self.old).port ≡ Bus }
-        ensures { BusSteps (λ terms past seen added after.
+        ensures steps { BusSteps (λ terms past seen added after.
             RoundOnChip terms line.now self.old.tries past seen added after result)
             self.old self.new }
+        ensures station { station_of self.new ≡ station_of self.old }
     {
         round(&mut self.bus, &self.ram, &mut self.port, line, self.tries)
     }
 
-    /// Plays a round. None where a sender is none of the other nodes, or sends twice.
+    /// Plays a round. None where a sender is none of the other nodes, or sends twice. Else what the start of a frame has loaded is
+    /// dropped.
     pub(crate) fn play(&mut self, sends: Sends, fault: Fault) -> Option<ChipReport>
         requires { (pass_of self.old).port ≡ Bus }
         ensures port { (pass_of self.new).port ≡ (pass_of self.old).port }
@@ -87,17 +94,20 @@ impl Held {
             × BusSteps (λ terms past seen added after.
             RoundOnChip terms line self.old.tries past seen added after report)
             self.old self.new)) }
+        ensures rests { IfSome result (λ report. station_of self.new ≡ at_rest) }
     {
         let line = RoundLine::new(self.nodes, sends, fault)?;
+        self.station.unload();
         Some(self.run_round(&line))
     }
 
     /// Lets groups of recessive bits pass.
     pub(crate) fn recessive(&mut self, groups: u16) -> Result<ControllerChanged, ControllerBusy>
         requires { (pass_of self.old).port ≡ Bus }
-        ensures { BusSteps (λ terms past seen added after.
+        ensures steps { BusSteps (λ terms past seen added after.
             RecoversOnChip terms groups self.old.tries past seen added after result)
             self.old self.new }
+        ensures station { station_of self.new ≡ station_of self.old }
     {
         recessive(&mut self.bus, &self.ram, &mut self.port, groups, self.tries)
     }
@@ -128,12 +138,13 @@ impl Held {
         reset(&self.ram, &mut self.port, self.tries)
     }
 
-    /// Drops what is loaded.
+    /// Drops what is loaded, and takes no more part in a frame that is under way.
     pub(crate) fn unload(&mut self)
         ensures port { port_of self.new ≡ port_of self.old }
         ensures drops { DropsLoaded self.old self.new }
     {
         self.bus.unload();
+        self.station.unload();
     }
 
     /// The controller, by one look.
@@ -156,9 +167,10 @@ impl Held {
     /// The error counters of a node, node 0 being the controller.
     pub(crate) fn count(&mut self, node: u8) -> Counters
         requires { node ≤ self.old.nodes }
-        ensures { BusSteps (λ terms past seen added after.
+        ensures steps { BusSteps (λ terms past seen added after.
             Counts0 terms node past seen added after done (c_counters result.levels))
             self.old self.new }
+        ensures station { station_of self.new ≡ station_of self.old }
     {
         if node == 0 {
             self.controller().counters

@@ -59,6 +59,17 @@ pub const NO_CHIP: u32 = 24;
 /// The note tells nothing.
 pub const UNTOLD: u32 = 25;
 
+/// There are too many members of a bus.
+pub const MEMBERS_RANGE: u32 = 26;
+/// A member's role, fault or frame is out of its range.
+pub const MEMBER_RANGE: u32 = 27;
+/// What is on the bus is out of its range: its kind, or its frame.
+pub const WIRE_RANGE: u32 = 28;
+/// No bus has such a place.
+pub const PLACE_RANGE: u32 = 29;
+/// There is no such event of a controller.
+pub const EVENT_RANGE: u32 = 30;
+
 /// Busy or spent where a step of the memory was, else done.
 pub(crate) fn code_of(answer: &LineAnswer) -> u32
     ensures { result ≡ code_of answer.now }

@@ -8,6 +8,7 @@ use ccan_endless::EndlessRam;
 use ccan_map::Map;
 use ccan_ram::Tries;
 use ccan_registers::{InterfaceSet, PortHolder};
+use ccan_station::Station;
 use std::alloc::Global;
 use std::sync::Arc;
 
@@ -26,8 +27,11 @@ pub struct Held {
     /// How many other nodes the bus has.
     pub nodes: u8,
     pub bus: ChipBus,
+    /// What the bus's handle keeps of a frame on a bus of several.
+    pub station: Station,
     ghost belongs: { (port_at port).pass.memory ≡ (arc_value ram).words },
     ghost few: { nodes ≤ most_nodes },
     ghost known: { bus.bus.others ≡ nodes },
     ghost same_profile: { bus.bus.profile ≡ (port_at port).pass.memory.profile },
+    ghost same_station: { station.profile ≡ (port_at port).pass.memory.profile },
 }

@@ -1,5 +1,5 @@
 //! Laws of the library. The functions do nothing: their contracts are the laws.
-ghost use Rattle.ccan_c.specs.BusCall.{CallsKeepTheChoice};
+ghost use Rattle.ccan_c.specs.FrameCall.{CallsKeepTheChoice};
 ghost use Rattle.ccan_c.specs.OneThread.{TurnsRunInOrder};
 ghost use Rattle.ccan_c.specs.Threads.{CallsFitOneHistory};
 

@@ -22,7 +22,10 @@ mod bus_handle;
 mod bus_lines;
 mod chip;
 pub mod code;
+mod deciding;
 mod ending;
+mod frame;
+mod frame_lines;
 mod handle;
 mod held;
 mod host;
@@ -42,11 +45,15 @@ mod seal;
 mod settings;
 mod shown_counters;
 mod shown_final;
+mod shown_finished;
 mod shown_frame;
 mod shown_load;
+mod shown_member;
 mod shown_outcome;
 mod shown_record;
+mod shown_wire;
 mod telling;
+mod timing;
 mod version;
 
 pub use bus::{
@@ -56,7 +63,9 @@ pub use bus::{
 };
 pub use bus_handle::BusHandle;
 pub use chip::Chip;
+pub use deciding::{ccan_decide, ccan_decide_again};
 pub use ending::ccan_end;
+pub use frame::{ccan_begin, ccan_finish, ccan_retry_event, ccan_stay};
 pub use handle::{Handle, handles_may_cross};
 pub use host::{
     ccan_flags, ccan_get, ccan_interrupt, ccan_line, ccan_peek, ccan_read16, ccan_read32,
@@ -74,9 +83,13 @@ pub use saving::{ccan_restore, ccan_save};
 pub use settings::map_numbered;
 pub use shown_counters::{ShownCounters, state_number};
 pub use shown_final::ShownFinal;
+pub use shown_finished::ShownFinished;
 pub use shown_frame::ShownFrame;
 pub use shown_load::ShownLoad;
+pub use shown_member::ShownMember;
 pub use shown_outcome::{NO_NODE, NOT_NOTED, ShownOutcome, step_number};
 pub use shown_record::ShownRecord;
+pub use shown_wire::ShownWire;
 pub use telling::{ccan_bus_heed, ccan_bus_tell, ccan_forget, ccan_heed, ccan_tell};
+pub use timing::{ccan_bit_time, ccan_frame_bits};
 pub use version::ccan_version;

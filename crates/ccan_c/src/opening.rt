@@ -19,6 +19,7 @@ use ccan_endless::{EndlessRam, MOST, Port};
 use ccan_map::Map;
 use ccan_ram::SharedRam;
 use ccan_registers::{InterfaceSet, PortHolder};
+use ccan_station::Station;
 use std::alloc::Global;
 use std::sync::Arc;
 
@@ -40,6 +41,7 @@ fn hold(alloc: Global, ram: &Arc<EndlessRam, Global>, port: Port, begin: &Begin)
         own: begin.own,
         nodes: begin.settings.nodes,
         bus: ChipBus::new(begin.settings.profile, begin.settings.nodes),
+        station: Station::new(begin.settings.profile),
     };
     match Box::new(alloc, held) {
         Ok(held) => Some(Handle::open(held)),

@@ -1,6 +1,7 @@
-ghost use Rattle.std.specs.Prelude.{◌≡◌};
+ghost use Rattle.std.specs.Prelude.{◌≡◌, MatchOption, false, true};
 ghost use Rattle.ccan_c.specs.Load.{loaded_frame};
 ghost use Rattle.ccan_c.specs.Outcome.{c_frame, frame_shown, no_frame};
+ghost use Rattle.ccan_c.specs.Wire.{c_frame_or_none, frame_in, is_shown_frame};
 
 use ccan_accept::{Frame, frame_of};
 use ccan_object::{ObjectNo, Record};
@@ -45,6 +46,27 @@ impl ShownFrame {
             rtr: u8::from(frame.rtr()),
             dlc: frame.dlc().get(),
             bytes: frame.bytes(),
+        }
+    }
+
+    /// A frame as C sees it, zero where there is none.
+    pub(crate) fn of_option(frame: &Option<Frame>) -> ShownFrame
+        ensures { result ≡ c_frame_or_none frame.now }
+    {
+        match frame {
+            Some(frame) => ShownFrame::of_frame(frame),
+            None => ShownFrame::none(),
+        }
+    }
+
+    /// The frame. None where its identifier or its length is out of its range.
+    pub(crate) fn read(&self) -> Option<Frame>
+        ensures { MatchOption result (is_shown_frame self.now ≡ false)
+            (λ frame. (is_shown_frame self.now ≡ true) × (frame ≡ frame_in self.now)) }
+    {
+        match Frame::new(self.id, self.xtd != 0, self.rtr != 0, self.dlc, self.bytes) {
+            Ok(frame) => Some(frame),
+            Err(_) => None,
         }
     }
 

@@ -63,7 +63,7 @@ fn kind_of(reply: &RoundAnswer) -> u32
 }
 
 /// The object that was sent, or at which a step was given up.
-fn object_of(reply: &RoundAnswer) -> u32
+pub(crate) fn object_of(reply: &RoundAnswer) -> u32
     ensures { result ≡ object_of reply.now }
 {
     match reply {
@@ -76,7 +76,7 @@ fn object_of(reply: &RoundAnswer) -> u32
 }
 
 /// Its record after the finish.
-fn finished_of(reply: &RoundAnswer) -> Record
+pub(crate) fn finished_of(reply: &RoundAnswer) -> Record
     ensures { result ≡ finished_of reply.now }
 {
     match reply {
@@ -87,7 +87,7 @@ fn finished_of(reply: &RoundAnswer) -> Record
 }
 
 /// The object that stored the frame, with its record.
-fn stored_of(reply: &RoundAnswer) -> Option<(ObjectNo, Record)>
+pub(crate) fn stored_of(reply: &RoundAnswer) -> Option<(ObjectNo, Record)>
     ensures { result ≡ stored_of reply.now }
 {
     match reply {
@@ -98,7 +98,7 @@ fn stored_of(reply: &RoundAnswer) -> Option<(ObjectNo, Record)>
 }
 
 /// The object that stored a frame, 0 where there is none.
-fn stored_object(stored: &Option<(ObjectNo, Record)>) -> u32
+pub(crate) fn stored_object(stored: &Option<(ObjectNo, Record)>) -> u32
     ensures { result ≡ stored_object stored.now }
 {
     match stored {
@@ -108,7 +108,7 @@ fn stored_object(stored: &Option<(ObjectNo, Record)>) -> u32
 }
 
 /// Its record.
-fn stored_record(stored: &Option<(ObjectNo, Record)>) -> Record
+pub(crate) fn stored_record(stored: &Option<(ObjectNo, Record)>) -> Record
     ensures { result ≡ stored_record stored.now }
 {
     match stored {
@@ -160,7 +160,7 @@ fn node_shown(winner: &Option<(u8, Frame)>) -> u32
 }
 
 /// Whether the round's event was to be made at the controller, and each try was lost.
-fn is_lost(noted: &Option<Result<ControllerChanged, ControllerBusy>>) -> bool
+pub(crate) fn is_lost(noted: &Option<Result<ControllerChanged, ControllerBusy>>) -> bool
     ensures { result ≡ is_lost noted.now }
 {
     match noted {

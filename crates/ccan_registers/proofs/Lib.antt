@@ -2,6 +2,7 @@ pub mod Histories
 pub mod Going
 pub mod Lines
 pub mod Rounding
+pub mod Framing
 pub mod Resets
 pub mod Accesses
 pub mod Halves

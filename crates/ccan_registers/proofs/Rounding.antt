@@ -70,7 +70,7 @@ changes_made old new change tries (Err busy) (none, changes, all, found, quiet) 
     lost old new tries busy none quiet (all, changes) found
 
 -- a look at the controller
-looks_at : (old new : ChipPass) (found : Controller) → LooksAt old new found
+pub looks_at : (old new : ChipPass) (found : Controller) → LooksAt old new found
     → ChipGoes old new (λ terms seen added. AtController terms.port Look found seen added)
 looks_at old new found h = at_controller old new Look found h.adds h.quiet
 
@@ -92,7 +92,7 @@ arrives_by old before new first found false h looks =
     weaker old new _ _ (looks_at old new found (subst (λ (p : ChipPass). LooksAt p new found) h.0 looks))
     (λ seen added at. (at, h.1))
 
-arrives_on_chip : (old new : ChipPass) (first found : Controller) → Arrives old new first found
+pub arrives_on_chip : (old new : ChipPass) (first found : Controller) → Arrives old new first found
     → ChipGoes old new (λ terms seen added. ArrivesOnChip terms.port first found seen added)
 arrives_on_chip old new first found came =
     arrives_by old came.before new first found (comes_back first) came.ready came.looks
@@ -106,7 +106,7 @@ notes_event old new tries (Some own) None h = absurd h
 notes_event old new tries (Some own) (Some outcome) h = changes_made old new (Frame own.0 own.1) tries outcome h
 
 -- what the bus's port works under, by the name of the port
-by_name : (port : ChipPass) → port.pass.port ≡ Bus → terms_of same_object port.pass.memory Bus ≡ terms_at port
+pub by_name : (port : ChipPass) → port.pass.port ≡ Bus → terms_of same_object port.pass.memory Bus ≡ terms_at port
 by_name port is = ap (λ (p : PortName). terms_of same_object port.pass.memory p) (sym is)
 
 pub loads_on_chip : (old new : ChipPass) (tries : ℕ) (past after : BusPast) (found : Controller) (loading : LoadAnswer)

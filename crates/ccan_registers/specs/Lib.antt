@@ -4,5 +4,6 @@ pub mod Objects
 pub mod InterfaceSet
 pub mod Register
 pub mod Rounds
+pub mod Frames
 pub mod Resetting
 pub mod Notes

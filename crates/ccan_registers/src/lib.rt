@@ -18,6 +18,9 @@
 //!         \----------\--- EndlessRam ----------/------/
 //! ```
 //!
+//! Whoever drives a bus of several chips has for each chip the start and the end of a frame, and a look between (`begin`, `stay`,
+//! `end`): as a round, cut at the points where other chips and time come in.
+//!
 //! A port tells another what it has seen by a note (`tell`, `heed`).
 //!
 //! A word of 32 bits (`read_word`, `write_word`) is two registers, one after the other.
@@ -25,6 +28,7 @@
 
 mod access_error;
 mod controller;
+mod frames;
 mod interface_set;
 mod notes;
 mod objects;
@@ -36,6 +40,7 @@ mod words;
 
 pub use access_error::AccessError;
 pub use controller::{change, look};
+pub use frames::{begin, end, stay};
 pub use interface_set::InterfaceSet;
 pub use notes::{heed, tell};
 pub use objects::{flags, interrupt, peek, transfer, wait};

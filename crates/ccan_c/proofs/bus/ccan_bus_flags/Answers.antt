@@ -8,10 +8,10 @@ pub returns-in_default-clause-call : goal.returns-in_default-clause-call
 returns-in_default-clause-call c =
     bus_refused (bus_call.flags c.args.flag 12 c.args.out.now) (held_on c.args.bus.now)
     (sym c.is_open.ensures ∙ c.if-not-is_open.false)
-    (λ held past led. on_unknown _ _ _ c.in_default.ensures (record { code_is = refl; quiet = refl; leaves = refl }))
+    (λ old. refl) (λ held past led. on_unknown _ _ _ c.in_default.ensures (record { code_is = refl; quiet = refl; leaves = refl }))
 
 pub returns-clause-call : goal.returns-clause-call
 returns-clause-call c =
     on_open _ _ _ _ _ c.as_mut.ensures.value
     (bus_looked (bus_call.flags c.args.flag 0 c.flags.result) c.as_mut.result.now c.flags.new.self _ c.flags.ensures
-    (λ past seen added led h. on_known _ _ _ _ c.in-Some.ensures (refl, h, refl)))
+    refl (λ past seen added led h. on_known _ _ _ _ c.in-Some.ensures (refl, h, refl)))

@@ -8,4 +8,4 @@ returns-clause-call c =
     let run = c.interrupt_value-value in
     on_open _ _ _ _ _ c.as_mut.ensures.value
     (bus_looked (bus_call.interrupt 0 run.result.1) c.as_mut.result.now run.new.self _ run.ensures
-    (λ past seen added led h. (refl, (run.result.0, h), refl)))
+    refl (λ past seen added led h. (refl, (run.result.0, h), refl)))

@@ -7,4 +7,4 @@ pub returns-clause-call : goal.returns-clause-call
 returns-clause-call c =
     on_open _ _ _ _ _ c.as_mut.ensures.value
     (bus_looked (bus_call.line 0 c.number_of.result) c.as_mut.result.now c.line.new.self _ c.line.ensures
-    (λ past seen added led h. (refl, (c.line.result, c.number_of.ensures, h), refl)))
+    refl (λ past seen added led h. (refl, (c.line.result, c.number_of.ensures, h), refl)))

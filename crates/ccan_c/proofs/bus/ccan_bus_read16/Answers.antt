@@ -9,4 +9,4 @@ returns-clause-call c =
     let held = c.as_mut.result.now in
     on_open _ _ _ _ _ c.as_mut.ensures.value
     (bus_looked (bus_call.read16 c.args.offset c.read_out.result c.read_out.new.out) held run.new.self _ run.ensures
-    (λ past seen added led h. (held.own, (run.result, h, c.read_out.ensures.code, c.read_out.ensures.read), refl)))
+    refl (λ past seen added led h. (held.own, (run.result, h, c.read_out.ensures.code, c.read_out.ensures.read), refl)))

@@ -10,4 +10,4 @@ returns c =
     on_open _ _ _ _ _ c.as_mut.ensures.value
     (bus_wrote (bus_call.write16 c.args.offset c.args.value c.code_of_access.result) held run.new.self _ run.ensures.steps
     (run.ensures.bus (c.args.bus.now.named held c.as_mut.ensures.value))
-    (λ past seen added h. (held.own, (run.result, h, c.code_of_access.ensures), refl)))
+    refl (λ past seen added h. (held.own, (run.result, h, c.code_of_access.ensures), refl)))

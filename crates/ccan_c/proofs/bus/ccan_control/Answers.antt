@@ -14,4 +14,4 @@ returns c =
     run.new.self) c.enabling.ensures run.ensures in
     on_open _ _ _ _ _ c.as_mut.ensures.value
     (bus_looked (bus_call.control c.args.sie c.args.eie c.code_of_access.result) held run.new.self _ made
-    (λ past seen added led h. ((run.result, h, c.code_of_access.ensures), refl)))
+    refl (λ past seen added led h. ((run.result, h, c.code_of_access.ensures), refl)))

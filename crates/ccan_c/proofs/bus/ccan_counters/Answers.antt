@@ -20,15 +20,15 @@ returns-then-node-from-clause-call c =
     let held = c.as_mut-held.result.now in
     on_open _ _ _ _ _ c.as_mut-held.ensures.value
     (bus_rests (bus_call.counters c.args.node 14 c.args.out.now) held
-    (λ past led. on_false _ _ _ (too_many c.args.node c.from.result held.nodes c.if-node-from.true c.from.ensures)
+    refl (λ past led. on_false _ _ _ (too_many c.args.node c.from.result held.nodes c.if-node-from.true c.from.ensures)
     (record { code_is = refl; quiet = refl; leaves = refl })))
 
 pub returns-clause-call : goal.returns-clause-call
 returns-clause-call c =
     let held = c.as_mut-held.result.now in
     on_open _ _ _ _ _ c.as_mut-held.ensures.value
-    (bus_did (bus_call.counters c.args.node 0 c.of.result) held c.count.new.self _ c.count.ensures
-    (λ past after seen added h. on_true _ _ _
+    (bus_did (bus_call.counters c.args.node 0 c.of.result) held c.count.new.self _ c.count.ensures.steps
+    c.count.ensures.station (λ past after seen added h. on_true _ _ _
     (one_of c.args.node c.from.result held.nodes c.if-node-from.false c.from.ensures)
     (subst (λ (out : ShownCounters). Counts0 (terms_at (port_of held)) c.args.node past seen added after done out)
     (sym c.of.ensures) h)))

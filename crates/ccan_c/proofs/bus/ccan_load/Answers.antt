@@ -11,7 +11,7 @@ invariant_of-bus c = (
   (c.args.bus.now.handle.tells ∙ ap is_some c.as_mut.ensures.value, tt),
   (
     still_named (held_on c.args.bus.now) c.as_mut.result.now c.load-loading.new.self c.args.bus.now.named c.as_mut.ensures.value
-        c.load-loading.ensures.same.port,
+        c.load-loading.ensures.steps.same.port,
     tt,
   ),
 )
@@ -20,6 +20,6 @@ pub returns-clause-call : goal.returns-clause-call
 returns-clause-call c =
     let run = c.load-loading in
     on_open _ _ _ _ _ c.as_mut.ensures.value
-    (bus_did (bus_call.load c.code_of.result c.of.result) c.as_mut.result.now run.new.self _ run.ensures
-    (λ past after seen added h.
+    (bus_did (bus_call.load c.code_of.result c.of.result) c.as_mut.result.now run.new.self _ run.ensures.steps
+    run.ensures.rests (λ past after seen added h.
     (run.result.0, run.result.1, h.0, c.code_of.ensures, c.of.ensures ∙ ap (c_load run.result.1) h.1)))

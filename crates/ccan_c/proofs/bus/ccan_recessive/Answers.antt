@@ -20,7 +20,7 @@ pub returns-then-groups-eq0-clause-call : goal.returns-then-groups-eq0-clause-ca
 returns-then-groups-eq0-clause-call c =
     bus_refused (bus_call.recessive c.args.groups 15 c.args.out.now) (held_on c.args.bus.now)
     (sym c.is_open.ensures ∙ c.if-not-is_open.false)
-    (λ held past led. on_false _ _ _ (other_groups c.args.groups c.then-groups-eq0.either)
+    (λ old. refl) (λ held past led. on_false _ _ _ (other_groups c.args.groups c.then-groups-eq0.either)
     (record { code_is = refl; quiet = refl; leaves = refl }))
 
 pub invariant_of-bus : goal.invariant_of-bus
@@ -28,7 +28,7 @@ invariant_of-bus c = (
   (c.args.bus.now.handle.tells ∙ ap is_some c.as_mut.ensures.value, tt),
   (
     still_named (held_on c.args.bus.now) c.as_mut.result.now c.recessive.new.self c.args.bus.now.named c.as_mut.ensures.value
-        c.recessive.ensures.same.port,
+        c.recessive.ensures.steps.same.port,
     tt,
   ),
 )
@@ -37,13 +37,13 @@ pub returns-in-Ok-clause-call : goal.returns-in-Ok-clause-call
 returns-in-Ok-clause-call c =
     let out = c.state_number.result in
     on_open _ _ _ _ _ c.as_mut.ensures.value
-    (bus_did (bus_call.recessive c.args.groups 0 out) c.as_mut.result.now c.recessive.new.self _ c.in-Ok.ensures
-    (λ past after seen added h. on_true _ _ _ (few_groups c.args.groups c.if-groups-eq0.false c.if-groups-gt10000.false)
+    (bus_did (bus_call.recessive c.args.groups 0 out) c.as_mut.result.now c.recessive.new.self _ c.in-Ok.ensures.steps
+    c.recessive.ensures.station (λ past after seen added h. on_true _ _ _ (few_groups c.args.groups c.if-groups-eq0.false c.if-groups-gt10000.false)
     (Ok c.in-Ok.made, h, (refl, c.state_number.ensures ∙ ap state_number c.state.ensures.value))))
 
 pub returns-in-Err-clause-call : goal.returns-in-Err-clause-call
 returns-in-Err-clause-call c =
     on_open _ _ _ _ _ c.as_mut.ensures.value
-    (bus_did (bus_call.recessive c.args.groups 2 c.args.out.now) c.as_mut.result.now c.recessive.new.self _ c.in-Err.ensures
-    (λ past after seen added h. on_true _ _ _ (few_groups c.args.groups c.if-groups-eq0.false c.if-groups-gt10000.false)
+    (bus_did (bus_call.recessive c.args.groups 2 c.args.out.now) c.as_mut.result.now c.recessive.new.self _ c.in-Err.ensures.steps
+    c.recessive.ensures.station (λ past after seen added h. on_true _ _ _ (few_groups c.args.groups c.if-groups-eq0.false c.if-groups-gt10000.false)
     (Err c.in-Err.field-0, h, refl)))

@@ -4,7 +4,7 @@ use Rattle.ccan_bus.specs.Past.{opened_at_once}
 use Rattle.ccan_endless.specs.ChipPort.{ChipPass}
 use Rattle.ccan_registers.specs.ChipSteps.{SeesChip}
 use Rattle.ccan_c.specs.declared.held.Held.{Held}
-use Rattle.ccan_c.specs.Held.{port_of}
+use Rattle.ccan_c.specs.Held.{port_of, station_of}
 use Rattle.ccan_c.proofs.opening.hold.Goals as goal
 
 pub returns-in-Ok-new : goal.returns-in-Ok-new
@@ -24,5 +24,8 @@ returns-in-Ok-new c =
         own_is = ap (λ (h : Held). h.own) same;
         bus_is = subst (λ (h : Held). LedTo (opened_at_once c.args.begin.now.settings.nodes) h.bus.bus) (sym same)
             c.new-2.ensures.opened;
+        station_is =
+            ap (λ (h : Held). station_of h) same
+            ∙ (λ i. record { loaded = c.new-3.ensures.empty i; under_way = c.new-3.ensures.rests i });
       },
     )

@@ -11,7 +11,7 @@ pub returns-then-not-is_told-clause-call : goal.returns-then-not-is_told-clause-
 returns-then-not-is_told-clause-call c =
     bus_refused (bus_call.heed (told_by c.args.note.now) 25) (held_on c.args.bus.now)
     (sym c.is_open.ensures ∙ c.if-not-is_open.false)
-    (λ held past led. on_unknown _ _ _ (none_there (told_by c.args.note.now) (sym c.is_told.ensures ∙ c.if-not-is_told.true))
+    (λ old. refl) (λ held past led. on_unknown _ _ _ (none_there (told_by c.args.note.now) (sym c.is_told.ensures ∙ c.if-not-is_told.true))
     (record { code_is = refl; quiet = refl; leaves = refl }))
 
 pub returns-clause-call : goal.returns-clause-call
@@ -20,4 +20,4 @@ returns-clause-call c =
     ∙ ap (λ (t : Told). Some t) (sym c.into_inner.ensures) in
     on_open _ _ _ _ _ c.as_mut.ensures.value
     (bus_looked (bus_call.heed (told_by c.args.note.now) 0) c.as_mut.result.now c.heed.new.self _ c.heed.ensures
-    (λ past seen added led h. on_known _ _ _ _ (sym told) (refl, h, refl)))
+    refl (λ past seen added led h. on_known _ _ _ _ (sym told) (refl, h, refl)))

@@ -2,13 +2,13 @@ use Rattle.ccan_registers.proofs.Going.{weaker}
 use Rattle.ccan_c.specs.Held.{port_of}
 use Rattle.ccan_c.proofs.held.Held.load.Goals as goal
 
-pub returns : goal.returns
-returns c =
-    let run = c.load_next-found.ensures in
+pub returns-clause-steps : goal.returns-clause-steps
+returns-clause-steps c =
+    let run = c.load_next-found.ensures.steps in
     let new = c.load_next-found.new.self in
     record {
       same = run.same;
-      works = run.works;
+      works = record { tries = run.works.tries; nodes = run.works.nodes; map = run.works.map };
       own = run.own;
       goes = λ past led.
           let there = run.goes past led in (

@@ -3,6 +3,6 @@ use Rattle.ccan_c.proofs.held.Held.read.Goals as goal
 
 pub returns : goal.returns
 returns c = record {
-  kept = record { works = record { tries = refl; nodes = refl; map = refl }; own = refl; bus = refl };
+  kept = record { works = record { tries = refl; nodes = refl; map = refl }; own = refl; bus = refl; station = refl };
   goes = c.read_at.ensures;
 }

@@ -6,5 +6,6 @@ returns c =
     record {
       works = record { tries = refl; nodes = refl; map = refl };
       bus = refl;
+      station = refl;
       goes = c.request.ensures;
     }

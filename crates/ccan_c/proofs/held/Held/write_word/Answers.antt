@@ -6,5 +6,6 @@ returns-clause-steps c =
     record {
       works = record { tries = refl; nodes = refl; map = refl };
       bus = refl;
+      station = refl;
       goes = c.write_word.ensures.goes;
     }

@@ -1,0 +1,23 @@
+use Rattle.std.proofs.Common.{refl, ap, ◌∙◌}
+use Rattle.std.specs.Prelude.{is_some}
+use Rattle.ccan_c.specs.Bus.{held_on}
+use Rattle.ccan_c.specs.FrameCall as frame_call
+use Rattle.ccan_c.proofs.Calls.{frame_did, on_open, still_named}
+use Rattle.ccan_c.proofs.frame.ccan_stay.Goals as goal
+
+pub invariant_of-bus : goal.invariant_of-bus
+invariant_of-bus c = (
+  (c.args.bus.now.handle.tells ∙ ap is_some c.as_mut.ensures.value, tt),
+  (
+    still_named (held_on c.args.bus.now) c.as_mut.result.now c.stay-stayed.new.self c.args.bus.now.named c.as_mut.ensures.value
+        c.stay-stayed.ensures.port,
+    tt,
+  ),
+)
+
+pub returns-clause-call : goal.returns-clause-call
+returns-clause-call c =
+    let run = c.stay-stayed in
+    on_open _ _ _ _ _ c.as_mut.ensures.value
+    (frame_did (frame_call.stay 0 c.of.result) c.as_mut.result.now run.new.self _ run.ensures.steps
+    run.ensures.bus (λ past seen added h. (run.result, h, refl, c.of.ensures, refl)))
