@@ -169,7 +169,13 @@ enum ccan_code {
     CCAN_LAYOUT_RANGE = 22,  /* no layout has this number */
     CCAN_NO_SAVED_CHIP = 23, /* the bytes are no saved chip, or one of a version that this library doesn't know */
     CCAN_NO_CHIP = 24,       /* no chip can be as the bytes say */
-    CCAN_UNTOLD = 25         /* the note is empty */
+    CCAN_UNTOLD = 25,        /* the note is empty */
+    CCAN_MEMBERS_RANGE = 26, /* there are more than 32 members */
+    CCAN_MEMBER_RANGE = 27,  /* a member's role, fault or frame is out of its range */
+    CCAN_WIRE_RANGE = 28,    /* what is on the bus has no such kind, or its frame is out of its range */
+    CCAN_PLACE_RANGE = 29,   /* the place isn't 0 to 31 */
+    CCAN_EVENT_RANGE = 30,   /* no event of a controller has these numbers */
+    CCAN_COUNTERS_RANGE = 31 /* a node can't have such error counters */
 };
 
 /* The text of a code, without an end of line; for another number "no code". This function is not proved. */
@@ -184,7 +190,9 @@ static inline const char *ccan_text(uint32_t code)
         "too many frames", "an identifier or a length is out of range", "no such fault",
         "a sender is none of the other nodes, or sends twice", "no register begins at this offset",
         "the register is of another port's interface", "no such layout", "these bytes are no saved chip",
-        "no chip can be as these bytes say", "the note is empty" };
+        "no chip can be as these bytes say", "the note is empty", "the number of members is out of range",
+        "a member is out of range", "what is on the bus is out of range", "no such place", "no such event",
+        "error counters are out of range" };
     return code < sizeof texts / sizeof texts[0] ? texts[code] : "no code";
 }
 
@@ -585,6 +593,164 @@ CCAN_CODE ccan_bus_interrupt(ccan_bus *bus, uint16_t *out);
 
 /* As ccan_flags, in one moment. CCAN_FLAG_RANGE. */
 CCAN_CODE ccan_bus_flags(ccan_bus *bus, uint32_t flag, uint64_t *out);
+
+/* ---- several chips on one bus, with time
+ *
+ * ccan_round plays whole frames between one chip and nodes that only it knows. For a bus of several chips each frame is cut at the
+ * points where the others and time come in:
+ *
+ *   its start   ccan_begin of each chip and ccan_node_begin of each other node say what each is to the bus, its member; ccan_decide
+ *               says of all members who sends what. Its length is known from here (ccan_frame_bits).
+ *   until then  time passes, and hosts do what they like. A request that is made now is in no frame before the next start.
+ *   its end     ccan_stay of each chip says who has left the bus meanwhile; the caller sets the faults of those who find one;
+ *               ccan_decide_again says how the frame ends; and ccan_finish and ccan_node_finish give each its event.
+ *
+ * A chip has one place on the bus, 0 to 31, from a start to its end: the index of its member. Which order the calls of several chips
+ * have is the caller's; if those who listen come first, a frame is stored at them before its sender's TxOk. ccan_network.h has a
+ * bus of several chips ready-made, over these calls.
+ *
+ * What is decided follows CAN Specification 2.0 (arbitration, acknowledgement, error signalling and fault confinement); the table
+ * with each case stands in docs/EMBEDDING.md. The events of a chip stand in that chip's history, as those of a round do. Of several
+ * chips no common history is promised: what joins them is that each one's events are its part of the same wires. */
+
+/* What a member does on the bus (User's Manual, "CAN Control Register", "Test Mode"). */
+enum ccan_role {
+    CCAN_ROLE_ABSENT,  /* nothing: Init is 1, it is bus off, or it has left since the start */
+    CCAN_ROLE_SILENT,  /* it listens, and sends recessive bits alone: no frame, no acknowledgement, no error flag */
+    CCAN_ROLE_ALONE,   /* loop back mode: it hears itself and nobody else, and nobody sees its bits */
+    CCAN_ROLE_PASSIVE, /* it takes part and is error passive: its error flags are of recessive bits */
+    CCAN_ROLE_ACTIVE   /* it takes part and is error active: its error flags are of dominant bits */
+};
+
+/* A member of a bus while one frame is sent. */
+typedef struct {
+    uint32_t role;    /* an enum ccan_role */
+    uint32_t fault;   /* an enum ccan_fault: the error that this member finds by itself, CCAN_QUIET for none. An error that it
+                         sees because another member sends an error flag is not said here, nor is a missing acknowledgement. Where
+                         an earlier error ends the frame for all, a later one has no effect on the bus. */
+    uint32_t sends;   /* switch: it starts to send `frame` */
+    ccan_frame frame; /* does not count if `sends` is 0 */
+} ccan_member;
+CCAN_HOLDS(sizeof(ccan_member) == 28 && offsetof(ccan_member, fault) == 4 && offsetof(ccan_member, sends) == 8);
+CCAN_HOLDS(offsetof(ccan_member, frame) == 12);
+
+enum ccan_wire_kind {
+    CCAN_WIRE_IDLE,     /* nobody sends */
+    CCAN_WIRE_COLLIDED, /* frames with the same bits of arbitration, and an error flag ends them all */
+    CCAN_WIRE_BROKEN,   /* the frame ends before the end of its CRC sequence: by an error flag, or as its senders have left */
+    CCAN_WIRE_FLAGGED,  /* it is acknowledged or flagged in the ACK slot, and an error flag of dominant bits ends it */
+    CCAN_WIRE_UNHEARD,  /* nobody acknowledges it; `flagged` says whether an error flag of dominant bits follows */
+    CCAN_WIRE_CARRIED   /* it is acknowledged, and no error flag of dominant bits ends it */
+};
+
+/* What a member is to the frame on the bus. Of frames that collide, each one's sender is a sender. */
+enum ccan_part { CCAN_PART_LISTENER, CCAN_PART_SENDER, CCAN_PART_DROPPED };
+
+/* What is on the bus while one frame is sent. */
+typedef struct {
+    uint32_t kind;    /* an enum ccan_wire_kind */
+    uint32_t flagged; /* 1 or 0, see CCAN_WIRE_UNHEARD; 0 with each other kind */
+    ccan_frame frame; /* the frame that won the arbitration; zero with CCAN_WIRE_IDLE and CCAN_WIRE_COLLIDED */
+    uint8_t part[32]; /* at the index of each place an enum ccan_part. Several are senders if their frames are equal to the last bit;
+                         one has dropped out if it sends another frame with the same bits of arbitration and is error passive */
+} ccan_wire;
+CCAN_HOLDS(sizeof(ccan_wire) == 56 && offsetof(ccan_wire, flagged) == 4 && offsetof(ccan_wire, frame) == 8);
+CCAN_HOLDS(offsetof(ccan_wire, part) == 24);
+
+/* The start of a frame, at a chip. Looks at the controller, and joins the bus if the controller comes back, as ccan_load does. What
+ * an earlier ccan_begin has loaded is dropped if Init was 1 meanwhile, even only for a moment, or the chip was reset or went bus off.
+ * If nothing is loaded and the role may send (not CCAN_ROLE_ABSENT, not CCAN_ROLE_SILENT), an object is chosen and started as ccan_load does;
+ * else what is loaded stays. What ccan_load has loaded is dropped; ccan_load and ccan_round drop what ccan_begin has. `out` is what
+ * the chip is to the bus, without a fault. CCAN_BUSY, CCAN_SPENT: the start of an object was refused, and the member sends nothing. */
+CCAN_CODE ccan_begin(ccan_bus *bus, ccan_member *out);
+
+/* A look at the controller between the start and the end of a frame: what the chip is to the bus from there. If it has left the bus
+ * since the start, also if it is back, it is CCAN_ROLE_ABSENT, nothing is loaded, and its object stays requested. */
+CCAN_CODE ccan_stay(ccan_bus *bus, ccan_member *out);
+
+/* What a frame was to a chip. */
+enum ccan_event {
+    CCAN_EVENT_NONE,     /* nothing */
+    CCAN_EVENT_SENT,     /* its frame was sent */
+    CCAN_EVENT_RECEIVED, /* it received the frame; `stored` has it, or no object takes it */
+    CCAN_EVENT_LOOPED,   /* in loop back mode it sent to itself */
+    CCAN_EVENT_ERROR     /* an error; `code` is the last error code */
+};
+
+/* What an event is to the error counters (CAN Specification 2.0, "Fault Confinement"). */
+enum ccan_counting {
+    CCAN_COUNTS_NOTHING,
+    CCAN_COUNTS_SENT,          /* TEC one less */
+    CCAN_COUNTS_RECEIVED,      /* REC one less, or 119 from 128 on */
+    CCAN_COUNTS_SEND_ERROR,    /* TEC 8 more */
+    CCAN_COUNTS_NO_ACK,        /* TEC 8 more, and not if it is error passive */
+    CCAN_COUNTS_RECEIVE_ERROR  /* REC one more */
+};
+
+typedef struct {
+    uint32_t event;            /* an enum ccan_event */
+    uint32_t code;             /* with CCAN_EVENT_ERROR the last error code: stuff 1, form 2, acknowledge 3, bit 1 as 4, bit 0 as 5,
+                                  CRC 6; else 0 */
+    uint32_t counts;           /* an enum ccan_counting */
+    uint32_t object;           /* the object that was sent, or at which a step was given up; else 0 */
+    ccan_record finished;      /* its record after the finish, if it was finished; else zero */
+    uint32_t stored;           /* the object that stored the frame, 0 if none did */
+    ccan_record stored_record; /* its record after the store; else zero */
+    uint32_t refused;          /* an enum ccan_step: CCAN_STEP_NONE, CCAN_STEP_FINISH, CCAN_STEP_STORE or CCAN_STEP_EVENT */
+} ccan_finished;
+CCAN_HOLDS(sizeof(ccan_finished) == 64 && offsetof(ccan_finished, code) == 4 && offsetof(ccan_finished, counts) == 8);
+CCAN_HOLDS(offsetof(ccan_finished, object) == 12 && offsetof(ccan_finished, finished) == 16);
+CCAN_HOLDS(offsetof(ccan_finished, stored) == 36 && offsetof(ccan_finished, stored_record) == 40);
+CCAN_HOLDS(offsetof(ccan_finished, refused) == 60);
+
+/* The end of a frame, at the chip that has this place on the bus and finds this error by itself, an enum ccan_fault. What the chip
+ * is to the bus it knows from its own ccan_begin. Looks at the controller: one that has left since the start has no event. Else the
+ * object that was sent is finished, or the frame that was received is stored; and last the event is made at the controller, as with
+ * ccan_round. `wire` may be any: if nothing happens to the chip by it, `out` has CCAN_EVENT_NONE. Nothing is under way afterwards;
+ * after an event nothing is loaded. The first of CCAN_WIRE_RANGE, CCAN_PLACE_RANGE and CCAN_FAULT_RANGE that applies; else `out` is
+ * written. CCAN_BUSY if `refused` is CCAN_STEP_EVENT: each of 1000 tries was lost, and ccan_retry_event tries again. Else CCAN_BUSY
+ * and CCAN_SPENT: the step `refused` was given up at `object`, and is not made later; counters and Status have the frame. */
+CCAN_CODE ccan_finish(ccan_bus *bus, const ccan_wire *wire, uint32_t place, uint32_t fault, ccan_finished *out);
+
+/* Makes the event of `lost` at the controller, in up to 1000 tries: for a ccan_finish whose `refused` was CCAN_STEP_EVENT. It is made
+ * as it is given, each time that it is asked for. CCAN_EVENT_RANGE, also for CCAN_EVENT_NONE. CCAN_BUSY: each try was lost again. */
+CCAN_CODE ccan_retry_event(ccan_bus *bus, const ccan_finished *lost);
+
+/* What these members put on the bus, `count` of them, each at the place of its index; not null even for 0. A member's frame counts if
+ * its role lets it send. Pure: no chip has a part in it. The first of CCAN_MEMBERS_RANGE and CCAN_MEMBER_RANGE that applies. */
+CCAN_CODE ccan_decide(const ccan_member *members, size_t count, ccan_wire *out);
+
+/* How the frame ends that `start` was decided to be, as these members are until its end: who won has won, and a collision stays one.
+ * One that has left is CCAN_ROLE_ABSENT. The first of CCAN_WIRE_RANGE, CCAN_MEMBERS_RANGE and CCAN_MEMBER_RANGE that applies. */
+CCAN_CODE ccan_decide_again(const ccan_wire *start, const ccan_member *members, size_t count, ccan_wire *out);
+
+/* A node without a chip. All zero is a new one; C may read it, and copy it. */
+typedef struct {
+    uint32_t tec;    /* the transmit error counter, 0 to 263; from 256 on it is bus off */
+    uint32_t rec;    /* the receive error counter, 0 to 255 */
+    uint32_t groups; /* groups of recessive bits that count so far for one that is bus off, 0 to 127; else 0 */
+} ccan_node;
+CCAN_HOLDS(sizeof(ccan_node) == 12 && offsetof(ccan_node, rec) == 4 && offsetof(ccan_node, groups) == 8);
+
+/* The start of a frame, at a node, which offers `frame` if the switch `sends` is on: what it is to the bus. The first of
+ * CCAN_COUNTERS_RANGE and CCAN_FRAME_RANGE that applies; a frame that is not sent doesn't count. */
+CCAN_CODE ccan_node_begin(const ccan_node *node, uint32_t sends, const ccan_frame *frame, ccan_member *out);
+
+/* The end of a frame, at the node that is this member at this place; `event` is the enum ccan_event that it is to the node. The first
+ * of CCAN_COUNTERS_RANGE, CCAN_WIRE_RANGE, CCAN_PLACE_RANGE and CCAN_MEMBER_RANGE that applies. */
+CCAN_CODE ccan_node_finish(ccan_node *node, const ccan_wire *wire, uint32_t place, const ccan_member *member, uint32_t *event);
+
+/* Lets 1 to 10000 groups of eleven recessive bits pass. They count for a node that is bus off; the last of 128 brings it back. The
+ * first of CCAN_COUNTERS_RANGE and CCAN_GROUPS_RANGE that applies. */
+CCAN_CODE ccan_node_recessive(ccan_node *node, uint32_t groups);
+
+/* How many bits a frame has on the bus, from its start of frame to the end of its end of frame: with its CRC sequence and its stuff
+ * bits, and without the intermission of 3 bits (CAN Specification 2.0, "Frame Types", "Coding"). At most 157. CCAN_FRAME_RANGE. */
+CCAN_CODE ccan_frame_bits(const ccan_frame *frame, uint32_t *out);
+
+/* The nominal bit time of these words of Bit Timing and BRP Extension (User's Manual, sections of these names), in periods of CAN_CLK:
+ * 3 to 25600. Reserved bits don't count. */
+uint32_t ccan_bit_time(uint16_t bit_timing, uint16_t brp_extension);
 
 #ifdef __cplusplus
 }

@@ -91,3 +91,6 @@ place_range = 29
 
 abbrev pub event_range : ℕ
 event_range = 30
+
+abbrev pub counters_range : ℕ
+counters_range = 31

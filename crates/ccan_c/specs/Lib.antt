@@ -21,6 +21,7 @@ pub mod Wire
 pub mod Deciding
 pub mod Lengths
 pub mod Finished
+pub mod Node
 pub mod Steps
 pub mod Step
 pub mod Note

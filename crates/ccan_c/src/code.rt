@@ -69,6 +69,8 @@ pub const WIRE_RANGE: u32 = 28;
 pub const PLACE_RANGE: u32 = 29;
 /// There is no such event of a controller.
 pub const EVENT_RANGE: u32 = 30;
+/// A node's error counters are out of their range.
+pub const COUNTERS_RANGE: u32 = 31;
 
 /// Busy or spent where a step of the memory was, else done.
 pub(crate) fn code_of(answer: &LineAnswer) -> u32

@@ -37,7 +37,8 @@ pub struct ShownFinished {
     pub refused: u32,
 }
 
-fn event_number(own: &Option<OwnEvent>) -> u32
+/// What an event is to the Status register.
+pub(crate) fn event_number(own: &Option<OwnEvent>) -> u32
     ensures { result ≡ event_number own.now }
 {
     match own {

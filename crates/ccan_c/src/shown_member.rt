@@ -108,7 +108,7 @@ impl ShownMember {
     }
 
     /// What it starts to send. `Err` where that is no frame.
-    fn offered(&self) -> Result<Option<Frame>, ()>
+    pub(crate) fn offered(&self) -> Result<Option<Frame>, ()>
         ensures offers { IfOk result
             (λ frame. (is_offer self.now ≡ true) × (frame ≡ offered self.now)) }
         ensures none { IfErr result (λ why. is_offer self.now ≡ false) }
@@ -123,7 +123,7 @@ impl ShownMember {
     }
 
     /// The member. None where a number of it is out of its range.
-    fn read(&self) -> Option<Member>
+    pub(crate) fn read(&self) -> Option<Member>
         ensures { MatchOption result (is_member self.now ≡ false)
             (λ member. (is_member self.now ≡ true) × (member ≡ member_in self.now)) }
     {

@@ -1,7 +1,7 @@
 -- The error counters of a node over the whole list of what happened to it, and the states that they mean: CAN
 -- Specification 2.0, "Fault Confinement", and ISO 11898-1. That going off sets Init and the way back waits for its
 -- clearing: C_CAN User's Manual 1.2, "CAN Control Register". What is this project's own is marked (own).
-use Rattle.std.specs.Prelude.{ℕ, ◌≡◌, ◌+◌, ◌-◌, ◌/◌, Bool, true, false, ◌&&◌, ◌||◌, not, nat_le, min, List, [], ◌∷◌, replicate, sum_by}
+use Rattle.std.specs.Prelude.{ℕ, ◌≡◌, ◌==◌, ◌+◌, ◌-◌, ◌/◌, nat_lt, Option, Some, None, Bool, true, false, ◌&&◌, ◌||◌, not, nat_le, min, List, [], ◌∷◌, replicate, sum_by}
 use Rattle.std.specs.Prelude.{if◌then◌else◌}
 use Rattle.std.specs.List.{list_any}
 use Rattle.ccan_confine.specs.declared.bus_event.BusEvent.{BusEvent}
@@ -169,6 +169,20 @@ AddsEvent event old new =
 -- a node that was just opened or has just come back
 abbrev pub new_counts : Bool → Counts
 new_counts host = record { host = host; levels = no_errors; init_cleared = false; groups = 0 }
+
+-- the numbers are some that the counters of a node without a host can have: TEC is less than its greatest step beyond bus off, and
+-- groups of recessive bits count only while it is off
+abbrev pub are_node_counts : ℕ → ℕ → Bool
+are_node_counts tec groups =
+    nat_lt tec (off_limit + send_fault_step)
+    && (if nat_le off_limit tec then nat_lt groups groups_to_return else groups == 0)
+
+-- a node without a host whose counters stand so
+abbrev pub node_counts : ℕ → ℕ → ℕ → Option Counts
+node_counts tec rec groups =
+    if are_node_counts tec groups
+    then Some (record { host = false; levels = record { tec = tec; rec = rec }; init_cleared = false; groups = groups })
+    else None
 
 -- as many faults of own frames as lead a new node off
 abbrev pub faults_to_off : List NodeEvent

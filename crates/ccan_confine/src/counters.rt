@@ -2,6 +2,7 @@ ghost use Rattle.std.specs.Prelude.{◌≡◌, ℕ, ◌+◌, ◌-◌, ◌<◌, �
 ghost use Rattle.ccan_confine.specs.Counters.{NodeEvent, Bus, Groups, ClearInit, reaches, is_off, by_table, state_of};
 ghost use Rattle.ccan_confine.specs.Counters.{passive_limit, rec_after_passive, groups_to_return, levels_after_all};
 ghost use Rattle.ccan_confine.specs.Counters.{is_recovering_after, AreAfter, AddsEvent, new_counts, counts_after};
+ghost use Rattle.ccan_confine.specs.Counters.{node_counts};
 ghost use Rattle.ccan_confine.specs.Counters.{counts_cleared, faults_to_off, is_recovering, most_rec, off_limit, send_fault_step};
 
 use crate::bus_event::BusEvent;
@@ -86,6 +87,30 @@ impl Counters {
             init_cleared: false,
             groups: 0,
         }
+    }
+
+    /// A node without a host, where its counters stand so: TEC 0 to 263, REC 0 to 255, and the groups of recessive bits that count
+    /// for it, 0 to 127, which are 0 unless it is bus off. None where a number is out of its range.
+    pub fn of_node(tec: u16, rec: u8, groups: u8) -> Option<Counters>
+        ensures { result ≡ node_counts tec rec groups }
+    {
+        if tec >= OFF + SEND_FAULT_STEP || groups >= 128 || (tec < OFF && groups > 0) {
+            return None;
+        }
+        Some(Counters {
+            host: false,
+            tec,
+            rec,
+            init_cleared: false,
+            groups,
+        })
+    }
+
+    /// How many groups of recessive bits count so far, 0 to 127, on its way back from bus off.
+    pub fn groups(self) -> u8
+        ensures { result ≡ self.groups }
+    {
+        self.groups
     }
 
     /// The transmit error counter (TEC), 0 to 263; from 256 on the node is bus off.
