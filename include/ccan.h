@@ -750,7 +750,7 @@ CCAN_CODE ccan_frame_bits(const ccan_frame *frame, uint32_t *out);
 
 /* The nominal bit time of these words of Bit Timing and BRP Extension (User's Manual, sections of these names), in periods of CAN_CLK:
  * 3 to 25600. Reserved bits don't count. */
-uint32_t ccan_bit_time(uint16_t bit_timing, uint16_t brp_extension);
+uint32_t ccan_bit_time(uint16_t bit_timing, uint16_t extension);
 
 #ifdef __cplusplus
 }
