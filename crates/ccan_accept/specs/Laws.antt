@@ -14,7 +14,7 @@ use Rattle.ccan_accept.specs.declared.frame.Frame.{Frame}
 use Rattle.ccan_accept.specs.Frame.{IsFrame, identifier_of}
 use Rattle.ccan_accept.specs.Accept.{Accepts, accepts, is_locked}
 use Rattle.ccan_accept.specs.Store.{stored}
-use Rattle.ccan_accept.specs.Send.{number_of, frame_of}
+use Rattle.ccan_accept.specs.Send.{number_of, frame_of, is_ready, started_once, finished_once}
 
 -- the test of acceptance answers what acceptance says of each place
 abbrev pub AcceptedPlaceByPlace : Type 0
@@ -78,3 +78,21 @@ pub record SameSettings (before after : Record) : Type 0 where
 -- storing changes none of them
 abbrev pub StoringKeepsSettings : Type 0
 StoringKeepsSettings = (r : Record) (f : Frame) → SameSettings r (stored r f)
+
+-- ---- what is sent once
+
+-- what was started once is not ready again before a host asks
+abbrev pub StartedOnceIsNotReady : Type 0
+StartedOnceIsNotReady = (r : Record) → is_ready (started_once r) ≡ false
+
+-- its start leaves NewDat, so a transmission that fails, which is finished by nothing, leaves it
+abbrev pub FailuresLeaveNewDat : Type 0
+FailuresLeaveNewDat = (r : Record) → (started_once r).newdat ≡ r.newdat
+
+-- what is sent is the frame that the object had
+abbrev pub StartedOnceSendsItsFrame : Type 0
+StartedOnceSendsItsFrame = (r : Record) → frame_of (started_once r) ≡ frame_of r
+
+-- a request that a host makes while the frame is under way stands after its end
+abbrev pub RequestsMeanwhileStand : Type 0
+RequestsMeanwhileStand = (r : Record) → (finished_once (record (started_once r) { txrqst = true })).txrqst ≡ true

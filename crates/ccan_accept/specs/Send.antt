@@ -1,5 +1,7 @@
 -- What a message object sends, and what the start and the end of a transmission leave of it. Source: after the C_CAN User's
 -- Manual 1.2, sections 3.3.4 (MsgVal, TxRqst, NewDat, TxIE) and 4.2 (transmission of messages); this project's own as a whole.
+-- Sent once: "Disabled Automatic Retransmission" (TxRqst is reset when the transmission starts, while NewDat remains set; NewDat is
+-- reset when it was completed successfully, and remains set when it failed). (own): new data that come meanwhile count as sent.
 use Rattle.std.specs.Prelude.{ℕ, Bool, true, false, ◌&&◌, not, if◌then◌else◌}
 use Rattle.ccan_object.specs.declared.record.Record.{Record}
 use Rattle.ccan_object.specs.Bits.{part}
@@ -21,6 +23,14 @@ finished r =
       txrqst = (if r.newdat then r.txrqst else false);
       intpnd = (if r.txie then true else r.intpnd);
     }
+
+-- the start of a transmission that is tried once meets the request, and leaves NewDat until the frame was sent
+abbrev pub started_once : Record → Record
+started_once r = record r { txrqst = false }
+
+-- the end of a transmission that was tried once: the data were sent, and a request that came meanwhile stands
+abbrev pub finished_once : Record → Record
+finished_once r = record r { newdat = false; intpnd = (if r.txie then true else r.intpnd) }
 
 -- the number of an object's identifier: all its bits, or of a standard one bits 28 to 18
 abbrev pub number_of : Record → ℕ

@@ -1,6 +1,8 @@
 //! Laws of the definitions. The functions do nothing: their contracts are the laws.
 
-ghost use Rattle.ccan_accept.specs.Laws.{AcceptedPlaceByPlace, LockedAcceptsNothing, StoredGoesOutAgain, StoredReadsBack, StoringKeepsSettings, UnmaskedAcceptsItsOwn};
+ghost use Rattle.ccan_accept.specs.Laws.{AcceptedPlaceByPlace, FailuresLeaveNewDat, LockedAcceptsNothing};
+ghost use Rattle.ccan_accept.specs.Laws.{RequestsMeanwhileStand, StartedOnceIsNotReady, StartedOnceSendsItsFrame};
+ghost use Rattle.ccan_accept.specs.Laws.{StoredGoesOutAgain, StoredReadsBack, StoringKeepsSettings, UnmaskedAcceptsItsOwn};
 
 /// The test of acceptance answers what acceptance says of each place of the identifier.
 pub fn accepted_place_by_place()
@@ -30,4 +32,24 @@ pub fn stored_reads_back()
 /// Storing changes none of the fields that say what an object is.
 pub fn storing_keeps_settings()
     ensures { StoringKeepsSettings }
+{}
+
+/// What was started once is not ready again before a host asks.
+pub fn started_once_is_not_ready()
+    ensures { StartedOnceIsNotReady }
+{}
+
+/// A transmission that was started once and failed leaves NewDat as it was.
+pub fn failures_leave_new_dat()
+    ensures { FailuresLeaveNewDat }
+{}
+
+/// What is started once sends the frame that the object had.
+pub fn started_once_sends_its_frame()
+    ensures { StartedOnceSendsItsFrame }
+{}
+
+/// A request that a host makes while a frame that is tried once is under way stands after its end.
+pub fn requests_meanwhile_stand()
+    ensures { RequestsMeanwhileStand }
 {}

@@ -28,5 +28,5 @@ pub mod store;
 pub use accept::accepts;
 pub use frame::Frame;
 pub use frame_error::FrameError;
-pub use send::{finished, frame_of, ready, started};
+pub use send::{finished, finished_once, frame_of, ready, started, started_once};
 pub use store::stored;

@@ -1,6 +1,6 @@
 ghost use Rattle.std.specs.Prelude.{◌≡◌};
 ghost use Rattle.ccan_accept.specs.Frame.{IsFrame};
-ghost use Rattle.ccan_accept.specs.Send.{finished, frame_of, is_ready, started};
+ghost use Rattle.ccan_accept.specs.Send.{finished, finished_once, frame_of, is_ready, started, started_once};
 
 use crate::frame::Frame;
 use ccan_object::Record;
@@ -29,6 +29,29 @@ pub fn finished(object: &Record) -> Record
 {
     Record {
         txrqst: object.txrqst && object.newdat,
+        intpnd: object.intpnd || object.txie,
+        ..*object
+    }
+}
+
+/// The record as its transmission starts where a frame is tried once (DAR 1 of the CAN Control register): TxRqst 0. NewDat
+/// stays, and says until the end that the frame was not sent.
+pub fn started_once(object: &Record) -> Record
+    ensures { result ≡ started_once object.now }
+{
+    Record {
+        txrqst: false,
+        ..*object
+    }
+}
+
+/// The record once a transmission that was started once has ended well: NewDat 0, and TxIE asks for an interrupt. A request
+/// that came meanwhile stands.
+pub fn finished_once(object: &Record) -> Record
+    ensures { result ≡ finished_once object.now }
+{
+    Record {
+        newdat: false,
         intpnd: object.intpnd || object.txie,
         ..*object
     }

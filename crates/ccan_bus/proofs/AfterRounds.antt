@@ -1,6 +1,7 @@
 -- What a load finds by a choice at one moment, what a round leaves loaded, and what one whose load was refused leaves.
 use Rattle.std.proofs.Common.{ℕ, ◌≡◌, ◌≢◌, Bool, true, false, List, refl, ap, subst, ◌∙◌, Some, None, Ok}
 use Rattle.ccan_ram.specs.declared.event.Event.{Event}
+use Rattle.ccan_ram.specs.declared.sending.Sending.TheVariants.{UntilSent}
 use Rattle.ccan_ram.specs.Terms.{Terms}
 use Rattle.ccan_confine.specs.declared.bus_event.BusEvent.{BusEvent}
 use Rattle.ccan_confine.specs.declared.status_event.StatusEvent.{StatusEvent}
@@ -19,7 +20,7 @@ use Rattle.ccan_bus.specs.Laws.{LoadsAreOfOneMoment, NothingIsLoadedAfterwards, 
 
 pub at_one_moment : LoadsAreOfOneMoment
 at_one_moment terms tries object started seen added past after at_once l =
-    choice_of_one_moment terms tries object started seen added
+    choice_of_one_moment terms UntilSent tries object started seen added
     (subst (λ choice. Chooses choice terms tries seen added (Ok (Some (object, started)))) at_once l.choice.chooses)
 
 pub unloaded : (past after : BusPast) (event : ℕ → BusEvent) (noted : StatusEvent) → after ≡ happens event noted past

@@ -3,9 +3,12 @@ use Rattle.std.proofs.Common.{ℕ, ◌≡◌, [], ◌++◌, refl, sym, subst, Op
 use Rattle.std.specs.Prelude.{Result}
 use Rattle.ccan_object.specs.declared.record.Record.{Record}
 use Rattle.ccan_accept.specs.declared.frame.Frame.{Frame}
-use Rattle.ccan_ram.specs.declared.change.Change.TheVariants.{Finish, Store}
+use Rattle.ccan_ram.specs.declared.change.Change.TheVariants.{Store}
 use Rattle.ccan_ram.specs.declared.change.Changed.TheVariants.{NotNow}
 use Rattle.ccan_ram.specs.declared.change.Refused.{Refused}
+use Rattle.ccan_ram.specs.declared.sending.Sending.{Sending}
+use Rattle.ccan_ram.specs.declared.sending.Sending.TheVariants.{UntilSent, Once}
+use Rattle.ccan_ram.specs.Sending.{finish_by}
 use Rattle.ccan_ram.specs.Attempt.{Attempt}
 use Rattle.ccan_ram.specs.Access.{Passes, Goes}
 use Rattle.ccan_ram.proofs.Calls.{Goes-then, Goes-none, Goes-weaker}
@@ -32,28 +35,29 @@ use Rattle.ccan_bus.proofs.Pasts.{GoesOn-weaker, GoesOn-then}
 -- ---- the steps of a decision
 
 -- a finish fits every record
-pub never : {x y : Passes} (tries object : ℕ) (shown : Record) (reply : Result Record Refused)
-    → Goes x y (λ terms seen added. Attempt terms object Finish tries seen added (Ok (NotNow shown)))
-    → Goes x y (λ terms seen added. Finishes terms tries seen added object reply)
-never tries object shown reply h = Goes-weaker h (λ seen added here there t. absurd (let u = t.unfit in cc))
+pub never : {x y : Passes} (sending : Sending) (tries object : ℕ) (shown : Record) (reply : Result Record Refused)
+    → Goes x y (λ terms seen added. Attempt terms object (finish_by sending) tries seen added (Ok (NotNow shown)))
+    → Goes x y (λ terms seen added. Finishes terms sending tries seen added object reply)
+never UntilSent tries object shown reply h = Goes-weaker h (λ seen added here there t. absurd (let u = t.unfit in cc))
+never Once tries object shown reply h = Goes-weaker h (λ seen added here there t. absurd (let u = t.unfit in cc))
 
 pub no_step : {x : Passes} (reply : RoundAnswer) (end : RoundEnd) → end ≡ ended reply
     → Goes x x (λ terms seen added. NoStep reply added end)
 no_step reply end told = Goes-none (λ seen here. (refl, told))
 
-pub back_stopped : {x y : Passes} (tries object : ℕ) (frame : Frame) (why : Refused) (end : RoundEnd)
+pub back_stopped : {x y : Passes} (sending : Sending) (tries object : ℕ) (frame : Frame) (why : Refused) (end : RoundEnd)
     → end ≡ refused_at step.Finish object why
-    → Goes x y (λ terms seen added. Finishes terms tries seen added object (Err why))
-    → Goes x y (λ terms seen added. TakesBack terms tries seen added object frame end)
-back_stopped tries object frame why end told finish =
+    → Goes x y (λ terms seen added. Finishes terms sending tries seen added object (Err why))
+    → Goes x y (λ terms seen added. TakesBack terms sending tries seen added object frame end)
+back_stopped sending tries object frame why end told finish =
     Goes-weaker finish (λ seen added here there f. Stops (record { why = why; finish = f; told = told }))
 
-pub back_scanned : {x y z : Passes} (tries object : ℕ) (frame : Frame) (finished : Record)
+pub back_scanned : {x y z : Passes} (sending : Sending) (tries object : ℕ) (frame : Frame) (finished : Record)
     (outcome : Result (Option Stored) ScanRefused) (end : RoundEnd) → end ≡ end_of_loop object finished outcome
-    → Goes x y (λ terms seen added. Finishes terms tries seen added object (Ok finished))
+    → Goes x y (λ terms seen added. Finishes terms sending tries seen added object (Ok finished))
     → Goes y z (λ terms seen added. Scans terms (Store frame) 1 tries seen added outcome)
-    → Goes x z (λ terms seen added. TakesBack terms tries seen added object frame end)
-back_scanned tries object frame finished outcome end told finish scan =
+    → Goes x z (λ terms seen added. TakesBack terms sending tries seen added object frame end)
+back_scanned sending tries object frame finished outcome end told finish scan =
     Goes-then finish scan (λ seen xs ys p q.
     Scanned (record {
       finished = finished;
@@ -74,7 +78,7 @@ module _ (line : RoundLine) (tries : ℕ) where
       → report ≡ record { loading = loading; decision = Some decided; end = end }
       → GoesOnWith x y a b (λ terms seen added past after. Loads terms tries seen added past after loading)
       → GoesOn b c (λ past after. Decides (hears_itself past) line past after decided)
-      → Goes y z (λ terms seen added. Completes terms tries seen added decided end)
+      → Goes y z (λ terms seen added. Completes terms UntilSent tries seen added decided end)
       → GoesOnWith x z a c (λ terms seen added past after. RunsSteps terms line tries seen added past after report)
   steps_run {x} {y} {z} a b c loading decided end report is told loads decides completes =
       rw told (Goes-then loads completes (λ seen xs ys p q. GoesOn-then p decides (λ past between after led mid here l d.

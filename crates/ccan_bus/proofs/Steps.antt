@@ -5,6 +5,7 @@ use Rattle.std.specs.Prelude.{Result}
 use Rattle.ccan_object.specs.declared.record.Record.{Record}
 use Rattle.ccan_accept.specs.declared.frame.Frame.{Frame}
 use Rattle.ccan_ram.specs.declared.change.Change.TheVariants.{Finish, Store}
+use Rattle.ccan_ram.specs.declared.sending.Sending.TheVariants.{UntilSent}
 use Rattle.ccan_ram.specs.declared.change.Changed.{Changed}
 use Rattle.ccan_ram.specs.declared.change.Refused.{Refused}
 use Rattle.ccan_ram.specs.declared.change.Refused.TheVariants.{Busy, Spent}
@@ -48,7 +49,7 @@ module _ (line : RoundLine) (tries : ℕ) (terms : Terms) (seen added : List Eve
     finish_is outcome h =
         record { started = due.started; frame = frame; sent = due.sent; success = due.success; finish = h }
 
-    by_finish : (outcome : Result Record Refused) → Finishes terms tries seen added object outcome
+    by_finish : (outcome : Result Record Refused) → Finishes terms UntilSent tries seen added object outcome
         → Ends ((end_of_finish object outcome).answer)
     by_finish (Ok finished) h = record { before = h.0; number = h.1; finish = finish_is _ h.2 }
     by_finish (Err (Busy told now)) h = (told, now, RefusedFinish (finish_is _ h))
@@ -72,7 +73,7 @@ module _ (line : RoundLine) (tries : ℕ) (terms : Terms) (seen added : List Eve
     by_scan (Err refused) h = by_refusal refused.at refused.why h
 
   contends : (decided : Decision) (end : RoundEnd) → DecidesBetween line past after decided
-      → Completes terms tries seen added decided end → Ends end.answer
+      → Completes terms UntilSent tries seen added decided end → Ends end.answer
   contends decision.Idle end d (none, told) = rw told (record { nobody = d.nobody; quiet = none; same = d.same })
   contends decision.Collision end d (none, told) = rw told (record { outcome = d.outcome; quiet = none; happened = d.happened })
   contends (decision.Fault winner frame) end d (none, told) =
@@ -128,7 +129,7 @@ module _ (tries : ℕ) (terms : Terms) (seen added : List Event) (past after : B
     stopped Spent h = AtFinish frame (finish_of added _ h)
 
     module _ (finished : Record) (first last : List Event) (whole : added ≡ last ++ first)
-        (finish : Finishes terms tries seen first object (Ok finished)) where
+        (finish : Finishes terms UntilSent tries seen first object (Ok finished)) where
       scan_of : (end : ScanEnd) → Scan terms (Store frame) 1 tries (first ++ seen) last end
           → IsLoop terms tries seen added past after object finished end
       scan_of end h =
@@ -154,11 +155,11 @@ module _ (tries : ℕ) (terms : Terms) (seen added : List Event) (past after : B
       scanned (Ok (Some found)) h = (found.before, h.0, scan_of _ h.1)
       scanned (Err refused) h = scan_refused refused.at refused.why h
 
-    taken_back : (end : RoundEnd) → TakesBack terms tries seen added object frame end → EndsBack end.answer
+    taken_back : (end : RoundEnd) → TakesBack terms UntilSent tries seen added object frame end → EndsBack end.answer
     taken_back end (Stops h) = rw h.told (stopped h.why h.finish)
     taken_back end (Scanned h) = rw h.told (scanned h.finished h.first h.last h.whole h.finish h.outcome h.scan)
 
-  loops : (decided : Decision) (end : RoundEnd) → DecidesBack past after decided → Completes terms tries seen added decided end
+  loops : (decided : Decision) (end : RoundEnd) → DecidesBack past after decided → Completes terms UntilSent tries seen added decided end
       → EndsBack end.answer
   loops decision.Idle end d (none, told) = rw told (record { empty = d.empty; quiet = none; same = d.same })
   loops (decision.LoopBack object frame) end d c = taken_back object frame d end c
@@ -171,7 +172,7 @@ module _ (tries : ℕ) (terms : Terms) (seen added : List Event) (past after : B
 
 module _ (terms : Terms) (line : RoundLine) (tries : ℕ) (seen added : List Event) (past after : BusPast) where
   transfers : (back : Bool) (decided : Decision) (end : RoundEnd) → Decides back line past after decided
-      → Completes terms tries seen added decided end → Transfers back terms line tries seen added past after end.answer
+      → Completes terms UntilSent tries seen added decided end → Transfers back terms line tries seen added past after end.answer
   transfers true decided end d c = loops tries terms seen added past after decided end d c
   transfers false decided end d c = contends line tries terms seen added past after decided end d c
 
@@ -214,7 +215,7 @@ module _ (line : RoundLine) (tries : ℕ) (terms : Terms) (seen added : List Eve
     pub decided : Decision
     pub end : RoundEnd
     pub decides : Decides back line past after decided
-    pub completes : Completes terms tries seen added decided end
+    pub completes : Completes terms UntilSent tries seen added decided end
     pub told : end.answer ≡ reply
 
   of_refusal : (object : ℕ) (why : Refused) → IsRefused terms line tries seen added past after object why

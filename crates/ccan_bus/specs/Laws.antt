@@ -8,6 +8,7 @@ use Rattle.ccan_accept.specs.declared.frame.Frame.{Frame}
 use Rattle.ccan_accept.specs.Frame.{IsFrame}
 use Rattle.ccan_accept.specs.Send.{frame_of}
 use Rattle.ccan_ram.specs.declared.change.Change.TheVariants.{Start, Store, Finish}
+use Rattle.ccan_ram.specs.declared.sending.Sending.TheVariants.{UntilSent}
 use Rattle.ccan_ram.specs.declared.change.Changed.TheVariants.{Done}
 use Rattle.ccan_ram.specs.declared.event.Event.{Event}
 use Rattle.ccan_ram.specs.Change.{fits}
@@ -185,7 +186,7 @@ LoadsAreOfOneMoment =
     (terms : Terms) (tries object : ℕ) (started : Record) (seen added : List Event) (past after : BusPast)
     → past.choice ≡ AtOnce → Loads terms tries seen added past after (load.Loaded object started)
     → AtOneMoment seen added (λ h. (fits Start (record_at object h) ≡ true)
-    × ((k : ℕ) → k + 1 < object → (fits Start (record_at (k + 1) h) ≡ false) ⊎ IsWithdrawn terms tries (k + 1) seen added))
+    × ((k : ℕ) → k + 1 < object → (fits Start (record_at (k + 1) h) ≡ false) ⊎ IsWithdrawn terms UntilSent tries (k + 1) seen added))
 
 -- nothing is loaded after a round that wasn't idle
 abbrev pub NothingIsLoadedAfterwards : Type 0

@@ -2,6 +2,7 @@
 -- make up a round and nothing else does. Source: this project's own, over the definitions of the steps.
 use Rattle.std.specs.Prelude.{ℕ, ◌≡◌, ◌↔◌, List, [], ◌++◌, Option, Some, None}
 use Rattle.ccan_ram.specs.declared.event.Event.{Event}
+use Rattle.ccan_ram.specs.declared.sending.Sending.TheVariants.{UntilSent}
 use Rattle.ccan_ram.specs.Terms.{Terms}
 use Rattle.ccan_bus.specs.declared.answer.RoundAnswer.{RoundAnswer}
 use Rattle.ccan_bus.specs.declared.decision.Decision.{Decision}
@@ -31,7 +32,7 @@ abbrev pub RunsOn : Option RoundAnswer → Terms → RoundLine → ℕ → List 
 RunsOn (Some refusal) terms line tries seen added past after None end = StopsAtLoad refusal added past after end
 RunsOn (Some refusal) terms line tries seen added past after (Some decided) end = ⊥
 RunsOn None terms line tries seen added past after (Some decided) end =
-    Decides (hears_itself past) line past after decided × Completes terms tries seen added decided end
+    Decides (hears_itself past) line past after decided × Completes terms UntilSent tries seen added decided end
 RunsOn None terms line tries seen added past after None end = ⊥
 
 -- a load, and what follows it, with this report

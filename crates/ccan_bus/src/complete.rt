@@ -14,7 +14,7 @@ use crate::round_end::RoundEnd;
 use ccan_accept::Frame;
 use ccan_handler::{ScanRefused, Stored, receive};
 use ccan_object::{ObjectNo, Record};
-use ccan_ram::{Access, Change, Changed, Refused, Tries};
+use ccan_ram::{Access, Changed, Refused, Sending, Tries};
 
 /// The end of a round none of whose memory steps was refused.
 fn ended(answer: RoundAnswer) -> RoundEnd
@@ -80,12 +80,17 @@ fn end_of_loop(
 }
 
 /// Finishes the object that was sent, and answers its record afterwards.
-fn finish<A: Access>(access: &mut A, object: ObjectNo, tries: Tries) -> Result<Record, Refused>
+fn finish<A: Access>(
+    access: &mut A,
+    sending: Sending,
+    object: ObjectNo,
+    tries: Tries,
+) -> Result<Record, Refused>
     requires { Holds (A.passes access.old).terms.profile object }
     ensures { Goes (A.passes access.old) (A.passes access.new)
-        (λ terms seen added. Finishes terms tries seen added object result) }
+        (λ terms seen added. Finishes terms sending tries seen added object result) }
 {
-    match access.change(object, &Change::Finish, tries) {
+    match access.change(object, &sending.finish(), tries) {
         Ok(Changed::Done { after, .. }) => Ok(after),
         // A finish fits every record, so this doesn't come.
         Ok(Changed::NotNow(shown)) => Ok(shown),
@@ -94,23 +99,30 @@ fn finish<A: Access>(access: &mut A, object: ObjectNo, tries: Tries) -> Result<R
 }
 
 /// Finishes the object that was sent, and then receives its frame.
-fn take_back<A: Access>(access: &mut A, object: ObjectNo, frame: &Frame, tries: Tries) -> RoundEnd
+fn take_back<A: Access>(
+    access: &mut A,
+    sending: Sending,
+    object: ObjectNo,
+    frame: &Frame,
+    tries: Tries,
+) -> RoundEnd
     requires { Holds (A.passes access.old).terms.profile object }
     ensures { Goes (A.passes access.old) (A.passes access.new)
-        (λ terms seen added. TakesBack terms tries seen added object frame.now result) }
+        (λ terms seen added. TakesBack terms sending tries seen added object frame.now result) }
 {
-    match finish(access, object, tries) {
+    match finish(access, sending, object, tries) {
         Ok(finished) => end_of_loop(object, &finished, receive(access, frame, tries)),
         Err(why) => refused_at(MemoryStep::Finish, object, why),
     }
 }
 
 impl Decision {
-    /// Makes the memory steps that are due, and ends the round. A step that is refused is given up, and all else stands.
-    pub fn complete<A: Access>(&self, access: &mut A, tries: Tries) -> RoundEnd
+    /// Makes the memory steps that are due, and ends the round. What was sent is finished as it was started. A step that is
+    /// refused is given up, and all else stands.
+    pub fn complete<A: Access>(&self, access: &mut A, sending: Sending, tries: Tries) -> RoundEnd
         requires { IsOf (A.passes access.old).terms.profile self.now }
         ensures { Goes (A.passes access.old) (A.passes access.new)
-            (λ terms seen added. Completes terms tries seen added self.now result) }
+            (λ terms seen added. Completes terms sending tries seen added self.now result) }
     {
         match self {
             Decision::Idle => ended(RoundAnswer::Idle),
@@ -118,9 +130,11 @@ impl Decision {
             Decision::Fault(_, _) => ended(RoundAnswer::Fault),
             Decision::NoAck(_, _) => ended(RoundAnswer::NoAck),
             Decision::Passed(_, _) => ended(RoundAnswer::Passed),
-            Decision::Finish(object, _) => end_of_finish(*object, finish(access, *object, tries)),
+            Decision::Finish(object, _) => {
+                end_of_finish(*object, finish(access, sending, *object, tries))
+            }
             Decision::Receipt(_, frame) => end_of_receipt(receive(access, frame, tries)),
-            Decision::LoopBack(object, frame) => take_back(access, *object, frame, tries),
+            Decision::LoopBack(object, frame) => take_back(access, sending, *object, frame, tries),
         }
     }
 }

@@ -8,7 +8,7 @@ use crate::answer::{LoadAnswer, RoundAnswer};
 use crate::bus::Bus;
 use crate::round_line::RoundLine;
 use crate::round_report::RoundReport;
-use ccan_ram::{Access, Tries};
+use ccan_ram::{Access, Sending, Tries};
 
 /// The answer of a round whose load was refused.
 fn refusal_of_round(loading: &LoadAnswer) -> Option<RoundAnswer>
@@ -62,7 +62,7 @@ impl Bus {
             Some(answer) => RoundReport::of_refused_load(loading, answer),
             None => {
                 let decision = self.decide(line);
-                let end = decision.complete(access, tries);
+                let end = decision.complete(access, Sending::UntilSent, tries);
                 RoundReport::of_steps(loading, decision, end)
             }
         }

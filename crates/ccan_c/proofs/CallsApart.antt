@@ -17,6 +17,7 @@ use Rattle.ccan_ram.specs.declared.event.Event.{Event}
 use Rattle.ccan_ram.specs.declared.flag.Flag.{Flag}
 use Rattle.ccan_ram.specs.History.{NobodyElse}
 use Rattle.ccan_ram.specs.Laws.{as_one_thread}
+use Rattle.ccan_ram.specs.declared.sending.Sending.TheVariants.{UntilSent}
 use Rattle.ccan_ram.specs.Terms.{Terms}
 use Rattle.ccan_ram.proofs.Undisturbed.{attempts_undisturbed, looks_undisturbed}
 use Rattle.ccan_ram.proofs.UndisturbedPictures.{pictures_undisturbed}
@@ -106,7 +107,7 @@ module _ (terms : Terms) (tries : ℕ) (some : 1 ≤ tries) where
   single = as_one_thread terms
 
   finishes_apart : (seen added : List Event) (object : ℕ) (outcome : Result Record Refused) → NobodyElse terms.port added
-      → Finishes terms tries seen added object outcome → Finishes single tries seen added object outcome
+      → Finishes terms UntilSent tries seen added object outcome → Finishes single UntilSent tries seen added object outcome
   finishes_apart seen added object (Ok finished) alone (before, number, h) = (
     before,
     number,
@@ -127,7 +128,7 @@ module _ (terms : Terms) (tries : ℕ) (some : 1 ≤ tries) where
       scans_apart terms (Store frame) tries some 1 seen added (RefusedAt refused.at refused.why) alone h
 
   takes_apart : (seen added : List Event) (object : ℕ) (frame : Frame) (end : RoundEnd) → NobodyElse terms.port added
-      → TakesBack terms tries seen added object frame end → TakesBack single tries seen added object frame end
+      → TakesBack terms UntilSent tries seen added object frame end → TakesBack single UntilSent tries seen added object frame end
   takes_apart seen added object frame end alone (Stops h) = Stops (record {
     why = h.why;
     finish = attempts_undisturbed terms object Finish tries seen added (Err h.why) some alone h.finish;
@@ -147,7 +148,7 @@ module _ (terms : Terms) (tries : ℕ) (some : 1 ≤ tries) where
       })
 
   completes_apart : (seen added : List Event) (decided : Decision) (end : RoundEnd) → NobodyElse terms.port added
-      → Completes terms tries seen added decided end → Completes single tries seen added decided end
+      → Completes terms UntilSent tries seen added decided end → Completes single UntilSent tries seen added decided end
   completes_apart seen added decision.Idle end alone h = h
   completes_apart seen added decision.Collision end alone h = h
   completes_apart seen added (decision.Fault winner frame) end alone h = h

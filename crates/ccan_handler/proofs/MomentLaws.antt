@@ -6,14 +6,15 @@ use Rattle.std.proofs.lemmas.Nat.Bits.{bit_at-zero}
 use Rattle.ccan_object.specs.declared.record.Record.{Record}
 use Rattle.ccan_object.specs.Bits.{bit}
 use Rattle.ccan_object.specs.Profile.{objects_in}
-use Rattle.ccan_ram.specs.declared.change.Change.TheVariants.{Start}
+use Rattle.ccan_accept.specs.Send.{is_ready}
 use Rattle.ccan_ram.specs.declared.change.Changed.TheVariants.{NotNow}
 use Rattle.ccan_ram.specs.declared.event.Event.{Event}
 use Rattle.ccan_ram.specs.declared.flag.Flag.{Flag}
 use Rattle.ccan_ram.specs.declared.flag.Flag.TheVariants.{IntPnd, TxRqst, MsgVal}
 use Rattle.ccan_ram.specs.declared.handler_registers.HandlerRegisters.{HandlerRegisters}
+use Rattle.ccan_ram.specs.declared.sending.Sending.{Sending}
 use Rattle.ccan_ram.specs.Attempt.{Attempt}
-use Rattle.ccan_ram.specs.Change.{fits}
+use Rattle.ccan_ram.specs.Sending.{start_by}
 use Rattle.ccan_ram.specs.Flags.{flag_of}
 use Rattle.ccan_ram.specs.HandlerRegisters.{register_of, registers_at}
 use Rattle.ccan_ram.specs.History.{record_at}
@@ -53,7 +54,7 @@ module _ (terms : Terms) (shown : HandlerRegisters) (seen added : List Event) (p
   none_beyond flag = registers_below (objects_in terms.profile) shown (before ++ seen) shown_there flag
 
   pub ready_there : (k : ℕ) → k < objects_in terms.profile
-      → was_ready shown (k + 1) ≡ fits Start (record_at (k + 1) (before ++ seen))
+      → was_ready shown (k + 1) ≡ is_ready (record_at (k + 1) (before ++ seen))
   ready_there k less =
       let place : k + 1 - 1 ≡ k = omega arith in
       ap (λ (i : ℕ). bit shown.msgval i && bit shown.txrqst i) place
@@ -97,9 +98,9 @@ interrupt_of_one_moment terms value seen added (shown, p, inr (place, is, set, f
 
 -- ---- a choice
 
-withdrawn_more : (terms : Terms) (tries object : ℕ) (seen last earlier : List Event) → IsWithdrawn terms tries object seen earlier
-    → IsWithdrawn terms tries object seen (last ++ earlier)
-withdrawn_more terms tries object seen last earlier w = record {
+withdrawn_more : (terms : Terms) (sending : Sending) (tries object : ℕ) (seen last earlier : List Event) → IsWithdrawn terms sending tries object seen earlier
+    → IsWithdrawn terms sending tries object seen (last ++ earlier)
+withdrawn_more terms sending tries object seen last earlier w = record {
   later = last ++ w.later;
   tried = w.tried;
   earlier = w.earlier;
@@ -109,9 +110,9 @@ withdrawn_more terms tries object seen last earlier w = record {
 }
 
 -- events that were added before
-withdrawn_later : (terms : Terms) (tries object : ℕ) (seen looked added : List Event)
-    → IsWithdrawn terms tries object (looked ++ seen) added → IsWithdrawn terms tries object seen (added ++ looked)
-withdrawn_later terms tries object seen looked added w = record {
+withdrawn_later : (terms : Terms) (sending : Sending) (tries object : ℕ) (seen looked added : List Event)
+    → IsWithdrawn terms sending tries object (looked ++ seen) added → IsWithdrawn terms sending tries object seen (added ++ looked)
+withdrawn_later terms sending tries object seen looked added w = record {
   later = w.later;
   tried = w.tried;
   earlier = w.earlier ++ looked;
@@ -119,39 +120,39 @@ withdrawn_later terms tries object seen looked added w = record {
   whole = ap (λ (es : List Event). es ++ looked) w.whole
       ∙ (append_assoc w.later (w.tried ++ w.earlier) looked
       ∙ ap (λ (es : List Event). w.later ++ es) (append_assoc w.tried w.earlier looked));
-  attempt = subst (λ (es : List Event). Attempt terms object Start tries es w.tried (Ok (NotNow w.now)))
+  attempt = subst (λ (es : List Event). Attempt terms object (start_by sending) tries es w.tried (Ok (NotNow w.now)))
       (sym (append_assoc w.earlier looked seen)) w.attempt;
 }
 
-skipped : (terms : Terms) (shown : HandlerRegisters) (tries n k : ℕ) (seen added : List Event)
-    → Skips terms shown tries n seen added → k < n
-    → (was_ready shown (k + 1) ≡ false) ⊎ IsWithdrawn terms tries (k + 1) seen added
-skipped terms shown tries zero k seen added s less = absurd (omega arith)
-skipped terms shown tries (suc n) k seen added (last, earlier, whole, here, rest) less =
+skipped : (terms : Terms) (sending : Sending) (shown : HandlerRegisters) (tries n k : ℕ) (seen added : List Event)
+    → Skips terms sending shown tries n seen added → k < n
+    → (was_ready shown (k + 1) ≡ false) ⊎ IsWithdrawn terms sending tries (k + 1) seen added
+skipped terms sending shown tries zero k seen added s less = absurd (omega arith)
+skipped terms sending shown tries (suc n) k seen added (last, earlier, whole, here, rest) less =
     ⊎_elim
     (λ (l : k < n). ⊎_elim
     (λ (unready : was_ready shown (k + 1) ≡ false). inl unready)
-    (λ (w : IsWithdrawn terms tries (k + 1) seen earlier).
-    inr (subst (IsWithdrawn terms tries (k + 1) seen) (sym whole) (withdrawn_more terms tries (k + 1) seen last earlier w)))
-    (skipped terms shown tries n k seen earlier rest l))
+    (λ (w : IsWithdrawn terms sending tries (k + 1) seen earlier).
+    inr (subst (IsWithdrawn terms sending tries (k + 1) seen) (sym whole) (withdrawn_more terms sending tries (k + 1) seen last earlier w)))
+    (skipped terms sending shown tries n k seen earlier rest l))
     (λ (g : n ≤ k).
     let next : suc n ≡ k + 1 = omega (arith, g, less) in
     ⊎_elim
     (λ (u : (was_ready shown (suc n) ≡ false) × (last ≡ [])). inl (ap (was_ready shown) (sym next) ∙ u.0))
     (λ (u : (was_ready shown (suc n) ≡ true) × (now : Record)
-    × Attempt terms (suc n) Start tries (earlier ++ seen) last (Ok (NotNow now))). inr (record {
+    × Attempt terms (suc n) (start_by sending) tries (earlier ++ seen) last (Ok (NotNow now))). inr (record {
       later = [];
       tried = last;
       earlier = earlier;
       now = u.1;
       whole = whole;
-      attempt = subst (λ (o : ℕ). Attempt terms o Start tries (earlier ++ seen) last (Ok (NotNow u.1))) next u.2;
+      attempt = subst (λ (o : ℕ). Attempt terms o (start_by sending) tries (earlier ++ seen) last (Ok (NotNow u.1))) next u.2;
     }))
     here)
     (cases_lt k n)
 
 pub choice_of_one_moment : ChoiceIsOfOneMoment
-choice_of_one_moment terms tries object after_it seen added c =
+choice_of_one_moment terms sending tries object after_it seen added c =
     let p = c.picture in
     let s = c.choice in
     let ready = ready_there terms c.shown seen c.looked p in
@@ -161,17 +162,17 @@ choice_of_one_moment terms tries object after_it seen added c =
       whole = c.whole ∙ (ap (λ (es : List Event). c.tried ++ es) (parts terms c.shown seen c.looked p)
           ∙ sym (append_assoc c.tried (after terms c.shown seen c.looked p) (before terms c.shown seen c.looked p)));
       so = (
-        ap (λ (o : ℕ). fits Start (record_at o (before terms c.shown seen c.looked p ++ seen))) s.is
+        ap (λ (o : ℕ). is_ready (record_at o (before terms c.shown seen c.looked p ++ seen))) s.is
             ∙ (sym (ready s.below s.held) ∙ (ap (was_ready c.shown) (sym s.is) ∙ s.start.0)),
         λ k less. let held = s.held in
             let below : k < s.below = omega (arith, s.is, less) in
             ⊎_elim
             (λ (unready : was_ready c.shown (k + 1) ≡ false). inl (sym (ready k (omega (arith, below, held))) ∙ unready))
-            (λ (w : IsWithdrawn terms tries (k + 1) (c.looked ++ seen) s.skipped).
-            inr (subst (IsWithdrawn terms tries (k + 1) seen) (sym c.whole)
-            (withdrawn_later terms tries (k + 1) seen c.looked c.tried
-            (subst (IsWithdrawn terms tries (k + 1) (c.looked ++ seen)) (sym s.whole)
-            (withdrawn_more terms tries (k + 1) (c.looked ++ seen) s.last s.skipped w)))))
-            (skipped terms c.shown tries s.below k (c.looked ++ seen) s.skipped s.skips below),
+            (λ (w : IsWithdrawn terms sending tries (k + 1) (c.looked ++ seen) s.skipped).
+            inr (subst (IsWithdrawn terms sending tries (k + 1) seen) (sym c.whole)
+            (withdrawn_later terms sending tries (k + 1) seen c.looked c.tried
+            (subst (IsWithdrawn terms sending tries (k + 1) (c.looked ++ seen)) (sym s.whole)
+            (withdrawn_more terms sending tries (k + 1) (c.looked ++ seen) s.last s.skipped w)))))
+            (skipped terms sending c.shown tries s.below k (c.looked ++ seen) s.skipped s.skips below),
       );
     }

@@ -3,6 +3,7 @@ use Rattle.std.proofs.Common.{ℕ, suc, Bool, false, ◌&&◌, ap, Err, ◌≡�
 use Rattle.ccan_object.specs.declared.record.Record.{Record}
 use Rattle.ccan_ram.specs.declared.change.Change.{Change}
 use Rattle.ccan_ram.specs.declared.change.Change.TheVariants.{Start}
+use Rattle.ccan_ram.specs.declared.sending.Sending.TheVariants.{UntilSent}
 use Rattle.ccan_ram.specs.declared.change.Changed.{Changed}
 use Rattle.ccan_ram.specs.declared.change.Changed.TheVariants.{Done}
 use Rattle.ccan_ram.specs.declared.change.Refused.{Refused}
@@ -132,13 +133,12 @@ both false b h = absurd cc
 
 -- a start that was made
 pub started_there : (terms : Terms) (from : ℕ) (found : Stored) → IsMade terms Start from found
-    → IsStarted terms from (found.object, found.after)
+    → IsStarted terms UntilSent from (found.object, found.after)
 started_there terms from found made =
     let ready = both found.before.valid found.before.txrqst made.fit in
     record {
       in_turn = made.in_turn;
       held = made.held;
       valid = ap (λ (r : Record). r.valid) made.left ∙ ready.0;
-      requested = ap (λ (r : Record). r.txrqst) made.left ∙ ready.1;
-      taken = ap (λ (r : Record). r.newdat) made.left;
+      marks = (ap (λ (r : Record). r.txrqst) made.left ∙ ready.1, ap (λ (r : Record). r.newdat) made.left);
     }

@@ -11,6 +11,8 @@ use Rattle.ccan_ram.specs.declared.change.Changed.{Changed}
 use Rattle.ccan_ram.specs.declared.change.Changed.TheVariants.{Done, NotNow}
 use Rattle.ccan_ram.specs.declared.change.Refused.{Refused}
 use Rattle.ccan_ram.specs.declared.event.Event.{Event}
+use Rattle.ccan_ram.specs.declared.sending.Sending.{Sending}
+use Rattle.ccan_ram.specs.declared.sending.Sending.TheVariants.{UntilSent, Once}
 use Rattle.ccan_ram.specs.Change.{fits, changed}
 use Rattle.ccan_ram.specs.Terms.{Terms}
 use Rattle.ccan_ram.specs.Attempt.{IsLook, Attempt}
@@ -121,13 +123,18 @@ pub record IsMade (terms : Terms) (change : Change) (from : ℕ) (found : Stored
   pub fit : fits change found.before ≡ true
   pub left : found.after ≡ changed change found.before
 
--- a start was made there: the record was valid and requested, and its data counts as taken
-pub record IsStarted (terms : Terms) (from : ℕ) (chosen : ℕ × Record) : Type 0 where
+-- what a start leaves of the flags: until the frame is sent it is requested, and its data count as taken; what is tried once is
+-- requested no more
+abbrev pub BearsStart : Sending → Record → Type 0
+BearsStart UntilSent r = (r.txrqst ≡ true) × (r.newdat ≡ false)
+BearsStart Once r = r.txrqst ≡ false
+
+-- a start was made there, of a record that was valid and requested
+pub record IsStarted (terms : Terms) (sending : Sending) (from : ℕ) (chosen : ℕ × Record) : Type 0 where
   pub in_turn : from ≤ chosen.0
   pub held : Holds terms.profile chosen.0
   pub valid : chosen.1.valid ≡ true
-  pub requested : chosen.1.txrqst ≡ true
-  pub taken : chosen.1.newdat ≡ false
+  pub marks : BearsStart sending chosen.1
 
 -- a change was refused there: Busy after all the tries, which are no more than twice the quota, or Spent
 pub record IsRefusal (terms : Terms) (change : Change) (from tries : ℕ) (refused : ScanRefused) : Type 0 where
@@ -140,8 +147,8 @@ pub record IsRefusal (terms : Terms) (change : Change) (from tries : ℕ) (refus
 abbrev pub MakesWhatFits : Terms → Change → ℕ → Result (Option Stored) ScanRefused → Type 0
 MakesWhatFits terms change from answer = IfOk answer (λ found. IfSome found (IsMade terms change from))
 
-abbrev pub StartsWhatIsReady : Terms → ℕ → Result (Option (ℕ × Record)) ScanRefused → Type 0
-StartsWhatIsReady terms from answer = IfOk answer (λ found. IfSome found (IsStarted terms from))
+abbrev pub StartsWhatIsReady : Terms → Sending → ℕ → Result (Option (ℕ × Record)) ScanRefused → Type 0
+StartsWhatIsReady terms sending from answer = IfOk answer (λ found. IfSome found (IsStarted terms sending from))
 
 abbrev pub StoresWhatIsAccepted : Terms → Frame → ℕ → Result (Option Stored) ScanRefused → Type 0
 StoresWhatIsAccepted terms frame from answer = MakesWhatFits terms (Store frame) from answer

@@ -10,7 +10,7 @@ use crate::objects::nth;
 use crate::scan::ScanRefused;
 use crate::watch::STATUS_INTERRUPT;
 use ccan_object::{ObjectNo, Record};
-use ccan_ram::{Access, Change, Changed, Flag, HandlerRegisters, Refused, Tries};
+use ccan_ram::{Access, Changed, Flag, HandlerRegisters, Refused, Sending, Tries};
 
 /// A flag of all objects in one moment: that of object k in bit k - 1 (User's Manual, sections 3.4.2 to 3.4.5).
 pub fn flags_at_once<A: Access>(access: &mut A, flag: Flag) -> u64
@@ -44,32 +44,37 @@ fn first_set(word: u64) -> u16
     }
 }
 
-/// Starts the first object that was ready in one moment, unless it is ready no more: then the next one that was.
+/// Starts the first object that was ready in one moment, unless it is ready no more: then the next one that was. Its frame is
+/// tried as often as `sending` says.
 ///
 /// None: no object was ready in that moment, or each that was is no more.
 pub fn choose_at_once<A: Access>(
     access: &mut A,
+    sending: Sending,
     tries: Tries,
 ) -> Result<Option<(ObjectNo, Record)>, ScanRefused>
-    ensures adds { AddsChoiceAtOnce (A.passes access.old) (A.passes access.new) tries result }
-    ensures made { StartsWhatIsReady (A.passes access.old).terms 1 result }
+    ensures adds { AddsChoiceAtOnce (A.passes access.old) (A.passes access.new)
+        sending tries result }
+    ensures made { StartsWhatIsReady (A.passes access.old).terms sending 1 result }
 {
     let shown = access.look_all();
-    choose_among(access, shown, tries)
+    choose_among(access, sending, shown, tries)
 }
 
 /// Starts the first object that was ready in a picture, and that still is.
 fn choose_among<A: Access>(
     access: &mut A,
+    sending: Sending,
     shown: HandlerRegisters,
     tries: Tries,
 ) -> Result<Option<(ObjectNo, Record)>, ScanRefused>
-    ensures adds { AddsChoiceAmong (A.passes access.old) (A.passes access.new) shown tries result }
-    ensures made { StartsWhatIsReady (A.passes access.old).terms 1 result }
+    ensures adds { AddsChoiceAmong (A.passes access.old) (A.passes access.new)
+        sending shown tries result }
+    ensures made { StartsWhatIsReady (A.passes access.old).terms sending 1 result }
 {
     for place in 0..access.profile().objects() {
         let object = nth(place + 1);
-        match start(access, shown, object, tries) {
+        match start(access, sending, shown, object, tries) {
             Ok(None) => {}
             Ok(Some(after)) => return Ok(Some((object, after))),
             Err(why) => return Err(ScanRefused { at: object, why }),
@@ -81,19 +86,21 @@ fn choose_among<A: Access>(
 /// Starts an object that was ready in a picture. None: it was not, or it is ready no more.
 fn start<A: Access>(
     access: &mut A,
+    sending: Sending,
     shown: HandlerRegisters,
     object: ObjectNo,
     tries: Tries,
 ) -> Result<Option<Record>, Refused>
     requires held { Holds (A.passes access.old).terms.profile object }
-    ensures adds { AddsStart (A.passes access.old) (A.passes access.new) shown object tries result }
+    ensures adds { AddsStart (A.passes access.old) (A.passes access.new)
+        sending shown object tries result }
     ensures made { let terms = (A.passes access.old).terms in
-        IfOk result (λ found. IfSome found (λ after. IsStarted terms 1 (object, after))) }
+        IfOk result (λ found. IfSome found (λ after. IsStarted terms sending 1 (object, after))) }
 {
     if !was_ready(shown, object) {
         return Ok(None);
     }
-    match access.change(object, &Change::Start, tries) {
+    match access.change(object, &sending.start(), tries) {
         Ok(Changed::Done { after, .. }) => Ok(Some(after)),
         Ok(Changed::NotNow(_)) => Ok(None),
         Err(why) => Err(why),

@@ -1,4 +1,5 @@
 ghost use Rattle.ccan_object.specs.Profile.{Holds};
+ghost use Rattle.ccan_ram.specs.declared.sending.Sending.TheVariants.{UntilSent};
 ghost use Rattle.ccan_handler.specs.Scan.{AddsChoice, AddsScan, AddsStore, AddsVisit, MakesWhatFits, StartsWhatIsReady};
 ghost use Rattle.ccan_handler.specs.Scan.{StoresWhatIsAccepted, TellsRefusal, TellsStartRefusal, TellsStoreRefusal, VisitTells};
 
@@ -54,7 +55,7 @@ pub fn choose<A: Access>(
     tries: Tries,
 ) -> Result<Option<(ObjectNo, Record)>, ScanRefused>
     ensures adds { AddsChoice (A.passes access.old) (A.passes access.new) 1 tries result }
-    ensures made { StartsWhatIsReady (A.passes access.old).terms 1 result }
+    ensures made { StartsWhatIsReady (A.passes access.old).terms UntilSent 1 result }
     ensures refused { TellsStartRefusal (A.passes access.old).terms 1 tries result }
 {
     let object = first(access.profile());
@@ -69,7 +70,7 @@ pub fn choose_from<A: Access>(
 ) -> Result<Option<(ObjectNo, Record)>, ScanRefused>
     requires held { Holds (A.passes access.old).terms.profile from }
     ensures adds { AddsChoice (A.passes access.old) (A.passes access.new) from tries result }
-    ensures made { StartsWhatIsReady (A.passes access.old).terms from result }
+    ensures made { StartsWhatIsReady (A.passes access.old).terms UntilSent from result }
     ensures refused { TellsStartRefusal (A.passes access.old).terms from tries result }
 {
     match scan(access, &Change::Start, from, tries) {

@@ -7,7 +7,10 @@ use Rattle.ccan_ram.specs.declared.change.Changed.TheVariants.{Done, NotNow}
 use Rattle.ccan_ram.specs.declared.change.Refused.{Refused}
 use Rattle.ccan_ram.specs.declared.event.Event.{Event}
 use Rattle.ccan_ram.specs.declared.handler_registers.HandlerRegisters.{HandlerRegisters}
+use Rattle.ccan_ram.specs.declared.sending.Sending.{Sending}
+use Rattle.ccan_ram.specs.declared.sending.Sending.TheVariants.{UntilSent}
 use Rattle.ccan_ram.specs.History.{NobodyElse}
+use Rattle.ccan_ram.specs.Sending.{start_by}
 use Rattle.ccan_ram.specs.Terms.{Terms}
 use Rattle.ccan_ram.specs.Laws.{as_one_thread}
 use Rattle.ccan_ram.proofs.Undisturbed.{attempts_undisturbed}
@@ -32,20 +35,20 @@ module _ (terms : Terms) (tries : ℕ) (some : 1 ≤ tries) where
   in_turn_apart seen added (Err refused) alone h =
       scans_apart terms Start tries some 1 seen added (RefusedAt refused.at refused.why) alone h
 
-  module _ (shown : HandlerRegisters) where
+  module _ (sending : Sending) (shown : HandlerRegisters) where
     starts_apart : (object : ℕ) (seen added : List Event) (answer : Result (Option Record) Refused) → NobodyElse terms.port added
-        → Starts terms shown object tries seen added answer → Starts single shown object tries seen added answer
+        → Starts terms sending shown object tries seen added answer → Starts single sending shown object tries seen added answer
     starts_apart object seen added (Ok None) alone (inl h) = inl h
     starts_apart object seen added (Ok None) alone (inr (ready, now, h)) =
-        inr (ready, now, attempts_undisturbed terms object Start tries seen added (Ok (NotNow now)) some alone h)
+        inr (ready, now, attempts_undisturbed terms object (start_by sending) tries seen added (Ok (NotNow now)) some alone h)
     starts_apart object seen added (Ok (Some after)) alone (ready, before, number, h) =
-        let apart = attempts_undisturbed terms object Start tries seen added (Ok (Done before after number)) some alone h in
+        let apart = attempts_undisturbed terms object (start_by sending) tries seen added (Ok (Done before after number)) some alone h in
         (ready, before, number, apart)
     starts_apart object seen added (Err why) alone (ready, h) =
-        (ready, attempts_undisturbed terms object Start tries seen added (Err why) some alone h)
+        (ready, attempts_undisturbed terms object (start_by sending) tries seen added (Err why) some alone h)
 
-    skips_apart : (n : ℕ) (seen added : List Event) → NobodyElse terms.port added → Skips terms shown tries n seen added
-        → Skips single shown tries n seen added
+    skips_apart : (n : ℕ) (seen added : List Event) → NobodyElse terms.port added → Skips terms sending shown tries n seen added
+        → Skips single sending shown tries n seen added
     skips_apart zero seen added alone none = none
     skips_apart (suc n) seen added alone (last, earlier, whole, start, rest) =
         let parts = apart terms added last earlier whole alone in (
@@ -57,7 +60,7 @@ module _ (terms : Terms) (tries : ℕ) (some : 1 ≤ tries) where
         )
 
     stops_apart : (object : ℕ) (seen added : List Event) (answer : Result (Option Record) Refused) → NobodyElse terms.port added
-        → StopsAtOne terms shown tries object seen added answer → StopsAtOne single shown tries object seen added answer
+        → StopsAtOne terms sending shown tries object seen added answer → StopsAtOne single sending shown tries object seen added answer
     stops_apart object seen added answer alone h =
         let parts = apart terms added h.last h.skipped h.whole alone in
         record {
@@ -72,7 +75,7 @@ module _ (terms : Terms) (tries : ℕ) (some : 1 ≤ tries) where
         }
 
     among_apart : (seen added : List Event) (chosen : Chosen) → NobodyElse terms.port added
-        → ChoosesAmong terms shown tries seen added chosen → ChoosesAmong single shown tries seen added chosen
+        → ChoosesAmong terms sending shown tries seen added chosen → ChoosesAmong single sending shown tries seen added chosen
     among_apart seen added (Ok None) alone h = skips_apart (objects_in terms.profile) seen added alone h
     among_apart seen added (Ok (Some (object, after))) alone h = stops_apart object seen added (Ok (Some after)) alone h
     among_apart seen added (Err refused) alone h = stops_apart refused.at seen added (Err refused.why) alone h
@@ -88,5 +91,5 @@ module _ (terms : Terms) (tries : ℕ) (some : 1 ≤ tries) where
         tried = h.tried;
         whole = h.whole;
         picture = pictures_undisturbed terms h.shown seen h.looked parts.1 h.picture;
-        choice = among_apart h.shown (h.looked ++ seen) h.tried chosen parts.0 h.choice;
+        choice = among_apart UntilSent h.shown (h.looked ++ seen) h.tried chosen parts.0 h.choice;
       }

@@ -1,6 +1,7 @@
 pub mod Port
 pub mod Tries
 pub mod Change
+pub mod Sending
 pub mod History
 pub mod Sound
 pub mod ByPort

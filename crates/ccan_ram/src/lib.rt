@@ -36,6 +36,7 @@ pub mod laws;
 pub mod on;
 pub mod open_error;
 pub mod port;
+pub mod sending;
 pub mod shared_ram;
 pub mod tries;
 
@@ -51,5 +52,6 @@ pub use handler_registers::HandlerRegisters;
 pub use on::On;
 pub use open_error::OpenError;
 pub use port::PortName;
+pub use sending::Sending;
 pub use shared_ram::SharedRam;
 pub use tries::Tries;

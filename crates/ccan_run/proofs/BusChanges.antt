@@ -16,6 +16,7 @@ use Rattle.ccan_ram.specs.declared.event.Operation.TheVariants.{Look, Make}
 use Rattle.ccan_ram.specs.declared.handler_registers.HandlerRegisters.{HandlerRegisters}
 use Rattle.ccan_ram.specs.Port.{same_port}
 use Rattle.ccan_ram.specs.History.{changes_by, is_making}
+use Rattle.ccan_ram.specs.declared.sending.Sending.TheVariants.{UntilSent}
 use Rattle.ccan_ram.specs.Terms.{Terms}
 use Rattle.ccan_ram.specs.Picture.{pictured, Turn, LostTurns}
 use Rattle.ccan_ram.proofs.Histories.{changes_by-append, changes_by-foreign}
@@ -144,13 +145,13 @@ module _ (terms : Terms) where
       )
 
   module _ (shown : HandlerRegisters) (tries : ℕ) where
-    skip : (object : ℕ) (seen added : List Event) → Starts terms shown object tries seen added (Ok None)
+    skip : (object : ℕ) (seen added : List Event) → Starts terms UntilSent shown object tries seen added (Ok None)
         → changes_by terms.port added ≡ 0
     skip object seen added (inl (unready, none)) = ap (changes_by terms.port) none
     skip object seen added (inr (ready, now, attempt)) =
         changes_by-attempt terms object Start tries seen added (Ok (NotNow now)) attempt
 
-    skips : (n : ℕ) (seen added : List Event) → Skips terms shown tries n seen added → changes_by terms.port added ≡ 0
+    skips : (n : ℕ) (seen added : List Event) → Skips terms UntilSent shown tries n seen added → changes_by terms.port added ≡ 0
     skips zero seen added none = ap (changes_by terms.port) none
     skips (suc n) seen added (last, earlier, whole, first, rest) =
         omega (

@@ -14,6 +14,7 @@ use Rattle.ccan_ram.specs.Attempt.{Attempt}
 use Rattle.ccan_ram.specs.History.{IsLegal}
 use Rattle.ccan_ram.specs.HandlerRegisters.{registers_at}
 use Rattle.ccan_ram.specs.Picture.{pictured}
+use Rattle.ccan_ram.specs.declared.sending.Sending.TheVariants.{UntilSent}
 use Rattle.ccan_ram.specs.Terms.{Terms}
 use Rattle.ccan_ram.proofs.Pictures.{alone_added, alone_shown}
 use Rattle.ccan_handler.specs.Scan.{Scans}
@@ -56,13 +57,13 @@ module _ (terms : Terms) where
           ∙ ap (λ b. cond b (try terms Start object seen) ([], None)) (sym ready)
 
       skip_is : (object : ℕ) (seen added : List Event) → IsLegal terms.profile (added ++ seen)
-          → Starts terms shown object tries seen added (Ok None) → Gives (tries_ready object seen) added None
+          → Starts terms UntilSent shown object tries seen added (Ok None) → Gives (tries_ready object seen) added None
       skip_is object seen added legal (inl (unready, none)) =
           pair none (λ i. None) ∙ ap (λ b. cond b (try terms Start object seen) ([], None)) (sym unready)
       skip_is object seen added legal (inr (ready, now, h)) = tried object seen added (Ok (NotNow now)) legal ready h
 
       skips_are : (n : ℕ) (seen added : List Event) → IsLegal terms.profile (added ++ seen)
-          → Skips terms shown tries n seen added
+          → Skips terms UntilSent shown tries n seen added
           → Gives (row (starts shown) seen n) added None
       skips_are zero seen added legal none = pair none (λ i. None)
       skips_are (suc n) seen added legal (last, earlier, whole, start, rest) =
@@ -71,7 +72,7 @@ module _ (terms : Terms) where
 
       module _ (seen added : List Event) (legal : IsLegal terms.profile (added ++ seen)) where
         stops_are : (object : ℕ) (answer : Result (Option Record) Refused) (outcome : Result Changed Refused) (stop : Found)
-            → (h : StopsAtOne terms shown tries object seen added answer) → was_ready shown object ≡ true
+            → (h : StopsAtOne terms UntilSent shown tries object seen added answer) → was_ready shown object ≡ true
             → Attempt terms object Start tries (h.skipped ++ seen) h.last outcome → stop_at object outcome ≡ Some stop
             → Gives (among shown seen) added (chosen_of stop)
         stops_are object answer outcome stop h ready attempt is =
@@ -86,7 +87,7 @@ module _ (terms : Terms) where
             (λ so_far. pair (λ i. h.last) (sym is) ∙ (tried object (h.skipped ++ seen) h.last outcome so_far ready attempt
             ∙ ap (λ k. tries_ready k (h.skipped ++ seen)) object_is))))
 
-        among_is : (chosen : Chosen) → ChoosesAmong terms shown tries seen added chosen → Gives (among shown seen) added chosen
+        among_is : (chosen : Chosen) → ChoosesAmong terms UntilSent shown tries seen added chosen → Gives (among shown seen) added chosen
         among_is (Ok None) h =
             ap (λ (w : List Event × Option Found). (w.0, chosen_of (found w.1)))
             (skips_are (objects_in terms.profile) seen added legal h)

@@ -8,6 +8,7 @@ use Rattle.ccan_ram.specs.declared.change.Changed.TheVariants.{Done, NotNow}
 use Rattle.ccan_ram.specs.declared.change.Refused.{Refused}
 use Rattle.ccan_ram.specs.declared.event.Event.{Event}
 use Rattle.ccan_ram.specs.History.{IsLegal}
+use Rattle.ccan_ram.specs.declared.sending.Sending.TheVariants.{UntilSent}
 use Rattle.ccan_ram.specs.Terms.{Terms}
 use Rattle.ccan_bus.specs.declared.answer.RoundAnswer.TheVariants as answer
 use Rattle.ccan_bus.specs.declared.decision.Decision.{Decision}
@@ -48,7 +49,7 @@ module _ (terms : Terms) where
 
   module _ (alone : terms.alone ≡ true) (tries : ℕ) (some : 1 ≤ tries) where
     finish_is : (object : ℕ) (seen added : List Event) (outcome : Result Record Refused) → IsLegal terms.profile (added ++ seen)
-        → Finishes terms tries seen added object outcome → Gives (finish object seen) added outcome
+        → Finishes terms UntilSent tries seen added object outcome → Gives (finish object seen) added outcome
     finish_is object seen added (Ok finished) legal (before, number, h) =
         ap (λ (a : List Event × Result Changed Refused). (a.0, told a.1))
         (attempt_is terms alone seen added legal object change.Finish tries (Ok (Done before finished number)) some h)
@@ -57,7 +58,7 @@ module _ (terms : Terms) where
         (attempt_is terms alone seen added legal object change.Finish tries (Err why) some h)
 
     module _ (seen added : List Event) (legal : IsLegal terms.profile (added ++ seen)) (end : RoundEnd) where
-      back_is : (object : ℕ) (frame : Frame) → TakesBack terms tries seen added object frame end
+      back_is : (object : ℕ) (frame : Frame) → TakesBack terms UntilSent tries seen added object frame end
           → Gives (complete (decision.LoopBack object frame) seen) added end
       back_is object frame (Stops h) =
           in_turn terms.profile seen added added [] refl legal (finish object seen) (follow object frame) (Err h.why) end
@@ -69,7 +70,7 @@ module _ (terms : Terms) where
           (λ so_far. pair refl h.told ∙ ap (λ (f : List Event × Found). (f.0, end_of_loop object h.finished f.1))
           (scan_is terms (change.Store frame) alone tries some 1 (h.first ++ seen) h.last h.outcome so_far h.scan))
 
-      pub complete_is : (decided : Decision) → Completes terms tries seen added decided end
+      pub complete_is : (decided : Decision) → Completes terms UntilSent tries seen added decided end
           → Gives (complete decided seen) added end
       complete_is decision.Idle (none, is) = pair none is
       complete_is decision.Collision (none, is) = pair none is

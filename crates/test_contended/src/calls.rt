@@ -3,7 +3,7 @@
 use ccan_accept::Frame;
 use ccan_handler::{ScanRefused, Stored};
 use ccan_object::{ObjectNo, Record};
-use ccan_ram::{Access, Flag, Tries};
+use ccan_ram::{Access, Flag, Sending, Tries};
 
 /// The first object that is ready, and what its start left.
 pub fn choose<A: Access>(
@@ -26,9 +26,10 @@ pub fn choose_from<A: Access>(
 /// The first object that was ready at one moment, and what its start left.
 pub fn choose_at_once<A: Access>(
     access: &mut A,
+    sending: Sending,
     tries: Tries,
 ) -> Result<Option<(ObjectNo, Record)>, ScanRefused> {
-    ccan_handler::choose_at_once(access, tries)
+    ccan_handler::choose_at_once(access, sending, tries)
 }
 
 /// Where a frame is stored.

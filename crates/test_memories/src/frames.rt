@@ -213,6 +213,26 @@ fn sends_once(rt: HostRuntime) {
 }
 
 #[test]
+fn tries_once_with_dar(rt: HostRuntime) {
+    // "Disabled Automatic Retransmission": TxRqst is reset at the start, NewDat once the frame was sent
+    let object = record(0xa48c0000, 0, 0x8988, BYTES);
+    let sent = started_once(&object);
+    same(&rt, shown(&sent), (0xa48c0000, 0, 0x8888, BYTES));
+    holds(&rt, !ready(&sent));
+    same(&rt, frame_of(&sent), frame(0x123, false, false, 8, BYTES));
+    // with TxIE it asks for an interrupt
+    let done = finished_once(&sent);
+    same(&rt, shown(&done), (0xa48c0000, 0, 0x2888, BYTES));
+    // a host sets TxRqst again in between
+    let again = record(0xa48c0000, 0, 0x8188, [0x99; 8]);
+    same(
+        &rt,
+        shown(&finished_once(&again)),
+        (0xa48c0000, 0, 0x0188, [0x99; 8]),
+    );
+}
+
+#[test]
 fn laws_hold(_rt: HostRuntime) {
     laws::accepted_place_by_place();
     laws::unmasked_accepts_its_own();
@@ -220,4 +240,8 @@ fn laws_hold(_rt: HostRuntime) {
     laws::stored_goes_out_again();
     laws::stored_reads_back();
     laws::storing_keeps_settings();
+    laws::started_once_is_not_ready();
+    laws::failures_leave_new_dat();
+    laws::started_once_sends_its_frame();
+    laws::requests_meanwhile_stand();
 }

@@ -5,7 +5,7 @@ use crate::expect::{
 use crate::plain::Plain;
 use ccan_handler::{ScanRefused, laws};
 use ccan_object::{Profile, Reg};
-use ccan_ram::{Flag, PortName, Refused};
+use ccan_ram::{Flag, PortName, Refused, Sending};
 
 #[test]
 fn reads_flags_and_interrupt_value(rt: HostRuntime) {
@@ -48,7 +48,7 @@ fn receives_where_the_filter_accepts(rt: HostRuntime) {
 #[test]
 fn chooses_until_the_quota_is_spent(rt: HostRuntime) {
     let mut ram = Plain::new(Profile::Two, 1);
-    same(&rt, ram.choose_at_once(), Ok(None));
+    same(&rt, ram.choose_at_once(Sending::UntilSent), Ok(None));
     holds(&rt, ram.write(0, &MESSAGE, &[(Reg::Ctrl, 0x8188)]));
     let ready = change_of(&MESSAGE, &[(Reg::Ctrl, 0x0188)]);
     holds(&rt, ram.change(PortName::If2, 5, &ready).is_ok());
@@ -61,9 +61,20 @@ fn chooses_until_the_quota_is_spent(rt: HostRuntime) {
     same(&rt, ram.choose_from(6), Err(ScanRefused { at: last, why }));
     same(
         &rt,
-        ram.choose_at_once(),
+        ram.choose_at_once(Sending::UntilSent),
         Err(ScanRefused { at: fifth, why }),
     );
+}
+
+#[test]
+fn chooses_once_with_dar(rt: HostRuntime) {
+    let mut ram = Plain::new(Profile::One, 4);
+    let ready = change_of(&MESSAGE, &[(Reg::Ctrl, 0x8188)]);
+    holds(&rt, ram.change(PortName::If2, 5, &ready).is_ok());
+    let (chosen, started) = found(&rt, ram.choose_at_once(Sending::Once));
+    same(&rt, chosen.get(), 5);
+    same(&rt, shown(&started), (0xa48c0000, 0, 0x8088, BYTES));
+    same(&rt, ram.choose_at_once(Sending::UntilSent), Ok(None));
 }
 
 #[test]

@@ -2,7 +2,7 @@
 use crate::expect::{BYTES, MESSAGE, change_of, holds, same, shown, tries};
 use crate::plain::Plain;
 use ccan_object::{CommandMask, ObjectNo, Profile, Record, Reg};
-use ccan_ram::{Change, Changed, Draft, PortName, Refused, Tries};
+use ccan_ram::{Change, Changed, Draft, PortName, Refused, Sending, Tries};
 
 /// The number of a change that was made.
 fn number(changed: Result<Changed, Refused>) -> Option<u64> {
@@ -56,6 +56,18 @@ fn changes_have_their_parts(rt: HostRuntime) {
     let written = write.applied(&empty);
     same(&rt, shown(&written), (0xa48c0000, 0, 0x0088, BYTES));
     same(&rt, Change::Finish.applied(&written), written);
+    // what is tried once: TxRqst falls at the start, and NewDat at the end
+    let requested = change_of(&MESSAGE, &[(Reg::Ctrl, 0x8188)]).applied(&empty);
+    let [start, finish] = [Sending::Once.start(), Sending::Once.finish()];
+    holds(
+        &rt,
+        start.fits(&requested) && !start.fits(&written) && finish.fits(&empty),
+    );
+    let started = start.applied(&requested);
+    same(&rt, shown(&started), (0xa48c0000, 0, 0x8088, BYTES));
+    same(&rt, finish.applied(&started), written);
+    same(&rt, Sending::UntilSent.start(), Change::Start);
+    same(&rt, Sending::UntilSent.finish(), Change::Finish);
 }
 
 #[test]

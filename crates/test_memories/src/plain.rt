@@ -6,7 +6,7 @@ use crate::expect::{change_of, tries};
 use ccan_accept::Frame;
 use ccan_handler::{ScanRefused, Stored};
 use ccan_object::{ObjectNo, Profile, Record, Reg};
-use ccan_ram::{Access, Array, Change, Changed, Flag, PortName, Refused};
+use ccan_ram::{Access, Array, Change, Changed, Flag, PortName, Refused, Sending};
 use test_contended::calls;
 
 /// A plain memory, whose changes have four tries. Its calls promise nothing, so a test has no more to carry than its own lines. A
@@ -74,9 +74,9 @@ impl Plain {
     }
 
     /// The same, of one moment.
-    pub fn choose_at_once(&mut self) -> Chosen {
+    pub fn choose_at_once(&mut self, sending: Sending) -> Chosen {
         self.ram.at(PortName::Bus);
-        calls::choose_at_once(&mut self.ram, tries(4))
+        calls::choose_at_once(&mut self.ram, sending, tries(4))
     }
 
     /// A receipt of a frame.

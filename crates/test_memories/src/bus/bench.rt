@@ -11,7 +11,7 @@ use ccan_bus::{
 };
 use ccan_confine::NodeState;
 use ccan_object::{ObjectNo, Profile, Record, Reg};
-use ccan_ram::{Access, Array, Change, Changed, PortName};
+use ccan_ram::{Access, Array, Change, Changed, PortName, Sending};
 
 /// The object that a request names.
 pub fn object(request: u16) -> ObjectNo {
@@ -117,7 +117,7 @@ impl Bench {
         self.ram.at(PortName::Bus);
         let loading = self.bus.load(&mut self.ram, tries(100));
         let decision = self.bus.decide(&line);
-        let end = decision.complete(&mut self.ram, tries(100));
+        let end = decision.complete(&mut self.ram, Sending::UntilSent, tries(100));
         Some(RoundReport {
             loading,
             decision: Some(decision),

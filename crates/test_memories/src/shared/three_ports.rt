@@ -8,7 +8,7 @@ use ccan_accept::Frame;
 use ccan_handler::{ScanRefused, Stored};
 use ccan_object::{ObjectNo, Profile, Record};
 use ccan_ram::{
-    Change, Changed, CommitError, Final, HandlerRegisters, PortName, Refused, SharedRam, Tries,
+    Change, Changed, CommitError, Final, HandlerRegisters, PortName, Refused, Sending, SharedRam, Tries,
 };
 use std::alloc::Global;
 use std::process::Abort;
@@ -116,7 +116,7 @@ impl<R: SharedRam + Drop> ThreePorts<R> {
             ..
         } = self;
         let mut disturbed = Contended::new(&ram, bus, if1, theirs, quota);
-        let chosen = choose_at_once(&mut disturbed, tries);
+        let chosen = choose_at_once(&mut disturbed, Sending::UntilSent, tries);
         (chosen, disturbed.used())
     }
 

@@ -5,7 +5,7 @@ use Rattle.ccan_handler.proofs.moment.choose_among.Goals as goal
 
 pub loop-place-preserved : goal.loop-place-preserved
 loop-place-preserved g c =
-    skips_more c.args.shown c.args.tries c.loop-place.place _ c.nth-object.ensures c.loop-place.invariant
+    skips_more c.args.sending c.args.shown c.args.tries c.loop-place.place _ c.nth-object.ensures c.loop-place.invariant
     (rw c.in-Ok-None.field-0-is at c.in-Ok-None.ensures.adds)
 
 pub returns-in-Ok-Some : goal.returns-in-Ok-Some
@@ -13,14 +13,14 @@ returns-in-Ok-Some g c =
     let test = c.loop-place-test.true in
     let all = c.objects-place-end.ensures.number ∙ ap objects_in c.profile.ensures in
     record {
-      adds = stops_at c.args.shown c.args.tries c.loop-place.place _ _ c.nth-object.ensures (omega (arith, all, test))
+      adds = stops_at c.args.sending c.args.shown c.args.tries c.loop-place.place _ _ c.nth-object.ensures (omega (arith, all, test))
           c.loop-place.invariant (rw c.in-Ok-Some.field-0-is at c.in-Ok-Some.ensures.adds);
-      made = started_later _ c.loop-place.invariant (rw c.in-Ok-Some.field-0-is at c.in-Ok-Some.ensures.made);
+      made = started_later c.args.sending _ c.loop-place.invariant (rw c.in-Ok-Some.field-0-is at c.in-Ok-Some.ensures.made);
     }
 
 pub returns-in-Err-clause-adds : goal.returns-in-Err-clause-adds
 returns-in-Err-clause-adds g c =
     let test = c.loop-place-test.true in
     let all = c.objects-place-end.ensures.number ∙ ap objects_in c.profile.ensures in
-    stops_at c.args.shown c.args.tries c.loop-place.place _ _ c.nth-object.ensures (omega (arith, all, test))
+    stops_at c.args.sending c.args.shown c.args.tries c.loop-place.place _ _ c.nth-object.ensures (omega (arith, all, test))
     c.loop-place.invariant c.in-Err.ensures.adds
