@@ -1,14 +1,16 @@
 -- A chip's part in what is on a bus of several: what it does at the start of a frame, what is left of that at a look until the end,
 -- and what it does at the end. Source: C_CAN User's Manual 1.2, "CAN Control Register" (Init: setting it stops all transfer of
 -- messages), "Silent Mode" (no transmission can be started) and section 4.2 (transmission of messages: after an error or a lost
--- arbitration the objects are chosen from anew; acceptance filtering of received messages). (own): that a chip looks at its
--- controller at the start and at the end of each frame, and makes its event there after the memory steps.
+-- arbitration the objects are chosen from anew; acceptance filtering of received messages), and "Disabled Automatic
+-- Retransmission". (own): that a chip looks at its controller at the start and at the end of each frame, and makes its event there
+-- after the memory steps; that DAR counts as it is when a transmission starts.
 use Rattle.std.specs.Prelude.{ℕ, ◌≡◌, Bool, true, false, List, [], ◌++◌, Option, Some, None, Ok, Err}
 use Rattle.std.specs.Prelude.{if◌then◌else◌}
-use Rattle.ccan_object.specs.declared.record.Record.{Record}
 use Rattle.ccan_accept.specs.declared.frame.Frame.{Frame}
 use Rattle.ccan_accept.specs.Send.{frame_of}
 use Rattle.ccan_ram.specs.declared.event.Event.{Event}
+use Rattle.ccan_ram.specs.declared.sending.Sending.{Sending}
+use Rattle.ccan_ram.specs.declared.sending.Sending.TheVariants.{UntilSent, Once}
 use Rattle.ccan_ram.specs.SharedRam.{CanSee}
 use Rattle.ccan_ram.specs.Terms.{Terms}
 use Rattle.ccan_ram.specs.Tries.{most_tries}
@@ -39,11 +41,8 @@ use Rattle.ccan_wire.specs.Role.{role_of}
 use Rattle.ccan_wire.specs.Wire.{start_of}
 use Rattle.ccan_station.specs.declared.begun.Begun.{Begun}
 use Rattle.ccan_station.specs.declared.ended.Ended.{Ended}
+use Rattle.ccan_station.specs.declared.loaded.Loaded.{Loaded}
 use Rattle.ccan_station.specs.declared.stayed.Stayed.{Stayed}
-
--- an object whose transmission was started, and its record after the start
-abbrev pub Loaded : Type 0
-Loaded = Option (ℕ × Record)
 
 -- ---- the start of a frame
 
@@ -60,12 +59,17 @@ may_send Passive = true
 may_send Active = true
 
 -- what was loaded is dropped if the controller has left the bus, even for a moment
-abbrev pub loaded_before : Controller → Loaded → Loaded
+abbrev pub loaded_before : Controller → Option Loaded → Option Loaded
 loaded_before first loaded = if first.has_left then None else loaded
 
-abbrev pub loaded_by : Chosen → Loaded
-loaded_by (Ok found) = found
-loaded_by (Err refused) = None
+-- a frame that is started while DAR is 1 is tried once
+abbrev pub sending_now : Controller → Sending
+sending_now c = if c.control.dar then Once else UntilSent
+
+abbrev pub loaded_by : Sending → Chosen → Option Loaded
+loaded_by sending (Ok None) = None
+loaded_by sending (Ok (Some found)) = Some (record { object = found.0; started = found.1; sending = sending })
+loaded_by sending (Err refused) = None
 
 abbrev pub answer_of : Chosen → LoadAnswer
 answer_of (Ok None) = load.Nothing
@@ -73,23 +77,23 @@ answer_of (Ok (Some found)) = load.Loaded found.0 found.1
 answer_of (Err refused) = refusal_of_load refused.at refused.why
 
 -- what is loaded stays; where nothing is, an object is chosen and started; and a chip that sends nothing has nothing loaded
-abbrev pub Loads : Bool → Terms → ℕ → List Event → List Event → Loaded → Loaded → LoadAnswer → Type 0
-Loads false terms tries seen added old new told = (added ≡ []) × (new ≡ None) × (told ≡ load.Nothing)
-Loads true terms tries seen added (Some started) new told =
-    (added ≡ []) × (new ≡ Some started) × (told ≡ load.Held started.0)
-Loads true terms tries seen added None new told =
-    (chosen : Chosen) × ChoosesAtOnce terms tries seen added chosen × (new ≡ loaded_by chosen) × (told ≡ answer_of chosen)
+abbrev pub Loads : Bool → Sending → Terms → ℕ → List Event → List Event → Option Loaded → Option Loaded → LoadAnswer → Type 0
+Loads false sending terms tries seen added old new told = (added ≡ []) × (new ≡ None) × (told ≡ load.Nothing)
+Loads true sending terms tries seen added (Some started) new told =
+    (added ≡ []) × (new ≡ Some started) × (told ≡ load.Held started.object)
+Loads true sending terms tries seen added None new told =
+    (chosen : Chosen) × ChoosesAtOnce terms sending tries seen added chosen × (new ≡ loaded_by sending chosen) × (told ≡ answer_of chosen)
 
-abbrev pub loaded_frame : Loaded → Option Frame
+abbrev pub loaded_frame : Option Loaded → Option Frame
 loaded_frame None = None
-loaded_frame (Some started) = Some (frame_of started.1)
+loaded_frame (Some loaded) = Some (frame_of loaded.started)
 
-abbrev pub member_of : Controller → Loaded → Member
+abbrev pub member_of : Controller → Option Loaded → Member
 member_of found loaded = record { role = role_now found; frame = loaded_frame loaded; flaw = None }
 
 -- The port comes to the bus, and what was loaded is dropped where the controller has left it; then a load, by what the controller
 -- does there as the last look found it. After that look the port makes no step at the controller. The member is under way.
-pub record Begins (terms : Terms) (tries : ℕ) (old new : ChipPass) (loaded after : Loaded) (under_way : Option Member)
+pub record Begins (terms : Terms) (tries : ℕ) (old new : ChipPass) (loaded after : Option Loaded) (under_way : Option Member)
     (told : Begun) : Type 0 where
   pub looked : ChipPass
   pub first : Controller
@@ -97,7 +101,7 @@ pub record Begins (terms : Terms) (tries : ℕ) (old new : ChipPass) (loaded aft
   pub rests : AddsNone looked new
   pub added : List Event
   pub adds : new.pass.seen ≡ added ++ looked.pass.seen
-  pub loads : Loads (may_send (role_now told.found)) terms tries looked.pass.seen added (loaded_before first loaded) after
+  pub loads : Loads (may_send (role_now told.found)) (sending_now told.found) terms tries looked.pass.seen added (loaded_before first loaded) after
       told.loading
   pub member : told.member ≡ member_of told.found after
   pub waits : under_way ≡ Some told.member
@@ -108,8 +112,8 @@ pub record Begins (terms : Terms) (tries : ℕ) (old new : ChipPass) (loaded aft
 abbrev pub still_under_way : Controller → Option Member → Option Member
 still_under_way found under_way = if takes_part found then under_way else None
 
--- and of what is loaded: its object stays requested, and may be chosen anew
-abbrev pub still_loaded : Controller → Loaded → Loaded
+-- and of what is loaded: its object may be chosen anew, where it is requested
+abbrev pub still_loaded : Controller → Option Loaded → Option Loaded
 still_loaded found loaded = if takes_part found then loaded else None
 
 -- the member that is under way, or nobody
@@ -118,7 +122,7 @@ member_now None = nobody
 member_now (Some m) = m
 
 -- a look at the controller, and no other step
-pub record Stays (old new : ChipPass) (loaded after : Loaded) (under_way left : Option Member) (told : Stayed) : Type 0 where
+pub record Stays (old new : ChipPass) (loaded after : Option Loaded) (under_way left : Option Member) (told : Stayed) : Type 0 where
   pub looks : LooksAt old new told.found
   pub kept : left ≡ still_under_way told.found under_way
   pub held : after ≡ still_loaded told.found loaded
@@ -137,21 +141,21 @@ frame_won (start.Collision who) = None
 frame_won (start.Won winner) = Some winner.frame
 
 -- the finish of the object that is loaded
-abbrev pub finish_of : Loaded → Decision
+abbrev pub finish_of : Option Loaded → Decision
 finish_of None = decision.Idle
-finish_of (Some started) = decision.Finish started.0 (frame_of started.1)
+finish_of (Some loaded) = decision.Finish loaded.object (frame_of loaded.started)
 
 -- its finish, and then the store of its frame
-abbrev pub loop_of : Loaded → Decision
+abbrev pub loop_of : Option Loaded → Decision
 loop_of None = decision.Idle
-loop_of (Some started) = decision.LoopBack started.0 (frame_of started.1)
+loop_of (Some loaded) = decision.LoopBack loaded.object (frame_of loaded.started)
 
 -- the store of a frame. A receipt names a node, on which no step depends: here always the first
 abbrev pub receipt_of : Option Frame → Decision
 receipt_of None = decision.Idle
 receipt_of (Some frame) = decision.Receipt 1 frame
 
-abbrev pub due_by : StatusEvent → Loaded → Option Frame → Decision
+abbrev pub due_by : StatusEvent → Option Loaded → Option Frame → Decision
 due_by status.Sent loaded won = finish_of loaded
 due_by status.Looped loaded won = loop_of loaded
 due_by status.Received loaded won = receipt_of won
@@ -160,12 +164,17 @@ due_by status.Recovery loaded won = decision.Idle
 due_by status.Level loaded won = decision.Idle
 
 -- the memory steps that a member's event calls for
-abbrev pub due : Option (BusEvent × StatusEvent) → Loaded → Option Frame → Decision
+abbrev pub due : Option (BusEvent × StatusEvent) → Option Loaded → Option Frame → Decision
 due None loaded won = decision.Idle
 due (Some own) loaded won = due_by own.1 loaded won
 
+-- how often what is loaded is tried, as it was started; where nothing is, nothing is finished
+abbrev pub sent_as : Option Loaded → Sending
+sent_as None = UntilSent
+sent_as (Some loaded) = loaded.sending
+
 -- after an event nothing is loaded: the next load chooses anew
-abbrev pub left_by : Option (BusEvent × StatusEvent) → Loaded → Loaded
+abbrev pub left_by : Option (BusEvent × StatusEvent) → Option Loaded → Option Loaded
 left_by None loaded = loaded
 left_by (Some own) loaded = None
 
@@ -173,7 +182,7 @@ left_by (Some own) loaded = None
 -- no event. Then the memory steps that the event calls for, and last the event at the controller. Between, the port makes no
 -- other step there. What was on the bus can't be played again, so the event has as many tries as one may have.
 pub record Ends (terms : Terms) (tries : ℕ) (old new : ChipPass) (on : Wire) (place : ℕ) (flaw : Option Flaw)
-    (loaded after : Loaded) (under_way : Option Member) (told : Ended) : Type 0 where
+    (loaded after : Option Loaded) (under_way : Option Member) (told : Ended) : Type 0 where
   pub looked : ChipPass
   pub looks : LooksAt old looked told.found
   pub own : told.own ≡ event_of on place (ending (still_under_way told.found under_way) flaw)
@@ -182,7 +191,7 @@ pub record Ends (terms : Terms) (tries : ℕ) (old new : ChipPass) (on : Wire) (
   pub sees : CanSee between.pass
   pub added : List Event
   pub adds : between.pass.seen ≡ added ++ looked.pass.seen
-  pub completes : Completes terms tries looked.pass.seen added
+  pub completes : Completes terms (sent_as (still_loaded told.found loaded)) tries looked.pass.seen added
       (due told.own (still_loaded told.found loaded) (frame_won (start_of on))) told.end
   pub left : after ≡ left_by told.own (still_loaded told.found loaded)
   pub notes : Notes told.own most_tries between new told.noted

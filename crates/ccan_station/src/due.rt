@@ -5,13 +5,15 @@ ghost use Rattle.std.specs.Option.{ForSome};
 ghost use Rattle.ccan_object.specs.Profile.{Holds};
 ghost use Rattle.ccan_bus.specs.Decide.{IsOf};
 ghost use Rattle.ccan_wire.specs.Wire.{start_of};
-ghost use Rattle.ccan_station.specs.Station.{due, due_by, finish_of, frame_won, loop_of, receipt_of};
+ghost use Rattle.ccan_station.specs.Station.{due, due_by, finish_of, frame_won, loop_of, receipt_of, sent_as};
 
+use crate::loaded::Loaded;
 use ccan_accept::{Frame, frame_of};
 use ccan_bus::Decision;
 use ccan_chip::OwnEvent;
 use ccan_confine::StatusEvent;
-use ccan_object::{ObjectNo, Profile, Record};
+use ccan_object::Profile;
+use ccan_ram::Sending;
 use ccan_wire::{Start, Wire};
 
 /// The frame that won the bus.
@@ -24,25 +26,25 @@ pub(crate) fn frame_on(wire: &Wire) -> Option<Frame>
     }
 }
 
-fn finish_of(profile: Profile, loaded: &Option<(ObjectNo, Record)>) -> Decision
-    requires { ForSome loaded.now (λ found. Holds profile found.0) }
+fn finish_of(profile: Profile, loaded: &Option<Loaded>) -> Decision
+    requires { ForSome loaded.now (λ found. Holds profile found.object) }
     ensures value { result ≡ finish_of loaded.now }
     ensures held { IsOf profile result }
 {
     match loaded {
         None => Decision::Idle,
-        Some((object, started)) => Decision::Finish(*object, frame_of(started)),
+        Some(loaded) => Decision::Finish(loaded.object, frame_of(&loaded.started)),
     }
 }
 
-fn loop_of(profile: Profile, loaded: &Option<(ObjectNo, Record)>) -> Decision
-    requires { ForSome loaded.now (λ found. Holds profile found.0) }
+fn loop_of(profile: Profile, loaded: &Option<Loaded>) -> Decision
+    requires { ForSome loaded.now (λ found. Holds profile found.object) }
     ensures value { result ≡ loop_of loaded.now }
     ensures held { IsOf profile result }
 {
     match loaded {
         None => Decision::Idle,
-        Some((object, started)) => Decision::LoopBack(*object, frame_of(started)),
+        Some(loaded) => Decision::LoopBack(loaded.object, frame_of(&loaded.started)),
     }
 }
 
@@ -56,14 +58,24 @@ fn receipt_of(profile: Profile, won: Option<Frame>) -> Decision
     }
 }
 
+/// How often what is loaded is tried. Where nothing is, nothing is finished.
+pub(crate) fn sent_as(loaded: &Option<Loaded>) -> Sending
+    ensures { result ≡ sent_as loaded.now }
+{
+    match loaded {
+        None => Sending::UntilSent,
+        Some(loaded) => loaded.sending,
+    }
+}
+
 /// The memory steps that a member's event calls for.
 pub(crate) fn due(
     profile: Profile,
     own: &Option<OwnEvent>,
-    loaded: &Option<(ObjectNo, Record)>,
+    loaded: &Option<Loaded>,
     won: Option<Frame>,
 ) -> Decision
-    requires { ForSome loaded.now (λ found. Holds profile found.0) }
+    requires { ForSome loaded.now (λ found. Holds profile found.object) }
     ensures value { result ≡ due own.now loaded.now won }
     ensures held { IsOf profile result }
 {

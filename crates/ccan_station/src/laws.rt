@@ -1,6 +1,6 @@
 //! Laws of frames that are under way while controllers leave the bus, and of how a frame starts. The functions do nothing: their contracts are the laws.
 
-ghost use Rattle.ccan_station.specs.Laws.{BeginsAreLoads, FramesOfWhoLeftAreCutOff};
+ghost use Rattle.ccan_station.specs.Laws.{BeginsAreLoads, EndsAsItBegan, FramesOfWhoLeftAreCutOff};
 ghost use Rattle.ccan_station.specs.Laws.{WhoLeavesChangesNoWinner, WhoLeftHasNoEvent};
 
 /// Whoever leaves while a frame is under way: if one of its senders is left, the frame that won at the start wins where the
@@ -19,7 +19,12 @@ pub fn who_left_has_no_event()
     ensures { WhoLeftHasNoEvent }
 {}
 
-/// The start of a frame is a load of `ccan_chip::ChipBus`, where the controller is not silent.
+/// The start of a frame is a load of `ccan_chip::ChipBus`, where the controller is not silent and DAR is 0.
 pub fn begins_are_loads()
     ensures { BeginsAreLoads }
+{}
+
+/// What is started at the start of a frame is finished as DAR said then, whatever a host makes of DAR until the end.
+pub fn ends_as_it_began()
+    ensures { EndsAsItBegan }
 {}

@@ -12,8 +12,16 @@
 //! A [`Station`] keeps what is loaded and what is under way between these calls. Meanwhile hosts do what they like. A request
 //! that they make then is not in this frame. If a host sets Init, the controller has left the bus, also if Init is 0 again
 //! before the next look: `stay` answers a member that is absent, and neither it nor `end` leaves anything under way or loaded,
-//! so the frame is no event to it. Its object stays requested, and the next `begin` joins and chooses anew. A reset of the
-//! chip calls `unload` to the same end.
+//! so the frame is no event to it. The next `begin` joins and chooses anew. A reset of the chip calls `unload` to the same end.
+//!
+//! DAR of the CAN Control register says how often a frame is tried, as `begin` finds it when it starts an object: `end`
+//! finishes that object in the same way, whatever a host makes of DAR meanwhile.
+//!
+//! | | DAR 0 | DAR 1 |
+//! |---|---|---|
+//! | at the start | NewDat 0 | TxRqst 0 |
+//! | where it was sent | TxRqst 0, unless NewDat is 1 again | NewDat 0 |
+//! | where it failed, lost the arbitration or was dropped | it stays requested, and is tried again | NewDat stays 1, and a host has to set TxRqst |
 //!
 //! Members are settled at the start: who has not begun by then begins with the next frame. Of several `end` calls the order is
 //! the caller's: those who listen first, if a stored frame is to stand before its sender's TxOk.
@@ -26,6 +34,7 @@ mod due;
 mod ended;
 pub mod laws;
 mod load;
+mod loaded;
 mod note;
 mod part;
 mod plain;
@@ -34,6 +43,7 @@ mod stayed;
 
 pub use begun::Begun;
 pub use ended::Ended;
+pub use loaded::Loaded;
 pub use plain::Plain;
 pub use station::Station;
 pub use stayed::Stayed;

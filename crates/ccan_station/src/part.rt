@@ -2,12 +2,13 @@
 
 ghost use Rattle.std.specs.Prelude.{◌≡◌, Some};
 ghost use Rattle.ccan_wire.specs.Member.{nobody};
-ghost use Rattle.ccan_station.specs.Station.{ending, loaded_frame, may_send, member_now, role_now};
+ghost use Rattle.ccan_station.specs.Station.{ending, loaded_frame, may_send, member_now, role_now, sending_now};
 
+use crate::loaded::Loaded;
 use ccan_accept::{Frame, frame_of};
 use ccan_chip::takes_part;
 use ccan_confine::Controller;
-use ccan_object::{ObjectNo, Record};
+use ccan_ram::Sending;
 use ccan_wire::{Flaw, Member, Role};
 
 /// What a controller does on the bus.
@@ -31,13 +32,24 @@ pub(crate) fn may_send(role: Role) -> bool
     }
 }
 
+/// How often a frame is tried that a controller starts: once where DAR is 1.
+pub(crate) fn sending_now(found: &Controller) -> Sending
+    ensures { result ≡ sending_now found.now }
+{
+    if found.control.dar {
+        Sending::Once
+    } else {
+        Sending::UntilSent
+    }
+}
+
 /// The frame that is loaded.
-pub(crate) fn loaded_frame(loaded: &Option<(ObjectNo, Record)>) -> Option<Frame>
+pub(crate) fn loaded_frame(loaded: &Option<Loaded>) -> Option<Frame>
     ensures { result ≡ loaded_frame loaded.now }
 {
     match loaded {
         None => None,
-        Some((_, started)) => Some(frame_of(started)),
+        Some(loaded) => Some(frame_of(&loaded.started)),
     }
 }
 

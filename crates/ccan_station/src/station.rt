@@ -10,17 +10,18 @@ ghost use Rattle.ccan_endless.specs.ChipPort.{AddsNone, SeesOne};
 ghost use Rattle.ccan_endless.specs.Layout.{same_object};
 
 use crate::begun::Begun;
-use crate::due::{due, frame_on};
+use crate::due::{due, frame_on, sent_as};
 use crate::ended::Ended;
+use crate::loaded::Loaded;
 use crate::note::note;
-use crate::part::{ending, kept, loaded_frame, may_send, member_now, role_now};
+use crate::part::{ending, kept, loaded_frame, may_send, member_now, role_now, sending_now};
 use crate::stayed::Stayed;
 use ccan_bus::{Decision, LoadAnswer, RoundEnd};
 use ccan_chip::{Earlier, Objects, OwnEvent, arrive, takes_part};
 use ccan_confine::Controller;
 use ccan_endless::{EndlessRam, Port};
-use ccan_object::{ObjectNo, Profile, Record};
-use ccan_ram::Tries;
+use ccan_object::Profile;
+use ccan_ram::{Sending, Tries};
 use ccan_wire::{Flaw, MOST_MEMBERS, Member, Wire};
 use std::marker::Brand;
 
@@ -29,9 +30,9 @@ use std::marker::Brand;
 #[derive(Clone, Copy, PartialEq, Eq, Hash, Debug)]
 pub struct Station {
     pub(crate) profile: Profile,
-    pub(crate) loaded: Option<(ObjectNo, Record)>,
+    pub(crate) loaded: Option<Loaded>,
     pub(crate) under_way: Option<Member>,
-    ghost held: { ForSome loaded (λ found. Holds profile found.0) },
+    ghost held: { ForSome loaded (λ found. Holds profile found.object) },
 }
 
 /// The memory steps of a decision, over the objects.
@@ -39,6 +40,7 @@ fn complete_over<E: Earlier>(
     decided: &Decision,
     ram: &EndlessRam,
     port: Port,
+    sending: Sending,
     tries: Tries,
 ) -> (RoundEnd, Port)
     requires memory { port.pass.memory ≡ ram.now.words }
@@ -46,10 +48,10 @@ fn complete_over<E: Earlier>(
     requires none { AddsNone E.earlier port }
     ensures none { AddsNone E.earlier result.1 }
     ensures goes { Goes (passes_of same_object port.pass) (passes_of same_object result.1.pass)
-        (λ terms seen added. Completes terms tries seen added decided.now result.0) }
+        (λ terms seen added. Completes terms sending tries seen added decided.now result.0) }
 {
     let mut objects = Objects::<E>::new(ram, port);
-    let end = decided.complete(&mut objects, tries);
+    let end = decided.complete(&mut objects, sending, tries);
     (end, objects.into_port())
 }
 
@@ -70,8 +72,8 @@ impl Station {
         }
     }
 
-    /// The object whose transmission was started and whose frame has not been on the bus yet, with its record after the start.
-    pub fn loaded(&self) -> Option<(ObjectNo, Record)>
+    /// The object whose transmission was started and whose frame has not been on the bus yet.
+    pub fn loaded(&self) -> Option<Loaded>
         ensures { result ≡ self.now.loaded }
     {
         self.loaded
@@ -84,8 +86,8 @@ impl Station {
         member_now(&self.under_way)
     }
 
-    /// Drops what is loaded, and takes no more part in a frame that is under way, as a reset does. The object stays requested, so
-    /// that a later load may start it anew.
+    /// Drops what is loaded, and takes no more part in a frame that is under way, as a reset does. An object that was started with
+    /// DAR 0 stays requested, so that a later load may start it anew.
     pub fn unload(&mut self)
         ensures profile { self.new.profile ≡ self.old.profile }
         ensures empty { self.new.loaded ≡ None }
@@ -133,6 +135,7 @@ impl Station {
         ram: &EndlessRam,
         port: Port,
         sends: bool,
+        sending: Sending,
         tries: Tries,
     ) -> (LoadAnswer, Port)
         requires memory { port.pass.memory ≡ ram.now.words }
@@ -142,16 +145,17 @@ impl Station {
         ensures profile { self.new.profile ≡ self.old.profile }
         ensures goes { Goes (passes_of same_object port.pass) (passes_of same_object result.1.pass)
             (λ terms seen added.
-            Loads sends terms tries seen added self.old.loaded self.new.loaded result.0) }
+            Loads sends sending terms tries seen added self.old.loaded self.new.loaded result.0) }
     {
         let mut objects = Objects::<E>::new(ram, port);
-        let answer = self.load(&mut objects, sends, tries);
+        let answer = self.load(&mut objects, sends, sending, tries);
         (answer, objects.into_port())
     }
 
     /// The start of a frame. The bus's port looks at the controller; where that has left the bus and may take part again, it joins
     /// and looks again. What was loaded is dropped where the controller has left the bus since. Then an object is chosen and
-    /// started, where nothing is loaded and the controller may send. What the chip is to the bus is under way from here on.
+    /// started, where nothing is loaded and the controller may send; with DAR 1 its frame is tried once. What the chip is to the
+    /// bus is under way from here on.
     pub fn begin(&mut self, ram: &EndlessRam, mut port: Port, tries: Tries) -> (Begun, Port)
         requires memory { port.pass.memory ≡ ram.now.words }
         requires bus { port.pass.port ≡ BusPort }
@@ -167,7 +171,8 @@ impl Station {
         let (first, found) = arrive(ram, &mut port);
         self.leave_behind(&first);
         let role = role_now(&found);
-        let (loading, port) = self.load_over::<Brand>(ram, port, may_send(role), tries);
+        let sending = sending_now(&found);
+        let (loading, port) = self.load_over::<Brand>(ram, port, may_send(role), sending, tries);
         let member = Member {
             role,
             frame: loaded_frame(&self.loaded),
@@ -204,7 +209,8 @@ impl Station {
 
     /// The end of a frame, to the chip at this place on the bus, which finds this error by itself. It looks at the controller: one
     /// that has left the bus since the start, also if it is back, has no event, and nothing is loaded. Else the memory steps come
-    /// that the event calls for, and then the event at the controller, in up to 1,000 tries. Nothing is under way afterwards.
+    /// that the event calls for, where what was sent is finished as it was started, and then the event at the controller, in up to
+    /// 1,000 tries. Nothing is under way afterwards.
     pub fn end(
         &mut self,
         ram: &EndlessRam,
@@ -231,7 +237,8 @@ impl Station {
         self.take(&found);
         let own = wire.event(place, &ending(&self.under_way, flaw));
         let decided = due(self.profile, &own, &self.loaded, frame_on(wire));
-        let (end, mut port) = complete_over::<Brand>(&decided, ram, port, tries);
+        let sending = sent_as(&self.loaded);
+        let (end, mut port) = complete_over::<Brand>(&decided, ram, port, sending, tries);
         self.settle(&own);
         let noted = note(ram, &mut port, &own);
         (

@@ -1,11 +1,12 @@
 //! Rounds of two chips and a node without one on one bus, with time between the start of a frame and its end: worked examples
-//! from CAN Specification 2.0 and the C_CAN User's Manual 1.2, "CAN Control Register", "Test Register" and section 4.2.
+//! from CAN Specification 2.0 and the C_CAN User's Manual 1.2, "CAN Control Register", "Test Register", "Disabled Automatic
+//! Retransmission" and section 4.2.
 ghost use Rattle.std.specs.Prelude.{◌≡◌, ◌<◌};
 ghost use Rattle.ccan_ram.specs.declared.port.PortName.TheVariants.{If1, If2, Bus};
 ghost use Rattle.ccan_object.specs.declared.profile.Profile.TheVariants.{One};
 
 use super::message;
-use crate::expect::{BYTES, RECEIVER, change_of, holds, same, shown, tries};
+use crate::expect::{BYTES, RECEIVER, change_of, frame, holds, same, shown, tries};
 use crate::shared::chips::{changed, looked};
 use ccan_bus::LoadAnswer;
 use ccan_chip::OwnEvent;
@@ -62,6 +63,14 @@ impl Seat {
     fn init(&mut self, init: bool) -> bool {
         self.control(ControlRegister {
             init,
+            ..ControlRegister::default()
+        })
+    }
+
+    /// The host writes DAR as 1, and the other bits of the Control register as 0.
+    fn set_dar(&mut self) -> bool {
+        self.control(ControlRegister {
+            dar: true,
             ..ControlRegister::default()
         })
     }
@@ -340,4 +349,81 @@ fn a_silent_chip_loads_nothing_and_hears(rt: HostRuntime) {
     laws::frames_of_who_left_are_cut_off();
     laws::who_left_has_no_event();
     laws::begins_are_loads();
+    laws::ends_as_it_began();
+}
+
+/// Sees that the next start finds nothing to send of A, whose object has NewDat 1 and TxRqst 0.
+fn is_not_tried_again(rt: &impl Abort, mut a: Seat) -> Seat {
+    same(rt, a.record().control(), 0x8088);
+    let (a, loading, member) = a.begin();
+    same(rt, (loading, member.frame), (LoadAnswer::Nothing, None));
+    a
+}
+
+#[test]
+fn a_frame_without_acknowledgement_is_tried_once_with_dar(rt: HostRuntime) {
+    let Network { mut a, b, c } = Network::open(&rt, rt.alloc());
+    // NewDat and TxRqst; no other node is on the bus.
+    holds(&rt, a.set_dar() && a.change(&message(0x8188)));
+    let (mut a, _, member) = a.begin();
+    same(&rt, a.record().control(), 0x8088);
+    let wire = decide(&[member]);
+    let (a, own) = a.end(&wire, 0);
+    let unheard = Some((BusEvent::SendNoAck, StatusEvent::Fault(3)));
+    same(&rt, own, unheard);
+    let mut a = is_not_tried_again(&rt, a);
+    // The host sets TxRqst again, and the node without a chip is there.
+    holds(&rt, a.change(&message(0x8188)));
+    let (network, wire) = Network { a, b, c }.start();
+    let (mut network, to_a, _) = network.end(&wire);
+    same(&rt, to_a, SENT);
+    same(&rt, network.a.record().control(), 0x0088);
+}
+
+#[test]
+fn what_loses_the_arbitration_is_tried_once_with_dar(rt: HostRuntime) {
+    let Network { mut a, mut b, c } = Network::open(&rt, rt.alloc());
+    holds(&rt, a.set_dar() && a.change(&message(0x8188)));
+    holds(&rt, b.init(false));
+    let (a, _, first) = a.begin();
+    let (b, _, second) = b.begin();
+    let lower = frame(0x100, false, false, 0, [0; 8]);
+    let wire = decide(&[first, second, c.member(Some(lower), None)]);
+    let (b, to_b) = b.end(&wire, 1);
+    let (a, to_a) = a.end(&wire, 0);
+    same(&rt, (to_a, to_b), (RECEIVED, RECEIVED));
+    let mut a = is_not_tried_again(&rt, a);
+    // Once it is asked for again, it is sent to B.
+    holds(&rt, a.change(&message(0x8188)));
+    let (network, wire) = Network { a, b, c }.start();
+    let (mut network, to_a, to_b) = network.end(&wire);
+    same(&rt, (to_a, to_b), (SENT, RECEIVED));
+    same(&rt, network.a.record().control(), 0x0088);
+    same(&rt, shown(&network.b.record()).3, BYTES);
+}
+
+#[test]
+fn dar_counts_as_it_was_at_the_start(rt: HostRuntime) {
+    // It is cleared in mid-frame: NewDat falls. It is set in mid-frame: TxRqst falls.
+    for is_set_before in [true, false] {
+        let mut network = Network::open(&rt, rt.alloc());
+        holds(&rt, network.a.change(&message(0x8188)));
+        if is_set_before {
+            holds(&rt, network.a.set_dar());
+        }
+        let (mut network, wire) = network.start();
+        let meanwhile = if is_set_before { 0x8088 } else { 0x0188 };
+        same(&rt, network.a.record().control(), meanwhile);
+        holds(
+            &rt,
+            if is_set_before {
+                network.a.init(false)
+            } else {
+                network.a.set_dar()
+            },
+        );
+        let (mut network, to_a, _) = network.end(&wire);
+        same(&rt, to_a, SENT);
+        same(&rt, network.a.record().control(), 0x0088);
+    }
 }

@@ -1,6 +1,7 @@
 -- The look tells whether the chip is still there; the memory steps go on from it; and then the event is made.
 use Rattle.std.proofs.Common.{◌≡◌, refl, sym, ap, subst, ◌∙◌}
 use Rattle.ccan_ram.specs.declared.port.PortName.{PortName}
+use Rattle.ccan_ram.specs.declared.sending.Sending.{Sending}
 use Rattle.ccan_ram.specs.SharedRam.{Memory, terms_of}
 use Rattle.ccan_bus.specs.declared.decision.Decision.{Decision}
 use Rattle.ccan_bus.specs.Complete.{Completes}
@@ -8,7 +9,7 @@ use Rattle.ccan_endless.specs.Layout.{same_object}
 use Rattle.ccan_chip.proofs.Ports.{sees_on}
 use Rattle.ccan_wire.specs.Event.{event_of}
 use Rattle.ccan_wire.specs.Wire.{start_of}
-use Rattle.ccan_station.specs.Station.{due, ending, frame_won, left_by, still_loaded}
+use Rattle.ccan_station.specs.Station.{due, ending, frame_won, left_by, sent_as, still_loaded}
 use Rattle.ccan_station.proofs.station.Station.end.Goals as goal
 
 pub returns-clause-ends : goal.returns-clause-ends
@@ -23,6 +24,7 @@ returns-clause-ends c =
     let goes = c.complete_over-end.ensures.goes.each looked.pass.seen (refl, c.look_controller-found.ensures.objects.sees) in
     let due_is : c.due-decided.result ≡ due own (still_loaded found c.args.self.now.loaded) (frame_won (start_of on)) =
     c.due-decided.ensures.value ∙ (λ i. due own (c.take.ensures.loaded i) (c.frame_on.ensures i)) in
+    let sending_is = c.sent_as-sending.ensures ∙ ap sent_as c.take.ensures.loaded in
     let member_is = c.ending.ensures ∙ ap (λ u. ending u c.args.flaw) c.take.ensures.under_way in
     record {
       looked = looked;
@@ -34,8 +36,9 @@ returns-clause-ends c =
       added = goes.0;
       adds = sym goes.1.0;
       completes =
-          subst (λ (u : Memory × PortName × Decision). Completes (terms_of same_object u.0 u.1) c.args.tries looked.pass.seen
-          goes.0 u.2 end) (λ i. (looks.same.memory i, (looks.same.port ∙ c.requires.bus) i, due_is i)) goes.2;
+          subst (λ (u : Memory × PortName × Sending × Decision). Completes (terms_of same_object u.0 u.1) u.2 c.args.tries
+          looked.pass.seen goes.0 u.3 end)
+          (λ i. (looks.same.memory i, (looks.same.port ∙ c.requires.bus) i, sending_is i, due_is i)) goes.2;
       left = c.settle.ensures.loaded ∙ ap (left_by own) c.take.ensures.loaded;
       notes = c.note-noted.ensures.notes;
     }
