@@ -1,7 +1,8 @@
 -- What a message object sends, and what the start and the end of a transmission leave of it. Source: after the C_CAN User's
 -- Manual 1.2, sections 3.3.4 (MsgVal, TxRqst, NewDat, TxIE) and 4.2 (transmission of messages); this project's own as a whole.
--- Sent once: "Disabled Automatic Retransmission" (TxRqst is reset when the transmission starts, while NewDat remains set; NewDat is
--- reset when it was completed successfully, and remains set when it failed). (own): new data that come meanwhile count as sent.
+-- Sent once: "Disabled Automatic Retransmission" (TxRqst is reset when the transmission starts, while NewDat remains set;
+-- NewDat is reset when it was completed successfully, and remains set when it failed). (own): new data that come meanwhile
+-- count as sent.
 use Rattle.std.specs.Prelude.{ℕ, Bool, true, false, ◌&&◌, not, if◌then◌else◌}
 use Rattle.ccan_object.specs.declared.record.Record.{Record}
 use Rattle.ccan_object.specs.Bits.{part}

@@ -34,7 +34,7 @@ pub fn finished(object: &Record) -> Record
     }
 }
 
-/// The record as its transmission starts where a frame is tried once (DAR 1 of the CAN Control register): TxRqst 0. NewDat
+/// The record as its transmission starts, if its frame is tried once (DAR 1 of the CAN Control register): TxRqst 0. NewDat
 /// stays, and says until the end that the frame was not sent.
 pub fn started_once(object: &Record) -> Record
     ensures { result ≡ started_once object.now }

@@ -159,7 +159,8 @@ module _ (tries : ℕ) (terms : Terms) (seen added : List Event) (past after : B
     taken_back end (Stops h) = rw h.told (stopped h.why h.finish)
     taken_back end (Scanned h) = rw h.told (scanned h.finished h.first h.last h.whole h.finish h.outcome h.scan)
 
-  loops : (decided : Decision) (end : RoundEnd) → DecidesBack past after decided → Completes terms UntilSent tries seen added decided end
+  loops : (decided : Decision) (end : RoundEnd) → DecidesBack past after decided
+      → Completes terms UntilSent tries seen added decided end
       → EndsBack end.answer
   loops decision.Idle end d (none, told) = rw told (record { empty = d.empty; quiet = none; same = d.same })
   loops (decision.LoopBack object frame) end d c = taken_back object frame d end c

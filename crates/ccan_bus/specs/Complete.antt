@@ -27,7 +27,8 @@ use Rattle.ccan_bus.specs.declared.round_end.RoundEnd.{RoundEnd}
 -- an object is finished, as it was started, or that is refused
 abbrev pub Finishes : Terms → Sending → ℕ → List Event → List Event → ℕ → Result Record Refused → Type 0
 Finishes terms sending tries seen added object (Ok finished) =
-    (before : Record) × (number : ℕ) × Attempt terms object (finish_by sending) tries seen added (Ok (Done before finished number))
+    (before : Record) × (number : ℕ)
+    × Attempt terms object (finish_by sending) tries seen added (Ok (Done before finished number))
 Finishes terms sending tries seen added object (Err why) = Attempt terms object (finish_by sending) tries seen added (Err why)
 
 -- ---- the ends
@@ -62,14 +63,15 @@ end_of_loop object finished (Err refused) = refused_at Store refused.at refused.
 -- ---- in loop back mode
 
 -- the finish is refused
-pub record StopsAtFinish (terms : Terms) (sending : Sending) (tries : ℕ) (seen added : List Event) (object : ℕ) (end : RoundEnd) : Type 0 where
+pub record StopsAtFinish (terms : Terms) (sending : Sending) (tries : ℕ) (seen added : List Event) (object : ℕ)
+    (end : RoundEnd) : Type 0 where
   pub why : Refused
   pub finish : Attempt terms object (finish_by sending) tries seen added (Err why)
   pub told : end ≡ refused_at Finish object why
 
 -- the finish is made, and then a scan
-pub record FinishesAndScans (terms : Terms) (sending : Sending) (tries : ℕ) (seen added : List Event) (object : ℕ) (frame : Frame)
-    (end : RoundEnd) : Type 0 where
+pub record FinishesAndScans (terms : Terms) (sending : Sending) (tries : ℕ) (seen added : List Event) (object : ℕ)
+    (frame : Frame) (end : RoundEnd) : Type 0 where
   pub finished : Record
   pub first : List Event
   pub last : List Event
@@ -82,7 +84,8 @@ pub record FinishesAndScans (terms : Terms) (sending : Sending) (tries : ℕ) (s
 pub data TakesBack (terms : Terms) (sending : Sending) (tries : ℕ) (seen added : List Event) (object : ℕ) (frame : Frame)
     (end : RoundEnd) : Type 0 where
   Stops : StopsAtFinish terms sending tries seen added object end → TakesBack terms sending tries seen added object frame end
-  Scanned : FinishesAndScans terms sending tries seen added object frame end → TakesBack terms sending tries seen added object frame end
+  Scanned : FinishesAndScans terms sending tries seen added object frame end
+      → TakesBack terms sending tries seen added object frame end
 
 -- ---- the steps of a decision
 
@@ -97,8 +100,10 @@ Completes terms sending tries seen added (decision.Fault winner frame) end = NoS
 Completes terms sending tries seen added (decision.NoAck winner frame) end = NoStep answer.NoAck added end
 Completes terms sending tries seen added (decision.Passed winner frame) end = NoStep answer.Passed added end
 Completes terms sending tries seen added (decision.Finish object frame) end =
-    (outcome : Result Record Refused) × Finishes terms sending tries seen added object outcome × (end ≡ end_of_finish object outcome)
+    (outcome : Result Record Refused) × Finishes terms sending tries seen added object outcome
+    × (end ≡ end_of_finish object outcome)
 Completes terms sending tries seen added (decision.Receipt winner frame) end =
     (outcome : Result (Option Stored) ScanRefused)
     × Scans terms (change.Store frame) 1 tries seen added outcome × (end ≡ end_of_receipt outcome)
-Completes terms sending tries seen added (decision.LoopBack object frame) end = TakesBack terms sending tries seen added object frame end
+Completes terms sending tries seen added (decision.LoopBack object frame) end =
+    TakesBack terms sending tries seen added object frame end

@@ -186,7 +186,8 @@ LoadsAreOfOneMoment =
     (terms : Terms) (tries object : ℕ) (started : Record) (seen added : List Event) (past after : BusPast)
     → past.choice ≡ AtOnce → Loads terms tries seen added past after (load.Loaded object started)
     → AtOneMoment seen added (λ h. (fits Start (record_at object h) ≡ true)
-    × ((k : ℕ) → k + 1 < object → (fits Start (record_at (k + 1) h) ≡ false) ⊎ IsWithdrawn terms UntilSent tries (k + 1) seen added))
+    × ((k : ℕ) → k + 1 < object
+    → (fits Start (record_at (k + 1) h) ≡ false) ⊎ IsWithdrawn terms UntilSent tries (k + 1) seen added))
 
 -- nothing is loaded after a round that wasn't idle
 abbrev pub NothingIsLoadedAfterwards : Type 0

@@ -98,7 +98,8 @@ interrupt_of_one_moment terms value seen added (shown, p, inr (place, is, set, f
 
 -- ---- a choice
 
-withdrawn_more : (terms : Terms) (sending : Sending) (tries object : ℕ) (seen last earlier : List Event) → IsWithdrawn terms sending tries object seen earlier
+withdrawn_more : (terms : Terms) (sending : Sending) (tries object : ℕ) (seen last earlier : List Event)
+    → IsWithdrawn terms sending tries object seen earlier
     → IsWithdrawn terms sending tries object seen (last ++ earlier)
 withdrawn_more terms sending tries object seen last earlier w = record {
   later = last ++ w.later;
@@ -111,7 +112,8 @@ withdrawn_more terms sending tries object seen last earlier w = record {
 
 -- events that were added before
 withdrawn_later : (terms : Terms) (sending : Sending) (tries object : ℕ) (seen looked added : List Event)
-    → IsWithdrawn terms sending tries object (looked ++ seen) added → IsWithdrawn terms sending tries object seen (added ++ looked)
+    → IsWithdrawn terms sending tries object (looked ++ seen) added
+    → IsWithdrawn terms sending tries object seen (added ++ looked)
 withdrawn_later terms sending tries object seen looked added w = record {
   later = w.later;
   tried = w.tried;
@@ -133,7 +135,8 @@ skipped terms sending shown tries (suc n) k seen added (last, earlier, whole, he
     (λ (l : k < n). ⊎_elim
     (λ (unready : was_ready shown (k + 1) ≡ false). inl unready)
     (λ (w : IsWithdrawn terms sending tries (k + 1) seen earlier).
-    inr (subst (IsWithdrawn terms sending tries (k + 1) seen) (sym whole) (withdrawn_more terms sending tries (k + 1) seen last earlier w)))
+    inr (subst (IsWithdrawn terms sending tries (k + 1) seen) (sym whole)
+    (withdrawn_more terms sending tries (k + 1) seen last earlier w)))
     (skipped terms sending shown tries n k seen earlier rest l))
     (λ (g : n ≤ k).
     let next : suc n ≡ k + 1 = omega (arith, g, less) in

@@ -70,7 +70,8 @@ skips_more {x} {y} {z} sending shown tries n object is so_far start =
     (ys, xs, refl, subst (λ (k : ℕ). Starts x.terms sending shown k tries (xs ++ seen) ys (Ok None)) here q, p)))
 
 -- an object at which the choice stops
-pub stops_at : {x y z : Passes} (sending : Sending) (shown : HandlerRegisters) (tries n object : ℕ) (outcome : Result (Option Record) Refused)
+pub stops_at : {x y z : Passes} (sending : Sending) (shown : HandlerRegisters) (tries n object : ℕ)
+    (outcome : Result (Option Record) Refused)
     → object ≡ n + 1 → n < objects_in x.terms.profile
     → Goes x y (λ terms seen added. Skips terms sending shown tries n seen added)
     → AddsStart y z sending shown object tries outcome
@@ -88,7 +89,8 @@ stops_at sending shown tries n object outcome is held so_far start =
     })
 
 pub all_skipped : {x y : Passes} (sending : Sending) (shown : HandlerRegisters) (tries n : ℕ) → n ≡ objects_in x.terms.profile
-    → Goes x y (λ terms seen added. Skips terms sending shown tries n seen added) → AddsChoiceAmong x y sending shown tries (Ok None)
+    → Goes x y (λ terms seen added. Skips terms sending shown tries n seen added)
+    → AddsChoiceAmong x y sending shown tries (Ok None)
 all_skipped {x} sending shown tries n all so_far =
     Goes-weaker so_far (λ seen added here after p. subst (λ (k : ℕ). Skips x.terms sending shown tries k seen added) all p)
 
@@ -109,7 +111,8 @@ pub started_later : {x y : Passes} {what : Terms → List Event → List Event �
     → Goes x y what → IsStarted y.terms sending 1 chosen → IsStarted x.terms sending 1 chosen
 started_later sending chosen goes started = subst (λ (t : Terms). IsStarted t sending 1 chosen) goes.same started
 
-pub chosen_at_once : {x y z : Passes} (sending : Sending) (shown : HandlerRegisters) (tries : ℕ) (answer : Result (Option (ℕ × Record)) ScanRefused)
+pub chosen_at_once : {x y z : Passes} (sending : Sending) (shown : HandlerRegisters) (tries : ℕ)
+    (answer : Result (Option (ℕ × Record)) ScanRefused)
     → AddsPicture x y shown → AddsChoiceAmong y z sending shown tries answer → AddsChoiceAtOnce x z sending tries answer
 chosen_at_once sending shown tries answer picture choice =
     Goes-then picture choice (λ seen xs ys p q. record {

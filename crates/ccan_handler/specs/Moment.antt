@@ -60,7 +60,8 @@ was_ready shown object = bit shown.msgval (object - 1) && bit shown.txrqst (obje
 abbrev pub Starts : Terms → Sending → HandlerRegisters → ℕ → ℕ → List Event → List Event → Result (Option Record) Refused → Type 0
 Starts terms sending shown object tries seen added (Ok None) =
     ((was_ready shown object ≡ false) × (added ≡ []))
-    ⊎ ((was_ready shown object ≡ true) × (now : Record) × Attempt terms object (start_by sending) tries seen added (Ok (NotNow now)))
+    ⊎ ((was_ready shown object ≡ true) × (now : Record)
+    × Attempt terms object (start_by sending) tries seen added (Ok (NotNow now)))
 Starts terms sending shown object tries seen added (Ok (Some after)) =
     (was_ready shown object ≡ true) × (before : Record) × (number : ℕ)
     × Attempt terms object (start_by sending) tries seen added (Ok (Done before after number))
@@ -92,13 +93,16 @@ Chosen = Result (Option (ℕ × Record)) ScanRefused
 
 -- the choice among the objects of a picture
 abbrev pub ChoosesAmong : Terms → Sending → HandlerRegisters → ℕ → List Event → List Event → Chosen → Type 0
-ChoosesAmong terms sending shown tries seen added (Ok None) = Skips terms sending shown tries (objects_in terms.profile) seen added
+ChoosesAmong terms sending shown tries seen added (Ok None) =
+    Skips terms sending shown tries (objects_in terms.profile) seen added
 ChoosesAmong terms sending shown tries seen added (Ok (Some (object, after))) =
     StopsAtOne terms sending shown tries object seen added (Ok (Some after))
-ChoosesAmong terms sending shown tries seen added (Err refused) = StopsAtOne terms sending shown tries refused.at seen added (Err refused.why)
+ChoosesAmong terms sending shown tries seen added (Err refused) =
+    StopsAtOne terms sending shown tries refused.at seen added (Err refused.why)
 
 -- a picture, and the choice among its objects
-pub record ChoosesAtOnce (terms : Terms) (sending : Sending) (tries : ℕ) (seen added : List Event) (answer : Chosen) : Type 0 where
+pub record ChoosesAtOnce (terms : Terms) (sending : Sending) (tries : ℕ) (seen added : List Event)
+    (answer : Chosen) : Type 0 where
   pub shown : HandlerRegisters
   pub looked : List Event
   pub tried : List Event
@@ -107,13 +111,16 @@ pub record ChoosesAtOnce (terms : Terms) (sending : Sending) (tries : ℕ) (seen
   pub choice : ChoosesAmong terms sending shown tries (looked ++ seen) tried answer
 
 abbrev pub AddsStart : Passes → Passes → Sending → HandlerRegisters → ℕ → ℕ → Result (Option Record) Refused → Type 0
-AddsStart old new sending shown object tries answer = Goes old new (λ terms seen added. Starts terms sending shown object tries seen added answer)
+AddsStart old new sending shown object tries answer =
+    Goes old new (λ terms seen added. Starts terms sending shown object tries seen added answer)
 
 abbrev pub AddsChoiceAmong : Passes → Passes → Sending → HandlerRegisters → ℕ → Chosen → Type 0
-AddsChoiceAmong old new sending shown tries answer = Goes old new (λ terms seen added. ChoosesAmong terms sending shown tries seen added answer)
+AddsChoiceAmong old new sending shown tries answer =
+    Goes old new (λ terms seen added. ChoosesAmong terms sending shown tries seen added answer)
 
 abbrev pub AddsChoiceAtOnce : Passes → Passes → Sending → ℕ → Chosen → Type 0
-AddsChoiceAtOnce old new sending tries answer = Goes old new (λ terms seen added. ChoosesAtOnce terms sending tries seen added answer)
+AddsChoiceAtOnce old new sending tries answer =
+    Goes old new (λ terms seen added. ChoosesAtOnce terms sending tries seen added answer)
 
 -- ---- laws
 

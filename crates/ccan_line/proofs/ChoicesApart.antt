@@ -42,7 +42,8 @@ module _ (terms : Terms) (tries : ℕ) (some : 1 ≤ tries) where
     starts_apart object seen added (Ok None) alone (inr (ready, now, h)) =
         inr (ready, now, attempts_undisturbed terms object (start_by sending) tries seen added (Ok (NotNow now)) some alone h)
     starts_apart object seen added (Ok (Some after)) alone (ready, before, number, h) =
-        let apart = attempts_undisturbed terms object (start_by sending) tries seen added (Ok (Done before after number)) some alone h in
+        let apart = attempts_undisturbed terms object (start_by sending) tries seen added (Ok (Done before after number)) some
+        alone h in
         (ready, before, number, apart)
     starts_apart object seen added (Err why) alone (ready, h) =
         (ready, attempts_undisturbed terms object (start_by sending) tries seen added (Err why) some alone h)
@@ -60,7 +61,8 @@ module _ (terms : Terms) (tries : ℕ) (some : 1 ≤ tries) where
         )
 
     stops_apart : (object : ℕ) (seen added : List Event) (answer : Result (Option Record) Refused) → NobodyElse terms.port added
-        → StopsAtOne terms sending shown tries object seen added answer → StopsAtOne single sending shown tries object seen added answer
+        → StopsAtOne terms sending shown tries object seen added answer
+        → StopsAtOne single sending shown tries object seen added answer
     stops_apart object seen added answer alone h =
         let parts = apart terms added h.last h.skipped h.whole alone in
         record {

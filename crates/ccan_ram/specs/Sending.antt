@@ -10,7 +10,7 @@ abbrev pub start_by : Sending → Change
 start_by UntilSent = Start
 start_by Once = StartOnce
 
--- the change that ends it, where the frame was sent
+-- the change that ends it, once the frame was sent
 abbrev pub finish_by : Sending → Change
 finish_by UntilSent = Finish
 finish_by Once = FinishOnce

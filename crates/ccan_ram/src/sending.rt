@@ -5,9 +5,9 @@ use crate::change::Change;
 /// How often the frame of an object is tried on the bus.
 #[derive(Clone, Copy, PartialEq, Eq, Hash, Debug)]
 pub enum Sending {
-    /// Until it was sent: where it fails, it stays requested and is tried again.
+    /// Until it was sent: if it fails, it stays requested and is tried again.
     UntilSent,
-    /// Once (C_CAN User's Manual 1.2, "Disabled Automatic Retransmission"): where it fails, it is requested no more.
+    /// Once (C_CAN User's Manual 1.2, "Disabled Automatic Retransmission"): if it fails, it is requested no more.
     Once,
 }
 
@@ -24,7 +24,7 @@ impl Sending {
         }
     }
 
-    /// The change that ends it, where the frame was sent.
+    /// The change that ends it, once the frame was sent.
     pub fn finish(self) -> Change
         ensures { result ≡ finish_by self }
     {

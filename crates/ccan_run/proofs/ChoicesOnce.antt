@@ -87,7 +87,8 @@ module _ (terms : Terms) where
             (λ so_far. pair (λ i. h.last) (sym is) ∙ (tried object (h.skipped ++ seen) h.last outcome so_far ready attempt
             ∙ ap (λ k. tries_ready k (h.skipped ++ seen)) object_is))))
 
-        among_is : (chosen : Chosen) → ChoosesAmong terms UntilSent shown tries seen added chosen → Gives (among shown seen) added chosen
+        among_is : (chosen : Chosen) → ChoosesAmong terms UntilSent shown tries seen added chosen
+            → Gives (among shown seen) added chosen
         among_is (Ok None) h =
             ap (λ (w : List Event × Option Found). (w.0, chosen_of (found w.1)))
             (skips_are (objects_in terms.profile) seen added legal h)

@@ -133,12 +133,14 @@ module _ (terms : Terms) (tries : ℕ) (seen added : List Event) where
           (record p { loaded = Some found }, record { choice = chosen_at _ h; now_loaded = refl }, refl)
       chosen_by (Err refused) h = (p, refused_at refused.at refused.why h, empty)
 
-      chooses : (new : Option Loaded) (told : LoadAnswer) (chosen : Chosen) → ChoosesAtOnce terms UntilSent tries seen added chosen
+      chooses : (new : Option Loaded) (told : LoadAnswer) (chosen : Chosen)
+          → ChoosesAtOnce terms UntilSent tries seen added chosen
           → new ≡ loaded_by UntilSent chosen → told ≡ answer_of chosen → IsLoad p new told
       chooses new told chosen h new_is told_is =
           subst (λ (u : Option Loaded × LoadAnswer). IsLoad p u.0 u.1) (λ i. (sym new_is i, sym told_is i)) (chosen_by chosen h)
 
-    runs : (old new : Option Loaded) (told : LoadAnswer) → p.loaded ≡ as_of_one old → Loads true UntilSent terms tries seen added old new told
+    runs : (old new : Option Loaded) (told : LoadAnswer) → p.loaded ≡ as_of_one old
+        → Loads true UntilSent terms tries seen added old new told
         → IsLoad p new told
     runs (Some loaded) new told is h = held loaded new told is h.0 h.1 h.2
     runs None new told is h = chooses is new told h.0 h.1 h.2 h.3
@@ -235,10 +237,6 @@ ends_as_begun terms tries old new later last on place flaw loaded after under_wa
     b.added l (Some loaded) begun.loading) (none_before b.first.has_left None refl) b.loads in
     let same = loaded_as (may_send (role_now begun.found)) (sending_now begun.found) terms tries b.looked.pass.seen b.added loaded
     begun.loading loads in
-    record {
-      seen = e.looked.pass.seen;
-      added = e.added;
-      completes = completes_by (takes_part told.found) (sending_now begun.found) terms tries e.looked.pass.seen e.added loaded
-          told.own (frame_won (start_of on)) told.end same
-          (λ gone. e.own ∙ no_event_by (takes_part told.found) on place flaw under_way gone) e.completes;
-    }
+    completes_by (takes_part told.found) (sending_now begun.found) terms tries e.looked.pass.seen e.added loaded told.own
+    (frame_won (start_of on)) told.end same
+    (λ gone. e.own ∙ no_event_by (takes_part told.found) on place flaw under_way gone) e.completes

@@ -3,10 +3,8 @@
 -- the stuff rule); C_CAN User's Manual 1.2, "CAN Control Register" (Init: setting it stops all transfer of messages). That a sender
 -- leaves before the end of the check sequence is (own). And laws of the start of a frame: "Disabled Automatic Retransmission"; that
 -- DAR counts as it is when a transmission starts is (own).
-use Rattle.std.specs.Prelude.{ℕ, ◌≡◌, ◌≢◌, true, false, List, Option, Some, None}
+use Rattle.std.specs.Prelude.{ℕ, ◌≡◌, ◌≢◌, true, false, Option, Some, None}
 use Rattle.ccan_object.specs.declared.record.Record.{Record}
-use Rattle.ccan_ram.specs.declared.event.Event.{Event}
-use Rattle.ccan_ram.specs.declared.sending.Sending.{Sending}
 use Rattle.ccan_ram.specs.Terms.{Terms}
 use Rattle.ccan_confine.specs.declared.controller.Controller.{Controller}
 use Rattle.ccan_bus.specs.declared.choice.Choice.TheVariants.{AtOnce}
@@ -63,8 +61,8 @@ abbrev pub as_of_one : Option Loaded → Option (ℕ × Record)
 as_of_one None = None
 as_of_one (Some loaded) = Some (loaded.object, loaded.started)
 
--- A start of a frame is a load of the bus of one chip, and leaves the same loaded, where the controller is not silent and its DAR
--- is 0: that bus knows no silent controller, and heeds no DAR.
+-- A start of a frame is a load of the bus of one chip, and leaves the same loaded, if the controller is not silent and its DAR is
+-- 0: that bus knows no silent controller, and heeds no DAR.
 abbrev pub BeginsAreLoads : Type 0
 BeginsAreLoads =
     (terms : Terms) (tries : ℕ) (old new : ChipPass) (past : BusPast) (loaded after : Option Loaded) (under_way : Option Member)
@@ -72,17 +70,13 @@ BeginsAreLoads =
     → Begins terms tries old new loaded after under_way told → role_of told.found ≢ Silent → told.found.control.dar ≡ false
     → (next : BusPast) × ChipLoad terms tries old new past next told.found told.loading × (next.loaded ≡ as_of_one after)
 
--- the memory steps at the end of a frame, of what is loaded then, are those of an object that was started so
-pub record CompletesAs (sending : Sending) (terms : Terms) (tries : ℕ) (on : Wire) (loaded : Option Loaded) (told : Ended) : Type 0 where
-  pub seen : List Event
-  pub added : List Event
-  pub completes : Completes terms sending tries seen added (due told.own loaded (frame_won (start_of on))) told.end
-
--- What is started at the start of a frame is finished as DAR said then, whatever a host makes of DAR until the end.
+-- What is started at the start of a frame is finished as DAR said then, whatever a host makes of DAR until the end: the memory
+-- steps of the end are those of an object that was started so.
 abbrev pub EndsAsItBegan : Type 0
 EndsAsItBegan =
     (terms : Terms) (tries : ℕ) (old new later last : ChipPass) (on : Wire) (place : ℕ) (flaw : Option Flaw) (loaded : Loaded)
     (after : Option Loaded) (under_way : Option Member) (begun : Begun) (told : Ended)
     → Begins terms tries old new None (Some loaded) under_way begun
-    → Ends terms tries later last on place flaw (Some loaded) after under_way told
-    → CompletesAs (sending_now begun.found) terms tries on (still_loaded told.found (Some loaded)) told
+    → (end : Ends terms tries later last on place flaw (Some loaded) after under_way told)
+    → Completes terms (sending_now begun.found) tries end.looked.pass.seen end.added
+    (due told.own (still_loaded told.found (Some loaded)) (frame_won (start_of on))) told.end

@@ -77,12 +77,14 @@ answer_of (Ok (Some found)) = load.Loaded found.0 found.1
 answer_of (Err refused) = refusal_of_load refused.at refused.why
 
 -- what is loaded stays; where nothing is, an object is chosen and started; and a chip that sends nothing has nothing loaded
-abbrev pub Loads : Bool → Sending → Terms → ℕ → List Event → List Event → Option Loaded → Option Loaded → LoadAnswer → Type 0
+abbrev pub Loads : Bool → Sending → Terms → ℕ → List Event → List Event → Option Loaded → Option Loaded → LoadAnswer
+    → Type 0
 Loads false sending terms tries seen added old new told = (added ≡ []) × (new ≡ None) × (told ≡ load.Nothing)
 Loads true sending terms tries seen added (Some started) new told =
     (added ≡ []) × (new ≡ Some started) × (told ≡ load.Held started.object)
 Loads true sending terms tries seen added None new told =
-    (chosen : Chosen) × ChoosesAtOnce terms sending tries seen added chosen × (new ≡ loaded_by sending chosen) × (told ≡ answer_of chosen)
+    (chosen : Chosen) × ChoosesAtOnce terms sending tries seen added chosen × (new ≡ loaded_by sending chosen)
+    × (told ≡ answer_of chosen)
 
 abbrev pub loaded_frame : Option Loaded → Option Frame
 loaded_frame None = None
@@ -101,8 +103,8 @@ pub record Begins (terms : Terms) (tries : ℕ) (old new : ChipPass) (loaded aft
   pub rests : AddsNone looked new
   pub added : List Event
   pub adds : new.pass.seen ≡ added ++ looked.pass.seen
-  pub loads : Loads (may_send (role_now told.found)) (sending_now told.found) terms tries looked.pass.seen added (loaded_before first loaded) after
-      told.loading
+  pub loads : Loads (may_send (role_now told.found)) (sending_now told.found) terms tries looked.pass.seen added
+      (loaded_before first loaded) after told.loading
   pub member : told.member ≡ member_of told.found after
   pub waits : under_way ≡ Some told.member
 
@@ -112,7 +114,7 @@ pub record Begins (terms : Terms) (tries : ℕ) (old new : ChipPass) (loaded aft
 abbrev pub still_under_way : Controller → Option Member → Option Member
 still_under_way found under_way = if takes_part found then under_way else None
 
--- and of what is loaded: its object may be chosen anew, where it is requested
+-- and of what is loaded: its object may be chosen anew, if it is requested
 abbrev pub still_loaded : Controller → Option Loaded → Option Loaded
 still_loaded found loaded = if takes_part found then loaded else None
 
@@ -122,7 +124,8 @@ member_now None = nobody
 member_now (Some m) = m
 
 -- a look at the controller, and no other step
-pub record Stays (old new : ChipPass) (loaded after : Option Loaded) (under_way left : Option Member) (told : Stayed) : Type 0 where
+pub record Stays (old new : ChipPass) (loaded after : Option Loaded) (under_way left : Option Member)
+    (told : Stayed) : Type 0 where
   pub looks : LooksAt old new told.found
   pub kept : left ≡ still_under_way told.found under_way
   pub held : after ≡ still_loaded told.found loaded
@@ -168,7 +171,7 @@ abbrev pub due : Option (BusEvent × StatusEvent) → Option Loaded → Option F
 due None loaded won = decision.Idle
 due (Some own) loaded won = due_by own.1 loaded won
 
--- how often what is loaded is tried, as it was started; where nothing is, nothing is finished
+-- how often what is loaded is tried, as it was started; if nothing is, nothing is finished
 abbrev pub sent_as : Option Loaded → Sending
 sent_as None = UntilSent
 sent_as (Some loaded) = loaded.sending

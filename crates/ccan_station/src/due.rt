@@ -58,7 +58,7 @@ fn receipt_of(profile: Profile, won: Option<Frame>) -> Decision
     }
 }
 
-/// How often what is loaded is tried. Where nothing is, nothing is finished.
+/// How often what is loaded is tried. If nothing is, nothing is finished.
 pub(crate) fn sent_as(loaded: &Option<Loaded>) -> Sending
     ensures { result ≡ sent_as loaded.now }
 {

@@ -19,7 +19,7 @@ pub fn who_left_has_no_event()
     ensures { WhoLeftHasNoEvent }
 {}
 
-/// The start of a frame is a load of `ccan_chip::ChipBus`, where the controller is not silent and DAR is 0.
+/// The start of a frame is a load of `ccan_chip::ChipBus`, if the controller is not silent and DAR is 0.
 pub fn begins_are_loads()
     ensures { BeginsAreLoads }
 {}

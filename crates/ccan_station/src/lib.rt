@@ -20,8 +20,8 @@
 //! | | DAR 0 | DAR 1 |
 //! |---|---|---|
 //! | at the start | NewDat 0 | TxRqst 0 |
-//! | where it was sent | TxRqst 0, unless NewDat is 1 again | NewDat 0 |
-//! | where it failed, lost the arbitration or was dropped | it stays requested, and is tried again | NewDat stays 1, and a host has to set TxRqst |
+//! | once it was sent | TxRqst 0, unless NewDat is 1 again | NewDat 0 |
+//! | if it failed, lost the arbitration or was dropped | it stays requested, and is tried again | NewDat stays 1, and a host has to set TxRqst |
 //!
 //! Members are settled at the start: who has not begun by then begins with the next frame. Of several `end` calls the order is
 //! the caller's: those who listen first, if a stored frame is to stand before its sender's TxOk.

@@ -32,7 +32,7 @@ pub(crate) fn may_send(role: Role) -> bool
     }
 }
 
-/// How often a frame is tried that a controller starts: once where DAR is 1.
+/// How often a frame is tried that a controller starts: once if DAR is 1.
 pub(crate) fn sending_now(found: &Controller) -> Sending
     ensures { result ≡ sending_now found.now }
 {

@@ -154,7 +154,7 @@ impl Station {
 
     /// The start of a frame. The bus's port looks at the controller; where that has left the bus and may take part again, it joins
     /// and looks again. What was loaded is dropped where the controller has left the bus since. Then an object is chosen and
-    /// started, where nothing is loaded and the controller may send; with DAR 1 its frame is tried once. What the chip is to the
+    /// started, if nothing is loaded and the controller may send; with DAR 1 its frame is tried once. What the chip is to the
     /// bus is under way from here on.
     pub fn begin(&mut self, ram: &EndlessRam, mut port: Port, tries: Tries) -> (Begun, Port)
         requires memory { port.pass.memory ≡ ram.now.words }
@@ -209,7 +209,7 @@ impl Station {
 
     /// The end of a frame, to the chip at this place on the bus, which finds this error by itself. It looks at the controller: one
     /// that has left the bus since the start, also if it is back, has no event, and nothing is loaded. Else the memory steps come
-    /// that the event calls for, where what was sent is finished as it was started, and then the event at the controller, in up to
+    /// that the event calls for, of which the finish is of the kind of the start, and then the event at the controller, in up to
     /// 1,000 tries. Nothing is under way afterwards.
     pub fn end(
         &mut self,

@@ -7,4 +7,5 @@ returns-in-Ok g c =
     c.end_of_loop.ensures c.in-Ok.ensures c.receive.ensures.adds
 
 pub returns-in-Err : goal.returns-in-Err
-returns-in-Err g c = back_stopped c.args.sending c.args.tries c.args.object c.args.frame.now c.in-Err.why _ c.refused_at.ensures c.in-Err.ensures
+returns-in-Err g c =
+    back_stopped c.args.sending c.args.tries c.args.object c.args.frame.now c.in-Err.why _ c.refused_at.ensures c.in-Err.ensures

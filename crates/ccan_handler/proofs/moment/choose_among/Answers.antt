@@ -13,8 +13,8 @@ returns-in-Ok-Some g c =
     let test = c.loop-place-test.true in
     let all = c.objects-place-end.ensures.number ∙ ap objects_in c.profile.ensures in
     record {
-      adds = stops_at c.args.sending c.args.shown c.args.tries c.loop-place.place _ _ c.nth-object.ensures (omega (arith, all, test))
-          c.loop-place.invariant (rw c.in-Ok-Some.field-0-is at c.in-Ok-Some.ensures.adds);
+      adds = stops_at c.args.sending c.args.shown c.args.tries c.loop-place.place _ _ c.nth-object.ensures
+          (omega (arith, all, test)) c.loop-place.invariant (rw c.in-Ok-Some.field-0-is at c.in-Ok-Some.ensures.adds);
       made = started_later c.args.sending _ c.loop-place.invariant (rw c.in-Ok-Some.field-0-is at c.in-Ok-Some.ensures.made);
     }
 
