@@ -3,7 +3,7 @@
 ghost use Rattle.ccan_chip.specs.Laws.{RoundsFindTheirCounters};
 
 /// The error counters that a round's change of the controller finds are those that its look found, whatever hosts changed of
-/// the controller between. So a round is decided by the counters that it counts on.
+/// the controller between, unless one of them reset a D_CAN. So a round is decided by the counters that it counts on.
 pub fn rounds_find_their_counters()
     ensures { RoundsFindTheirCounters }
 {}

@@ -14,7 +14,7 @@ use Rattle.ccan_confine.specs.Counters.{counts_cleared, is_recovering, new_count
 use Rattle.ccan_confine.specs.RegisterWords.{control_with}
 use Rattle.ccan_confine.specs.Controller.{changed_by, controller_after, counts_grouped, clears_init_of, is_handlers}
 use Rattle.ccan_confine.specs.ControllerLaws.{controller_of, add_event, node_events, CountersAreAsDefined, HostsLeaveTheCounters}
-use Rattle.ccan_confine.specs.ControllerLaws.{GoingOffSetsInit, StatusReadsClear, MasksLoseNothing, FlagsAreGivenLast}
+use Rattle.ccan_confine.specs.ControllerLaws.{GoingOffSetsInit, StatusReadsClear, MasksLoseNothing, FlagsAreGivenLast, is_dcan_reset}
 use Rattle.ccan_confine.specs.ControllerLaws.{tx_ok_given, rx_ok_given, newest_given, is_joining, HasLeftUntilJoining}
 use Rattle.ccan_confine.proofs.Calls.{listed_after, listed_clear, listed_ignored, listed_counted, listed_back, adds_result}
 use Rattle.ccan_confine.proofs.Steps.{counts-none}
@@ -67,6 +67,7 @@ change_adds (change.WriteTest test) c events e = e
 change_adds (change.WriteBitTiming word) c events e = e
 change_adds (change.WriteExtension word) c events e = e
 change_adds change.Reset c events e = sym (counts-none true)
+change_adds change.ResetDcan c events e = sym (counts-none true)
 change_adds change.Join c events e = e
 
 pub counters_defined : CountersAreAsDefined
@@ -79,31 +80,32 @@ one_levels true x y l e f = e
 one_levels false x y l e f = f
 
 pub hosts_leave : HostsLeaveTheCounters
-hosts_leave (change.Frame event noted) c host = absurd cc
-hosts_leave (change.Recessive n) c host = absurd cc
-hosts_leave change.ReadStatus c host = refl
-hosts_leave change.ReadAndClearStatus c host = refl
-hosts_leave (change.WriteStatus flags) c host = refl
-hosts_leave (change.WriteControl control) c host =
+hosts_leave (change.Frame event noted) c host other = absurd cc
+hosts_leave (change.Recessive n) c host other = absurd cc
+hosts_leave change.ReadStatus c host other = refl
+hosts_leave change.ReadAndClearStatus c host other = refl
+hosts_leave (change.WriteStatus flags) c host other = refl
+hosts_leave (change.WriteControl control) c host other =
     one_levels (clears_init_of c control) (counts_cleared c.counters) c.counters c.counters.levels refl refl
-hosts_leave (change.WriteControlBits which to) c host =
+hosts_leave (change.WriteControlBits which to) c host other =
     one_levels (clears_init_of c (control_with which to c.control)) (counts_cleared c.counters) c.counters c.counters.levels refl
     refl
-hosts_leave (change.WriteTest test) c host = refl
-hosts_leave (change.WriteBitTiming word) c host = refl
-hosts_leave (change.WriteExtension word) c host = refl
-hosts_leave change.Reset c host = absurd cc
-hosts_leave change.Join c host = absurd cc
+hosts_leave (change.WriteTest test) c host other = refl
+hosts_leave (change.WriteBitTiming word) c host other = refl
+hosts_leave (change.WriteExtension word) c host other = refl
+hosts_leave change.Reset c host other = absurd cc
+hosts_leave change.ResetDcan c host other = absurd cc
+hosts_leave change.Join c host other = absurd cc
 
 -- Init after new counters
 init_with : (init before after : Bool) → before ≡ false → after ≡ true → (init || (not before && after)) ≡ true
 init_with init before after on off = or_right init _ (and_from (not before) after (ap not on) off)
 
 -- a step that leaves the error counters leads no controller off
-stays : (z : ControllerChange) (c : Controller) {P : Type 0} → is_handlers z ≡ false → is_off c.counters.levels ≡ false
+stays : (z : ControllerChange) (c : Controller) {P : Type 0} → is_handlers z ≡ false → is_dcan_reset z ≡ false → is_off c.counters.levels ≡ false
     → is_off (controller_after z c).counters.levels ≡ true → P
-stays z c host on off =
-    let both : false ≡ true = sym on ∙ (ap is_off (sym (hosts_leave z c host)) ∙ off) in
+stays z c host other on off =
+    let both : false ≡ true = sym on ∙ (ap is_off (sym (hosts_leave z c host other)) ∙ off) in
     absurd cc
 
 pub off_sets_init : GoingOffSetsInit
@@ -111,15 +113,16 @@ off_sets_init (change.Frame event noted) c on off =
     init_with c.control.init (is_off c.counters.levels) (is_off (counts_after event c.counters).levels) on off
 off_sets_init (change.Recessive n) c on off =
     init_with c.control.init (is_off c.counters.levels) (is_off (counts_grouped n c.counters).levels) on off
-off_sets_init change.ReadStatus c on off = stays change.ReadStatus c refl on off
-off_sets_init change.ReadAndClearStatus c on off = stays change.ReadAndClearStatus c refl on off
-off_sets_init (change.WriteStatus flags) c on off = stays (change.WriteStatus flags) c refl on off
-off_sets_init (change.WriteControl control) c on off = stays (change.WriteControl control) c refl on off
-off_sets_init (change.WriteControlBits which to) c on off = stays (change.WriteControlBits which to) c refl on off
-off_sets_init (change.WriteTest test) c on off = stays (change.WriteTest test) c refl on off
-off_sets_init (change.WriteBitTiming word) c on off = stays (change.WriteBitTiming word) c refl on off
-off_sets_init (change.WriteExtension word) c on off = stays (change.WriteExtension word) c refl on off
+off_sets_init change.ReadStatus c on off = stays change.ReadStatus c refl refl on off
+off_sets_init change.ReadAndClearStatus c on off = stays change.ReadAndClearStatus c refl refl on off
+off_sets_init (change.WriteStatus flags) c on off = stays (change.WriteStatus flags) c refl refl on off
+off_sets_init (change.WriteControl control) c on off = stays (change.WriteControl control) c refl refl on off
+off_sets_init (change.WriteControlBits which to) c on off = stays (change.WriteControlBits which to) c refl refl on off
+off_sets_init (change.WriteTest test) c on off = stays (change.WriteTest test) c refl refl on off
+off_sets_init (change.WriteBitTiming word) c on off = stays (change.WriteBitTiming word) c refl refl on off
+off_sets_init (change.WriteExtension word) c on off = stays (change.WriteExtension word) c refl refl on off
 off_sets_init change.Reset c on off = refl
+off_sets_init change.ResetDcan c on off = refl
 off_sets_init change.Join c on off = let both : false ≡ true = sym on ∙ off in absurd cc
 
 -- a step that is no joining leaves a controller that has left as one
@@ -136,6 +139,7 @@ still_left (change.WriteTest test) c other left = or_left c.has_left _ left
 still_left (change.WriteBitTiming word) c other left = or_left c.has_left _ left
 still_left (change.WriteExtension word) c other left = or_left c.has_left _ left
 still_left change.Reset c other left = refl
+still_left change.ResetDcan c other left = refl
 still_left change.Join c other left = absurd cc
 
 -- Init is 1 only where the controller has left
@@ -173,6 +177,7 @@ masks_keep (change.WriteTest test) c control = (refl, refl)
 masks_keep (change.WriteBitTiming word) c control = (refl, refl)
 masks_keep (change.WriteExtension word) c control = (refl, refl)
 masks_keep change.Reset c control = (refl, refl)
+masks_keep change.ResetDcan c control = (refl, refl)
 masks_keep change.Join c control = (refl, refl)
 
 -- a flag that is set or stays
@@ -206,6 +211,7 @@ tx_step (change.WriteTest test) c = refl
 tx_step (change.WriteBitTiming word) c = refl
 tx_step (change.WriteExtension word) c = refl
 tx_step change.Reset c = refl
+tx_step change.ResetDcan c = refl
 tx_step change.Join c = refl
 
 rx_step : (z : ControllerChange) (c : Controller) → (controller_after z c).status.rx_ok ≡ unwrap_or (rx_ok_given z) c.status.rx_ok
@@ -220,6 +226,7 @@ rx_step (change.WriteTest test) c = refl
 rx_step (change.WriteBitTiming word) c = refl
 rx_step (change.WriteExtension word) c = refl
 rx_step change.Reset c = refl
+rx_step change.ResetDcan c = refl
 rx_step change.Join c = refl
 
 pub given_last : FlagsAreGivenLast

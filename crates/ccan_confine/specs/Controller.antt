@@ -2,8 +2,9 @@
 -- User's Manual 1.2, "CAN Control Register", "Status Register", "Error Counter", "Bit Timing Register", "BRP Extension
 -- Register", "Test Register" and "Hardware Reset Description". (own): a status interrupt is raised whatever SIE and EIE say;
 -- groups of recessive bits count on the way back from bus off also while Init is 1 again; that a controller has left the bus
--- is remembered until the message handler joins anew; and the packed word. The clearing read: Texas Instruments, AM335x
--- Technical Reference Manual, D_CAN's "Error and Status Register".
+-- is remembered until the message handler joins anew; and the packed word. The clearing read and the reset of a D_CAN: Texas
+-- Instruments, AM335x Technical Reference Manual, chapter DCAN, "Error and Status Register" (LEC is 7 after a reset) and "CAN
+-- Control Register" (SWR).
 use Rattle.std.specs.Prelude.{ℕ, ◌≡◌, ◌+◌, ◌<◌, ◌≤◌, Bool, true, false, ◌&&◌, ◌||◌, not, nat_le, min, ◌^◌, if◌then◌else◌}
 use Rattle.ccan_confine.specs.declared.status_event.StatusEvent.{StatusEvent}
 use Rattle.ccan_confine.specs.declared.status_event.StatusEvent.TheVariants.{Recovery, Level}
@@ -119,6 +120,7 @@ changed_by (change.WriteTest test) c = record c { test = (if c.control.test then
 changed_by (change.WriteBitTiming word) c = timed (timing_of word c.timing.extension) c
 changed_by (change.WriteExtension word) c = timed (timing_of c.timing.register word) c
 changed_by change.Reset c = reset_controller
+changed_by change.ResetDcan c = record reset_controller { status = record { tx_ok = false; rx_ok = false; lec = 7 } }
 changed_by change.Join c = record c { has_left = false }
 
 -- what a step makes of a controller: the message handler joins the bus, or the controller leaves it where Init is then 1
@@ -130,7 +132,8 @@ abbrev pub CanMake : ControllerChange → Type 0
 CanMake (change.Frame event noted) = HasFaultCode noted
 CanMake _ = Unit {0}
 
--- the ends of frames, the groups of recessive bits, a reset and a joining are the message handler's side's, all else is a host's
+-- The ends of frames, the groups of recessive bits, a reset and a joining are the message handler's side's; all else is a host's,
+-- and a reset of a D_CAN is either's.
 abbrev pub is_handlers : ControllerChange → Bool
 is_handlers (change.Frame event noted) = true
 is_handlers (change.Recessive groups) = true

@@ -25,6 +25,7 @@ add_event (change.WriteControl control) c events = if clears_init_of c control t
 add_event (change.WriteControlBits which to) c events =
     if clears_init_of c (control_with which to c.control) then ClearInit ∷ events else events
 add_event change.Reset c events = []
+add_event change.ResetDcan c events = []
 add_event _ c events = events
 
 -- what a list of changes is to them
@@ -40,10 +41,15 @@ OneWord = (c d : Controller) → IsController c → IsController d → packed c 
 abbrev pub CountersAreAsDefined : Type 0
 CountersAreAsDefined = (changes : List ControllerChange) → AreAfter true (node_events changes) (controller_of changes).counters
 
--- no step of a host changes TEC or REC
+-- a reset of a D_CAN, which a host may make
+abbrev pub is_dcan_reset : ControllerChange → Bool
+is_dcan_reset change.ResetDcan = true
+is_dcan_reset _ = false
+
+-- no step of a host but a reset of a D_CAN changes TEC or REC
 abbrev pub HostsLeaveTheCounters : Type 0
 HostsLeaveTheCounters =
-    (z : ControllerChange) (c : Controller) → is_handlers z ≡ false
+    (z : ControllerChange) (c : Controller) → is_handlers z ≡ false → is_dcan_reset z ≡ false
     → (controller_after z c).counters.levels ≡ c.counters.levels
 
 -- a controller that goes off has Init
@@ -83,6 +89,7 @@ tx_ok_given (change.Frame event noted) = if is_sent noted then Some true else No
 tx_ok_given change.ReadAndClearStatus = Some false
 tx_ok_given (change.WriteStatus flags) = Some flags.tx_ok
 tx_ok_given change.Reset = Some false
+tx_ok_given change.ResetDcan = Some false
 tx_ok_given _ = None
 
 -- and RxOk
@@ -91,6 +98,7 @@ rx_ok_given (change.Frame event noted) = if is_received noted then Some true els
 rx_ok_given change.ReadAndClearStatus = Some false
 rx_ok_given (change.WriteStatus flags) = Some flags.rx_ok
 rx_ok_given change.Reset = Some false
+rx_ok_given change.ResetDcan = Some false
 rx_ok_given _ = None
 
 -- what the newest change gives that gives something; at the opening 0

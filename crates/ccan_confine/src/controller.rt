@@ -274,6 +274,10 @@ impl Controller {
             ControllerChange::WriteBitTiming(word) => self.timed(self.timing.with_register(word)),
             ControllerChange::WriteExtension(word) => self.timed(self.timing.with_extension(word)),
             ControllerChange::Reset => Controller::reset(),
+            ControllerChange::ResetDcan => Controller {
+                status: StatusFlags::new(false, false, 7),
+                ..Controller::reset()
+            },
             ControllerChange::Join => Controller {
                 has_left: false,
                 ..self

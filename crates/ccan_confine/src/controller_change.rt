@@ -36,6 +36,10 @@ pub enum ControllerChange {
     /// A hardware reset: Init is 1, so the controller has left the bus, the Bit Timing register is 0x2301, and all else is 0
     /// as in a new controller (C_CAN User's Manual 1.2, "Hardware Reset Description"). By the message handler's side alone.
     Reset,
+    /// A reset of a D_CAN, after which LEC is 7; all else is as after `Reset`. A host makes it too, by SWR of the CAN Control
+    /// register (Texas Instruments, AM335x Technical Reference Manual, chapter DCAN, "CAN Control Register" and "Error and
+    /// Status Register").
+    ResetDcan,
     /// The message handler joins the bus anew: that the controller had left it is forgotten, unless Init is 1. By the message
     /// handler alone (own).
     Join,

@@ -98,7 +98,8 @@ pub fn counters_are_as_defined()
     ensures { CountersAreAsDefined }
 {}
 
-/// Only the message handler's side, by the ends of frames, the groups of recessive bits and a reset, changes TEC or REC.
+/// Only the message handler's side, by the ends of frames, the groups of recessive bits and a reset, changes TEC or REC; and so
+/// does a reset of a D_CAN, which a host may make too.
 pub fn hosts_leave_the_counters()
     ensures { HostsLeaveTheCounters }
 {}

@@ -1,10 +1,12 @@
 -- The laws of the history of a chip.
 use Rattle.std.proofs.Common.{◌≡◌, Bool, true, false, cond, List, [], ◌∷◌, sym, refl, ap, ◌∙◌, subst, true≢false}
+use Rattle.std.specs.List.{list_any}
+use Rattle.std.proofs.lemmas.Bool.{or_parts}
 use Rattle.ccan_confine.specs.declared.controller.Controller.{Controller}
 use Rattle.ccan_confine.specs.declared.controller_change.ControllerChange.{ControllerChange}
 use Rattle.ccan_confine.specs.Controller.{controller_after, is_handlers}
 use Rattle.ccan_confine.specs.Counters.{AreAfter}
-use Rattle.ccan_confine.specs.ControllerLaws.{controller_of, node_events}
+use Rattle.ccan_confine.specs.ControllerLaws.{controller_of, is_dcan_reset, node_events}
 use Rattle.ccan_confine.proofs.ControllerLaws.{counters_defined, hosts_leave}
 use Rattle.ccan_ram.specs.declared.port.PortName.{PortName}
 use Rattle.ccan_ram.specs.declared.port.PortName.TheVariants.{Bus}
@@ -47,17 +49,30 @@ hosts true p z is may other =
     absurd (true≢false (sym (same_own Bus) ∙ (ap (λ (q : PortName). same_port q Bus) (sym (may.own is)) ∙ other)))
 hosts false p z is may other = is
 
+-- a reset of a D_CAN
+abbrev pub is_reset : ControllerStep → Bool
+is_reset Look = false
+is_reset (Make z) = is_dcan_reset z
+
+-- where none is among the changes, neither is the newest step one
+pub none_reset : (st : ControllerStep) (changes : List ControllerChange) → list_any is_dcan_reset (add_change st changes) ≡ false
+    → (is_reset st ≡ false) × (list_any is_dcan_reset changes ≡ false)
+none_reset Look changes none = (refl, none)
+none_reset (Make z) changes none = or_parts (is_dcan_reset z) (list_any is_dcan_reset changes) none
+
 step_kept : (st : ControllerStep) (p : PortName) (c : Controller) → MayStand p st → same_port p Bus ≡ false
+    → is_reset st ≡ false
     → (left_by st c).counters.levels ≡ c.counters.levels
-step_kept Look p c may other = refl
-step_kept (Make z) p c may other = hosts_leave z c (hosts (is_handlers z) p z refl may other)
+step_kept Look p c may other none = refl
+step_kept (Make z) p c may other none = hosts_leave z c (hosts (is_handlers z) p z refl may other) none
 
 pub levels_stay : LevelsAreTheHandlers
-levels_stay [] h legal none = refl
-levels_stay (OfRam e ∷ more) h legal none = levels_stay more h legal none
-levels_stay (OfController e ∷ more) h legal none =
+levels_stay [] h legal none stays = refl
+levels_stay (OfRam e ∷ more) h legal none stays = levels_stay more h legal none stays
+levels_stay (OfController e ∷ more) h legal none stays =
     let o = none_own (same_port e.port Bus) e (steps_of Bus more) none in
+    let r = none_reset e.step (changes_in more) stays in
     let s = legal.0 in
     ap (λ (c : Controller). c.counters.levels) s.after
-    ∙ (step_kept e.step e.port e.before s.stands o.0
-    ∙ (ap (λ (c : Controller). c.counters.levels) s.before ∙ levels_stay more h legal.1 o.1))
+    ∙ (step_kept e.step e.port e.before s.stands o.0 r.0
+    ∙ (ap (λ (c : Controller). c.counters.levels) s.before ∙ levels_stay more h legal.1 o.1 r.1))

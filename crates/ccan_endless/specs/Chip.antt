@@ -35,7 +35,8 @@ steps_of port [] = []
 steps_of port (OfRam e ∷ h) = steps_of port h
 steps_of port (OfController e ∷ h) = if same_port e.port port then e ∷ steps_of port h else steps_of port h
 
--- the port may make the change: the ends of frames, the groups of recessive bits and a reset are the bus's alone
+-- The port may make the change: the ends of frames, the groups of recessive bits and a reset are the bus's alone, but a reset of
+-- a D_CAN is not.
 pub record MayMake (port : PortName) (change : ControllerChange) : Type 0 where
   pub can : CanMake change
   pub own : is_handlers change ≡ true → port ≡ Bus

@@ -1,9 +1,10 @@
 -- What follows of every history of a chip whose steps at the controller are legal. Source: this project's own; fault
 -- confinement is that of CAN Specification 2.0.
-use Rattle.std.specs.Prelude.{◌≡◌, true, List, [], ◌∷◌, ◌++◌}
+use Rattle.std.specs.Prelude.{◌≡◌, true, false, List, [], ◌∷◌, ◌++◌}
+use Rattle.std.specs.List.{list_any}
 use Rattle.ccan_confine.specs.declared.controller_change.ControllerChange.{ControllerChange}
 use Rattle.ccan_confine.specs.Counters.{AreAfter}
-use Rattle.ccan_confine.specs.ControllerLaws.{controller_of, node_events}
+use Rattle.ccan_confine.specs.ControllerLaws.{controller_of, is_dcan_reset, node_events}
 use Rattle.ccan_ram.specs.declared.port.PortName.TheVariants.{Bus}
 use Rattle.ccan_endless.specs.declared.chip.ChipEvent.TheVariants.{OfRam, OfController}
 use Rattle.ccan_endless.specs.declared.chip.ControllerStep.{ControllerStep}
@@ -30,8 +31,9 @@ abbrev pub CountersAreAsDefined : Type 0
 CountersAreAsDefined =
     (h : ChipHistory) → IsControllerLegal h → AreAfter true (node_events (changes_in h)) (controller_at h).counters
 
--- TEC and REC change by the bus's own steps alone
+-- TEC and REC change by the bus's own steps alone, and by resets of a D_CAN, which hosts may make
 abbrev pub LevelsAreTheHandlers : Type 0
 LevelsAreTheHandlers =
     (more h : ChipHistory) → IsControllerLegal (more ++ h) → steps_of Bus more ≡ []
+    → list_any is_dcan_reset (changes_in more) ≡ false
     → (controller_at (more ++ h)).counters.levels ≡ (controller_at h).counters.levels

@@ -2,6 +2,7 @@
 -- is that of C_CAN User's Manual 1.2, "Hardware Reset Description".
 use Rattle.std.specs.Prelude.{◌≡◌, ℕ, ◌+◌, ◌≤◌, ◌∷◌, [], length, Option, Some, None}
 use Rattle.ccan_confine.specs.declared.controller.Controller.{Controller}
+use Rattle.ccan_confine.specs.declared.controller_change.ControllerChange.{ControllerChange}
 use Rattle.ccan_confine.specs.declared.controller_change.ControllerChange.TheVariants.{Reset}
 use Rattle.ccan_confine.specs.Controller.{new_controller}
 use Rattle.ccan_ram.specs.declared.port.PortName.TheVariants.{Bus}
@@ -64,6 +65,10 @@ pub record ChipMeets (a b new_a new_b : ChipPass) : Type 0 where
   pub none_b : AddsNone b new_b
   pub one : new_b.whole ≡ new_a.whole
 
--- a chip after its hardware reset: the first event is that reset, by the bus's port
+-- a chip whose first event is this change of its controller, by the bus's port
+abbrev pub begun_by : ControllerChange → ChipHistory
+begun_by change = OfController (step_at Bus (Make change) new_controller) ∷ []
+
+-- a chip after its hardware reset: the first event is that reset
 abbrev pub reset_history : ChipHistory
-reset_history = OfController (step_at Bus (Make Reset) new_controller) ∷ []
+reset_history = begun_by Reset

@@ -14,7 +14,8 @@ pub fn counters_are_as_defined()
     ensures { CountersAreAsDefined }
 {}
 
-/// Between two places of a legal history without a step of the bus at the controller, TEC and REC stay.
+/// Between two places of a legal history without a step of the bus at the controller, and without a reset of a D_CAN, TEC and
+/// REC stay.
 pub fn levels_are_the_handlers()
     ensures { LevelsAreTheHandlers }
 {}
