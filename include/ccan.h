@@ -222,17 +222,19 @@ CCAN_HOLDS(sizeof(ccan_final) == 1284 && offsetof(ccan_final, records) == 4);
  * open ends, without its records, where it answers CCAN_DONE. */
 CCAN_CODE ccan_open(ccan_chip *chip, uint32_t profile, uint32_t nodes, uint32_t tries);
 
-/* How the registers lie, in bytes from where the chip begins. All have the same registers of 16 bits, with the bits of C_CAN. */
+/* How the registers lie, in bytes from where the chip begins. All have the same registers of 16 bits. */
 enum ccan_layout {
     CCAN_LAYOUT_C_CAN,    /* C_CAN: the registers side by side, at the offsets of enum ccan_offset */
     CCAN_LAYOUT_C_CAN_32, /* C_CAN: each register at twice that offset, alone in a word of 32 bits */
-    CCAN_LAYOUT_D_CAN     /* D_CAN: the halves of its registers of 32 bits, see docs/FORMATS.md */
+    CCAN_LAYOUT_D_CAN     /* D_CAN: the halves of its registers of 32 bits, see docs/FORMATS.md. What differs from a C_CAN is said
+                           * at the calls; what a D_CAN has beside that, as parity, auto bus on, power down, DMA, IF3 and a second
+                           * interrupt line, is left out */
 };
 
 /* Opens a chip as a part is after its reset, all of it or nothing: Init is 1, so that it takes part only once a write of Control
  * has cleared it; Bit Timing is 0x2301; all bits of the masks of IF1 and IF2 are 1, but for bit 13 of Mask 2, which is reserved
- * and reads 0 (Mask 1 reads 0xffff, Mask 2 0xdfff); Command Request reads 1; every other register is 0, and so are the records,
- * which a part leaves undefined. `layout` is an enum ccan_layout. Answers the first of CCAN_PROFILE_RANGE, CCAN_NODES_RANGE,
+ * and reads 0 (Mask 1 reads 0xffff, Mask 2 0xdfff); Command Request reads 1; in CCAN_LAYOUT_D_CAN Control reads 0x1401 and Status
+ * 7; every other register is 0, and so are the records, which a part leaves undefined. `layout` is an enum ccan_layout. Answers the first of CCAN_PROFILE_RANGE, CCAN_NODES_RANGE,
  * CCAN_TRIES_RANGE and CCAN_LAYOUT_RANGE that applies; all else is as with ccan_open. */
 CCAN_CODE ccan_open_reset(ccan_chip *chip, uint32_t profile, uint32_t nodes, uint32_t tries, uint32_t layout);
 
@@ -374,14 +376,19 @@ enum ccan_offset {
 CCAN_CODE ccan_read16(ccan_host *host, uint32_t offset, uint16_t *out);
 
 /* Writes the register of 16 bits at an offset of the chip's layout. Reserved bits are dropped.
- *  - Control: as it is written. Init from 1 to 0 starts the way back of a controller that is bus off.
- *  - Status: TxOk, RxOk and LEC are set as written, the other bits dropped.
+ *  - Control: as it is written. Init from 1 to 0 starts the way back of a controller that is bus off. In CCAN_LAYOUT_D_CAN a write
+ *    with SWR, bit 15, and Init resets the chip: the controller's registers have their reset values, MsgVal, NewDat, IntPnd and
+ *    TxRqst of each message object become 0, and what was loaded is dropped. The registers of IF1 and IF2 stay. That is one change
+ *    of the controller and then one of each object, which may be refused as those of ccan_reset. SWR without Init is dropped.
+ *  - Status: TxOk, RxOk and LEC are set as written, the other bits dropped; in CCAN_LAYOUT_D_CAN all are.
  *  - Bit Timing, BRP Extension: taken only where Init and CCE are 1, else dropped. Test: only where Test of Control is 1.
- *  - Command Request: the transfer that Command Mask says, as ccan_request.
+ *  - Command Request: the transfer that Command Mask says, as ccan_request. In CCAN_LAYOUT_D_CAN the number has eight bits, and one
+ *    that no object has moves nothing; and a write with TxRqst/NewDat sets NewDat of the object too.
  *  - The other registers of an interface: as ccan_set.
  *  - Error Counter, Interrupt and the registers of the flags: dropped.
  * The first of CCAN_OFFSET_RANGE and CCAN_OTHER_INTERFACE that applies. Else CCAN_DONE; CCAN_BUSY, of Control, Status, Bit Timing,
- * BRP Extension, Test and Command Request: nothing was changed, and the call may be made again; CCAN_SPENT, of Command Request. */
+ * BRP Extension, Test and Command Request: nothing was changed, and the call may be made again; CCAN_SPENT, of Command Request. A
+ * reset by SWR may be refused at an object: then the controller and the objects before that one were reset. */
 CCAN_CODE ccan_write16(ccan_host *host, uint32_t offset, uint16_t value);
 
 /* Reads the word of 32 bits at an offset of the chip's layout, a multiple of 4. Where both halves are registers of one flag, its 32

@@ -1,4 +1,4 @@
-/* A C_CAN of one thread, whose calls are those of ccan.h, made of steps: each place of a call in the chip's history is a step. */
+/* A C_CAN or a D_CAN of one thread, whose calls are those of ccan.h, made of steps: each place of a call in the chip's history is a step. */
 #ifndef CHIP_H
 #define CHIP_H
 #include "../explorer.h"
@@ -13,12 +13,13 @@ enum { IDENTIFIER = 0x1fffffff, STANDARD = 0x1ffc0000, DIR = 1 << 29, XTD = 1 <<
 #define MSGVAL 0x80000000u
 #define MXTD 0x80000000u
 enum { INIT = 0x01, IE = 0x02, SIE = 0x04, EIE = 0x08, CCE = 0x40, TEST = 0x80 };  /* in Control */
+enum { SWR = 0x8000, PMD_OFF = 0x1400 };                                          /* in Control of a D_CAN */
 enum { LBACK = 0x10 };                                                            /* in Test */
 
 /* Parts of the controller: bits of ROW_CONTROLLER. */
 enum {
     PART_INIT = 1, PART_IE = 2, PART_ENABLES = 4, PART_CONTROL = 8, PART_FLAGS = 16, PART_PENDING = 32, PART_COUNTERS = 64,
-    PART_TIMING = 128, PART_EXTENSION = 256, PART_TEST = 512, PART_LEFT = 1024
+    PART_TIMING = 128, PART_EXTENSION = 256, PART_TEST = 512, PART_LEFT = 1024, ALL_PARTS = 2047
 };
 
 /* A node's error counters. */
@@ -74,6 +75,7 @@ uint16_t status_word(void);
 uint16_t error_counter_word(void);
 void set_control(uint16_t value);
 void reset_controller(void);
+void reset_record(ccan_record *record);
 
 /* frames.c */
 typedef struct { uint32_t id; bool xtd, rtr; uint8_t dlc, bytes[8]; } frame;
@@ -90,6 +92,8 @@ unsigned side_of(const ccan_host *host);
 uint16_t get_register(unsigned side, uint32_t reg);
 void set_register(unsigned side, uint32_t reg, uint16_t value);
 void transfer(unsigned side, uint16_t request);
+void request_of_d_can(unsigned side, uint16_t request);
+bool is_d_can(void);
 uint64_t flags_now(uint32_t flag, uint64_t which);
 uint16_t pending_object(void);
 bool shows_flag(const ccan_record *record, uint32_t flag);

@@ -89,5 +89,12 @@ void set_control(uint16_t value)
 
 void reset_controller(void)
 {
-    C.controller = (controller){ .control = INIT, .timing = 0x2301, .has_left = true };
+    C.controller = (controller){ .control = INIT, .timing = 0x2301, .flags = is_d_can() ? 7 : 0, .has_left = true };
+}
+
+/* What a reset leaves of an object. */
+void reset_record(ccan_record *record)
+{
+    record->arbitration &= ~MSGVAL;
+    record->control &= (uint16_t)~(NEWDAT | INTPND | TXRQST);
 }

@@ -128,11 +128,12 @@ static unsigned rows_of_read(uint16_t mask)
     return rows;
 }
 
-static void write_object(interface *of, ccan_record *record)
+/* A request of a transmission sets these. */
+static void write_object(interface *of, ccan_record *record, uint16_t sets)
 {
     take_groups(record, &of->buffer, of->mask);
     if (of->mask & REQUEST)
-        record->control |= TXRQST;
+        record->control |= sets;
     of->buffer = *record;
 }
 
@@ -145,11 +146,9 @@ static void fetch_object(interface *of, ccan_record *record)
         record->control &= (uint16_t)~NEWDAT;
 }
 
-void transfer(unsigned side, uint16_t request)
+static void transfer_with(unsigned side, unsigned object, uint16_t sets)
 {
     interface *of = &C.interfaces[side], before;
-    unsigned object = (request & 63) % C.objects;
-    object = object ? object : C.objects;
     footprint most = { 0 };
     for (int row = 0; row < ROW_CONTROLLER; row++)
         most.reads[row] = most.writes[row] = 1ull << (object - 1);
@@ -159,7 +158,10 @@ void transfer(unsigned side, uint16_t request)
     bool writes = of->mask & WRITE;
     before = *of;
     of->request = (uint16_t)object;
-    (writes ? write_object : fetch_object)(of, record);
+    if (writes)
+        write_object(of, record, sets);
+    else
+        fetch_object(of, record);
     read_object(object, writes ? ALL_ROWS : rows_of_read(of->mask));
     changed_object(object, &was);
     E->event->reads[ROW_INTERFACES] |= (writes ? 0x7ffull : 0x401ull) << 16 * side;
@@ -168,6 +170,27 @@ void transfer(unsigned side, uint16_t request)
         E->event->writes[ROW_INTERFACES] |= (uint64_t)0x3fe << 16 * side; /* it may have written over what it didn't read */
     tell("%s object %u by IF%u, mask %02x:%s, data %02x%02x..", writes ? "writes" : "reads", object, side + 1, of->mask,
         flags_changed(&was, record), record->bytes[0], record->bytes[1]);
+}
+
+void transfer(unsigned side, uint16_t request)
+{
+    unsigned object = (request & 63) % C.objects;
+    transfer_with(side, object ? object : C.objects, TXRQST);
+}
+
+/* Eight bits of it are the object's number; where none has it, it is read back. */
+void request_of_d_can(unsigned side, uint16_t request)
+{
+    unsigned number = request & 0xff;
+    if (number && number <= C.objects) {
+        transfer_with(side, number, TXRQST | NEWDAT);
+        return;
+    }
+    step_at_interface(side, 0, 1ull << COMMAND_REQUEST);
+    interface before = C.interfaces[side];
+    C.interfaces[side].request = (uint16_t)number;
+    changed_interface(side, &before);
+    tell("requests object %u by IF%u, which is none", number, side + 1);
 }
 
 uint32_t ccan_request(ccan_host *host, uint16_t request)

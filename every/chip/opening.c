@@ -133,10 +133,8 @@ uint32_t ccan_reset(ccan_chip *at)
     reset_controller();
     reset_interface(&C.interfaces[0]);
     reset_interface(&C.interfaces[1]);
-    for (unsigned object = 0; object < C.objects; object++) {
-        C.records[object].arbitration &= ~MSGVAL;
-        C.records[object].control &= (uint16_t)~(NEWDAT | INTPND | TXRQST);
-    }
+    for (unsigned object = 0; object < C.objects; object++)
+        reset_record(&C.records[object]);
     C.loaded = 0;
     C.held = (ccan_record){ 0 };
     tell("resets the chip");

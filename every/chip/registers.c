@@ -1,4 +1,5 @@
-/* Registers by their offsets, in the three layouts, and the interrupt line. */
+/* Registers by their offsets, in the three layouts, and the interrupt line. What a D_CAN does otherwise: Texas Instruments AM335x
+ * Technical Reference Manual, chapter DCAN. */
 #include "chip.h"
 
 enum reg_name {
@@ -12,6 +13,8 @@ enum { COMMAND_REQUEST = 10, OF_BUS = 2 };
 static const reg none = { NO_REGISTER, 0, 0 };
 
 /* ---- layouts */
+
+bool is_d_can(void) { return C.layout == CCAN_LAYOUT_D_CAN; }
 
 /* The flag registers that begin at an offset: one for 16 objects. */
 static reg flag_at(uint32_t offset, uint32_t first, unsigned flag)
@@ -81,7 +84,7 @@ static reg register_at(uint32_t offset)
 {
     if (offset & 1)
         return none;
-    if (C.layout == CCAN_LAYOUT_D_CAN)
+    if (is_d_can())
         return d_can_at(offset);
     if (C.layout == CCAN_LAYOUT_C_CAN)
         return narrow_at(offset);
@@ -135,7 +138,7 @@ static uint16_t controller_read(enum reg_name name)
         [TEST_REGISTER] = PART_TEST, [EXTENSION] = PART_EXTENSION };
     step_at_controller(parts[name], 0);
     const controller *of = &C.controller;
-    uint16_t value = name == CONTROL ? of->control : name == ERROR_COUNTER ? error_counter_word() :
+    uint16_t value = name == CONTROL ? of->control | (is_d_can() ? PMD_OFF : 0) : name == ERROR_COUNTER ? error_counter_word() :
         name == BIT_TIMING ? of->timing : name == TEST_REGISTER ? of->test : of->extension;
     tell("reads %s: %04x", names[name], value);
     return value;
@@ -144,7 +147,7 @@ static uint16_t controller_read(enum reg_name name)
 static uint16_t register_read(reg which)
 {
     switch (which.name) {
-    case STATUS: return status_read(C.layout == CCAN_LAYOUT_D_CAN);
+    case STATUS: return status_read(is_d_can());
     case INTERRUPT: return read_interrupt();
     case OF_INTERFACE: return get_register(which.of, which.number);
     case OF_FLAG: return (uint16_t)(flags_now(which.of, 0xffffull << 16 * which.number) >> 16 * which.number);
@@ -211,7 +214,7 @@ static void controller_written(enum reg_name name, uint16_t value)
     else if (name == STATUS)
         of->flags = value & 0x1f;
     else if (name == TEST_REGISTER && (of->control & TEST))
-        of->test = value & 0x1c;
+        of->test = value & (is_d_can() ? 0x18 : 0x1c);
     else if (name == BIT_TIMING && may_configure)
         of->timing = value & 0x7fff;
     else if (name == EXTENSION && may_configure)
@@ -233,12 +236,36 @@ static void controller_write(enum reg_name name, uint16_t value)
     tell("writes %s: %04x", names[name], value);
 }
 
+/* A software reset of a D_CAN: the controller, and then each object. */
+static void reset_by_software(void)
+{
+    step_at_controller(0, ALL_PARTS);
+    controller was = C.controller;
+    reset_controller();
+    changed_controller(&was);
+    tell("resets the controller by SWR");
+    for (unsigned object = 1; object <= C.objects; object++) {
+        step_at_object(object, true);
+        read_object(object, ALL_ROWS);
+        ccan_record before = C.records[object - 1];
+        reset_record(&C.records[object - 1]);
+        changed_object(object, &before);
+        tell("resets object %u", object);
+    }
+}
+
 static void register_write(reg which, uint16_t value)
 {
+    if (is_d_can() && which.name == CONTROL && (value & SWR) && (value & INIT)) {
+        reset_by_software();
+        return;
+    }
+    if (is_d_can() && which.name == STATUS)
+        return;
     switch (which.name) {
     case OF_INTERFACE:
         if (which.number == COMMAND_REQUEST)
-            transfer(which.of, value);
+            (is_d_can() ? request_of_d_can : transfer)(which.of, value);
         else
             set_register(which.of, which.number, value);
         break;

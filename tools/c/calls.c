@@ -557,6 +557,48 @@ static void a_read_of_status_clears_a_dcan(void)
     EXPECT(reads(&chip.if2, 0x04) == 0x0007);
 }
 
+/* Object 2 sends 0x100 with a byte: Arbitration 2, Message Control, Data A1, the command and its request; and Init is cleared. */
+static const struct { uint32_t offset; uint16_t value; } sends_of_dcan[] = {
+    { 0x10a, 0xa400 }, { 0x10c, 0x0081 }, { 0x110, 0x0011 }, { 0x102, 0x00b6 }, { 0x100, 2 }, { 0x000, 0 } };
+
+static void sends_by_dcan(void)
+{
+    for (size_t i = 0; i < COUNT(sends_of_dcan); i++)
+        EXPECT(ccan_write16(&chip.if1, sends_of_dcan[i].offset, sends_of_dcan[i].value) == CCAN_DONE);
+}
+
+/* New data for a frame on its way, by a command with WR/RD, TxRqst/NewDat and Data A, is sent behind it. */
+static void a_command_of_a_dcan_sends_new_data(void)
+{
+    reset(&chip, CCAN_LAYOUT_D_CAN);
+    sends_by_dcan();
+    EXPECT(loads(&chip.bus) == 2);
+    EXPECT(ccan_write16(&chip.if1, 0x110, 0x0022) == CCAN_DONE);
+    EXPECT(ccan_write16(&chip.if1, 0x102, 0x0086) == CCAN_DONE);
+    EXPECT(ccan_write16(&chip.if1, 0x100, 2) == CCAN_DONE);
+    EXPECT(reads(&chip.if1, 0x10c) == 0x8181);
+    EXPECT(played_alone(&chip.bus).frame.bytes[0] == 0x11);
+    EXPECT(played_alone(&chip.bus).frame.bytes[0] == 0x22);
+    EXPECT(played_alone(&chip.bus).kind == CCAN_IDLE);
+}
+
+/* SWR with Init: the error counters too, and what was loaded. SWR without Init is dropped. */
+static void a_dcan_is_reset_by_software(void)
+{
+    reset(&chip, CCAN_LAYOUT_D_CAN);
+    sends_by_dcan();
+    EXPECT(ccan_write16(&chip.if1, 0x00, 0x8000) == CCAN_DONE);
+    EXPECT(reads(&chip.if1, 0x00) == 0x1400);
+    EXPECT(loads(&chip.bus) == 2);
+    EXPECT(ccan_write16(&chip.if1, 0x00, 0x8001) == CCAN_DONE);
+    EXPECT(reads(&chip.if1, 0x00) == 0x1401);
+    EXPECT(reads(&chip.if1, 0x04) == 0x0007);
+    EXPECT(reads(&chip.if1, 0x08) == 0);
+    EXPECT(reads(&chip.if1, 0xc4) == 0);
+    write_control(&chip.if1, 0);
+    EXPECT(played_alone(&chip.bus).kind == CCAN_IDLE);
+}
+
 /* Receives frames 0x123 in object 5 of a D_CAN: Arbitration, Message Control, and the command with its mask above. */
 static const struct { uint32_t offset, value; } receives_32[] = {
     { 0x108, 0x848c0000 }, { 0x10c, 0x00000488 }, { 0x100, 0x00f30005 }, { 0x000, 0 } };
@@ -580,7 +622,7 @@ static void the_bus_reads_and_writes_words_of_32_bits(void)
     reset(&chip, CCAN_LAYOUT_D_CAN);
     EXPECT(ccan_bus_write32(&chip.bus, 0x000, 0xffff0041) == CCAN_DONE);
     EXPECT(ccan_bus_read32(&chip.bus, 0x000, &word) == CCAN_DONE);
-    EXPECT(word == 0x00000041);
+    EXPECT(word == 0x00001441);
     EXPECT(ccan_bus_write32(&chip.bus, 0x00c, 0x00051c00) == CCAN_DONE);
     EXPECT(ccan_bus_read32(&chip.bus, 0x00c, &word) == CCAN_DONE);
     EXPECT(word == 0x00051c00);
@@ -859,6 +901,8 @@ static const struct { const char *name; void (*run)(void); } tests[] = {
     TEST(the_bus_reads_and_writes_registers),
     TEST(a_read_of_status_leaves_its_flags),
     TEST(a_read_of_status_clears_a_dcan),
+    TEST(a_command_of_a_dcan_sends_new_data),
+    TEST(a_dcan_is_reset_by_software),
     TEST(a_frame_is_received_by_words_of_32_bits),
     TEST(the_bus_reads_and_writes_words_of_32_bits),
     TEST(words_out_of_range_are_refused),

@@ -1,6 +1,7 @@
 /* Every register of all three layouts, with 32 and with 64 objects: at which offsets there is one and for which handle, what it
  * reads after a reset, which of its bits can be written and when, what a read leaves, and words of 32 bits. The offsets of D_CAN
- * are those of the AM335x manual, the reset values and bits those of the C_CAN User's Manual. */
+ * are those of the AM335x manual, the reset values and bits those of the C_CAN User's Manual, or of the AM335x manual where a
+ * D_CAN has others. */
 #include <ccan.h>
 #include <stdio.h>
 #include <stdlib.h>
@@ -75,6 +76,20 @@ static uint32_t place_of(const struct row *row)
     return layout == CCAN_LAYOUT_D_CAN ? row->d_can : layout == CCAN_LAYOUT_C_CAN_32 ? 2 * row->c_can : row->c_can;
 }
 
+static bool is_dcan(void) { return layout == CCAN_LAYOUT_D_CAN; }
+
+/* Bits that are always 1: PMD of Control of a D_CAN is 5. */
+static uint16_t fixed_in(const struct row *row) { return is_dcan() && row == control ? 0x1400 : 0; }
+
+/* What a register reads after a reset: Status of a D_CAN has LEC 7. */
+static uint16_t reset_of(const struct row *row)
+{
+    return fixed_in(row) | (is_dcan() && row == status ? 0x0007 : row->reset);
+}
+
+/* The bits that a write sets: Test of a D_CAN has no Basic. */
+static uint16_t bits_in(const struct row *row) { return is_dcan() && row == test ? 0x0018 : row->bits; }
+
 static const struct row *row_at(uint32_t offset)
 {
     for (uint32_t i = 0; i < rows_here(); i++)
@@ -125,7 +140,7 @@ static void offsets(void)
             uint16_t value = 0x5a5a;
             uint32_t code = wanted_code(found, handle);
             EXPECT(read_by(handle, offset, &value) == code);
-            EXPECT(value == (code == CCAN_DONE ? row->reset : 0x5a5a) || found == status);
+            EXPECT(value == (code == CCAN_DONE ? reset_of(row) : 0x5a5a));
             if (code != CCAN_DONE)
                 EXPECT(write_by(handle, offset, 0xffff) == code);
         }
@@ -154,16 +169,16 @@ static void bits_of(const struct row *row)
     uint16_t before[ROWS];
     for (uint32_t i = 0; i < rows_here(); i++)
         before[i] = get(&rows[i]);
-    put(row, 0xffff);
-    EXPECT(get(row) == row->bits);
+    put(row, row == control ? 0x7fff : 0xffff); /* no SWR */
+    EXPECT(get(row) == (row->bits | fixed_in(row)));
     put(row, 0x1234);
-    EXPECT(get(row) == (0x1234 & row->bits));
+    EXPECT(get(row) == ((0x1234 & row->bits) | fixed_in(row)));
     for (uint32_t i = 0; i < rows_here(); i++) {
         const struct row *other = &rows[i];
         EXPECT(other == row || get(other) == before[i] || (other == status && layout == CCAN_LAYOUT_D_CAN));
     }
     put(row, 0);
-    EXPECT(get(row) == 0);
+    EXPECT(get(row) == fixed_in(row));
 }
 
 /* Bit Timing and BRP Extension: only while Init and CCE are 1. */
@@ -192,10 +207,10 @@ static void tested(void)
     EXPECT(get(test) == 0);
     put(control, 0x81);
     put(test, 0xffff);
-    EXPECT(get(test) == 0x001c);
+    EXPECT(get(test) == bits_in(test));
     put(control, 0x01);
     put(test, 0);
-    EXPECT(get(test) == 0x001c);
+    EXPECT(get(test) == bits_in(test));
 }
 
 /* Status: what is written of it, and what a read leaves. */
@@ -203,11 +218,17 @@ static void status_read(void)
 {
     const struct row *row = status;
     uint16_t value;
+    put(status, 0x0018);
+    if (is_dcan()) { /* it can only be read */
+        EXPECT(get(status) == 0x0007);
+        EXPECT(ccan_status(&chip.bus, &value) == CCAN_DONE && value == 0x0007);
+        return;
+    }
     put(status, 0xffff);
     EXPECT(get(status) == 0x001f);
-    EXPECT(get(status) == (layout == CCAN_LAYOUT_D_CAN ? 0x0007 : 0x001f));
+    EXPECT(get(status) == 0x001f);
     put(status, 0x000a);
-    EXPECT(ccan_status(&chip.bus, &value) == CCAN_DONE && value == 0x000a); /* as a C_CAN, in each layout */
+    EXPECT(ccan_status(&chip.bus, &value) == CCAN_DONE && value == 0x000a); /* it clears no flag */
     EXPECT(get(status) == 0x000a);
     put(status, 0);
 }
@@ -224,9 +245,9 @@ static void interface(uint32_t first)
     put(row, 0x8005);
     EXPECT(get(row) == 5);
     put(row, 0xffc0);
-    EXPECT(get(row) == objects);
+    EXPECT(get(row) == (is_dcan() ? 0xc0 : objects)); /* eight bits of it, of no object */
     put(row, 0x0021);
-    EXPECT(get(row) == (objects == 32 ? 1 : 0x21));
+    EXPECT(get(row) == (objects == 32 && !is_dcan() ? 1 : 0x21));
 }
 
 /* The last object of each register of a flag, valid and with this Message Control. */

@@ -1,16 +1,19 @@
 -- A call during which nobody else acts is one over a memory of one thread. What it does at objects stands in the part of the
 -- history that is the message RAM's, of which that is known already; a step at the controller is the same under all terms of one
 -- port.
-use Rattle.std.proofs.Common.{◌≤◌, inl, inr, ℕ, Bool, true, false, List, ◌++◌, refl, Some, None, Ok, Err, ◌+◌, ◌/◌, ◌%◌, ◌^◌, ◌==◌}
+use Rattle.std.proofs.Common.{◌≤◌, zero, suc, inl, inr, ℕ, Bool, true, false, List, ◌++◌, refl, Some, None, Ok, Err, ◌+◌, ◌/◌, ◌%◌, ◌^◌, ◌==◌}
 use Rattle.std.specs.Prelude.{◌⊎◌, MatchBool, MatchOption, length, nat_le, nat_lt}
 use Rattle.std.specs.declared.option.Option.{Option}
 use Rattle.std.specs.declared.result.Result.{Result}
 use Rattle.std.specs.List.{list_all}
 use Rattle.ccan_object.specs.declared.record.Record.{Record}
+use Rattle.ccan_object.specs.Profile.{objects_in}
 use Rattle.ccan_accept.specs.declared.frame.Frame.{Frame}
 use Rattle.ccan_confine.specs.declared.controller.Controller.{Controller}
+use Rattle.ccan_confine.specs.declared.controller_change.ControllerChange.{ControllerChange}
+use Rattle.ccan_confine.specs.declared.controller_change.ControllerChange.TheVariants.{ResetDcan}
 use Rattle.ccan_confine.specs.Controller.{shows_interrupt}
-use Rattle.ccan_ram.specs.declared.change.Change.TheVariants.{Finish, Store}
+use Rattle.ccan_ram.specs.declared.change.Change.TheVariants.{Finish, Reset, Send, Store}
 use Rattle.ccan_ram.specs.declared.change.Changed.TheVariants.{Done}
 use Rattle.ccan_ram.specs.declared.change.Refused.{Refused}
 use Rattle.ccan_ram.specs.declared.event.Event.{Event}
@@ -18,6 +21,7 @@ use Rattle.ccan_ram.specs.declared.flag.Flag.{Flag}
 use Rattle.ccan_ram.specs.History.{NobodyElse}
 use Rattle.ccan_ram.specs.Laws.{as_one_thread}
 use Rattle.ccan_ram.specs.declared.sending.Sending.TheVariants.{UntilSent}
+use Rattle.ccan_ram.specs.Sending.{finish_by}
 use Rattle.ccan_ram.specs.Terms.{Terms}
 use Rattle.ccan_ram.proofs.Undisturbed.{attempts_undisturbed, looks_undisturbed}
 use Rattle.ccan_ram.proofs.UndisturbedPictures.{pictures_undisturbed}
@@ -27,7 +31,6 @@ use Rattle.ccan_handler.specs.Moment.{FlagsAtOnce, InterruptAtOnce}
 use Rattle.ccan_handler.specs.Scan.{Nowhere, MadeAt, RefusedAt, Scans}
 use Rattle.ccan_bus.specs.declared.answer.LoadAnswer.{LoadAnswer}
 use Rattle.ccan_bus.specs.declared.answer.RoundAnswer.{RoundAnswer}
-use Rattle.ccan_bus.specs.declared.choice.Choice.TheVariants.{AtOnce}
 use Rattle.ccan_bus.specs.declared.decision.Decision.{Decision}
 use Rattle.ccan_bus.specs.declared.decision.Decision.TheVariants as decision
 use Rattle.ccan_bus.specs.declared.round_end.RoundEnd.{RoundEnd}
@@ -47,11 +50,12 @@ use Rattle.ccan_endless.specs.declared.controller_changed.ControllerChanged.{Con
 use Rattle.ccan_endless.specs.Chip.{ChipHistory, ram_of}
 use Rattle.ccan_line.specs.declared.line_answer.LineAnswer.{LineAnswer}
 use Rattle.ccan_line.specs.Limits.{most_frames, most_groups, most_turns}
-use Rattle.ccan_line.proofs.ChoicesApart.{choices_apart}
+use Rattle.ccan_line.proofs.ChoicesApart.{at_once_apart}
 use Rattle.ccan_line.proofs.LinesApart.{host_apart}
 use Rattle.ccan_line.proofs.RoundsApart.{loads_apart}
 use Rattle.ccan_line.proofs.ScansApart.{apart, scans_apart, watches_apart}
 use Rattle.ccan_map.specs.declared.map.Map.{Map}
+use Rattle.ccan_map.specs.declared.map.Map.TheVariants.{Dcan, Narrow, Wide}
 use Rattle.ccan_map.specs.declared.register.Register.{Register}
 use Rattle.ccan_map.specs.declared.register.Register.TheVariants as register
 use Rattle.ccan_registers.specs.declared.access_error.AccessError.{AccessError}
@@ -62,12 +66,15 @@ use Rattle.ccan_registers.specs.InterfaceSet.{Transferred}
 use Rattle.ccan_registers.specs.Objects.{ShowsFlags, ShowsInterrupt, ShowsObject, WaitsFor, transfer}
 use Rattle.ccan_registers.specs.Register as access
 use Rattle.ccan_registers.specs.Register.{InterruptValue, PullsLine, Reads, ReadsApart, ReadsAt, ReadsFlags, ReadsHalves, ReadsWord, Writes, WritesAt, WritesRest, WritesWord, is_refused}
-use Rattle.ccan_registers.specs.Register.{change_by, is_own}
+use Rattle.ccan_registers.specs.Register.{RequestsBy, change_by, is_own}
+use Rattle.ccan_registers.specs.Dcan.{Sends, asks_for_reset, is_object_of, is_sending, number_in}
+use Rattle.ccan_registers.specs.Resetting.{HaveReset, ResetsChip, ResetsObject, ResetsObjects}
 use Rattle.ccan_registers.specs.Rounds.{LoadsOnChip, RecoversOnChip, RoundOnChip}
 use Rattle.ccan_station.specs.declared.begun.Begun.{Begun}
 use Rattle.ccan_station.specs.declared.ended.Ended.{Ended}
 use Rattle.ccan_station.specs.Station as station
-use Rattle.ccan_station.specs.Station.{Loaded, due, frame_won, loaded_before, may_send, role_now, still_loaded}
+use Rattle.ccan_station.specs.declared.loaded.Loaded.{Loaded}
+use Rattle.ccan_station.specs.Station.{due, frame_won, loaded_before, may_send, role_now, sending_now, sent_as, still_loaded}
 use Rattle.ccan_wire.specs.declared.flaw.Flaw.{Flaw}
 use Rattle.ccan_wire.specs.declared.wire.Wire.{Wire}
 use Rattle.ccan_wire.specs.Wire.{start_of}
@@ -106,15 +113,15 @@ module _ (terms : Terms) (tries : ℕ) (some : 1 ≤ tries) where
   abbrev single : Terms
   single = as_one_thread terms
 
-  finishes_apart : (seen added : List Event) (object : ℕ) (outcome : Result Record Refused) → NobodyElse terms.port added
-      → Finishes terms UntilSent tries seen added object outcome → Finishes single UntilSent tries seen added object outcome
-  finishes_apart seen added object (Ok finished) alone (before, number, h) = (
+  finishes_apart : (sending : Sending) (seen added : List Event) (object : ℕ) (outcome : Result Record Refused) → NobodyElse terms.port added
+      → Finishes terms sending tries seen added object outcome → Finishes single sending tries seen added object outcome
+  finishes_apart sending seen added object (Ok finished) alone (before, number, h) = (
     before,
     number,
-    attempts_undisturbed terms object Finish tries seen added (Ok (Done before finished number)) some alone h,
+    attempts_undisturbed terms object (finish_by sending) tries seen added (Ok (Done before finished number)) some alone h,
   )
-  finishes_apart seen added object (Err why) alone h =
-      attempts_undisturbed terms object Finish tries seen added (Err why) some alone h
+  finishes_apart sending seen added object (Err why) alone h =
+      attempts_undisturbed terms object (finish_by sending) tries seen added (Err why) some alone h
 
   stores_apart : (frame : Frame) (seen added : List Event) (outcome : Result (Option Stored) ScanRefused)
       → NobodyElse terms.port added
@@ -127,38 +134,38 @@ module _ (terms : Terms) (tries : ℕ) (some : 1 ≤ tries) where
   stores_apart frame seen added (Err refused) alone h =
       scans_apart terms (Store frame) tries some 1 seen added (RefusedAt refused.at refused.why) alone h
 
-  takes_apart : (seen added : List Event) (object : ℕ) (frame : Frame) (end : RoundEnd) → NobodyElse terms.port added
-      → TakesBack terms UntilSent tries seen added object frame end → TakesBack single UntilSent tries seen added object frame end
-  takes_apart seen added object frame end alone (Stops h) = Stops (record {
+  takes_apart : (sending : Sending) (seen added : List Event) (object : ℕ) (frame : Frame) (end : RoundEnd) → NobodyElse terms.port added
+      → TakesBack terms sending tries seen added object frame end → TakesBack single sending tries seen added object frame end
+  takes_apart sending seen added object frame end alone (Stops h) = Stops (record {
     why = h.why;
-    finish = attempts_undisturbed terms object Finish tries seen added (Err h.why) some alone h.finish;
+    finish = attempts_undisturbed terms object (finish_by sending) tries seen added (Err h.why) some alone h.finish;
     told = h.told;
   })
-  takes_apart seen added object frame end alone (Scanned h) =
+  takes_apart sending seen added object frame end alone (Scanned h) =
       let parts = apart terms added h.last h.first h.whole alone in
       Scanned (record {
         finished = h.finished;
         first = h.first;
         last = h.last;
         whole = h.whole;
-        finish = finishes_apart seen h.first object (Ok h.finished) parts.1 h.finish;
+        finish = finishes_apart sending seen h.first object (Ok h.finished) parts.1 h.finish;
         outcome = h.outcome;
         scan = stores_apart frame (h.first ++ seen) h.last h.outcome parts.0 h.scan;
         told = h.told;
       })
 
-  completes_apart : (seen added : List Event) (decided : Decision) (end : RoundEnd) → NobodyElse terms.port added
-      → Completes terms UntilSent tries seen added decided end → Completes single UntilSent tries seen added decided end
-  completes_apart seen added decision.Idle end alone h = h
-  completes_apart seen added decision.Collision end alone h = h
-  completes_apart seen added (decision.Fault winner frame) end alone h = h
-  completes_apart seen added (decision.NoAck winner frame) end alone h = h
-  completes_apart seen added (decision.Passed winner frame) end alone h = h
-  completes_apart seen added (decision.Finish object frame) end alone (outcome, h, told) =
-      (outcome, finishes_apart seen added object outcome alone h, told)
-  completes_apart seen added (decision.Receipt winner frame) end alone (outcome, h, told) =
+  completes_apart : (sending : Sending) (seen added : List Event) (decided : Decision) (end : RoundEnd) → NobodyElse terms.port added
+      → Completes terms sending tries seen added decided end → Completes single sending tries seen added decided end
+  completes_apart sending seen added decision.Idle end alone h = h
+  completes_apart sending seen added decision.Collision end alone h = h
+  completes_apart sending seen added (decision.Fault winner frame) end alone h = h
+  completes_apart sending seen added (decision.NoAck winner frame) end alone h = h
+  completes_apart sending seen added (decision.Passed winner frame) end alone h = h
+  completes_apart sending seen added (decision.Finish object frame) end alone (outcome, h, told) =
+      (outcome, finishes_apart sending seen added object outcome alone h, told)
+  completes_apart sending seen added (decision.Receipt winner frame) end alone (outcome, h, told) =
       (outcome, stores_apart frame seen added outcome alone h, told)
-  completes_apart seen added (decision.LoopBack object frame) end alone h = takes_apart seen added object frame end alone h
+  completes_apart sending seen added (decision.LoopBack object frame) end alone h = takes_apart sending seen added object frame end alone h
 
   rest_apart : (refusal : Option RoundAnswer) (round : RoundLine) (seen added : List Event) (past after : BusPast)
       (decided : Option Decision) (end : RoundEnd) → NobodyElse terms.port added
@@ -167,7 +174,7 @@ module _ (terms : Terms) (tries : ℕ) (some : 1 ≤ tries) where
   rest_apart (Some refusal) round seen added past after None end alone h = h
   rest_apart (Some refusal) round seen added past after (Some decided) end alone h = absurd h
   rest_apart None round seen added past after (Some decided) end alone (decides, h) =
-      (decides, completes_apart seen added decided end alone h)
+      (decides, completes_apart UntilSent seen added decided end alone h)
   rest_apart None round seen added past after None end alone h = absurd h
 
   steps_apart : (round : RoundLine) (seen added : List Event) (past after : BusPast) (report : RoundReport)
@@ -274,52 +281,6 @@ module _ (terms : Terms) (tries : ℕ) (some : 1 ≤ tries) where
   reads_apart layout (register.Flags flag place) own seen added told alone (word, h, is) =
       (word, shown_flags_apart flag seen added word alone h, is)
 
-  rest_written_apart : (r : Register) (value : ℕ) (own left : InterfaceSet) (seen added : ChipHistory)
-      (told : Result (Unit {0}) AccessError) → ActsAlone terms.port added
-      → WritesRest terms tries r value own seen added told left → WritesRest single tries r value own seen added told left
-  rest_written_apart register.Control value own left seen added told alone h = h
-  rest_written_apart register.Status value own left seen added told alone h = h
-  rest_written_apart register.ErrorCounter value own left seen added told alone h = h
-  rest_written_apart register.BitTiming value own left seen added told alone h = h
-  rest_written_apart register.Interrupt value own left seen added told alone h = h
-  rest_written_apart register.Test value own left seen added told alone h = h
-  rest_written_apart register.Extension value own left seen added told alone h = h
-  rest_written_apart (register.Request interface) value own left seen added told alone h =
-      passed_or_not (is_own terms.port interface) (access.Requests terms tries value own seen added told left)
-      (access.Requests single tries value own seen added told left) _ _
-      (λ k. record {
-        reply = k.reply;
-        transferred = transferred_apart value own left seen added k.reply alone k.transferred;
-        told_is = k.told_is;
-      })
-      same h
-  rest_written_apart (register.Buffer interface reg) value own left seen added told alone h = h
-  rest_written_apart (register.Flags flag place) value own left seen added told alone h = h
-
-  writes_apart : (r : Register) (value : ℕ) (own left : InterfaceSet) (seen added : ChipHistory)
-      (told : Result (Unit {0}) AccessError) → ActsAlone terms.port added
-      → Writes terms tries r value own seen added told left → Writes single tries r value own seen added told left
-  writes_apart r value own left seen added told alone h =
-      known_or_not (change_by r value) _ _ (λ z. access.WritesController terms z tries own seen added told left)
-      (λ z. access.WritesController single z tries own seen added told left)
-      (rest_written_apart r value own left seen added told alone)
-      (λ z k. record { makes = k.makes; left_is = k.left_is }) h
-
-  reads_at_apart : (layout : Map) (offset : ℕ) (own : InterfaceSet) (seen added : ChipHistory)
-      (told : Option (Result ℕ AccessError)) → ActsAlone terms.port added
-      → ReadsAt terms tries layout offset own seen added told → ReadsAt single tries layout offset own seen added told
-  reads_at_apart layout offset own seen added None alone h = h
-  reads_at_apart layout offset own seen added (Some told) alone (r, at, h) =
-      (r, at, reads_apart layout r own seen added told alone h)
-
-  writes_at_apart : (layout : Map) (offset value : ℕ) (own left : InterfaceSet) (seen added : ChipHistory)
-      (told : Option (Result (Unit {0}) AccessError)) → ActsAlone terms.port added
-      → WritesAt terms tries layout offset value own seen added told left
-      → WritesAt single tries layout offset value own seen added told left
-  writes_at_apart layout offset value own left seen added None alone h = h
-  writes_at_apart layout offset value own left seen added (Some told) alone (r, at, h) =
-      (r, at, writes_apart r value own left seen added told alone h)
-
   both_apart : (first first' second second' : ChipHistory → ChipHistory → Type 0) (seen added : ChipHistory)
       → ActsAlone terms.port added
       → ((s a : ChipHistory) → ActsAlone terms.port a → first s a → first' s a)
@@ -334,6 +295,115 @@ module _ (terms : Terms) (tries : ℕ) (some : 1 ≤ tries) where
         begins = f seen h.earlier parts.1 h.begins;
         ends = g (h.earlier ++ seen) h.later parts.0 h.ends;
       }
+
+  -- a reset, which no other port disturbs at an object
+  object_reset_apart : (object : ℕ) (seen added : ChipHistory) (told : Result (Unit {0}) AccessError) → ActsAlone terms.port added
+      → ResetsObject terms tries object seen added told → ResetsObject single tries object seen added told
+  object_reset_apart object seen added told alone (outcome, h, is) = (
+    outcome,
+    objects_apart _ _ seen added alone (λ s a only. attempts_undisturbed terms object Reset tries s a outcome some only) h,
+    is,
+  )
+
+  have_reset_apart : (n : ℕ) (seen added : ChipHistory) → ActsAlone terms.port added
+      → HaveReset terms tries n seen added → HaveReset single tries n seen added
+  have_reset_apart zero seen added alone h = h
+  have_reset_apart (suc n) seen added alone h =
+      both_apart _ _ _ _ seen added alone (λ s a only. have_reset_apart n s a only)
+      (λ s a only. object_reset_apart (suc n) s a (Ok tt) only) h
+
+  objects_reset_apart : (seen added : ChipHistory) (told : Result (Unit {0}) AccessError) → ActsAlone terms.port added
+      → ResetsObjects terms tries seen added told → ResetsObjects single tries seen added told
+  objects_reset_apart seen added (Ok done) alone h = have_reset_apart (objects_in terms.profile) seen added alone h
+  objects_reset_apart seen added (Err why) alone (n, below, h) = (
+    n,
+    below,
+    both_apart _ _ _ _ seen added alone (λ s a only. have_reset_apart n s a only)
+        (λ s a only. object_reset_apart (suc n) s a (Err why) only) h,
+  )
+
+  chip_reset_apart : (reset : ControllerChange) (seen added : ChipHistory) (told : Result (Unit {0}) AccessError)
+      → ActsAlone terms.port added
+      → ResetsChip terms reset tries seen added told → ResetsChip single reset tries seen added told
+  chip_reset_apart reset seen added told alone (inl h) = inl h
+  chip_reset_apart reset seen added told alone (inr h) =
+      inr (then_apart _ _ _ seen added alone (λ s a only. objects_reset_apart s a told only) h)
+
+  requests_apart : (value : ℕ) (own left : InterfaceSet) (seen added : ChipHistory) (told : Result (Unit {0}) AccessError)
+      → ActsAlone terms.port added
+      → access.Requests terms tries value own seen added told left → access.Requests single tries value own seen added told left
+  requests_apart value own left seen added told alone k = record {
+    reply = k.reply;
+    transferred = transferred_apart value own left seen added k.reply alone k.transferred;
+    told_is = k.told_is;
+  }
+
+  sends_apart : (object : ℕ) (own left : InterfaceSet) (seen added : ChipHistory) (told : Result (Unit {0}) AccessError)
+      → ActsAlone terms.port added
+      → Sends terms tries object own seen added told left → Sends single tries object own seen added told left
+  sends_apart object own left seen added told alone k = record {
+    outcome = k.outcome;
+    attempt =
+        objects_apart _ _ seen added alone
+        (λ s a only. attempts_undisturbed terms object (Send own.registers.command own.registers.buffer) tries s a k.outcome some
+        only) k.attempt;
+    told_is = k.told_is;
+    left_is = k.left_is;
+  }
+
+  requests_by_apart : (layout : Map) (value : ℕ) (own left : InterfaceSet) (seen added : ChipHistory)
+      (told : Result (Unit {0}) AccessError) → ActsAlone terms.port added
+      → RequestsBy layout terms tries value own seen added told left → RequestsBy layout single tries value own seen added told left
+  requests_by_apart Narrow value own left seen added told alone h = requests_apart value own left seen added told alone h
+  requests_by_apart Wide value own left seen added told alone h = requests_apart value own left seen added told alone h
+  requests_by_apart Dcan value own left seen added told alone h =
+      passed_or_not (is_object_of terms.profile (number_in value)) _ _ _ _
+      (passed_or_not (is_sending own.registers.command) _ _ _ _
+      (sends_apart (number_in value) own left seen added told alone)
+      (requests_apart (number_in value) own left seen added told alone))
+      (λ k. record { quiet = k.quiet; told_is = k.told_is; left_is = k.left_is }) h
+
+  rest_written_apart : (layout : Map) (r : Register) (value : ℕ) (own left : InterfaceSet) (seen added : ChipHistory)
+      (told : Result (Unit {0}) AccessError) → ActsAlone terms.port added
+      → WritesRest terms tries layout r value own seen added told left
+      → WritesRest single tries layout r value own seen added told left
+  rest_written_apart layout register.Control value own left seen added told alone h = h
+  rest_written_apart layout register.Status value own left seen added told alone h = h
+  rest_written_apart layout register.ErrorCounter value own left seen added told alone h = h
+  rest_written_apart layout register.BitTiming value own left seen added told alone h = h
+  rest_written_apart layout register.Interrupt value own left seen added told alone h = h
+  rest_written_apart layout register.Test value own left seen added told alone h = h
+  rest_written_apart layout register.Extension value own left seen added told alone h = h
+  rest_written_apart layout (register.Request interface) value own left seen added told alone h =
+      passed_or_not (is_own terms.port interface) _ _ _ _ (requests_by_apart layout value own left seen added told alone) same h
+  rest_written_apart layout (register.Buffer interface reg) value own left seen added told alone h = h
+  rest_written_apart layout (register.Flags flag place) value own left seen added told alone h = h
+
+  writes_apart : (layout : Map) (r : Register) (value : ℕ) (own left : InterfaceSet) (seen added : ChipHistory)
+      (told : Result (Unit {0}) AccessError) → ActsAlone terms.port added
+      → Writes terms tries layout r value own seen added told left → Writes single tries layout r value own seen added told left
+  writes_apart layout r value own left seen added told alone h =
+      passed_or_not (asks_for_reset layout r value) _ _ _ _
+      (λ k. record { resets = chip_reset_apart ResetDcan seen added told alone k.resets; left_is = k.left_is })
+      (known_or_not (change_by layout r value) _ _ (λ z. access.WritesController terms z tries own seen added told left)
+      (λ z. access.WritesController single z tries own seen added told left)
+      (rest_written_apart layout r value own left seen added told alone)
+      (λ z k. record { makes = k.makes; left_is = k.left_is })) h
+
+  reads_at_apart : (layout : Map) (offset : ℕ) (own : InterfaceSet) (seen added : ChipHistory)
+      (told : Option (Result ℕ AccessError)) → ActsAlone terms.port added
+      → ReadsAt terms tries layout offset own seen added told → ReadsAt single tries layout offset own seen added told
+  reads_at_apart layout offset own seen added None alone h = h
+  reads_at_apart layout offset own seen added (Some told) alone (r, at, h) =
+      (r, at, reads_apart layout r own seen added told alone h)
+
+  writes_at_apart : (layout : Map) (offset value : ℕ) (own left : InterfaceSet) (seen added : ChipHistory)
+      (told : Option (Result (Unit {0}) AccessError)) → ActsAlone terms.port added
+      → WritesAt terms tries layout offset value own seen added told left
+      → WritesAt single tries layout offset value own seen added told left
+  writes_at_apart layout offset value own left seen added None alone h = h
+  writes_at_apart layout offset value own left seen added (Some told) alone (r, at, h) =
+      (r, at, writes_apart layout r value own left seen added told alone h)
 
   halves_apart : (layout : Map) (offset : ℕ) (own : InterfaceSet) (seen added : ChipHistory)
       (told : Option (Result ℕ AccessError)) → ActsAlone terms.port added
@@ -437,13 +507,14 @@ module _ (terms : Terms) (tries : ℕ) (some : 1 ≤ tries) where
 
   -- ---- a chip's part in a frame on a bus of several
 
-  station_loads_apart : (sends : Bool) (seen added : List Event) (old new : Loaded) (loading : LoadAnswer)
-      → NobodyElse terms.port added
-      → station.Loads sends terms tries seen added old new loading → station.Loads sends single tries seen added old new loading
-  station_loads_apart false seen added old new loading alone h = h
-  station_loads_apart true seen added (Some started) new loading alone h = h
-  station_loads_apart true seen added None new loading alone (chosen, h, is, told) =
-      (chosen, choices_apart terms tries some AtOnce seen added chosen alone h, is, told)
+  station_loads_apart : (sends : Bool) (sending : Sending) (seen added : List Event) (old new : Option Loaded)
+      (loading : LoadAnswer) → NobodyElse terms.port added
+      → station.Loads sends sending terms tries seen added old new loading
+      → station.Loads sends sending single tries seen added old new loading
+  station_loads_apart false sending seen added old new loading alone h = h
+  station_loads_apart true sending seen added (Some started) new loading alone h = h
+  station_loads_apart true sending seen added None new loading alone (chosen, h, is, told) =
+      (chosen, at_once_apart terms tries some sending seen added chosen alone h, is, told)
 
   begins_apart : (old new : StationState) (told : Begun) (seen added : ChipHistory) → ActsAlone terms.port added
       → BeginsOnChip terms tries old seen added new told → BeginsOnChip single tries old seen added new told
@@ -457,7 +528,7 @@ module _ (terms : Terms) (tries : ℕ) (some : 1 ≤ tries) where
         arrives = h.arrives;
         loads =
             objects_apart _ _ (h.looked ++ seen) h.later parts.0
-            (λ s a only. station_loads_apart (may_send (role_now told.found)) s a (loaded_before h.first old.loaded) new.loaded
+            (λ s a only. station_loads_apart (may_send (role_now told.found)) (sending_now told.found) s a (loaded_before h.first old.loaded) new.loaded
             told.loading only) h.loads;
         member = h.member;
         waits = h.waits;
@@ -480,7 +551,7 @@ module _ (terms : Terms) (tries : ℕ) (some : 1 ≤ tries) where
         own = h.own;
         completes =
             objects_apart _ _ (h.looked ++ seen) h.steps inner.0
-            (λ s a only. completes_apart s a decided told.end only) h.completes;
+            (λ s a only. completes_apart (sent_as (still_loaded told.found old.loaded)) s a decided told.end only) h.completes;
         left = h.left;
         over = h.over;
         notes = h.notes;

@@ -5,7 +5,7 @@ use Rattle.ccan_ram.specs.Terms.{Terms}
 use Rattle.ccan_endless.specs.Chip.{ChipHistory}
 use Rattle.ccan_registers.specs.declared.access_error.AccessError.{AccessError}
 use Rattle.ccan_registers.specs.ChipSteps.{terms_at}
-use Rattle.ccan_registers.specs.Register.{Makes}
+use Rattle.ccan_registers.specs.ChipSteps.{Makes}
 use Rattle.ccan_registers.proofs.Going.{goes_then, weaker}
 use Rattle.ccan_c.specs.declared.held.Held.{Held}
 use Rattle.ccan_c.specs.Bus.{looping, testing}

@@ -20,6 +20,8 @@ use Rattle.ccan_registers.specs.declared.access_error.AccessError.{AccessError}
 use Rattle.ccan_registers.specs.declared.interface_set.InterfaceSet.{InterfaceSet}
 use Rattle.ccan_registers.specs.ChipSteps.{SeesChip, terms_at}
 use Rattle.ccan_registers.specs.InterfaceSet.{reset_set}
+use Rattle.ccan_map.specs.declared.map.Map.{Map}
+use Rattle.ccan_registers.specs.Dcan.{reset_of}
 use Rattle.ccan_registers.specs.Resetting.{ResetsChip}
 use Rattle.ccan_saved.specs.declared.saved.Saved.{Saved}
 use Rattle.ccan_saved.specs.Format.{text_of}
@@ -287,11 +289,13 @@ module _ (memory : Memory) (set : Set) where
         )
 
     abbrev making : Result (Unit {0}) AccessError → Terms → ChipHistory → ChipHistory → Type 0
-    making told u seen added = ResetsChip u l.tries seen added told
+    making told u seen added = ResetsChip u (reset_of l.map) l.tries seen added told
 
     by_tries : (told : Result (Unit {0}) AccessError) (seen added : ChipHistory) → making told (terms Bus) seen added
-        → ResetsChip (terms Bus) set.tries seen added told
-    by_tries told seen added m = subst (λ n. ResetsChip (terms Bus) n seen added told) t.bus_at.tries_are m
+        → ResetsChip (terms Bus) (reset_of set.map) set.tries seen added told
+    by_tries told seen added m =
+        subst (λ (u : Map × ℕ). ResetsChip (terms Bus) (reset_of u.0) u.1 seen added told)
+        (λ i. (t.bus_at.map_is i, t.bus_at.tries_are i)) m
 
     abbrev LeftReset : ℕ → Held → Held → Held → Type 0
     LeftReset code h' k' l' =

@@ -24,10 +24,10 @@ use Rattle.ccan_line.specs.Limits.{most_frames, most_groups}
 use Rattle.ccan_map.specs.declared.map.Map.{Map}
 use Rattle.ccan_registers.specs.declared.access_error.AccessError.{AccessError}
 use Rattle.ccan_registers.specs.declared.interface_set.InterfaceSet.{InterfaceSet}
-use Rattle.ccan_registers.specs.ChipSteps.{AtController, ChipGoes, Then}
+use Rattle.ccan_registers.specs.ChipSteps.{AtController, ChipGoes, Makes, Then}
 use Rattle.ccan_registers.specs.Frames.{StationState, at_rest}
 use Rattle.ccan_registers.specs.Objects.{ShowsFlags}
-use Rattle.ccan_registers.specs.Register.{InterruptValue, Makes, PullsLine, ReadsStatus}
+use Rattle.ccan_registers.specs.Register.{InterruptValue, PullsLine, ReadsStatus}
 use Rattle.ccan_registers.specs.Rounds.{LoadsOnChip, RecoversOnChip, RoundOnChip}
 use Rattle.ccan_c.specs.declared.held.Held.{Held}
 use Rattle.ccan_c.specs.declared.offer.Offer.{Offer}

@@ -11,7 +11,7 @@ use Rattle.ccan_c.specs.declared.held.Held.{Held}
 use Rattle.ccan_c.specs.declared.chip.Chip.{Chip}
 use Rattle.ccan_c.specs.declared.shown_final.ShownFinal.{ShownFinal}
 use Rattle.ccan_c.specs.Held.{port_of, IsOpening}
-use Rattle.ccan_c.specs.Opening.{Set, after_reset, begins_as}
+use Rattle.ccan_c.specs.Opening.{Set, after_reset_of, begins_as}
 use Rattle.ccan_c.specs.Record.{IsFinal}
 use Rattle.ccan_c.specs.Settings.{map_numbered, profile_numbered}
 
@@ -52,4 +52,4 @@ OpensAs number set chip = (profile : Profile) × (profile_numbered number ≡ So
 abbrev pub ResetsAs : ℕ → ℕ → ℕ → ℕ → Chip → Type 0
 ResetsAs number nodes tries layout chip =
     (map : Map) × (map_numbered layout ≡ Some map)
-    × OpensAs number (record { nodes = nodes; tries = tries; map = map; opening = after_reset }) chip
+    × OpensAs number (record { nodes = nodes; tries = tries; map = map; opening = after_reset_of map }) chip

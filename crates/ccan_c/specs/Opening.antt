@@ -1,12 +1,14 @@
--- How a chip begins, and what it is opened with. Source: C_CAN User's Manual 1.2, the reset values of the registers.
+-- How a chip begins, and what it is opened with. Source: C_CAN User's Manual 1.2, and Texas Instruments AM335x Technical
+-- Reference Manual, chapter DCAN, the reset values of the registers.
 use Rattle.std.specs.Prelude.{ℕ, []}
 use Rattle.ccan_ram.specs.declared.port.PortName.{PortName}
 use Rattle.ccan_ram.specs.SharedRam.{Memory, opened}
 use Rattle.ccan_endless.specs.Chip.{ChipHistory}
-use Rattle.ccan_endless.specs.ChipPort.{ChipPass, reset_history}
+use Rattle.ccan_endless.specs.ChipPort.{ChipPass, begun_by, reset_history}
 use Rattle.ccan_map.specs.declared.map.Map.{Map}
 use Rattle.ccan_map.specs.declared.map.Map.TheVariants.{Narrow}
 use Rattle.ccan_registers.specs.declared.interface_set.InterfaceSet.{InterfaceSet}
+use Rattle.ccan_registers.specs.Dcan.{reset_of}
 use Rattle.ccan_registers.specs.InterfaceSet.{reset_set, zero_set}
 
 -- how a chip begins: with all registers 0, or as after a reset, whose event is the first of its history
@@ -19,6 +21,10 @@ at_zero = record { begun = []; own = zero_set }
 
 abbrev pub after_reset : Opening
 after_reset = record { begun = reset_history; own = reset_set }
+
+-- the same after the reset of the layout's part
+abbrev pub after_reset_of : Map → Opening
+after_reset_of map = record { begun = begun_by (reset_of map); own = reset_set }
 
 -- a port of a chip as it begins
 abbrev pub begins_as : Memory → PortName → Opening → ChipPass

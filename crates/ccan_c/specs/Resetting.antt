@@ -8,6 +8,7 @@ use Rattle.ccan_chip.specs.Arrival.{unloaded}
 use Rattle.ccan_endless.specs.ChipPort.{ChipPass}
 use Rattle.ccan_registers.specs.declared.access_error.AccessError.{AccessError}
 use Rattle.ccan_registers.specs.ChipSteps.{ChipGoes}
+use Rattle.ccan_registers.specs.Dcan.{reset_of}
 use Rattle.ccan_registers.specs.Frames.{at_rest}
 use Rattle.ccan_registers.specs.InterfaceSet.{reset_set}
 use Rattle.ccan_registers.specs.Resetting.{ResetsChip}
@@ -35,7 +36,7 @@ pub record DropsLoaded (old new : Held) : Type 0 where
 -- the bus's port resets the controller and each object, and then the three ports meet
 pub record IsReset (h k l h' k' l' : Held) : Type 0 where
   pub put : ChipPass
-  pub goes : ChipGoes (port_of l) put (λ terms seen added. ResetsChip terms l.tries seen added (Ok tt))
+  pub goes : ChipGoes (port_of l) put (λ terms seen added. ResetsChip terms (reset_of l.map) l.tries seen added (Ok tt))
   pub met : HaveMet (port_of h) (port_of k) put (port_of h') (port_of k') (port_of l')
   pub if1 : HasResetInterface h h'
   pub if2 : HasResetInterface k k'
@@ -45,7 +46,7 @@ pub record IsReset (h k l h' k' l' : Held) : Type 0 where
 abbrev pub ResetsMet : Held → Held → Held → Held → Held → Held → Result (Unit {0}) AccessError → Type 0
 ResetsMet h k l h' k' l' (Ok done) = IsReset h k l h' k' l'
 ResetsMet h k l h' k' l' (Err why) =
-    (h' ≡ h) × (k' ≡ k) × Steps (λ terms seen added. ResetsChip terms l.tries seen added (Err why)) l l'
+    (h' ≡ h) × (k' ≡ k) × Steps (λ terms seen added. ResetsChip terms (reset_of l.map) l.tries seen added (Err why)) l l'
 
 -- first the three ports meet, so that all that was done before is behind the reset
 pub record ResetsHeld (h k l h' k' l' : Held) (told : Result (Unit {0}) AccessError) : Type 0 where

@@ -18,6 +18,7 @@ use Rattle.ccan_registers.specs.declared.interface_set.InterfaceSet.{InterfaceSe
 use Rattle.ccan_registers.specs.Frames.{at_rest}
 use Rattle.ccan_registers.specs.InterfaceSet.{reset_set}
 use Rattle.ccan_chip.specs.Arrival.{unloaded}
+use Rattle.ccan_registers.specs.Dcan.{reset_of}
 use Rattle.ccan_registers.specs.Resetting.{ResetsChip}
 use Rattle.ccan_saved.specs.declared.saved.Saved.{Saved}
 use Rattle.ccan_saved.specs.Format.{text_of}
@@ -168,7 +169,7 @@ pub record ResetsAll (terms : PortName → Terms) (set : Set) (code : ℕ) (old 
   pub told : Result (Unit {0}) AccessError
   pub code_is : code ≡ code_of_access (Some told)
   pub added : ChipHistory
-  pub resets : ResetsChip (terms Bus) set.tries old.bus.seen added told
+  pub resets : ResetsChip (terms Bus) (reset_of set.map) set.tries old.bus.seen added told
   pub leaves : LeavesReset told (bus_adds added old) new
 
 abbrev pub PartMeans : (PortName → Terms) → Set → Part → Places → Places → Type 0

@@ -12,7 +12,7 @@ use ccan_endless::{ControllerBusy, ControllerChanged};
 use ccan_map::Map;
 use ccan_object::{ObjectNo, Record};
 use ccan_registers::{
-    AccessError, load, look, read_status, recessive, reset, round, write_controller,
+    AccessError, load, look, read_status, recessive, reset, reset_of, round, write_controller,
 };
 
 impl Held {
@@ -26,9 +26,10 @@ impl Held {
     ghost use Rattle.ccan_ram.specs.declared.port.PortName.TheVariants.{Bus};
     ghost use Rattle.ccan_endless.specs.declared.chip.ControllerStep.TheVariants.{Look};
     ghost use Rattle.ccan_endless.specs.Chip.{MayMake};
-    ghost use Rattle.ccan_registers.specs.ChipSteps.{AtController};
+    ghost use Rattle.ccan_registers.specs.ChipSteps.{AtController, Makes};
+    ghost use Rattle.ccan_registers.specs.Dcan.{reset_of};
     ghost use Rattle.ccan_registers.specs.Frames.{at_rest};
-    ghost use Rattle.ccan_registers.specs.Register.{Makes, ReadsStatus};
+    ghost use Rattle.ccan_registers.specs.Register.{ReadsStatus};
     ghost use Rattle.ccan_registers.specs.Resetting.{ResetsChip};
     ghost use Rattle.ccan_registers.specs.Rounds.{LoadsOnChip, RecoversOnChip, RoundOnChip};
     ghost use Rattle.ccan_c.specs.Answer.{c_counters};
@@ -132,10 +133,11 @@ impl Held {
     /// Resets the controller, and then each object.
     pub(crate) fn reset(&mut self) -> Result<(), AccessError>
         requires { (pass_of self.old).port ≡ Bus }
-        ensures { Steps (λ terms seen added. ResetsChip terms self.old.tries seen added result)
+        ensures { Steps (λ terms seen added.
+            ResetsChip terms (reset_of self.old.map) self.old.tries seen added result)
             self.old self.new }
     {
-        reset(&self.ram, &mut self.port, self.tries)
+        reset(&self.ram, &mut self.port, &reset_of(self.map), self.tries)
     }
 
     /// Drops what is loaded, and takes no more part in a frame that is under way.

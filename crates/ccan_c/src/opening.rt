@@ -5,7 +5,7 @@ ghost use Rattle.ccan_c.specs.Codes.{done, no_memory};
 ghost use Rattle.ccan_c.specs.Begin.{Begins};
 ghost use Rattle.ccan_c.specs.Held.{IsOpenAs};
 ghost use Rattle.ccan_c.specs.Chip.{AllOpen, Opens, OpensAs, ResetsAs, are_open};
-ghost use Rattle.ccan_c.specs.Opening.{after_reset, plain};
+ghost use Rattle.ccan_c.specs.Opening.{after_reset_of, plain};
 ghost use Rattle.ccan_c.specs.Settings.{reset_fault, settings_fault};
 
 use crate::begin::Begin;
@@ -18,7 +18,7 @@ use ccan_chip::ChipBus;
 use ccan_endless::{EndlessRam, MOST, Port};
 use ccan_map::Map;
 use ccan_ram::SharedRam;
-use ccan_registers::{InterfaceSet, PortHolder};
+use ccan_registers::{InterfaceSet, PortHolder, reset_of};
 use ccan_station::Station;
 use std::alloc::Global;
 use std::sync::Arc;
@@ -103,10 +103,12 @@ fn opened_after_reset(alloc: Global, settings: &Settings, map: Map) -> Option<Ch
       nodes = settings.now.nodes;
       tries = settings.now.tries;
       map = map;
-      opening = after_reset;
+      opening = after_reset_of map;
     })) }
 {
-    let Ok((ram, if1, if2, bus)) = EndlessRam::open_reset(alloc, settings.profile, MOST) else {
+    let reset = reset_of(map);
+    let Ok((ram, if1, if2, bus)) = EndlessRam::open_after(alloc, settings.profile, MOST, &reset)
+    else {
         return None;
     };
     let begin = Begin {

@@ -15,7 +15,7 @@ use Rattle.ccan_ram.specs.Terms.{Terms}
 use Rattle.ccan_ram.specs.Laws.{as_one_thread}
 use Rattle.ccan_ram.proofs.Undisturbed.{attempts_undisturbed}
 use Rattle.ccan_ram.proofs.UndisturbedPictures.{pictures_undisturbed}
-use Rattle.ccan_handler.specs.Moment.{Starts, Skips, StopsAtOne, Chosen, ChoosesAmong}
+use Rattle.ccan_handler.specs.Moment.{Starts, Skips, StopsAtOne, Chosen, ChoosesAmong, ChoosesAtOnce}
 use Rattle.ccan_handler.specs.Scan.{Nowhere, MadeAt, RefusedAt}
 use Rattle.ccan_handler.specs.Scan as scan
 use Rattle.ccan_bus.specs.declared.choice.Choice.{Choice}
@@ -82,10 +82,9 @@ module _ (terms : Terms) (tries : ℕ) (some : 1 ≤ tries) where
     among_apart seen added (Ok (Some (object, after))) alone h = stops_apart object seen added (Ok (Some after)) alone h
     among_apart seen added (Err refused) alone h = stops_apart refused.at seen added (Err refused.why) alone h
 
-  pub choices_apart : (choice : Choice) (seen added : List Event) (chosen : Chosen) → NobodyElse terms.port added
-      → Chooses choice terms tries seen added chosen → Chooses choice single tries seen added chosen
-  choices_apart InTurn seen added chosen alone h = in_turn_apart seen added chosen alone h
-  choices_apart AtOnce seen added chosen alone h =
+  pub at_once_apart : (sending : Sending) (seen added : List Event) (chosen : Chosen) → NobodyElse terms.port added
+      → ChoosesAtOnce terms sending tries seen added chosen → ChoosesAtOnce single sending tries seen added chosen
+  at_once_apart sending seen added chosen alone h =
       let parts = apart terms added h.tried h.looked h.whole alone in
       record {
         shown = h.shown;
@@ -93,5 +92,10 @@ module _ (terms : Terms) (tries : ℕ) (some : 1 ≤ tries) where
         tried = h.tried;
         whole = h.whole;
         picture = pictures_undisturbed terms h.shown seen h.looked parts.1 h.picture;
-        choice = among_apart UntilSent h.shown (h.looked ++ seen) h.tried chosen parts.0 h.choice;
+        choice = among_apart sending h.shown (h.looked ++ seen) h.tried chosen parts.0 h.choice;
       }
+
+  pub choices_apart : (choice : Choice) (seen added : List Event) (chosen : Chosen) → NobodyElse terms.port added
+      → Chooses choice terms tries seen added chosen → Chooses choice single tries seen added chosen
+  choices_apart InTurn seen added chosen alone h = in_turn_apart seen added chosen alone h
+  choices_apart AtOnce seen added chosen alone h = at_once_apart UntilSent seen added chosen alone h

@@ -15,7 +15,7 @@ use Rattle.ccan_station.specs.declared.begun.Begun.{Begun}
 use Rattle.ccan_station.specs.declared.ended.Ended.{Ended}
 use Rattle.ccan_station.specs.declared.station.Station.{Station}
 use Rattle.ccan_station.specs.declared.stayed.Stayed.{Stayed}
-use Rattle.ccan_station.specs.Station.{Begins, Ends, Loads, Stays, due, frame_won, loaded_before, may_send, role_now, still_loaded}
+use Rattle.ccan_station.specs.Station.{Begins, Ends, Loads, Stays, due, frame_won, loaded_before, may_send, role_now, sending_now, sent_as, still_loaded}
 use Rattle.ccan_wire.specs.declared.flaw.Flaw.{Flaw}
 use Rattle.ccan_wire.specs.declared.member.Member.{Member}
 use Rattle.ccan_wire.specs.declared.wire.Wire.{Wire}
@@ -34,7 +34,7 @@ begins_on_chip old new tries before after told bus sees h =
     let looked = h.looked in
     let look = arrives_on_chip old looked h.first told.found h.arrives in
     let what : Terms → List Event → List Event → Type 0 = λ t s a.
-    Loads (may_send (role_now told.found)) t tries s a (loaded_before h.first before.loaded) after.loaded told.loading in
+    Loads (may_send (role_now told.found)) (sending_now told.found) t tries s a (loaded_before h.first before.loaded) after.loaded told.loading in
     let b = objects_after looked new (what (terms_of same_object old.pass.memory Bus)) h.rests h.added h.adds h.loads in
     record {
       same =
@@ -80,7 +80,7 @@ ends_on_chip old new tries on place flaw before after told bus over h =
     let look = looks_at old looked told.found h.looks in
     let notes = notes_event between new most_tries told.own told.noted h.notes in
     let what : Terms → List Event → List Event → Type 0 = λ t s a.
-    Completes t tries s a (due told.own (still_loaded told.found before.loaded) (frame_won (start_of on))) told.end in
+    Completes t (sent_as (still_loaded told.found before.loaded)) tries s a (due told.own (still_loaded told.found before.loaded) (frame_won (start_of on))) told.end in
     let b = objects_after looked between (what (terms_of same_object old.pass.memory Bus)) h.rests h.added h.adds h.completes in
     let port : between.pass.port ≡ old.pass.port = h.rests.same.port ∙ look.same.port in
     record {

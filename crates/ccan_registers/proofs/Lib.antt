@@ -7,3 +7,4 @@ pub mod Resets
 pub mod Accesses
 pub mod Halves
 pub mod Holders
+pub mod Sending

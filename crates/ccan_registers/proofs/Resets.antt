@@ -11,7 +11,8 @@ use Rattle.ccan_endless.specs.ChipPort.{AddsNone, ChipPass}
 use Rattle.ccan_endless.specs.Layout.{same_object}
 use Rattle.ccan_registers.specs.declared.access_error.AccessError.{AccessError}
 use Rattle.ccan_registers.specs.ChipSteps.{ChipGoes, Then}
-use Rattle.ccan_registers.specs.Resetting.{HaveReset, ResetsObject, reset_told}
+use Rattle.ccan_registers.specs.Dcan.{change_told}
+use Rattle.ccan_registers.specs.Resetting.{HaveReset, ResetsObject}
 use Rattle.ccan_registers.proofs.Going.{goes_then, on_objects, weaker}
 
 -- the objects so far, and one more
@@ -27,7 +28,7 @@ one_more a b d tries n object told is f s =
 
 -- the reset of an object, as it ends
 pub object_reset : (old new : ChipPass) (tries object : ℕ) (outcome : Result Changed Refused)
-    (told : Result (Unit {0}) AccessError) → told ≡ reset_told outcome → AddsNone old new
+    (told : Result (Unit {0}) AccessError) → told ≡ change_told outcome → AddsNone old new
     → Goes (passes_of same_object old.pass) (passes_of same_object new.pass)
     (λ terms seen added. Attempt terms object Reset tries seen added outcome)
     → ChipGoes old new (λ terms seen added. ResetsObject terms tries object seen added told)

@@ -17,6 +17,8 @@ use Rattle.ccan_endless.specs.declared.controller_changed.ControllerChanged.{Con
 use Rattle.ccan_endless.specs.Chip.{ChipHistory, IsControllerStep, controller_at, ram_of, step_at, steps_of}
 use Rattle.ccan_endless.specs.ChipPort.{ChipPass, HasChanges, SeesOne}
 use Rattle.ccan_endless.specs.Layout.{same_object}
+use Rattle.ccan_registers.specs.declared.access_error.AccessError.{AccessError}
+use Rattle.ccan_registers.specs.declared.access_error.AccessError.TheVariants.{Busy}
 
 -- all that a port has seen is a legal history of the chip
 pub record SeesChip (port : ChipPass) : Type 0 where
@@ -61,6 +63,17 @@ abbrev pub Changes : PortName → ControllerChange → ℕ → ChipHistory → C
 Changes port change tries seen added (Ok made) =
     AtController port (Make change) made.before seen added × (made.after ≡ controller_after change made.before)
 Changes port change tries seen added (Err busy) = IsLost port tries busy seen added
+
+-- a change was made or given up
+abbrev pub made_or_busy : Result ControllerChanged ControllerBusy → Result (Unit {0}) AccessError
+made_or_busy (Ok made) = Ok tt
+made_or_busy (Err busy) = Err Busy
+
+-- an access that makes one change of the controller
+abbrev pub Makes : Terms → ControllerChange → ℕ → ChipHistory → ChipHistory → Result (Unit {0}) AccessError → Type 0
+Makes terms z tries seen added told =
+    (outcome : Result ControllerChanged ControllerBusy) × Changes terms.port z tries seen added outcome
+    × (told ≡ made_or_busy outcome)
 
 -- the one, and then the other
 pub record Then (first second : ChipHistory → ChipHistory → Type 0) (seen added : ChipHistory) : Type 0 where

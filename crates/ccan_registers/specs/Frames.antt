@@ -9,10 +9,11 @@ use Rattle.ccan_endless.specs.declared.chip.ControllerStep.TheVariants.{Look}
 use Rattle.ccan_endless.specs.Chip.{ChipHistory}
 use Rattle.ccan_station.specs.declared.begun.Begun.{Begun}
 use Rattle.ccan_station.specs.declared.ended.Ended.{Ended}
+use Rattle.ccan_station.specs.declared.loaded.Loaded.{Loaded}
 use Rattle.ccan_station.specs.declared.station.Station.{Station}
 use Rattle.ccan_station.specs.declared.stayed.Stayed.{Stayed}
-use Rattle.ccan_station.specs.Station.{Loaded, Loads, due, ending, frame_won, left_by, loaded_before, may_send, member_now, member_of}
-use Rattle.ccan_station.specs.Station.{role_now, still_loaded, still_under_way}
+use Rattle.ccan_station.specs.Station.{Loads, due, ending, frame_won, left_by, loaded_before, may_send, member_now, member_of}
+use Rattle.ccan_station.specs.Station.{role_now, sending_now, sent_as, still_loaded, still_under_way}
 use Rattle.ccan_wire.specs.declared.flaw.Flaw.{Flaw}
 use Rattle.ccan_wire.specs.declared.member.Member.{Member}
 use Rattle.ccan_wire.specs.declared.wire.Wire.{Wire}
@@ -23,7 +24,7 @@ use Rattle.ccan_registers.specs.Rounds.{ArrivesOnChip, NotesEvent}
 
 -- what a chip keeps between these: the object that it has loaded, and what it is to the frame that is under way
 pub record StationState : Type 0 where
-  pub loaded : Loaded
+  pub loaded : Option Loaded
   pub under_way : Option Member
 
 abbrev pub state_of : Station → StationState
@@ -43,7 +44,8 @@ pub record BeginsOnChip (terms : Terms) (tries : ℕ) (old : StationState) (seen
   pub first : Controller
   pub arrives : ArrivesOnChip terms.port first told.found seen looked
   pub loads : OnObjects terms.port
-      (λ s a. Loads (may_send (role_now told.found)) terms tries s a (loaded_before first old.loaded) new.loaded told.loading)
+      (λ s a. Loads (may_send (role_now told.found)) (sending_now told.found) terms tries s a (loaded_before first old.loaded)
+      new.loaded told.loading)
       (looked ++ seen) later
   pub member : told.member ≡ member_of told.found new.loaded
   pub waits : new.under_way ≡ Some told.member
@@ -67,8 +69,8 @@ pub record EndsOnChip (terms : Terms) (tries : ℕ) (on : Wire) (place : ℕ) (f
   pub looks : AtController terms.port Look told.found seen looked
   pub own : told.own ≡ event_of on place (ending (still_under_way told.found old.under_way) flaw)
   pub completes : OnObjects terms.port
-      (λ s a. Completes terms tries s a (due told.own (still_loaded told.found old.loaded) (frame_won (start_of on))) told.end)
-      (looked ++ seen) steps
+      (λ s a. Completes terms (sent_as (still_loaded told.found old.loaded)) tries s a
+      (due told.own (still_loaded told.found old.loaded) (frame_won (start_of on))) told.end) (looked ++ seen) steps
   pub left : new.loaded ≡ left_by told.own (still_loaded told.found old.loaded)
   pub over : new.under_way ≡ None
   pub notes : NotesEvent terms.port most_tries told.own told.noted (steps ++ (looked ++ seen)) last

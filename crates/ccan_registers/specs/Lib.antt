@@ -2,8 +2,9 @@ pub mod ChipSteps
 pub mod PortHolder
 pub mod Objects
 pub mod InterfaceSet
+pub mod Dcan
+pub mod Resetting
 pub mod Register
 pub mod Rounds
 pub mod Frames
-pub mod Resetting
 pub mod Notes

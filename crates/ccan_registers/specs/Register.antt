@@ -1,6 +1,7 @@
 -- What a read and a write of a register of the chip come to. Source: C_CAN User's Manual 1.2, section 3 (Programmer's Model);
 -- that a read of the Status register of a D_CAN clears it: Texas Instruments AM335x Technical Reference Manual, "Error and
--- Status Register"; what a port may do there that is not the owner of an interface is this project's own.
+-- Status Register"; what else a D_CAN does otherwise stands in Dcan.antt; what a port may do there that is not the owner of an
+-- interface is this project's own.
 use Rattle.std.specs.Prelude.{ℕ, ◌≡◌, ◌+◌, ◌*◌, ◌/◌, ◌%◌, ◌^◌, ◌==◌, ◌⊎◌, Bool, true, false, not, ◌&&◌, [], Option, Some, None, Result, Ok, Err, MatchBool, MatchOption}
 use Rattle.ccan_object.specs.declared.register.Reg.{Reg}
 use Rattle.ccan_object.specs.Interface.{set_register, shown}
@@ -9,7 +10,7 @@ use Rattle.ccan_object.specs.declared.profile.Profile.{Profile}
 use Rattle.ccan_confine.specs.declared.controller.Controller.{Controller}
 use Rattle.ccan_confine.specs.declared.controller_change.ControllerChange.{ControllerChange}
 use Rattle.ccan_confine.specs.declared.controller_change.ControllerChange.TheVariants as change
-use Rattle.ccan_confine.specs.RegisterWords.{control_in, control_word, error_counter_word, flags_in, test_in, test_word}
+use Rattle.ccan_confine.specs.RegisterWords.{control_in, error_counter_word, flags_in, test_word}
 use Rattle.ccan_confine.specs.Controller.{shows_interrupt, status_word}
 use Rattle.ccan_ram.specs.declared.flag.Flag.{Flag}
 use Rattle.ccan_ram.specs.declared.port.PortName.{PortName}
@@ -35,9 +36,11 @@ use Rattle.ccan_map.specs.Register.{IsIn}
 use Rattle.ccan_registers.specs.declared.access_error.AccessError.{AccessError}
 use Rattle.ccan_registers.specs.declared.access_error.AccessError.TheVariants.{Busy, OtherInterface, Spent}
 use Rattle.ccan_registers.specs.declared.interface_set.InterfaceSet.{InterfaceSet}
-use Rattle.ccan_registers.specs.ChipSteps.{AtController, Changes, Then}
+use Rattle.ccan_registers.specs.ChipSteps.{AtController, Changes, Makes, Then}
+use Rattle.ccan_registers.specs.Dcan.{NamesNone, Sends, asks_for_reset, control_shown, is_object_of, is_sending, number_in, test_written}
 use Rattle.ccan_registers.specs.InterfaceSet.{Transferred}
 use Rattle.ccan_registers.specs.Objects.{ShowsFlags, ShowsInterrupt}
+use Rattle.ccan_registers.specs.Resetting.{ResetsChip}
 
 -- ---- whose a register is
 
@@ -85,17 +88,6 @@ ReadsStatus terms z tries seen added told =
     (outcome : Result ControllerChanged ControllerBusy) × Changes terms.port z tries seen added outcome
     × (told ≡ status_told outcome)
 
--- a write was made or given up
-abbrev pub made_or_busy : Result ControllerChanged ControllerBusy → Result (Unit {0}) AccessError
-made_or_busy (Ok made) = Ok tt
-made_or_busy (Err busy) = Err Busy
-
--- a write of a register of the controller, which makes one change of it
-abbrev pub Makes : Terms → ControllerChange → ℕ → ChipHistory → ChipHistory → Result (Unit {0}) AccessError → Type 0
-Makes terms z tries seen added told =
-    (outcome : Result ControllerChanged ControllerBusy) × Changes terms.port z tries seen added outcome
-    × (told ≡ made_or_busy outcome)
-
 -- The interrupt value: a look at the controller, which tells whether a status interrupt is shown; and then, where none is, the
 -- objects that ask for one in one moment.
 pub record InterruptValue (terms : Terms) (seen added : ChipHistory) (found : Controller) (value : ℕ) : Type 0 where
@@ -116,7 +108,7 @@ ReadsOwn port interface value own added told =
     MatchBool (is_own port interface) (IsQuiet added told value) (IsOthers own own added told)
 
 abbrev pub Reads : Terms → ℕ → Map → Register → InterfaceSet → ChipHistory → ChipHistory → Result ℕ AccessError → Type 0
-Reads terms tries map register.Control own seen added told = Shows terms (λ c. control_word c.control) seen added told
+Reads terms tries map register.Control own seen added told = Shows terms (λ c. control_shown map c.control) seen added told
 Reads terms tries map register.Status own seen added told = ReadsStatus terms (read_of map) tries seen added told
 Reads terms tries map register.ErrorCounter own seen added told = Shows terms error_counter_word seen added told
 Reads terms tries map register.BitTiming own seen added told = Shows terms (λ c. c.timing.register) seen added told
@@ -163,30 +155,60 @@ pub record IsReadOnly (own : InterfaceSet) (added : ChipHistory) (told : Result 
   pub done : IsQuiet added told tt
   pub left_is : left ≡ own
 
+-- what a write of Status is to the controller: that of a D_CAN can only be read
+abbrev pub status_written : Map → ℕ → Option ControllerChange
+status_written Narrow value = Some (change.WriteStatus (flags_in value))
+status_written Wide value = Some (change.WriteStatus (flags_in value))
+status_written Dcan value = None
+
 -- what a write of this word is to the controller, where the register is one that it has and that can be written
-abbrev pub change_by : Register → ℕ → Option ControllerChange
-change_by register.Control value = Some (change.WriteControl (control_in value))
-change_by register.Status value = Some (change.WriteStatus (flags_in value))
-change_by register.BitTiming value = Some (change.WriteBitTiming value)
-change_by register.Test value = Some (change.WriteTest (test_in value))
-change_by register.Extension value = Some (change.WriteExtension value)
-change_by r value = None
+abbrev pub change_by : Map → Register → ℕ → Option ControllerChange
+change_by map register.Control value = Some (change.WriteControl (control_in value))
+change_by map register.Status value = status_written map value
+change_by map register.BitTiming value = Some (change.WriteBitTiming value)
+change_by map register.Test value = Some (change.WriteTest (test_written map value))
+change_by map register.Extension value = Some (change.WriteExtension value)
+change_by map r value = None
+
+-- a request of a D_CAN whose number is that of an object
+abbrev pub RequestsObject : Terms → ℕ → ℕ → InterfaceSet → ChipHistory → ChipHistory → Result (Unit {0}) AccessError
+    → InterfaceSet → Type 0
+RequestsObject terms tries object own seen added told left =
+    MatchBool (is_sending own.registers.command) (Sends terms tries object own seen added told left)
+    (Requests terms tries object own seen added told left)
+
+-- a write of the Command Request register of the port's own interface
+abbrev pub RequestsBy : Map → Terms → ℕ → ℕ → InterfaceSet → ChipHistory → ChipHistory → Result (Unit {0}) AccessError
+    → InterfaceSet → Type 0
+RequestsBy Narrow terms tries value own seen added told left = Requests terms tries value own seen added told left
+RequestsBy Wide terms tries value own seen added told left = Requests terms tries value own seen added told left
+RequestsBy Dcan terms tries value own seen added told left =
+    MatchBool (is_object_of terms.profile (number_in value))
+    (RequestsObject terms tries (number_in value) own seen added told left)
+    (NamesNone (number_in value) own added told left)
 
 -- a write of another register: of an interface, or of one that can only be read
-abbrev pub WritesRest : Terms → ℕ → Register → ℕ → InterfaceSet → ChipHistory → ChipHistory → Result (Unit {0}) AccessError
-    → InterfaceSet → Type 0
-WritesRest terms tries (register.Request interface) value own seen added told left =
-    MatchBool (is_own terms.port interface) (Requests terms tries value own seen added told left)
+abbrev pub WritesRest : Terms → ℕ → Map → Register → ℕ → InterfaceSet → ChipHistory → ChipHistory
+    → Result (Unit {0}) AccessError → InterfaceSet → Type 0
+WritesRest terms tries map (register.Request interface) value own seen added told left =
+    MatchBool (is_own terms.port interface) (RequestsBy map terms tries value own seen added told left)
     (IsOthers own left added told)
-WritesRest terms tries (register.Buffer interface reg) value own seen added told left =
+WritesRest terms tries map (register.Buffer interface reg) value own seen added told left =
     MatchBool (is_own terms.port interface) (SetsOwn reg value own added told left) (IsOthers own left added told)
-WritesRest terms tries r value own seen added told left = IsReadOnly own added told left
+WritesRest terms tries map r value own seen added told left = IsReadOnly own added told left
 
-abbrev pub Writes : Terms → ℕ → Register → ℕ → InterfaceSet → ChipHistory → ChipHistory → Result (Unit {0}) AccessError
+-- a software reset of a D_CAN, which leaves the interface, since the other one is another port's (own)
+pub record ResetsBySoftware (terms : Terms) (tries : ℕ) (own : InterfaceSet) (seen added : ChipHistory)
+    (told : Result (Unit {0}) AccessError) (left : InterfaceSet) : Type 0 where
+  pub resets : ResetsChip terms change.ResetDcan tries seen added told
+  pub left_is : left ≡ own
+
+abbrev pub Writes : Terms → ℕ → Map → Register → ℕ → InterfaceSet → ChipHistory → ChipHistory → Result (Unit {0}) AccessError
     → InterfaceSet → Type 0
-Writes terms tries r value own seen added told left =
-    MatchOption (change_by r value) (WritesRest terms tries r value own seen added told left)
-    (λ z. WritesController terms z tries own seen added told left)
+Writes terms tries map r value own seen added told left =
+    MatchBool (asks_for_reset map r value) (ResetsBySoftware terms tries own seen added told left)
+    (MatchOption (change_by map r value) (WritesRest terms tries map r value own seen added told left)
+    (λ z. WritesController terms z tries own seen added told left))
 
 -- ---- by offsets
 
@@ -210,7 +232,7 @@ abbrev pub WritesAt : Terms → ℕ → Map → ℕ → ℕ → InterfaceSet →
     → Option (Result (Unit {0}) AccessError) → InterfaceSet → Type 0
 WritesAt terms tries map offset value own seen added None left = HasNone map terms.profile offset × (added ≡ []) × (left ≡ own)
 WritesAt terms tries map offset value own seen added (Some told) left =
-    (r : Register) × IsAt map terms.profile offset r × Writes terms tries r value own seen added told left
+    (r : Register) × IsAt map terms.profile offset r × Writes terms tries map r value own seen added told left
 
 -- ---- 32 bits in one access
 

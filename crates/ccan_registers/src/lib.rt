@@ -23,11 +23,13 @@
 //!
 //! A port tells another what it has seen by a note (`tell`, `heed`).
 //!
-//! A word of 32 bits (`read_word`, `write_word`) is two registers, one after the other.
+//! A word of 32 bits (`read_word`, `write_word`) is two registers, one after the other. What a D_CAN does otherwise than a C_CAN
+//! stands in `dcan`.
 #![tactic(auto)]
 
 mod access_error;
 mod controller;
+mod dcan;
 mod frames;
 mod interface_set;
 mod notes;
@@ -40,6 +42,7 @@ mod words;
 
 pub use access_error::AccessError;
 pub use controller::{change, look};
+pub use dcan::reset_of;
 pub use frames::{begin, end, stay};
 pub use interface_set::InterfaceSet;
 pub use notes::{heed, tell};

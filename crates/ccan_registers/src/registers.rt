@@ -1,21 +1,24 @@
 //! Reads and writes of the registers of a chip.
 ghost use Rattle.std.specs.Prelude.{◌≡◌, true, false, Ok, Err};
 ghost use Rattle.ccan_object.specs.Interface.{set_register};
+ghost use Rattle.ccan_map.specs.declared.map.Map.TheVariants.{Dcan};
 ghost use Rattle.ccan_ram.specs.declared.port.PortName.TheVariants.{Bus as BusPort};
 ghost use Rattle.ccan_endless.specs.Chip.{MayMake};
-ghost use Rattle.ccan_registers.specs.ChipSteps.{ChipGoes};
+ghost use Rattle.ccan_registers.specs.ChipSteps.{ChipGoes, Makes};
 ghost use Rattle.ccan_registers.specs.PortHolder.{port_at};
 ghost use Rattle.ccan_registers.specs.Register as says;
-ghost use Rattle.ccan_registers.specs.Register.{InterruptValue, Makes, PullsLine, Reads, ReadsAt};
-ghost use Rattle.ccan_registers.specs.Register.{ReadsStatus, Requests, Writes, WritesAt};
+ghost use Rattle.ccan_registers.specs.Register.{InterruptValue, PullsLine, Reads, ReadsAt};
+ghost use Rattle.ccan_registers.specs.Register.{ReadsStatus, Requests, RequestsBy, Writes, WritesAt};
 ghost use Rattle.ccan_registers.specs.declared.access_error.AccessError.TheVariants.{OtherInterface};
 
 use crate::access_error::AccessError;
 use crate::controller::{change, look};
+use crate::dcan::{asks_for_reset, control_shown, is_sending, object_named, send, test_written};
 use crate::interface_set::InterfaceSet;
 use crate::objects::{flags, interrupt};
 use crate::port_holder::PortHolder;
-use ccan_confine::{ControlRegister, Controller, ControllerChange, StatusFlags, TestRegister};
+use crate::resetting::reset;
+use ccan_confine::{ControlRegister, Controller, ControllerChange, StatusFlags};
 use ccan_endless::EndlessRam;
 use ccan_line::LineAnswer;
 use ccan_map::{Interface, Map, Register};
@@ -140,7 +143,7 @@ pub fn read(
         Reads terms tries map register own.now seen added result) }
 {
     match register {
-        Register::Control => Ok(look(ram, holder).control.word()),
+        Register::Control => Ok(control_shown(map, &look(ram, holder).control)),
         Register::Status => read_status(ram, holder, map, tries),
         Register::ErrorCounter => Ok(look(ram, holder).error_counter_word()),
         Register::BitTiming => Ok(look(ram, holder).timing.register()),
@@ -211,6 +214,52 @@ fn write_request(
     transfer_told(&reply)
 }
 
+/// The request of a D_CAN: its number has eight bits, and where no object has it, nothing is moved.
+#[inline(never)]
+fn write_request_of_dcan(
+    own: &mut InterfaceSet,
+    ram: &EndlessRam,
+    holder: &mut PortHolder,
+    value: u16,
+    tries: Tries,
+) -> Result<(), AccessError>
+    requires memory { (port_at holder.old).pass.memory ≡ ram.now.words }
+    ensures { ChipGoes (port_at holder.old) (port_at holder.new) (λ terms seen added.
+        RequestsBy Dcan terms tries value own.old seen added result own.new) }
+{
+    match object_named(ram.profile(), value) {
+        Some(object) if is_sending(own.registers.command()) => {
+            send(own, ram, holder, object, tries)
+        }
+        Some(object) => write_request(own, ram, holder, u16::from(object.get()), tries),
+        None => {
+            own.asked = value % 256;
+            Ok(())
+        }
+    }
+}
+
+/// Writes the Command Request register of the port's own interface, as the layout's part has it.
+#[inline(always)]
+fn write_request_by(
+    own: &mut InterfaceSet,
+    ram: &EndlessRam,
+    holder: &mut PortHolder,
+    map: Map,
+    value: u16,
+    tries: Tries,
+) -> Result<(), AccessError>
+    requires memory { (port_at holder.old).pass.memory ≡ ram.now.words }
+    ensures { ChipGoes (port_at holder.old) (port_at holder.new) (λ terms seen added.
+        RequestsBy map terms tries value own.old seen added result own.new) }
+{
+    match map {
+        Map::Narrow => write_request(own, ram, holder, value, tries),
+        Map::Wide => write_request(own, ram, holder, value, tries),
+        Map::Dcan => write_request_of_dcan(own, ram, holder, value, tries),
+    }
+}
+
 /// Writes a register of the message buffer or the Command Mask register, where the interface is the port's.
 #[inline(always)]
 fn write_own(
@@ -232,16 +281,28 @@ fn write_own(
     Ok(())
 }
 
+/// What a write of Status is to the controller: that of a D_CAN can only be read.
+#[inline(always)]
+fn status_written(map: Map, value: u16) -> Option<ControllerChange>
+    ensures { result ≡ says.status_written map value }
+{
+    match map {
+        Map::Narrow => Some(ControllerChange::WriteStatus(StatusFlags::of_word(value))),
+        Map::Wide => Some(ControllerChange::WriteStatus(StatusFlags::of_word(value))),
+        Map::Dcan => None,
+    }
+}
+
 /// What a write of this word is to the controller, where the register is one that it has and that can be written.
 #[inline(always)]
-fn change_by(register: Register, value: u16) -> Option<ControllerChange>
-    ensures { result ≡ says.change_by register value }
+fn change_by(map: Map, register: Register, value: u16) -> Option<ControllerChange>
+    ensures { result ≡ says.change_by map register value }
 {
     match register {
         Register::Control => Some(ControllerChange::WriteControl(ControlRegister::of_word(value))),
-        Register::Status => Some(ControllerChange::WriteStatus(StatusFlags::of_word(value))),
+        Register::Status => status_written(map, value),
         Register::BitTiming => Some(ControllerChange::WriteBitTiming(value)),
-        Register::Test => Some(ControllerChange::WriteTest(TestRegister::of_word(value))),
+        Register::Test => Some(ControllerChange::WriteTest(test_written(map, value))),
         Register::Extension => Some(ControllerChange::WriteExtension(value)),
         _ => None,
     }
@@ -253,21 +314,25 @@ pub fn write(
     own: &mut InterfaceSet,
     ram: &EndlessRam,
     holder: &mut PortHolder,
+    map: Map,
     register: Register,
     value: u16,
     tries: Tries,
 ) -> Result<(), AccessError>
     requires memory { (port_at holder.old).pass.memory ≡ ram.now.words }
     ensures goes { ChipGoes (port_at holder.old) (port_at holder.new) (λ terms seen added.
-        Writes terms tries register value own.old seen added result own.new) }
+        Writes terms tries map register value own.old seen added result own.new) }
     ensures bus { (port_at holder.old).pass.port ≡ BusPort → own.new ≡ own.old }
 {
-    if let Some(change) = change_by(register, value) {
+    if asks_for_reset(map, register, value) {
+        return reset(ram, holder, &ControllerChange::ResetDcan, tries);
+    }
+    if let Some(change) = change_by(map, register, value) {
         return write_controller(ram, holder, &change, tries);
     }
     match register {
         Register::Request(interface) if is_own(holder.name(), interface) => {
-            write_request(own, ram, holder, value, tries)
+            write_request_by(own, ram, holder, map, value, tries)
         }
         Register::Request(_) => Err(AccessError::OtherInterface),
         Register::Buffer(interface, reg) => write_own(own, holder.name(), interface, reg, value),
@@ -296,7 +361,7 @@ pub fn write_at(
         Some(Register::Buffer(interface, reg)) => {
             Some(write_own(own, holder.name(), interface, reg, value))
         }
-        Some(register) => Some(write(own, ram, holder, register, value, tries)),
+        Some(register) => Some(write(own, ram, holder, map, register, value, tries)),
         None => None,
     }
 }

@@ -1,7 +1,7 @@
-//! A hardware reset of a chip, as steps of the bus's port in the chip's history.
+//! A reset of a chip, as steps of a port in the chip's history.
 ghost use Rattle.std.specs.Prelude.{◌≡◌, ◌<◌, ◌+◌};
 ghost use Rattle.ccan_object.specs.Profile.{Holds, objects_in};
-ghost use Rattle.ccan_ram.specs.declared.port.PortName.TheVariants.{Bus};
+ghost use Rattle.ccan_endless.specs.Chip.{MayMake};
 ghost use Rattle.ccan_registers.specs.ChipSteps.{ChipGoes};
 ghost use Rattle.ccan_registers.specs.PortHolder.{port_at};
 ghost use Rattle.ccan_registers.specs.Resetting.{ResetsChip, ResetsObject, ResetsObjects};
@@ -58,16 +58,21 @@ fn reset_objects(ram: &EndlessRam, port: &mut Port, tries: Tries) -> Result<(), 
     Ok(())
 }
 
-/// Resets the controller, and then each object: MsgVal, NewDat, IntPnd and TxRqst of each become 0, and all else of the
+/// Resets the controller, by this change, and then each object: MsgVal, NewDat, IntPnd and TxRqst of each become 0, and all else of the
 /// objects stays (C_CAN User's Manual 1.2, "Hardware Reset Description"). `Busy` of the controller: nothing was reset. `Busy`
 /// or `Spent` of an object: that one and those behind it were not reset. After `Busy` the call may be made again.
-pub fn reset(ram: &EndlessRam, holder: &mut PortHolder, tries: Tries) -> Result<(), AccessError>
+pub fn reset(
+    ram: &EndlessRam,
+    holder: &mut PortHolder,
+    change: &ControllerChange,
+    tries: Tries,
+) -> Result<(), AccessError>
     requires memory { (port_at holder.old).pass.memory ≡ ram.now.words }
-    requires bus { (port_at holder.old).pass.port ≡ Bus }
+    requires may { MayMake (port_at holder.old).pass.port change.now }
     ensures { ChipGoes (port_at holder.old) (port_at holder.new) (λ terms seen added.
-        ResetsChip terms tries seen added result) }
+        ResetsChip terms change.now tries seen added result) }
 {
-    if let Err(why) = write_controller(ram, holder, &ControllerChange::Reset, tries) {
+    if let Err(why) = write_controller(ram, holder, change, tries) {
         return Err(why);
     }
     let Some(port) = &mut holder.port else {

@@ -4,7 +4,7 @@ ghost use Rattle.ccan_confine.specs.Controller.{CanMake};
 
 use crate::expect::{holds, same};
 use ccan_confine::ControllerChange::{
-    Frame, Join, ReadAndClearStatus, ReadStatus, Recessive, Reset, WriteBitTiming, WriteControl,
+    Frame, Join, ReadAndClearStatus, ReadStatus, Recessive, Reset, ResetDcan, WriteBitTiming, WriteControl,
     WriteControlBits, WriteExtension, WriteStatus, WriteTest,
 };
 use ccan_confine::{
@@ -187,6 +187,16 @@ fn a_reset_gives_the_values_of_the_manual(rt: HostRuntime) {
     same(&rt, timing_of(&reset), (0x2301, 0x0000));
     same(&rt, reset.test.word(), 0x0000);
     same(&rt, reset.pack(), LEFT + (0x2301 << 42) + (1 << 32));
+}
+
+/// The same but LEC, which is 7 in a D_CAN.
+#[test]
+fn a_reset_of_a_dcan_sets_the_last_error_code(rt: HostRuntime) {
+    let busy = controlled(after_send_faults(32), 0xff);
+    let reset = after(busy, ResetDcan);
+    same(&rt, words(&reset), (0x0001, 0x0007, 0x0000));
+    same(&rt, timing_of(&reset), (0x2301, 0x0000));
+    same(&rt, reset.has_left, true);
 }
 
 #[test]

@@ -346,10 +346,89 @@ fn the_bus_reads_and_writes_words_of_32_bits(rt: HostRuntime) {
     let mut word = 7;
     same(&rt, bus_write32(&mut chip.bus, 0x000, 0xffff_0041), 0);
     same(&rt, bus_read32(&mut chip.bus, 0x000, &mut word), 0);
-    same(&rt, word, 0x0000_0041);
+    same(&rt, word, 0x0000_1441);
     same(&rt, bus_write32(&mut chip.bus, 0x00c, 0x0005_1c00), 0);
     same(&rt, bus_read32(&mut chip.bus, 0x00c, &mut word), 0);
     same(&rt, word, 0x0005_1c00);
+}
+
+/// Object 2 of a D_CAN sends 0x100 with a byte: Arbitration 2, Message Control, Data A1, the command and its request.
+const SENDS_OF_DCAN: [(u32, u16); 6] = [
+    (0x10a, 0xa400),
+    (0x10c, 0x0081),
+    (0x110, 0x0011),
+    (0x102, 0x00b6),
+    (0x100, 2),
+    (0x000, 0),
+];
+
+/// New data for a frame on its way, by a command with WR/RD, TxRqst/NewDat and Data A: it is sent behind that frame (AM335x
+/// manual, IF1 Command Register: the bit sets TxRqst and NewDat).
+#[test]
+fn a_command_of_a_dcan_sends_new_data(rt: HostRuntime) {
+    let mut chip = reset(&rt, rt.alloc(), 2);
+    write_all(&rt, &mut chip.if1, &SENDS_OF_DCAN);
+    same(&rt, reads(&rt, &mut chip.if1, 0x9c), 0x0002);
+    same(&rt, loads(&rt, &mut chip.bus), 2);
+    same(&rt, reads(&rt, &mut chip.if1, 0x9c), 0);
+    write_all(
+        &rt,
+        &mut chip.if1,
+        &[(0x110, 0x0022), (0x102, 0x0086), (0x100, 2)],
+    );
+    same(&rt, reads(&rt, &mut chip.if1, 0x9c), 0x0002);
+    same(&rt, reads(&rt, &mut chip.if1, 0x10c), 0x8181);
+    same(&rt, played(&rt, &mut chip.bus, &[], 0).frame.bytes[0], 0x11);
+    same(&rt, played(&rt, &mut chip.bus, &[], 0).frame.bytes[0], 0x22);
+    same(&rt, played(&rt, &mut chip.bus, &[], 0).kind, 0);
+}
+
+/// A request of a D_CAN has eight bits, and 0 and 33 are no objects of 32.
+#[test]
+fn a_request_of_a_dcan_may_name_no_object(rt: HostRuntime) {
+    let mut chip = reset(&rt, rt.alloc(), 2);
+    for number in &[0_u16, 0x21, 0x42, 0x80] {
+        write_all(
+            &rt,
+            &mut chip.if1,
+            &[(0x10a, 0xa400), (0x102, 0x00b6), (0x100, *number)],
+        );
+        same(&rt, reads(&rt, &mut chip.if1, 0x100), *number);
+        same(&rt, reads(&rt, &mut chip.if1, 0xc4), 0);
+        same(&rt, reads(&rt, &mut chip.if1, 0xc6), 0);
+    }
+}
+
+/// What a D_CAN reads after a reset, by the AM335x manual: Control 0x1401, and LEC 7. Status can only be read.
+#[test]
+fn a_dcan_opens_with_its_own_reset_values(rt: HostRuntime) {
+    let mut chip = reset(&rt, rt.alloc(), 2);
+    same(&rt, reads(&rt, &mut chip.if1, 0x00), 0x1401);
+    same(&rt, reads(&rt, &mut chip.if1, 0x04), 0x0007);
+    write_all(&rt, &mut chip.if1, &[(0x04, 0), (0x00, 0x0080), (0x14, 0x001c)]);
+    same(&rt, reads(&rt, &mut chip.if1, 0x04), 0x0007);
+    same(&rt, reads(&rt, &mut chip.if1, 0x14), 0x0018);
+}
+
+/// SWR with Init resets a D_CAN: its counters too, and what was loaded is dropped. SWR without Init is dropped.
+#[test]
+fn a_dcan_is_reset_by_software(rt: HostRuntime) {
+    let mut chip = reset(&rt, rt.alloc(), 2);
+    write_all(&rt, &mut chip.if1, &[(0x00, 0x0041), (0x0c, 0x1c00)]);
+    write_all(&rt, &mut chip.if1, &SENDS_OF_DCAN);
+    same(&rt, played(&rt, &mut chip.bus, &[], 3).kind, 6);
+    same(&rt, loads(&rt, &mut chip.bus), 2);
+    write_all(&rt, &mut chip.if1, &[(0x00, 0x8000)]);
+    same(&rt, reads(&rt, &mut chip.if1, 0x08), 0x0008);
+    same(&rt, reads(&rt, &mut chip.if1, 0x00), 0x1400);
+    write_all(&rt, &mut chip.if1, &[(0x00, 0x8001)]);
+    same(&rt, reads(&rt, &mut chip.if1, 0x00), 0x1401);
+    same(&rt, reads(&rt, &mut chip.if1, 0x04), 0x0007);
+    same(&rt, reads(&rt, &mut chip.if1, 0x08), 0);
+    same(&rt, reads(&rt, &mut chip.if1, 0x0c), 0x2301);
+    same(&rt, reads(&rt, &mut chip.if1, 0xc4), 0);
+    write_all(&rt, &mut chip.if1, &[(0x00, 0)]);
+    same(&rt, played(&rt, &mut chip.bus, &[], 0).kind, 0);
 }
 
 /// SIE is set once the frame was there: the status interrupt was raised all the same.

@@ -1,6 +1,6 @@
 use Rattle.std.proofs.Common.{refl, subst}
 use Rattle.ccan_confine.specs.declared.controller_change.ControllerChange.{ControllerChange}
-use Rattle.ccan_registers.specs.Register.{Makes}
+use Rattle.ccan_registers.specs.ChipSteps.{Makes}
 use Rattle.ccan_c.specs.BusCall as bus_call
 use Rattle.ccan_c.specs.Steps.{Steps}
 use Rattle.ccan_c.proofs.Calls.{bus_looked, on_open}

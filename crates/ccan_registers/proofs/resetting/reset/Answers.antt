@@ -1,11 +1,9 @@
 use Rattle.std.proofs.Common.{inr, ap, subst}
 use Rattle.std.specs.Prelude.{Result, Ok}
-use Rattle.ccan_confine.specs.declared.controller_change.ControllerChange.TheVariants.{Reset}
 use Rattle.ccan_endless.specs.ChipPort.{ChipPass}
 use Rattle.ccan_registers.specs.declared.access_error.AccessError.{AccessError}
-use Rattle.ccan_registers.specs.ChipSteps.{ChipGoes}
+use Rattle.ccan_registers.specs.ChipSteps.{ChipGoes, Makes}
 use Rattle.ccan_registers.specs.PortHolder.{port_at, port_in}
-use Rattle.ccan_registers.specs.Register.{Makes}
 use Rattle.ccan_registers.specs.Resetting.{ResetsObjects}
 use Rattle.ccan_registers.proofs.Going.{goes_then, weaker}
 use Rattle.ccan_registers.proofs.resetting.reset.Goals as goal
@@ -16,10 +14,10 @@ returns c =
     let new = c.reset_objects.new.port in
     let tries = c.args.tries in
     let made = subst (λ (told : Result (Unit {0}) AccessError). ChipGoes old (port_at c.write_controller.new.holder)
-    (λ terms seen added. Makes terms Reset tries seen added told)) c.in_default.is c.write_controller.ensures in
-    let there = subst (λ (b : ChipPass). ChipGoes old b (λ terms seen added. Makes terms Reset tries seen added (Ok tt)))
+    (λ terms seen added. Makes terms c.args.change.now tries seen added told)) c.in_default.is c.write_controller.ensures in
+    let there = subst (λ (b : ChipPass). ChipGoes old b (λ terms seen added. Makes terms c.args.change.now tries seen added (Ok tt)))
     (ap port_in c.in-Some.is) made in
     weaker old new _ _
-    (goes_then old c.in-Some.port new (λ terms seen added. Makes terms Reset tries seen added (Ok tt))
+    (goes_then old c.in-Some.port new (λ terms seen added. Makes terms c.args.change.now tries seen added (Ok tt))
     (λ terms seen added. ResetsObjects terms tries seen added c.reset_objects.result) there c.reset_objects.ensures)
     (λ seen added h. inr h)

@@ -1,6 +1,6 @@
 use Rattle.std.proofs.Common.{Bool, Some, sym, subst}
 use Rattle.ccan_confine.specs.declared.controller_change.ControllerChange.{ControllerChange}
-use Rattle.ccan_registers.specs.Register.{Makes}
+use Rattle.ccan_registers.specs.ChipSteps.{Makes}
 use Rattle.ccan_c.specs.BusCall.{LoopsBack}
 use Rattle.ccan_c.specs.HostCall.{code_of_access}
 use Rattle.ccan_c.specs.Steps.{Steps}

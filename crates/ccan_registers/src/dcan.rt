@@ -1,0 +1,146 @@
+//! What a D_CAN does otherwise than a C_CAN (Texas Instruments AM335x Technical Reference Manual, chapter DCAN).
+ghost use Rattle.std.specs.Prelude.{◌≡◌, false, true, IfNone, IfSome};
+ghost use Rattle.ccan_object.specs.Profile.{Holds};
+ghost use Rattle.ccan_ram.specs.declared.port.PortName.TheVariants.{Bus};
+ghost use Rattle.ccan_endless.specs.Chip.{MayMake};
+ghost use Rattle.ccan_registers.specs.ChipSteps.{ChipGoes};
+ghost use Rattle.ccan_registers.specs.Dcan as says;
+ghost use Rattle.ccan_registers.specs.Dcan.{Sends, is_object_of, number_in};
+ghost use Rattle.ccan_registers.specs.PortHolder.{port_at};
+
+use crate::access_error::AccessError;
+use crate::interface_set::InterfaceSet;
+use crate::port_holder::PortHolder;
+use ccan_confine::{ControlRegister, ControllerChange, TestRegister};
+use ccan_endless::{EndlessRam, Port};
+use ccan_map::{Map, Register};
+use ccan_object::{CommandMask, ObjectNo, Profile};
+use ccan_ram::{Change, Changed, Refused, SharedRam, Tries};
+
+// ---- registers of the controller
+
+/// PMD of Control, bits 13 to 10: parity is off.
+const NO_PARITY: u16 = 5 << 10;
+
+/// The reset of the layout's part.
+#[inline(always)]
+pub fn reset_of(map: Map) -> ControllerChange
+    ensures value { result ≡ says.reset_of map }
+    ensures may { MayMake Bus result }
+{
+    match map {
+        Map::Narrow => ControllerChange::Reset,
+        Map::Wide => ControllerChange::Reset,
+        Map::Dcan => ControllerChange::ResetDcan,
+    }
+}
+
+/// What Control reads.
+#[inline(always)]
+pub(crate) fn control_shown(map: Map, control: &ControlRegister) -> u16
+    ensures { result ≡ says.control_shown map control.now }
+{
+    match map {
+        Map::Narrow => control.word(),
+        Map::Wide => control.word(),
+        Map::Dcan => NO_PARITY + control.word(),
+    }
+}
+
+/// What a write of Test sets.
+#[inline(always)]
+pub(crate) fn test_written(map: Map, word: u16) -> TestRegister
+    ensures { result ≡ says.test_written map word }
+{
+    let written = TestRegister::of_word(word);
+    match map {
+        Map::Narrow => written,
+        Map::Wide => written,
+        Map::Dcan => TestRegister {
+            basic: false,
+            ..written
+        },
+    }
+}
+
+/// Whether a write asks for a software reset: of Control of a D_CAN, with SWR and Init.
+#[inline(always)]
+pub(crate) fn asks_for_reset(map: Map, register: Register, word: u16) -> bool
+    ensures { result ≡ says.asks_for_reset map register word }
+{
+    match (map, register) {
+        (Map::Dcan, Register::Control) => word >= 1 << 15 && word % 2 == 1,
+        _ => false,
+    }
+}
+
+// ---- requests
+
+/// Whether the command writes an object, and requests a transmission.
+#[inline(always)]
+pub(crate) fn is_sending(command: CommandMask) -> bool
+    ensures { result ≡ says.is_sending command }
+{
+    command.is_write() && command.has_txrqst_newdat()
+}
+
+/// The object that a request names by its low eight bits, if there is one.
+#[inline(always)]
+pub(crate) fn object_named(profile: Profile, request: u16) -> Option<ObjectNo>
+    ensures none { IfNone result (is_object_of profile (number_in request) ≡ false) }
+    ensures some { IfSome result (λ object. (is_object_of profile (number_in request) ≡ true)
+        × (object ≡ number_in request) × Holds profile object) }
+{
+    let number = (request % 256) as u8;
+    if number == 0 || number > profile.objects() {
+        return None;
+    }
+    ObjectNo::new(number)
+}
+
+/// The change of a transfer that requests a transmission.
+fn sent(
+    own: &mut InterfaceSet,
+    ram: &EndlessRam,
+    port: &mut Port,
+    object: ObjectNo,
+    tries: Tries,
+) -> Result<(), AccessError>
+    requires memory { port.old.pass.memory ≡ ram.now.words }
+    requires held { Holds ram.now.words.profile object }
+    ensures { ChipGoes port.old port.new (λ terms seen added.
+        Sends terms tries object own.old seen added result own.new) }
+{
+    own.asked = u16::from(object.get());
+    let command = own.registers.command();
+    let change = Change::Send(command, own.registers.buffer());
+    match ram.change(port, object, &change, tries) {
+        Ok(Changed::Done { after, .. }) => {
+            own.registers.fill(command, &after);
+            Ok(())
+        }
+        Ok(Changed::NotNow(_)) => unreachable!(),
+        Err(Refused::Busy { .. }) => Err(AccessError::Busy),
+        Err(Refused::Spent) => Err(AccessError::Spent),
+    }
+}
+
+/// Makes a transfer that requests a transmission. It sets NewDat of the object beside TxRqst, so that new data is sent also
+/// where the frame of the object is on its way.
+pub(crate) fn send(
+    own: &mut InterfaceSet,
+    ram: &EndlessRam,
+    holder: &mut PortHolder,
+    object: ObjectNo,
+    tries: Tries,
+) -> Result<(), AccessError>
+    requires memory { (port_at holder.old).pass.memory ≡ ram.now.words }
+    requires held { Holds ram.now.words.profile object }
+    ensures { ChipGoes (port_at holder.old) (port_at holder.new) (λ terms seen added.
+        Sends terms tries object own.old seen added result own.new) }
+{
+    let Some(port) = &mut holder.port else {
+        unreachable!();
+    };
+    sent(own, ram, port, object, tries)
+}
