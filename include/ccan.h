@@ -361,7 +361,8 @@ enum ccan_offset {
     CCAN_OFFSET_MESSAGE_VALID_4 = 0xb6
 };
 
-/* Reads the register of 16 bits at an offset of the chip's layout. Reserved bits are 0, and so is Rx of Test, the level of a pin.
+/* Reads the register of 16 bits at an offset of the chip's layout. Reserved bits are 0. Rx of Test, the level of the
+ * bus, is 1: recessive.
  *  - Control, Error Counter, Bit Timing, Test, BRP Extension: one look at the controller. Error Counter shows a TEC above 255 as
  *    255, RP and the low seven bits of REC.
  *  - Status: as it is; and the pending status interrupts are cleared, and in CCAN_LAYOUT_D_CAN also TxOk and RxOk, and LEC becomes

@@ -139,7 +139,7 @@ static uint16_t controller_read(enum reg_name name)
     step_at_controller(parts[name], 0);
     const controller *of = &C.controller;
     uint16_t value = name == CONTROL ? of->control | (is_d_can() ? PMD_OFF : 0) : name == ERROR_COUNTER ? error_counter_word() :
-        name == BIT_TIMING ? of->timing : name == TEST_REGISTER ? of->test : of->extension;
+        name == BIT_TIMING ? of->timing : name == TEST_REGISTER ? of->test | RX_RECESSIVE : of->extension;
     tell("reads %s: %04x", names[name], value);
     return value;
 }

@@ -667,7 +667,7 @@ static void loop_back_mode_is_in_the_registers(void)
     asks_to_send(&chip.if1);
     EXPECT(ccan_loop_back(&chip.bus, 1) == CCAN_DONE);
     EXPECT(reads(&chip.if2, CCAN_OFFSET_CONTROL) == 0x0080);
-    EXPECT(reads(&chip.if2, CCAN_OFFSET_TEST) == 0x0010);
+    EXPECT(reads(&chip.if2, CCAN_OFFSET_TEST) == 0x0090);
     EXPECT(played_alone(&chip.bus).kind == CCAN_LOOPED);
     EXPECT(ccan_loop_back(&chip.bus, 0) == CCAN_DONE);
     EXPECT(reads(&chip.if2, CCAN_OFFSET_CONTROL) == 0);

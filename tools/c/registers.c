@@ -78,8 +78,11 @@ static uint32_t place_of(const struct row *row)
 
 static bool is_dcan(void) { return layout == CCAN_LAYOUT_D_CAN; }
 
-/* Bits that are always 1: PMD of Control of a D_CAN is 5. */
-static uint16_t fixed_in(const struct row *row) { return is_dcan() && row == control ? 0x1400 : 0; }
+/* Bits that no write changes: Rx of Test is 1, as the bus is recessive, and PMD of Control of a D_CAN is 5. */
+static uint16_t fixed_in(const struct row *row)
+{
+    return row == test ? 0x0080 : is_dcan() && row == control ? 0x1400 : 0;
+}
 
 /* What a register reads after a reset: Status of a D_CAN has LEC 7. */
 static uint16_t reset_of(const struct row *row)
@@ -204,13 +207,13 @@ static void tested(void)
     const struct row *row = test;
     put(control, 0x01);
     put(test, 0xffff);
-    EXPECT(get(test) == 0);
+    EXPECT(get(test) == fixed_in(test));
     put(control, 0x81);
     put(test, 0xffff);
-    EXPECT(get(test) == bits_in(test));
+    EXPECT(get(test) == (bits_in(test) | fixed_in(test)));
     put(control, 0x01);
     put(test, 0);
-    EXPECT(get(test) == bits_in(test));
+    EXPECT(get(test) == (bits_in(test) | fixed_in(test)));
 }
 
 /* Status: what is written of it, and what a read leaves. */

@@ -20,6 +20,7 @@ use Rattle.ccan_ram.specs.declared.event.Event.{Event}
 use Rattle.ccan_ram.specs.declared.flag.Flag.{Flag}
 use Rattle.ccan_ram.specs.History.{NobodyElse}
 use Rattle.ccan_ram.specs.Laws.{as_one_thread}
+use Rattle.ccan_ram.specs.declared.sending.Sending.{Sending}
 use Rattle.ccan_ram.specs.declared.sending.Sending.TheVariants.{UntilSent}
 use Rattle.ccan_ram.specs.Sending.{finish_by}
 use Rattle.ccan_ram.specs.Terms.{Terms}

@@ -10,6 +10,8 @@ use Rattle.ccan_object.specs.declared.profile.Profile.{Profile}
 use Rattle.ccan_confine.specs.declared.controller.Controller.{Controller}
 use Rattle.ccan_confine.specs.declared.controller_change.ControllerChange.{ControllerChange}
 use Rattle.ccan_confine.specs.declared.controller_change.ControllerChange.TheVariants as change
+use Rattle.ccan_confine.specs.declared.test_register.TestRegister.{TestRegister}
+use Rattle.ccan_confine.specs.Bits.{at}
 use Rattle.ccan_confine.specs.RegisterWords.{control_in, error_counter_word, flags_in, test_word}
 use Rattle.ccan_confine.specs.Controller.{shows_interrupt, status_word}
 use Rattle.ccan_ram.specs.declared.flag.Flag.{Flag}
@@ -107,6 +109,11 @@ abbrev pub ReadsOwn : PortName → Interface → ℕ → InterfaceSet → ChipHi
 ReadsOwn port interface value own added told =
     MatchBool (is_own port interface) (IsQuiet added told value) (IsOthers own own added told)
 
+-- what Test reads: with Rx, bit 7, the level of the bus, which is recessive. That no bit of a frame is on the bus when a register is
+-- read is (own): a frame has no bits in a history
+abbrev pub test_shown : TestRegister → ℕ
+test_shown test = at 7 1 + test_word test
+
 abbrev pub Reads : Terms → ℕ → Map → Register → InterfaceSet → ChipHistory → ChipHistory → Result ℕ AccessError → Type 0
 Reads terms tries map register.Control own seen added told = Shows terms (λ c. control_shown map c.control) seen added told
 Reads terms tries map register.Status own seen added told = ReadsStatus terms (read_of map) tries seen added told
@@ -114,7 +121,7 @@ Reads terms tries map register.ErrorCounter own seen added told = Shows terms er
 Reads terms tries map register.BitTiming own seen added told = Shows terms (λ c. c.timing.register) seen added told
 Reads terms tries map register.Interrupt own seen added told =
     (found : Controller) × (value : ℕ) × InterruptValue terms seen added found value × (told ≡ Ok value)
-Reads terms tries map register.Test own seen added told = Shows terms (λ c. test_word c.test) seen added told
+Reads terms tries map register.Test own seen added told = Shows terms (λ c. test_shown c.test) seen added told
 Reads terms tries map register.Extension own seen added told = Shows terms (λ c. c.timing.extension) seen added told
 Reads terms tries map (register.Request interface) own seen added told = ReadsOwn terms.port interface own.asked own added told
 Reads terms tries map (register.Buffer interface reg) own seen added told =

@@ -18,7 +18,7 @@ use crate::interface_set::InterfaceSet;
 use crate::objects::{flags, interrupt};
 use crate::port_holder::PortHolder;
 use crate::resetting::reset;
-use ccan_confine::{ControlRegister, Controller, ControllerChange, StatusFlags};
+use ccan_confine::{ControlRegister, Controller, ControllerChange, StatusFlags, TestRegister};
 use ccan_endless::EndlessRam;
 use ccan_line::LineAnswer;
 use ccan_map::{Interface, Map, Register};
@@ -39,6 +39,17 @@ fn is_own(port: PortName, interface: Interface) -> bool
 }
 
 // ---- registers of the controller
+
+/// Rx of Test, bit 7: the bus is recessive.
+const RECESSIVE: u16 = 1 << 7;
+
+/// What Test reads.
+#[inline(always)]
+fn test_shown(test: &TestRegister) -> u16
+    ensures { result ≡ says.test_shown test.now }
+{
+    RECESSIVE + test.word()
+}
 
 /// What a read of the Status register is to the controller.
 #[inline(always)]
@@ -148,7 +159,7 @@ pub fn read(
         Register::ErrorCounter => Ok(look(ram, holder).error_counter_word()),
         Register::BitTiming => Ok(look(ram, holder).timing.register()),
         Register::Interrupt => Ok(interrupt_value(ram, holder).1),
-        Register::Test => Ok(look(ram, holder).test.word()),
+        Register::Test => Ok(test_shown(&look(ram, holder).test)),
         Register::Extension => Ok(look(ram, holder).timing.extension()),
         Register::Request(interface) => read_own(holder.name(), interface, own.asked),
         Register::Buffer(interface, reg) => {

@@ -1,4 +1,5 @@
-//! Laws of frames that are under way while controllers leave the bus, and of how a frame starts. The functions do nothing: their contracts are the laws.
+//! Laws of frames that are under way while controllers leave the bus, and of how a frame starts. The functions do nothing: their
+//! contracts are the laws.
 
 ghost use Rattle.ccan_station.specs.Laws.{BeginsAreLoads, EndsAsItBegan, FramesOfWhoLeftAreCutOff};
 ghost use Rattle.ccan_station.specs.Laws.{WhoLeavesChangesNoWinner, WhoLeftHasNoEvent};
