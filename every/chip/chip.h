@@ -14,8 +14,7 @@ enum { IDENTIFIER = 0x1fffffff, STANDARD = 0x1ffc0000, DIR = 1 << 29, XTD = 1 <<
 #define MXTD 0x80000000u
 enum { INIT = 0x01, IE = 0x02, SIE = 0x04, EIE = 0x08, CCE = 0x40, TEST = 0x80 };  /* in Control */
 enum { SWR = 0x8000, PMD_OFF = 0x1400 };                                          /* in Control of a D_CAN */
-enum { RX_RECESSIVE = 0x80 };                                                        /* in Test: the level of the bus */
-enum { LBACK = 0x10 };                                                            /* in Test */
+enum { LBACK = 0x10, RX_RECESSIVE = 0x80 };                                       /* in Test */
 
 /* Parts of the controller: bits of ROW_CONTROLLER. */
 enum {
