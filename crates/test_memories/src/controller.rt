@@ -4,8 +4,8 @@ ghost use Rattle.ccan_confine.specs.Controller.{CanMake};
 
 use crate::expect::{holds, same};
 use ccan_confine::ControllerChange::{
-    Frame, Join, ReadAndClearStatus, ReadStatus, Recessive, Reset, ResetDcan, WriteBitTiming, WriteControl,
-    WriteControlBits, WriteExtension, WriteStatus, WriteTest,
+    Frame, Join, ReadAndClearStatus, ReadStatus, Recessive, Reset, ResetDcan, WriteBitTiming,
+    WriteControl, WriteControlBits, WriteExtension, WriteStatus, WriteTest,
 };
 use ccan_confine::{
     BitTiming, BusEvent, ControlRegister, Controller, ControllerChange, NodeState, StatusEvent,

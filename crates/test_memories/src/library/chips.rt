@@ -405,7 +405,11 @@ fn a_dcan_opens_with_its_own_reset_values(rt: HostRuntime) {
     let mut chip = reset(&rt, rt.alloc(), 2);
     same(&rt, reads(&rt, &mut chip.if1, 0x00), 0x1401);
     same(&rt, reads(&rt, &mut chip.if1, 0x04), 0x0007);
-    write_all(&rt, &mut chip.if1, &[(0x04, 0), (0x00, 0x0080), (0x14, 0x001c)]);
+    write_all(
+        &rt,
+        &mut chip.if1,
+        &[(0x04, 0), (0x00, 0x0080), (0x14, 0x001c)],
+    );
     same(&rt, reads(&rt, &mut chip.if1, 0x04), 0x0007);
     same(&rt, reads(&rt, &mut chip.if1, 0x14), 0x0098);
 }
