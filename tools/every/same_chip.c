@@ -173,6 +173,11 @@ static void random_transfer(void)
         DOING("ccan_set IF%u %u %04x", side + 1, reg, value);
         BOTH(char, set, host_of(chip, side), reg, value);
     }
+    if (chance(3)) { /* of a D_CAN, where there is one, by its offset */
+        DOING("a write of Command Request of IF%u: %04x", side + 1, request);
+        BOTH(char, write16, host_of(chip, side), side ? 0x120u : 0x100u, request);
+        return;
+    }
     DOING("ccan_request IF%u %04x", side + 1, request);
     BOTH(char, request, host_of(chip, side), request);
 }

@@ -53,5 +53,9 @@ WRONG = [
     Fault("a loaded frame that outlives Init", "chip/round.c", "    if (C.controller.has_left)\n        drop_loaded();\n", ""),
     Fault("an overrun without MsgLst", "chip/frames.c", "        now.control |= MSGLST;", "        now.control |= 0;"),
     Fault("a bus off that leaves Init", "chip/round.c", "        of->control |= INIT;\n", ""),
-    Fault("a reset that leaves TxRqst", "chip/opening.c", "~(NEWDAT | INTPND | TXRQST)", "~(NEWDAT | INTPND)"),
+    Fault("a reset that leaves TxRqst", "chip/controller.c", "~(NEWDAT | INTPND | TXRQST)", "~(NEWDAT | INTPND)"),
+    Fault("a request of a D_CAN that leaves NewDat", "chip/host.c", "number, TXRQST | NEWDAT);", "number, TXRQST);"),
+    Fault("a software reset that leaves the error counters", "chip/registers.c",
+          "    reset_controller();\n    changed", "    set_control(INIT);\n    changed"),
+    Fault("a software reset that leaves the objects", "chip/registers.c", "        reset_record(&C.records[object - 1]);\n", ""),
 ]

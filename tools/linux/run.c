@@ -654,7 +654,7 @@ static void go_off(void)
         passing += last_passing;
     }
     groups += passing;
-    if (priv->type != BOSCH_D_CAN && now != CCAN_OFF && (passing < 128 || passing - last_passing >= 128))
+    if (layout != CCAN_LAYOUT_D_CAN && now != CCAN_OFF && (passing < 128 || passing - last_passing >= 128))
         fault("it came back after another number of groups than 128", passing);
     atomic_fetch_add(&progress, 1);
 }
