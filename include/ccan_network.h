@@ -1,0 +1,497 @@
+/* A bus of several chips, with time: a ready-made network over the calls of ccan.h, for C11 and C++11.
+ *
+ * A network has up to 32 members: chips, each by its bus's handle, and nodes that have no chip. Its caller has a clock and counts
+ * time in bits. So at 500 kbit/s the unit of all times here is 2 us; ccan_bit_time has it from a chip's registers.
+ *
+ *   ccan_network_start    at any time: begins a frame if the bus is free and a member wants to send, and says when it ends; or says
+ *                         when to ask again
+ *   until then            hosts do what they like, members come and go, and ccan_network_fault gives a member an error to find
+ *   ccan_network_finish   when the frame ends: gives each member its event, and says when the bus is free again
+ *
+ *   static ccan_network network;
+ *   uint64_t now = 0, until;
+ *   uint32_t place;
+ *   ccan_network_init(&network, now);
+ *   must(ccan_network_add_chip(&network, &a.bus, &place));
+ *   must(ccan_network_add_chip(&network, &b.bus, &place));
+ *   for (;;) {
+ *       must(ccan_network_start(&network, now, &until));
+ *       if (!network.under_way && until == CCAN_NETWORK_NEVER)
+ *           break;                                           (nobody wants to send)
+ *       now = until;                                         (let hosts run until then)
+ *       if (network.under_way)
+ *           must(ccan_network_finish(&network, now, &until));
+ *   }
+ *
+ * This header is C, and not proved. What is on the bus, what it is to each member, and what that does to a chip come from the calls
+ * of ccan.h, which are proved: ccan_begin, ccan_decide, ccan_stay, ccan_decide_again, ccan_finish, and those of a node. What is
+ * added here is who takes part, when, and for how long. It is tested by tools/c/network.c, with three chips whose hosts run in
+ * threads, and by examples/c/network.c, whose times and counters were worked out by hand.
+ *
+ * It takes no memory, and has no state but the struct. One thread at a time may be in a call with a network. The calls use the bus's
+ * handles of its chips, which no other thread may use meanwhile (promise 2 of ccan.h). Hosts may run beside them, in threads of
+ * their own. Whoever has all in one thread calls ccan_meet of each chip before ccan_network_start and ccan_network_finish.
+ *
+ * What is exact, and what is not:
+ *  - A frame that ends well has its exact length, and so has one that an error passive sender ends alone since nobody acknowledges
+ *    it. A frame that an error flag ends is taken as long as it can be: where in the frame an error stands is not known, unless
+ *    ccan_network_finish is called then; and how the error flags of several members overlap isn't looked at. See
+ *    ccan_network_finish.
+ *  - A chip in loop back mode keeps no time of its own. It has its event when the frame on the bus ends; if nobody else sends, the
+ *    others wait until its frame is over.
+ *  - Intermission, suspend transmission, and groups of eleven recessive bits are those of CAN Specification 2.0. There are no
+ *    overload frames, no errors between frames and no second error in an error frame; and bits don't differ in length.
+ *  - All members see a frame end at once: propagation takes no time. */
+#ifndef CCAN_NETWORK_H
+#define CCAN_NETWORK_H
+#include "ccan.h"
+#include <string.h>
+#ifdef __cplusplus
+extern "C" {
+#endif
+
+enum ccan_network_numbers {
+    CCAN_NETWORK_MEMBERS = 32, /* so many members a network has at most */
+    CCAN_NETWORK_TRIES = 1000  /* so often a call of a chip that answers CCAN_BUSY is made again */
+};
+
+/* A time that never comes: nothing happens by itself. */
+#define CCAN_NETWORK_NEVER UINT64_MAX
+
+/* What stands at a place. */
+enum ccan_network_kind { CCAN_NETWORK_NOBODY, CCAN_NETWORK_CHIP, CCAN_NETWORK_NODE };
+
+/* What stands at one place of a network. C may read all of it, and may write `node` while no frame is under way. A switch is 0 for
+ * no, and 1 for yes. */
+typedef struct {
+    uint32_t kind;       /* an enum ccan_network_kind */
+    uint32_t code;       /* what the last call of this chip or node answered, an enum ccan_code */
+    ccan_bus *chip;      /* of a chip: the bus's handle */
+    ccan_node node;      /* of a node: its error counters */
+    uint32_t offers;     /* of a node: switch, it has a frame to send */
+    uint32_t started;    /* of a node: switch, that is the frame which it started to send */
+    ccan_frame frame;    /* that frame */
+    uint32_t fault;      /* an enum ccan_fault: the error that it finds by itself in this frame, or in the next one */
+    uint32_t takes_part; /* switch: it was there when the frame that is under way began, and has not been removed */
+    uint32_t waits;      /* switch: it may not start yet, since it is error passive and sent the frame before */
+    uint32_t was_sender; /* switch: it sent the frame before */
+    ccan_member member;  /* what it is to the frame that is under way, else what it was to the bus when that was asked last */
+    ccan_finished ended; /* what the last frame was to it; of a node `event` alone, and all else is zero */
+} ccan_network_member;
+
+/* A network. C reads what it likes of it, and writes none of it but what is said here. */
+typedef struct {
+    ccan_network_member at[CCAN_NETWORK_MEMBERS]; /* the members, each at its place */
+    ccan_wire wire;       /* what is on the bus, as far as it is decided; else what was on it last */
+    uint32_t under_way;   /* switch: a frame is under way, between ccan_network_start and ccan_network_finish */
+    uint32_t bits;        /* how many bits that frame, or the last one, has if nothing disturbs it */
+    uint64_t began;       /* when it began */
+    uint64_t ended;       /* when it ends; or when the last one has ended */
+    uint64_t free;        /* from then on the next one may begin */
+    uint64_t group_began; /* when the group of recessive bits began that is not over yet */
+} ccan_network;
+
+/* ---- members */
+
+/* A network without members, whose bus is idle since `now`, a time in bits. A chip keeps what it has loaded. */
+static inline void ccan_network_init(ccan_network *network, uint64_t now)
+{
+    memset(network, 0, sizeof *network);
+    network->began = now;
+    network->ended = now;
+    network->free = now;
+    network->group_began = now;
+}
+
+/* The lowest place where nobody is, CCAN_NETWORK_MEMBERS if there is none. */
+static inline uint32_t ccan_network_private_place(const ccan_network *network)
+{
+    uint32_t place = 0;
+    while (place < CCAN_NETWORK_MEMBERS && network->at[place].kind != CCAN_NETWORK_NOBODY)
+        place++;
+    return place;
+}
+
+/* Adds a chip, at the lowest place that is empty, and tells that. It takes part from the next start on. The handle stays open and
+ * where it is until the chip is removed. CCAN_MEMBER_RANGE: the chip is a member already; else CCAN_MEMBERS_RANGE: there are 32
+ * members. Then nothing is changed, and `place` stays as it was. */
+static inline CCAN_CODE ccan_network_add_chip(ccan_network *network, ccan_bus *chip, uint32_t *place)
+{
+    const uint32_t empty = ccan_network_private_place(network);
+    for (uint32_t k = 0; k < CCAN_NETWORK_MEMBERS; k++)
+        if (network->at[k].kind == CCAN_NETWORK_CHIP && network->at[k].chip == chip)
+            return CCAN_MEMBER_RANGE;
+    if (empty == CCAN_NETWORK_MEMBERS)
+        return CCAN_MEMBERS_RANGE;
+    memset(&network->at[empty], 0, sizeof network->at[empty]);
+    network->at[empty].kind = CCAN_NETWORK_CHIP;
+    network->at[empty].chip = chip;
+    *place = empty;
+    return CCAN_DONE;
+}
+
+/* Adds a node that has no chip, whose error counters are 0, at the lowest place that is empty, and tells that. It takes part from
+ * the next start on, and acknowledges frames. CCAN_MEMBERS_RANGE: there are 32 members; then nothing is changed. */
+static inline CCAN_CODE ccan_network_add_node(ccan_network *network, uint32_t *place)
+{
+    const uint32_t empty = ccan_network_private_place(network);
+    if (empty == CCAN_NETWORK_MEMBERS)
+        return CCAN_MEMBERS_RANGE;
+    memset(&network->at[empty], 0, sizeof network->at[empty]);
+    network->at[empty].kind = CCAN_NETWORK_NODE;
+    *place = empty;
+    return CCAN_DONE;
+}
+
+/* Removes the member at this place. From a frame that is under way it is absent for the rest, and has no event of it; what a chip
+ * has loaded stays loaded, and its object requested. The handle may be closed then. CCAN_PLACE_RANGE: nobody is there. */
+static inline CCAN_CODE ccan_network_remove(ccan_network *network, uint32_t place)
+{
+    if (place >= CCAN_NETWORK_MEMBERS || network->at[place].kind == CCAN_NETWORK_NOBODY)
+        return CCAN_PLACE_RANGE;
+    memset(&network->at[place], 0, sizeof network->at[place]);
+    return CCAN_DONE;
+}
+
+/* Gives the node at this place a frame to send. It is offered from the next start on, until it was sent; a frame that was offered
+ * before, and has not been sent, is replaced. The first of CCAN_PLACE_RANGE, no node is there, and CCAN_FRAME_RANGE; then nothing
+ * is changed. */
+static inline CCAN_CODE ccan_network_offer(ccan_network *network, uint32_t place, const ccan_frame *frame)
+{
+    uint32_t bits, code;
+    if (place >= CCAN_NETWORK_MEMBERS || network->at[place].kind != CCAN_NETWORK_NODE)
+        return CCAN_PLACE_RANGE;
+    code = ccan_frame_bits(frame, &bits);
+    if (code != CCAN_DONE)
+        return code;
+    network->at[place].offers = 1;
+    network->at[place].started = 0;
+    network->at[place].frame = *frame;
+    return CCAN_DONE;
+}
+
+/* Takes back what the node at this place offers. A frame that is under way goes on. CCAN_PLACE_RANGE: no node is there. */
+static inline CCAN_CODE ccan_network_withdraw(ccan_network *network, uint32_t place)
+{
+    if (place >= CCAN_NETWORK_MEMBERS || network->at[place].kind != CCAN_NETWORK_NODE)
+        return CCAN_PLACE_RANGE;
+    network->at[place].offers = 0;
+    return CCAN_DONE;
+}
+
+/* The member at this place finds an error by itself, an enum ccan_fault, in the frame that is under way if it takes part in it, else
+ * in the next frame in which it does. CCAN_QUIET takes that back. What the others make of its error flag follows (docs/EMBEDDING.md,
+ * "Several chips and a clock"). The end of the frame forgets it. The first of CCAN_PLACE_RANGE, nobody is there, and
+ * CCAN_FAULT_RANGE. */
+static inline CCAN_CODE ccan_network_fault(ccan_network *network, uint32_t place, uint32_t fault)
+{
+    if (place >= CCAN_NETWORK_MEMBERS || network->at[place].kind == CCAN_NETWORK_NOBODY)
+        return CCAN_PLACE_RANGE;
+    if (fault > CCAN_CRC)
+        return CCAN_FAULT_RANGE;
+    network->at[place].fault = fault;
+    return CCAN_DONE;
+}
+
+/* ---- time */
+
+/* Lets groups of recessive bits pass at a chip that is bus off, 1 to 10000. To another they are nothing. */
+static inline CCAN_CODE ccan_network_private_hear(ccan_bus *chip, uint32_t groups)
+{
+    ccan_counts counts;
+    uint32_t state, code = ccan_counters(chip, 0, &counts);
+    if (code != CCAN_DONE || counts.state != CCAN_OFF)
+        return code;
+    code = ccan_recessive(chip, groups, &state);
+    for (uint32_t i = 0; i < CCAN_NETWORK_TRIES && code == CCAN_BUSY; i++)
+        code = ccan_recessive(chip, groups, &state);
+    return code;
+}
+
+/* Lets time pass until `now` on a bus that is recessive: gives each member that is bus off the groups of eleven recessive bits that
+ * are over by then, and are not given yet. The 8 recessive bits at the end of a frame or of an error frame count. Nothing passes
+ * while a frame is on the bus, or if `now` is a time before.
+ *
+ * ccan_network_start does it itself. It counts for a chip as its registers are when this is called: so a simulator calls it before
+ * each access by which a host may clear Init. Else groups from before that access count too.
+ *
+ * CCAN_CLOSED, CCAN_BUSY: the code of the first member with another one than CCAN_DONE; that one has missed these groups. */
+static inline CCAN_CODE ccan_network_pass(ccan_network *network, uint64_t now)
+{
+    uint32_t told = CCAN_DONE, groups;
+    uint64_t over;
+    if ((network->under_way && network->wire.kind != CCAN_WIRE_IDLE) || now < network->group_began + 11)
+        return CCAN_DONE;
+    over = (now - network->group_began) / 11;
+    network->group_began += 11 * over;
+    groups = over < 10000 ? (uint32_t)over : 10000; /* 128 of them bring each member back */
+    for (uint32_t k = 0; k < CCAN_NETWORK_MEMBERS; k++) {
+        ccan_network_member *at = &network->at[k];
+        if (at->kind == CCAN_NETWORK_NOBODY)
+            continue;
+        at->code = at->kind == CCAN_NETWORK_CHIP ? ccan_network_private_hear(at->chip, groups)
+                                                 : ccan_node_recessive(&at->node, groups);
+        if (told == CCAN_DONE)
+            told = at->code;
+    }
+    return told;
+}
+
+/* When a group of recessive bits is over that may bring this member back: CCAN_NETWORK_NEVER if it isn't bus off, or its Init is 1. */
+static inline uint64_t ccan_network_private_back(const ccan_network *network, const ccan_network_member *at)
+{
+    ccan_counts counts;
+    uint16_t control;
+    if (at->kind == CCAN_NETWORK_NODE && at->node.tec > 255)
+        return network->group_began + 11 * (uint64_t)(128 - at->node.groups);
+    if (at->kind != CCAN_NETWORK_CHIP || ccan_counters(at->chip, 0, &counts) != CCAN_DONE || counts.state != CCAN_OFF
+        || ccan_bus_read16(at->chip, CCAN_OFFSET_CONTROL, &control) != CCAN_DONE || (control & 1) != 0)
+        return CCAN_NETWORK_NEVER;
+    return network->group_began + 11;
+}
+
+/* When to ask an idle bus again: the first time at which a member may send that may not yet. */
+static inline uint64_t ccan_network_private_until(const ccan_network *network)
+{
+    uint64_t first = CCAN_NETWORK_NEVER;
+    for (uint32_t k = 0; k < CCAN_NETWORK_MEMBERS; k++) {
+        const ccan_network_member *at = &network->at[k];
+        const uint64_t back = ccan_network_private_back(network, at);
+        if (at->waits && network->free + 8 < first)
+            first = network->free + 8;
+        if (back < first)
+            first = back;
+    }
+    return first;
+}
+
+/* ---- the start of a frame */
+
+/* What a member is to the bus at the start of a frame. */
+static inline CCAN_CODE ccan_network_private_begin(ccan_network_member *at)
+{
+    uint32_t code;
+    memset(&at->member, 0, sizeof at->member);
+    if (at->kind == CCAN_NETWORK_NOBODY)
+        return CCAN_DONE;
+    if (at->kind == CCAN_NETWORK_NODE)
+        return ccan_node_begin(&at->node, at->offers, &at->frame, &at->member);
+    code = ccan_begin(at->chip, &at->member);
+    for (uint32_t i = 0; i < CCAN_NETWORK_TRIES && code == CCAN_BUSY; i++)
+        code = ccan_begin(at->chip, &at->member);
+    return code;
+}
+
+/* Asks all members, and decides what they put on the bus. One that waits listens. */
+static inline CCAN_CODE ccan_network_private_decide(ccan_network *network, uint64_t now)
+{
+    ccan_member all[CCAN_NETWORK_MEMBERS];
+    uint32_t code, told = CCAN_DONE;
+    for (uint32_t k = 0; k < CCAN_NETWORK_MEMBERS; k++) {
+        ccan_network_member *at = &network->at[k];
+        at->code = ccan_network_private_begin(at);
+        if (told == CCAN_DONE)
+            told = at->code;
+        at->takes_part = at->kind != CCAN_NETWORK_NOBODY;
+        at->waits = at->was_sender && at->member.role == CCAN_ROLE_PASSIVE && at->member.sends && now < network->free + 8;
+        if (at->waits)
+            at->member.sends = 0;
+        at->started = at->kind == CCAN_NETWORK_NODE && at->member.sends;
+        all[k] = at->member;
+    }
+    code = ccan_decide(all, CCAN_NETWORK_MEMBERS, &network->wire);
+    return code != CCAN_DONE ? code : told;
+}
+
+/* How many bits the longest frame has that is sent, on the bus or in loop back mode if the bus is idle: 0 if none is. */
+static inline uint32_t ccan_network_private_longest(const ccan_network *network)
+{
+    uint32_t longest = 0, bits;
+    for (uint32_t k = 0; k < CCAN_NETWORK_MEMBERS; k++) {
+        const ccan_member *member = &network->at[k].member;
+        const bool alone = network->wire.kind == CCAN_WIRE_IDLE && member->role == CCAN_ROLE_ALONE && member->sends;
+        if ((alone || network->wire.part[k] == CCAN_PART_SENDER) && ccan_frame_bits(&member->frame, &bits) == CCAN_DONE
+            && bits > longest)
+            longest = bits;
+    }
+    return longest;
+}
+
+/* How many bits stand between the start of a frame and the intermission, where an error that breaks it is found after so many. */
+static inline uint64_t ccan_network_private_length(const ccan_network *network, uint64_t passed)
+{
+    const uint64_t bits = network->bits;
+    switch (network->wire.kind) {
+    case CCAN_WIRE_UNHEARD: /* an error flag begins behind the ACK slot, 8 bits before the end: 6 bits, a later one, a delimiter of 8 */
+        return bits - 8 + 6 + (network->wire.flagged ? 1 : 0) + 8;
+    case CCAN_WIRE_FLAGGED: /* behind the ACK delimiter, 7 bits before the end; the others' flags begin a bit later */
+        return bits - 7 + 6 + 1 + 8;
+    case CCAN_WIRE_BROKEN: /* at the latest behind the CRC sequence, 10 bits before the end; the others' flags up to 6 bits later */
+    case CCAN_WIRE_COLLIDED:
+        return (passed < bits - 10 ? passed : bits - 10) + 6 + 6 + 8;
+    default:
+        return bits;
+    }
+}
+
+/* At the time `now`: begins a frame, if the bus is free and a member wants to send. `under_way` of the network then is 1, `wire` and
+ * each member's `member` say what is on the bus, and `until` is when the frame ends if nothing disturbs it: call
+ * ccan_network_finish then. Else `under_way` is 0, and `until` is when to call it again: during the intermission of 3 bits its end;
+ * for a member that may not start yet, since it is error passive and sent the frame before, 8 bits later; for one that is on its
+ * way back from bus off the end of the next group of recessive bits; and CCAN_NETWORK_NEVER if nothing happens by itself. A host's
+ * request and ccan_network_offer are seen by the next call, so call it behind these too.
+ *
+ * While a frame is under way nothing is done but to tell its end. Time passes as by ccan_network_pass. A chip in loop back mode that
+ * sends to itself is a frame under way too, also if the bus is idle (`wire.kind` is CCAN_WIRE_IDLE).
+ *
+ * The code is that of the first member with another one than CCAN_DONE, and all else is done: CCAN_CLOSED, it takes no part;
+ * CCAN_BUSY, CCAN_SPENT, the start of its object was refused, and it sends nothing, or it has missed groups of recessive bits;
+ * CCAN_COUNTERS_RANGE, C has written counters to a node that it can't have, and it takes no part. */
+static inline CCAN_CODE ccan_network_start(ccan_network *network, uint64_t now, uint64_t *until)
+{
+    const ccan_wire last = network->wire;
+    uint32_t passed, code, bits;
+    if (network->under_way) {
+        *until = network->ended;
+        return CCAN_DONE;
+    }
+    passed = ccan_network_pass(network, now);
+    if (now < network->free) {
+        *until = network->free;
+        return passed;
+    }
+    code = ccan_network_private_decide(network, now);
+    bits = ccan_network_private_longest(network);
+    if (bits == 0) {
+        network->wire = last;
+        *until = ccan_network_private_until(network);
+        return passed != CCAN_DONE ? passed : code;
+    }
+    network->under_way = 1;
+    network->bits = bits;
+    network->began = now;
+    network->ended = now + ccan_network_private_length(network, UINT64_MAX);
+    *until = network->ended;
+    return passed != CCAN_DONE ? passed : code;
+}
+
+/* ---- its end */
+
+/* Looks who is still there, and decides how the frame ends. */
+static inline CCAN_CODE ccan_network_private_decide_again(ccan_network *network)
+{
+    static const ccan_member nobody = { CCAN_ROLE_ABSENT, CCAN_QUIET, 0, { 0, 0, 0, 0, { 0 } } };
+    const ccan_wire start = network->wire;
+    ccan_member all[CCAN_NETWORK_MEMBERS];
+    for (uint32_t k = 0; k < CCAN_NETWORK_MEMBERS; k++) {
+        ccan_network_member *at = &network->at[k];
+        all[k] = at->takes_part ? at->member : nobody;
+        if (at->takes_part && at->kind == CCAN_NETWORK_CHIP && ccan_stay(at->chip, &all[k]) != CCAN_DONE)
+            all[k] = nobody;
+        if (at->takes_part) {
+            all[k].fault = at->fault;
+            at->member.role = all[k].role;
+            at->member.fault = at->fault;
+        }
+    }
+    return ccan_decide_again(&start, all, CCAN_NETWORK_MEMBERS, &network->wire);
+}
+
+/* The step at an object that was given up, of an event that was lost at first and made later. */
+static inline uint32_t ccan_network_private_given_up(const ccan_finished *ended)
+{
+    if (ended->object == 0 || ended->finished.arbitration != 0)
+        return CCAN_STEP_NONE;
+    return ended->event == CCAN_EVENT_SENT ? CCAN_STEP_FINISH : CCAN_STEP_STORE;
+}
+
+/* The end of a frame at a chip; an event whose tries were all lost is tried again. */
+static inline CCAN_CODE ccan_network_private_end_chip(const ccan_network *network, uint32_t place, ccan_network_member *at)
+{
+    uint32_t code = ccan_finish(at->chip, &network->wire, place, at->fault, &at->ended);
+    if (code != CCAN_BUSY || at->ended.refused != CCAN_STEP_EVENT)
+        return code;
+    for (uint32_t i = 0; i < CCAN_NETWORK_TRIES && code == CCAN_BUSY; i++)
+        code = ccan_retry_event(at->chip, &at->ended);
+    if (code == CCAN_DONE) {
+        at->ended.refused = ccan_network_private_given_up(&at->ended);
+        code = at->ended.refused == CCAN_STEP_NONE ? CCAN_DONE : CCAN_BUSY;
+    }
+    return code;
+}
+
+/* The end of a frame at a node. What it offers is gone if it was sent. */
+static inline CCAN_CODE ccan_network_private_end_node(const ccan_network *network, uint32_t place, ccan_network_member *at)
+{
+    const uint32_t code = ccan_node_finish(&at->node, &network->wire, place, &at->member, &at->ended.event);
+    if (code == CCAN_DONE && at->ended.event == CCAN_EVENT_SENT && at->started)
+        at->offers = 0;
+    return code;
+}
+
+/* Gives each of those their events who are such a part of the frame. */
+static inline CCAN_CODE ccan_network_private_end(ccan_network *network, bool senders)
+{
+    uint32_t told = CCAN_DONE;
+    for (uint32_t k = 0; k < CCAN_NETWORK_MEMBERS; k++) {
+        ccan_network_member *at = &network->at[k];
+        if ((network->wire.part[k] == CCAN_PART_SENDER) != senders)
+            continue;
+        memset(&at->ended, 0, sizeof at->ended);
+        if (!at->takes_part)
+            continue;
+        at->code = at->kind == CCAN_NETWORK_CHIP ? ccan_network_private_end_chip(network, k, at)
+                                                 : ccan_network_private_end_node(network, k, at);
+        if (told == CCAN_DONE)
+            told = at->code;
+        at->was_sender = network->wire.part[k] != CCAN_PART_LISTENER;
+        at->fault = CCAN_QUIET;
+    }
+    return told;
+}
+
+/* The end of the frame that is under way. `wire` of the network then is what was on the bus, and each member's `ended` and `code`
+ * what it was to that member. Those who listen come first, so that a frame is stored before its sender's TxOk. `until` is when the
+ * bus is free again: 3 bits behind the end of the frame, or of the error frame. An event that a chip's registers don't take,
+ * CCAN_BUSY with CCAN_STEP_EVENT, is tried again. If none is under way, nothing is done, and `until` is when the bus is free.
+ *
+ * `now` counts only if the frame is broken before the end of its CRC sequence (CCAN_WIRE_BROKEN, CCAN_WIRE_COLLIDED): then the
+ * error was found at this time, or at the end of that sequence if that comes first. So whoever breaks a frame calls this when it
+ * breaks, and who calls it when the frame would have ended gets the longest one.
+ *
+ * From the start of the frame to the intermission there are, with n bits of ccan_frame_bits:
+ *
+ *   CCAN_WIRE_CARRIED                 n, exactly
+ *   CCAN_WIRE_UNHEARD, not flagged    n + 6, exactly: 6 recessive bits behind the ACK slot, and the delimiter of 8
+ *   CCAN_WIRE_UNHEARD, flagged        n + 7: at most; n + 6 if the sender's error flag is the only one
+ *   CCAN_WIRE_FLAGGED                 n + 8: at most; n + 7 if an error flag begins in the ACK slot or right behind it
+ *   CCAN_WIRE_BROKEN, _COLLIDED       20 more than until the error: at most; an error frame has 14 to 20 bits, as the error flags
+ *                                     of several members overlap
+ *
+ * The code is that of the first member with another one than CCAN_DONE, those who listen first; all else is done. CCAN_CLOSED: the
+ * chip was closed meanwhile, and was absent. CCAN_BUSY, CCAN_SPENT: `refused` of its `ended` says which step was given up; with
+ * CCAN_STEP_EVENT ccan_retry_event may still make the event. If an event was lost at first and a step at an object too, `refused`
+ * is CCAN_STEP_FINISH for CCAN_EVENT_SENT and else CCAN_STEP_STORE, and the code is CCAN_BUSY. */
+static inline CCAN_CODE ccan_network_finish(ccan_network *network, uint64_t now, uint64_t *until)
+{
+    uint32_t code, listeners, senders;
+    *until = network->free;
+    if (!network->under_way)
+        return CCAN_DONE;
+    code = ccan_network_private_decide_again(network);
+    listeners = ccan_network_private_end(network, false);
+    senders = ccan_network_private_end(network, true);
+    network->ended = network->began
+        + ccan_network_private_length(network, now > network->began ? now - network->began : 0);
+    network->free = network->ended + 3;
+    if (network->wire.kind != CCAN_WIRE_IDLE) /* unacknowledged and unflagged, it is recessive from its CRC delimiter on */
+        network->group_began = network->ended - (network->wire.kind == CCAN_WIRE_UNHEARD && !network->wire.flagged ? 16 : 8);
+    network->under_way = 0;
+    *until = network->free;
+    return code != CCAN_DONE ? code : listeners != CCAN_DONE ? listeners : senders;
+}
+
+#ifdef __cplusplus
+}
+#endif
+#endif
