@@ -2,4 +2,5 @@
 
 mod calls;
 mod chips;
+mod members;
 mod table;

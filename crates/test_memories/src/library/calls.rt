@@ -1,13 +1,16 @@
 //! The calls of C without their promises: a test that makes many of them has then no more to prove than its own lines.
 use crate::expect::same;
 use ccan_c::{
-    BusHandle, Chip, HostHandle, Offer, SavedChip, ShownCounters, ShownFinal, ShownLoad,
-    ShownOutcome, ShownRecord, ccan_bus_flags, ccan_bus_interrupt, ccan_bus_line, ccan_bus_read16,
-    ccan_bus_read32, ccan_bus_write16, ccan_bus_write32, ccan_control, ccan_counters, ccan_end,
-    ccan_flags, ccan_get, ccan_init, ccan_interrupt, ccan_is_open, ccan_line, ccan_load,
-    ccan_loop_back, ccan_meet, ccan_open, ccan_open_reset, ccan_peek, ccan_read16, ccan_read32,
-    ccan_recessive, ccan_request, ccan_reset, ccan_restore, ccan_round, ccan_save, ccan_set,
-    ccan_status, ccan_until, ccan_write16, ccan_write32,
+    BusHandle, Chip, HostHandle, Offer, SavedChip, ShownCounters, ShownFinal, ShownFinished,
+    ShownFrame, ShownLoad, ShownMember, ShownNode, ShownOutcome, ShownRecord, ShownWire,
+    ccan_begin, ccan_bit_time, ccan_bus_flags, ccan_bus_interrupt, ccan_bus_line, ccan_bus_read16,
+    ccan_bus_read32, ccan_bus_write16, ccan_bus_write32, ccan_control, ccan_counters, ccan_decide,
+    ccan_decide_again, ccan_end, ccan_finish, ccan_flags, ccan_frame_bits, ccan_get, ccan_init,
+    ccan_interrupt, ccan_is_open, ccan_line, ccan_load, ccan_loop_back, ccan_meet, ccan_node_begin,
+    ccan_node_finish, ccan_node_recessive, ccan_open, ccan_open_reset, ccan_peek, ccan_read16,
+    ccan_read32, ccan_recessive, ccan_request, ccan_reset, ccan_restore, ccan_retry_event,
+    ccan_round, ccan_save, ccan_set, ccan_status, ccan_stay, ccan_until, ccan_write16,
+    ccan_write32,
 };
 use std::alloc::Global;
 use std::process::Abort;
@@ -204,4 +207,67 @@ pub fn recessive(bus: &mut BusHandle, groups: u32, state: &mut u32) -> u32 {
 
 pub fn loop_back(bus: &mut BusHandle, on: u32) -> u32 {
     ccan_loop_back(bus, on)
+}
+
+// ---- several chips on one bus
+
+pub fn begin(bus: &mut BusHandle, member: &mut ShownMember) -> u32 {
+    ccan_begin(bus, member)
+}
+
+pub fn stay(bus: &mut BusHandle, member: &mut ShownMember) -> u32 {
+    ccan_stay(bus, member)
+}
+
+pub fn finish(
+    bus: &mut BusHandle,
+    wire: &ShownWire,
+    place: u32,
+    fault: u32,
+    finished: &mut ShownFinished,
+) -> u32 {
+    ccan_finish(bus, wire, place, fault, finished)
+}
+
+pub fn retry_event(bus: &mut BusHandle, lost: &ShownFinished) -> u32 {
+    ccan_retry_event(bus, lost)
+}
+
+pub fn decide(members: &[ShownMember], wire: &mut ShownWire) -> u32 {
+    ccan_decide(members, wire)
+}
+
+pub fn decide_again(start: &ShownWire, members: &[ShownMember], wire: &mut ShownWire) -> u32 {
+    ccan_decide_again(start, members, wire)
+}
+
+pub fn node_begin(
+    node: &ShownNode,
+    sends: u32,
+    frame: &ShownFrame,
+    member: &mut ShownMember,
+) -> u32 {
+    ccan_node_begin(node, sends, frame, member)
+}
+
+pub fn node_finish(
+    node: &mut ShownNode,
+    wire: &ShownWire,
+    place: u32,
+    member: &ShownMember,
+    event: &mut u32,
+) -> u32 {
+    ccan_node_finish(node, wire, place, member, event)
+}
+
+pub fn node_recessive(node: &mut ShownNode, groups: u32) -> u32 {
+    ccan_node_recessive(node, groups)
+}
+
+pub fn frame_bits(frame: &ShownFrame, bits: &mut u32) -> u32 {
+    ccan_frame_bits(frame, bits)
+}
+
+pub fn bit_time(bit_timing: u16, extension: u16) -> u32 {
+    ccan_bit_time(bit_timing, extension)
 }

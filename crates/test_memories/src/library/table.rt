@@ -1,18 +1,23 @@
 //! The numbers and sizes of `include/ccan.h`, as the library has them. `tools/c_table` reads the lines of this file that end
 //! in a name, and holds the header to them, so each is one line of the form `same(&rt, LIBRARY, NUMBER); // NAME`.
+use super::calls::{bus_write16, node_begin, opened};
+use super::members::{ended, listens, member, nobody, sends, wire};
 use crate::expect::same;
 use ccan_bus::{Fault, LoadAnswer, MemoryStep, RoundAnswer, RoundEnd, RoundReport};
 use ccan_c::{
     BusHandle, Chip, HostHandle, NO_NODE, NOT_NOTED, NoteHandle, Offer, SavedChip, ShownCounters,
-    ShownFinal, ShownFrame, ShownLoad, ShownOutcome, ShownRecord, ccan_version, code,
-    fault_numbered, flag_numbered, map_numbered, register_numbered, state_number, step_number,
+    ShownFinal, ShownFinished, ShownFrame, ShownLoad, ShownMember, ShownNode, ShownOutcome,
+    ShownRecord, ShownWire, ccan_version, code, fault_numbered, flag_numbered, map_numbered,
+    register_numbered, state_number, step_number,
 };
 use ccan_chip::ChipReport;
 use ccan_confine::{Controller, NodeState};
 use ccan_map::{FlagPart, Interface, Map, Register};
 use ccan_object::{Profile, Record, Reg};
 use ccan_ram::Flag;
+use std::alloc::Global;
 use std::mem::size_of;
+use std::process::Abort;
 
 #[test]
 fn codes_of_opening(rt: HostRuntime) {
@@ -50,6 +55,16 @@ fn codes_of_registers(rt: HostRuntime) {
     same(&rt, code::NO_SAVED_CHIP, 23); // CCAN_NO_SAVED_CHIP
     same(&rt, code::NO_CHIP, 24); // CCAN_NO_CHIP
     same(&rt, code::UNTOLD, 25); // CCAN_UNTOLD
+}
+
+#[test]
+fn codes_of_several_chips(rt: HostRuntime) {
+    same(&rt, code::MEMBERS_RANGE, 26); // CCAN_MEMBERS_RANGE
+    same(&rt, code::MEMBER_RANGE, 27); // CCAN_MEMBER_RANGE
+    same(&rt, code::WIRE_RANGE, 28); // CCAN_WIRE_RANGE
+    same(&rt, code::PLACE_RANGE, 29); // CCAN_PLACE_RANGE
+    same(&rt, code::EVENT_RANGE, 30); // CCAN_EVENT_RANGE
+    same(&rt, code::COUNTERS_RANGE, 31); // CCAN_COUNTERS_RANGE
 }
 
 /// The number of a layout, 77 where it has none.
@@ -285,6 +300,97 @@ fn steps_of_rounds(rt: HostRuntime) {
     same(&rt, NO_NODE, 255); // CCAN_NO_NODE
 }
 
+/// The role of a chip with these words of Control and Test.
+fn role(rt: &impl Abort, alloc: Global, control: u16, test: u16) -> u32 {
+    let mut chip = opened(rt, alloc, 1, 0);
+    same(rt, bus_write16(&mut chip.bus, 0, control), 0);
+    same(rt, bus_write16(&mut chip.bus, 10, test), 0);
+    member(rt, &mut chip.bus).role
+}
+
+/// The role of a node with this transmit error counter.
+fn role_of_node(rt: &impl Abort, tec: u32) -> u32 {
+    let node = ShownNode {
+        tec,
+        rec: 0,
+        groups: 0,
+    };
+    let other = nobody();
+    let mut own = other;
+    same(rt, node_begin(&node, 0, &other.frame, &mut own), 0);
+    own.role
+}
+
+#[test]
+fn roles(rt: HostRuntime) {
+    same(&rt, role(&rt, rt.alloc(), 0x01, 0), 0); // CCAN_ROLE_ABSENT
+    same(&rt, role(&rt, rt.alloc(), 0x80, 0x08), 1); // CCAN_ROLE_SILENT
+    same(&rt, role(&rt, rt.alloc(), 0x80, 0x10), 2); // CCAN_ROLE_ALONE
+    same(&rt, role_of_node(&rt, 128), 3); // CCAN_ROLE_PASSIVE
+    same(&rt, role(&rt, rt.alloc(), 0, 0), 4); // CCAN_ROLE_ACTIVE
+}
+
+/// What two members put on the bus.
+fn kind(rt: &impl Abort, first: ShownMember, second: ShownMember) -> u32 {
+    wire(rt, &[first, second]).kind
+}
+
+#[test]
+fn wires(rt: HostRuntime) {
+    same(&rt, kind(&rt, listens(4, 0), listens(4, 0)), 0); // CCAN_WIRE_IDLE
+    same(&rt, kind(&rt, sends(4, 0, 1), sends(4, 0, 2)), 1); // CCAN_WIRE_COLLIDED
+    same(&rt, kind(&rt, sends(4, 0, 1), listens(4, 1)), 2); // CCAN_WIRE_BROKEN
+    same(&rt, kind(&rt, sends(4, 0, 1), listens(4, 2)), 3); // CCAN_WIRE_FLAGGED
+    same(&rt, kind(&rt, sends(4, 0, 1), listens(0, 0)), 4); // CCAN_WIRE_UNHEARD
+    same(&rt, kind(&rt, sends(4, 0, 1), listens(4, 0)), 5); // CCAN_WIRE_CARRIED
+}
+
+/// What the second member is to the frame of the first.
+fn part(rt: &impl Abort, second: ShownMember) -> u8 {
+    wire(rt, &[sends(4, 0, 1), second]).part[1]
+}
+
+#[test]
+fn parts(rt: HostRuntime) {
+    same(&rt, part(&rt, listens(4, 0)), 0); // CCAN_PART_LISTENER
+    same(&rt, part(&rt, sends(4, 0, 1)), 1); // CCAN_PART_SENDER
+    same(&rt, part(&rt, sends(3, 0, 2)), 2); // CCAN_PART_DROPPED
+}
+
+/// What is on the bus to a chip that asks to send, and another member is there.
+fn sender(rt: &impl Abort, alloc: Global, other: ShownMember) -> ShownFinished {
+    ended(rt, alloc, 0, true, other)
+}
+
+/// The same of one that doesn't.
+fn hearer(rt: &impl Abort, alloc: Global, other: ShownMember) -> ShownFinished {
+    ended(rt, alloc, 0, false, other)
+}
+
+/// The same of one that sends to itself.
+fn looped(rt: &impl Abort, alloc: Global) -> ShownFinished {
+    ended(rt, alloc, 0x10, true, nobody())
+}
+
+#[test]
+fn events(rt: HostRuntime) {
+    same(&rt, hearer(&rt, rt.alloc(), nobody()).event, 0); // CCAN_EVENT_NONE
+    same(&rt, sender(&rt, rt.alloc(), listens(4, 0)).event, 1); // CCAN_EVENT_SENT
+    same(&rt, hearer(&rt, rt.alloc(), sends(4, 0, 1)).event, 2); // CCAN_EVENT_RECEIVED
+    same(&rt, looped(&rt, rt.alloc()).event, 3); // CCAN_EVENT_LOOPED
+    same(&rt, sender(&rt, rt.alloc(), listens(4, 1)).event, 4); // CCAN_EVENT_ERROR
+}
+
+#[test]
+fn countings(rt: HostRuntime) {
+    same(&rt, hearer(&rt, rt.alloc(), nobody()).counts, 0); // CCAN_COUNTS_NOTHING
+    same(&rt, sender(&rt, rt.alloc(), listens(4, 0)).counts, 1); // CCAN_COUNTS_SENT
+    same(&rt, hearer(&rt, rt.alloc(), sends(4, 0, 1)).counts, 2); // CCAN_COUNTS_RECEIVED
+    same(&rt, sender(&rt, rt.alloc(), listens(4, 1)).counts, 3); // CCAN_COUNTS_SEND_ERROR
+    same(&rt, sender(&rt, rt.alloc(), nobody()).counts, 4); // CCAN_COUNTS_NO_ACK
+    same(&rt, hearer(&rt, rt.alloc(), sends(4, 1, 1)).counts, 5); // CCAN_COUNTS_RECEIVE_ERROR
+}
+
 #[test]
 fn sizes(rt: HostRuntime) {
     same(&rt, size_of::<HostHandle>(), 16); // sizeof(ccan_host)
@@ -299,4 +405,8 @@ fn sizes(rt: HostRuntime) {
     same(&rt, size_of::<ShownOutcome>(), 80); // sizeof(ccan_outcome)
     same(&rt, size_of::<SavedChip>(), 1672); // sizeof(ccan_saved)
     same(&rt, size_of::<ShownCounters>(), 12); // sizeof(ccan_counts)
+    same(&rt, size_of::<ShownMember>(), 28); // sizeof(ccan_member)
+    same(&rt, size_of::<ShownWire>(), 56); // sizeof(ccan_wire)
+    same(&rt, size_of::<ShownFinished>(), 64); // sizeof(ccan_finished)
+    same(&rt, size_of::<ShownNode>(), 12); // sizeof(ccan_node)
 }
