@@ -76,4 +76,23 @@ CALL(uint32_t, ccan_loop_back, (ccan_bus *bus, uint32_t on), (bus, on), BUS(bus)
 CALL(uint32_t, ccan_bus_interrupt, (ccan_bus *bus, uint16_t *out), (bus, out), BUS(bus) WRITES(out, 1))
 CALL(uint32_t, ccan_bus_flags, (ccan_bus *bus, uint32_t flag, uint64_t *out), (bus, flag, out), BUS(bus) WRITES(out, 1))
 
+/* ---- several chips on one bus */
+CALL(uint32_t, ccan_begin, (ccan_bus *bus, ccan_member *out), (bus, out), BUS(bus) WRITES(out, 1))
+CALL(uint32_t, ccan_stay, (ccan_bus *bus, ccan_member *out), (bus, out), BUS(bus) WRITES(out, 1))
+CALL(uint32_t, ccan_finish, (ccan_bus *bus, const ccan_wire *wire, uint32_t place, uint32_t fault, ccan_finished *out),
+    (bus, wire, place, fault, out), BUS(bus) READS(wire, 1) WRITES(out, 1))
+CALL(uint32_t, ccan_retry_event, (ccan_bus *bus, const ccan_finished *lost), (bus, lost), BUS(bus) READS(lost, 1))
+CALL(uint32_t, ccan_decide, (const ccan_member *members, size_t count, ccan_wire *out),
+    (members, count, out), READS(members, count <= 32 ? count : 0) WRITES(out, 1)) /* more are refused unread */
+CALL(uint32_t, ccan_decide_again, (const ccan_wire *start, const ccan_member *members, size_t count, ccan_wire *out),
+    (start, members, count, out), READS(start, 1) READS(members, count <= 32 ? count : 0) WRITES(out, 1))
+CALL(uint32_t, ccan_node_begin, (const ccan_node *node, uint32_t sends, const ccan_frame *frame, ccan_member *out),
+    (node, sends, frame, out), READS(node, 1) READS(frame, 1) WRITES(out, 1))
+CALL(uint32_t, ccan_node_finish,
+    (ccan_node *node, const ccan_wire *wire, uint32_t place, const ccan_member *member, uint32_t *event),
+    (node, wire, place, member, event), WRITES(node, 1) READS(wire, 1) READS(member, 1) WRITES(event, 1))
+CALL(uint32_t, ccan_node_recessive, (ccan_node *node, uint32_t groups), (node, groups), WRITES(node, 1))
+CALL(uint32_t, ccan_frame_bits, (const ccan_frame *frame, uint32_t *out), (frame, out), READS(frame, 1) WRITES(out, 1))
+CALL(uint32_t, ccan_bit_time, (uint16_t bit_timing, uint16_t extension), (bit_timing, extension), )
+
 #undef CALL
