@@ -53,6 +53,12 @@ class Code(enum.IntEnum):
     NO_SAVED_CHIP = 23
     NO_CHIP = 24
     UNTOLD = 25
+    MEMBERS_RANGE = 26
+    MEMBER_RANGE = 27
+    WIRE_RANGE = 28
+    PLACE_RANGE = 29
+    EVENT_RANGE = 30
+    COUNTERS_RANGE = 31
 
 
 #: The texts of ``ccan_text``, by the numbers of the codes.
@@ -65,7 +71,9 @@ TEXTS: Tuple[str, ...] = (
     "too many frames", "an identifier or a length is out of range", "no such fault",
     "a sender is none of the other nodes, or sends twice", "no register begins at this offset",
     "the register is of another port's interface", "no such layout", "these bytes are no saved chip",
-    "no chip can be as these bytes say", "the note is empty",
+    "no chip can be as these bytes say", "the note is empty", "the number of members is out of range",
+    "a member is out of range", "what is on the bus is out of range", "no such place", "no such event",
+    "error counters are out of range",
 )  # fmt: skip
 
 
@@ -217,6 +225,56 @@ class State(enum.IntEnum):
     OFF = 2
 
 
+class Role(enum.IntEnum):
+    """What a member does on a bus of several chips (``enum ccan_role``)."""
+
+    ABSENT = 0  #: nothing: Init is 1, it is bus off, or it has left since the start
+    SILENT = 1  #: it listens, and sends recessive bits alone
+    ALONE = 2  #: loop back mode: it hears itself and nobody else
+    PASSIVE = 3  #: it takes part and is error passive
+    ACTIVE = 4  #: it takes part and is error active
+
+
+class WireKind(enum.IntEnum):
+    """What is on a bus of several chips while one frame is sent (``enum ccan_wire_kind``)."""
+
+    IDLE = 0  #: nobody sends
+    COLLIDED = 1  #: frames with the same bits of arbitration, and an error flag ends them all
+    BROKEN = 2  #: the frame ends before the end of its CRC sequence
+    FLAGGED = 3  #: an error flag ends it, in the ACK slot or behind it
+    UNHEARD = 4  #: nobody acknowledges it
+    CARRIED = 5  #: it is acknowledged, and no error flag of dominant bits ends it
+
+
+class Part(enum.IntEnum):
+    """What a member is to the frame on the bus (``enum ccan_part``)."""
+
+    LISTENER = 0
+    SENDER = 1
+    DROPPED = 2  #: it sent another frame with the same bits of arbitration, and dropped out
+
+
+class Event(enum.IntEnum):
+    """What a frame was to a chip or a node (``enum ccan_event``)."""
+
+    NONE = 0
+    SENT = 1
+    RECEIVED = 2
+    LOOPED = 3
+    ERROR = 4
+
+
+class Counting(enum.IntEnum):
+    """What an event is to the error counters (``enum ccan_counting``)."""
+
+    NOTHING = 0
+    SENT = 1
+    RECEIVED = 2
+    SEND_ERROR = 3
+    NO_ACK = 4
+    RECEIVE_ERROR = 5
+
+
 #: The node of no frame.
 NO_NODE = 255
 
@@ -319,6 +377,39 @@ class ccan_counts(ctypes.Structure):
     _fields_ = [("tec", c_uint32), ("rec", c_uint32), ("state", c_uint32)]
 
 
+class ccan_member(ctypes.Structure):
+    """A member of a bus of several chips while one frame is sent."""
+
+    _fields_ = [("role", c_uint32), ("fault", c_uint32), ("sends", c_uint32), ("frame", ccan_frame)]
+
+
+class ccan_wire(ctypes.Structure):
+    """What is on a bus of several chips while one frame is sent."""
+
+    _fields_ = [("kind", c_uint32), ("flagged", c_uint32), ("frame", ccan_frame), ("part", c_uint8 * 32)]
+
+
+class ccan_finished(ctypes.Structure):
+    """What a frame was to a chip on a bus of several."""
+
+    _fields_ = [
+        ("event", c_uint32),
+        ("code", c_uint32),
+        ("counts", c_uint32),
+        ("object", c_uint32),
+        ("finished", ccan_record),
+        ("stored", c_uint32),
+        ("stored_record", ccan_record),
+        ("refused", c_uint32),
+    ]
+
+
+class ccan_node(ctypes.Structure):
+    """A node without a chip: its error counters."""
+
+    _fields_ = [("tec", c_uint32), ("rec", c_uint32), ("groups", c_uint32)]
+
+
 #: The layout that the asserts of the header hold: the size of each struct, and where fields begin.
 LAYOUT: Dict[Type[ctypes.Structure], Tuple[int, Dict[str, int]]] = {
     ccan_host: (16, {"ccan_private_at": 8}),
@@ -336,6 +427,13 @@ LAYOUT: Dict[Type[ctypes.Structure], Tuple[int, Dict[str, int]]] = {
         {"object": 4, "finished": 8, "stored": 28, "stored_record": 32, "loaded": 52, "refused": 56, "winner": 60, "frame": 64},
     ),
     ccan_counts: (12, {"rec": 4, "state": 8}),
+    ccan_member: (28, {"fault": 4, "sends": 8, "frame": 12}),
+    ccan_wire: (56, {"flagged": 4, "frame": 8, "part": 24}),
+    ccan_finished: (
+        64,
+        {"code": 4, "counts": 8, "object": 12, "finished": 16, "stored": 36, "stored_record": 40, "refused": 60},
+    ),
+    ccan_node: (12, {"rec": 4, "groups": 8}),
 }
 
 
@@ -385,6 +483,16 @@ CALLS: Dict[str, List[Any]] = {
     "ccan_loop_back": [_bus, c_uint32],
     "ccan_bus_interrupt": [_bus, _u16],
     "ccan_bus_flags": [_bus, c_uint32, _u64],
+    "ccan_begin": [_bus, POINTER(ccan_member)],
+    "ccan_stay": [_bus, POINTER(ccan_member)],
+    "ccan_finish": [_bus, POINTER(ccan_wire), c_uint32, c_uint32, POINTER(ccan_finished)],
+    "ccan_retry_event": [_bus, POINTER(ccan_finished)],
+    "ccan_decide": [POINTER(ccan_member), c_size_t, POINTER(ccan_wire)],
+    "ccan_decide_again": [POINTER(ccan_wire), POINTER(ccan_member), c_size_t, POINTER(ccan_wire)],
+    "ccan_node_begin": [POINTER(ccan_node), c_uint32, POINTER(ccan_frame), POINTER(ccan_member)],
+    "ccan_node_finish": [POINTER(ccan_node), POINTER(ccan_wire), c_uint32, POINTER(ccan_member), _u32],
+    "ccan_node_recessive": [POINTER(ccan_node), c_uint32],
+    "ccan_frame_bits": [POINTER(ccan_frame), _u32],
 }
 
 
@@ -435,6 +543,7 @@ def load() -> ctypes.CDLL:
     library.ccan_version.argtypes, library.ccan_version.restype = [], c_uint32
     _check_version(library.ccan_version())
     library.ccan_is_open.argtypes, library.ccan_is_open.restype = [_chip], c_bool
+    library.ccan_bit_time.argtypes, library.ccan_bit_time.restype = [c_uint16, c_uint16], c_uint32
     for name, arguments in CALLS.items():
         function = getattr(library, name)
         function.argtypes, function.restype = arguments, c_uint32

@@ -29,6 +29,11 @@ ENUMS: Dict[str, Type[enum.IntEnum]] = {
     "ccan_round_kind": _library.RoundKind,
     "ccan_step": _library.Step,
     "ccan_state": _library.State,
+    "ccan_role": _library.Role,
+    "ccan_wire_kind": _library.WireKind,
+    "ccan_part": _library.Part,
+    "ccan_event": _library.Event,
+    "ccan_counting": _library.Counting,
 }
 
 #: What stands before the names of an enum, where it is more than CCAN_.
@@ -37,6 +42,11 @@ PREFIXES = {
     "ccan_offset": "CCAN_OFFSET_",
     "ccan_load_kind": "CCAN_LOAD_",
     "ccan_step": "CCAN_STEP_",
+    "ccan_role": "CCAN_ROLE_",
+    "ccan_wire_kind": "CCAN_WIRE_",
+    "ccan_part": "CCAN_PART_",
+    "ccan_event": "CCAN_EVENT_",
+    "ccan_counting": "CCAN_COUNTS_",
 }
 
 C_TYPES = {
@@ -83,7 +93,7 @@ def test_texts() -> None:
     body = re.search(r"texts\[\] = \{(.*?)\};", HEADER, re.DOTALL)
     assert body is not None
     assert list(_library.TEXTS) == re.findall(r'"(.*?)"', body[1])
-    assert _library.ccan_text(26) == "no code"
+    assert _library.ccan_text(32) == "no code"
 
 
 def field_types(fields: str) -> List[object]:
@@ -118,7 +128,7 @@ def test_a_layout_that_differs_is_refused(monkeypatch: pytest.MonkeyPatch) -> No
 
 def test_functions() -> None:
     declared = dict(re.findall(r"^(?:CCAN_CODE|uint32_t|bool) (ccan_\w+)\((.*?)\);", CODE, re.MULTILINE))
-    assert set(declared) == set(_library.CALLS) | {"ccan_version", "ccan_is_open"}
+    assert set(declared) == set(_library.CALLS) | {"ccan_version", "ccan_is_open", "ccan_bit_time"}
     for name, arguments in _library.CALLS.items():
         expected: List[object] = []
         for argument in declared[name].split(", "):
