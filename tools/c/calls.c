@@ -867,6 +867,191 @@ static void closed_handles_tell_and_heed_nothing(void)
     EXPECT(ccan_bus_heed(&other.bus, &note) == CCAN_DONE);
 }
 
+/* ---- several chips on one bus; worked rounds of them are in network.c */
+
+/* A member of this role that finds this error and sends nothing. */
+static ccan_member listens(uint32_t role, uint32_t fault) { return (ccan_member){ .role = role, .fault = fault, .sends = 0 }; }
+
+/* An active member that sends the frame 0x100 with this byte. */
+static ccan_member sends(uint8_t byte)
+{
+    return (ccan_member){ .role = CCAN_ROLE_ACTIVE, .sends = 1, .frame = { .id = 0x100, .dlc = 1, .bytes = { byte } } };
+}
+
+/* What two members put on the bus. */
+static ccan_wire wire_of(ccan_member first, ccan_member second)
+{
+    const ccan_member members[] = { first, second };
+    ccan_wire wire = { .kind = 77 };
+    EXPECT(ccan_decide(members, COUNT(members), &wire) == CCAN_DONE);
+    return wire;
+}
+
+/* What a chip is to the bus at the start of a frame. */
+static ccan_member begun(ccan_bus *bus)
+{
+    ccan_member member = listens(77, 77);
+    EXPECT(ccan_begin(bus, &member) == CCAN_DONE);
+    return member;
+}
+
+static bool is_member(ccan_member member, uint32_t role, uint32_t sends)
+{
+    return member.role == role && member.fault == CCAN_QUIET && member.sends == sends;
+}
+
+static void a_closed_chip_has_no_part_in_a_frame(void)
+{
+    const ccan_wire wire = wire_of(sends(1), listens(CCAN_ROLE_ACTIVE, CCAN_QUIET));
+    ccan_member member = listens(77, 77);
+    ccan_finished ended = { .event = 77 };
+    EXPECT(ccan_begin(&chip.bus, &member) == CCAN_CLOSED && ccan_stay(&chip.bus, &member) == CCAN_CLOSED && member.role == 77);
+    EXPECT(ccan_finish(&chip.bus, &wire, 0, CCAN_QUIET, &ended) == CCAN_CLOSED && ended.event == 77);
+    EXPECT(ccan_retry_event(&chip.bus, &ended) == CCAN_CLOSED);
+}
+
+/* What is loaded stays loaded until an event of it; what ccan_load has loaded is dropped, and so the other way round. */
+static void a_frame_begins_and_ends(void)
+{
+    ccan_finished ended = { .event = 77 };
+    opened(&chip, 1, 0);
+    EXPECT(is_member(begun(&chip.bus), CCAN_ROLE_ACTIVE, 0));
+    asks_to_send(&chip.if1);
+    EXPECT(loads(&chip.bus) == 2);
+    const ccan_member member = begun(&chip.bus);
+    EXPECT(is_member(member, CCAN_ROLE_ACTIVE, 1) && member.frame.id == 0x100 && has_data(&member.frame, 0x77, 0));
+    EXPECT(is_member(begun(&chip.bus), CCAN_ROLE_ACTIVE, 1));
+    const ccan_wire wire = wire_of(member, listens(CCAN_ROLE_ACTIVE, CCAN_QUIET));
+    EXPECT(ccan_finish(&chip.bus, &wire, 0, CCAN_QUIET, &ended) == CCAN_DONE);
+    EXPECT(ended.event == CCAN_EVENT_SENT && ended.object == 2 && ended.finished.control == 0x2881);
+    EXPECT(ccan_finish(&chip.bus, &wire, 0, CCAN_QUIET, &ended) == CCAN_DONE && ended.event == CCAN_EVENT_NONE);
+    EXPECT(is_member(begun(&chip.bus), CCAN_ROLE_ACTIVE, 0));
+}
+
+/* A silent chip hears, and loads nothing. */
+static void a_silent_chip_receives(void)
+{
+    ccan_finished ended = { .event = 77 };
+    opened(&chip, 1, 0);
+    receives(&chip.if1);
+    asks_to_send(&chip.if2);
+    EXPECT(ccan_bus_write16(&chip.bus, CCAN_OFFSET_CONTROL, 0x0080) == CCAN_DONE);
+    EXPECT(ccan_bus_write16(&chip.bus, CCAN_OFFSET_TEST, 0x0008) == CCAN_DONE);
+    EXPECT(is_member(begun(&chip.bus), CCAN_ROLE_SILENT, 0));
+    ccan_member sender = sends(1);
+    sender.frame.id = 0x123;
+    const ccan_wire wire = wire_of(sender, listens(CCAN_ROLE_ACTIVE, CCAN_QUIET));
+    EXPECT(ccan_finish(&chip.bus, &wire, 31, CCAN_QUIET, &ended) == CCAN_DONE);
+    EXPECT(ended.event == CCAN_EVENT_RECEIVED && ended.stored == 5 && ended.stored_record.bytes[0] == 1);
+}
+
+static void events_that_are_none_are_refused(void)
+{
+    ccan_counts counts;
+    ccan_finished lost = { .event = CCAN_EVENT_ERROR, .code = 4, .counts = CCAN_COUNTS_SEND_ERROR };
+    opened(&chip, 1, 0);
+    EXPECT(ccan_retry_event(&chip.bus, &lost) == CCAN_DONE && ccan_retry_event(&chip.bus, &lost) == CCAN_DONE);
+    EXPECT(ccan_counters(&chip.bus, 0, &counts) == CCAN_DONE && counts.tec == 16);
+    lost.code = 7;
+    EXPECT(ccan_retry_event(&chip.bus, &lost) == CCAN_EVENT_RANGE);
+    lost.code = 4;
+    lost.counts = 6;
+    EXPECT(ccan_retry_event(&chip.bus, &lost) == CCAN_EVENT_RANGE);
+    lost.counts = CCAN_COUNTS_NOTHING;
+    EXPECT(ccan_retry_event(&chip.bus, &lost) == CCAN_EVENT_RANGE);
+    lost.counts = CCAN_COUNTS_SEND_ERROR;
+    lost.event = CCAN_EVENT_NONE;
+    EXPECT(ccan_retry_event(&chip.bus, &lost) == CCAN_EVENT_RANGE);
+    EXPECT(ccan_counters(&chip.bus, 0, &counts) == CCAN_DONE && counts.tec == 16);
+}
+
+static void ends_out_of_range_are_refused(void)
+{
+    const ccan_wire wire = wire_of(sends(1), listens(CCAN_ROLE_ACTIVE, CCAN_QUIET));
+    ccan_wire wrong = wire;
+    ccan_finished ended = { .event = 77 };
+    wrong.kind = 6;
+    opened(&chip, 1, 0);
+    EXPECT(ccan_finish(&chip.bus, &wrong, 32, 6, &ended) == CCAN_WIRE_RANGE);
+    wrong = wire;
+    wrong.frame.dlc = 16;
+    EXPECT(ccan_finish(&chip.bus, &wrong, 32, 6, &ended) == CCAN_WIRE_RANGE);
+    EXPECT(ccan_finish(&chip.bus, &wire, 32, 6, &ended) == CCAN_PLACE_RANGE);
+    EXPECT(ccan_finish(&chip.bus, &wire, 31, 6, &ended) == CCAN_FAULT_RANGE && ended.event == 77);
+}
+
+static void members_out_of_range_are_refused(void)
+{
+    static const ccan_member many[33];
+    const ccan_wire start = wire_of(sends(1), listens(CCAN_ROLE_ACTIVE, CCAN_QUIET));
+    ccan_wire wire = { .kind = 77 }, wrong = start;
+    ccan_member member = listens(5, CCAN_QUIET);
+    EXPECT(ccan_decide(many, 33, &wire) == CCAN_MEMBERS_RANGE && ccan_decide(&member, 1, &wire) == CCAN_MEMBER_RANGE);
+    EXPECT(ccan_decide_again(&start, many, 33, &wire) == CCAN_MEMBERS_RANGE);
+    EXPECT(ccan_decide_again(&start, &member, 1, &wire) == CCAN_MEMBER_RANGE);
+    wrong.kind = 6;
+    EXPECT(ccan_decide_again(&wrong, many, 33, &wire) == CCAN_WIRE_RANGE);
+    member = listens(CCAN_ROLE_ACTIVE, 6);
+    EXPECT(ccan_decide(&member, 1, &wire) == CCAN_MEMBER_RANGE);
+    member = sends(1);
+    member.frame.id = 0x800;
+    EXPECT(ccan_decide(&member, 1, &wire) == CCAN_MEMBER_RANGE && wire.kind == 77);
+    member.sends = 0; /* then it doesn't count */
+    EXPECT(ccan_decide(&member, 1, &wire) == CCAN_DONE && wire.kind == CCAN_WIRE_IDLE);
+    EXPECT(ccan_decide(many, 32, &wire) == CCAN_DONE && ccan_decide(many, 0, &wire) == CCAN_DONE);
+}
+
+static void a_node_takes_part(void)
+{
+    const ccan_wire wire = wire_of(sends(1), listens(CCAN_ROLE_ACTIVE, CCAN_QUIET));
+    ccan_node node = { .tec = 0, .rec = 5, .groups = 0 };
+    ccan_member member = listens(77, 77);
+    uint32_t event = 77;
+    EXPECT(ccan_node_begin(&node, 1, &wire.frame, &member) == CCAN_DONE && is_member(member, CCAN_ROLE_ACTIVE, 1));
+    EXPECT(ccan_node_begin(&node, 0, &wire.frame, &member) == CCAN_DONE && is_member(member, CCAN_ROLE_ACTIVE, 0));
+    EXPECT(ccan_node_finish(&node, &wire, 1, &member, &event) == CCAN_DONE && event == CCAN_EVENT_RECEIVED && node.rec == 4);
+    node.tec = 128;
+    EXPECT(ccan_node_begin(&node, 0, &wire.frame, &member) == CCAN_DONE && is_member(member, CCAN_ROLE_PASSIVE, 0));
+    node.tec = 256;
+    EXPECT(ccan_node_begin(&node, 0, &wire.frame, &member) == CCAN_DONE && is_member(member, CCAN_ROLE_ABSENT, 0));
+    EXPECT(ccan_node_recessive(&node, 127) == CCAN_DONE && node.groups == 127 && node.tec == 256);
+    EXPECT(ccan_node_recessive(&node, 1) == CCAN_DONE && node.groups == 0 && node.tec == 0 && node.rec == 0);
+}
+
+static void nodes_out_of_range_are_refused(void)
+{
+    const ccan_wire wire = wire_of(sends(1), listens(CCAN_ROLE_ACTIVE, CCAN_QUIET));
+    ccan_wire no_wire = wire;
+    ccan_frame wide = wire.frame;
+    ccan_node wrong[] = { { .tec = 264 }, { .rec = 256 }, { .tec = 256, .groups = 128 }, { .groups = 1 } }, right = { .tec = 0 };
+    ccan_member member = listens(CCAN_ROLE_ACTIVE, CCAN_QUIET), no_member = listens(5, CCAN_QUIET);
+    uint32_t event = 77;
+    no_wire.kind = 6;
+    wide.dlc = 16;
+    for (size_t i = 0; i < COUNT(wrong); i++) {
+        EXPECT(ccan_node_begin(&wrong[i], 1, &wide, &member) == CCAN_COUNTERS_RANGE);
+        EXPECT(ccan_node_finish(&wrong[i], &no_wire, 32, &no_member, &event) == CCAN_COUNTERS_RANGE);
+        EXPECT(ccan_node_recessive(&wrong[i], 0) == CCAN_COUNTERS_RANGE);
+    }
+    EXPECT(ccan_node_begin(&right, 1, &wide, &member) == CCAN_FRAME_RANGE);
+    EXPECT(ccan_node_begin(&right, 0, &wide, &member) == CCAN_DONE);
+    EXPECT(ccan_node_finish(&right, &no_wire, 32, &no_member, &event) == CCAN_WIRE_RANGE);
+    EXPECT(ccan_node_finish(&right, &wire, 32, &no_member, &event) == CCAN_PLACE_RANGE);
+    EXPECT(ccan_node_finish(&right, &wire, 0, &no_member, &event) == CCAN_MEMBER_RANGE && event == 77);
+    EXPECT(ccan_node_recessive(&right, 0) == CCAN_GROUPS_RANGE && ccan_node_recessive(&right, 10001) == CCAN_GROUPS_RANGE);
+}
+
+/* The frame 123#11 has 53 bits by canframelen, without the intermission; after a reset a bit has 16 periods of the clock. */
+static void frames_and_bits_have_lengths(void)
+{
+    ccan_frame frame = { .id = 0x123, .dlc = 1, .bytes = { 0x11 } };
+    uint32_t bits = 77;
+    EXPECT(ccan_frame_bits(&frame, &bits) == CCAN_DONE && bits == 53);
+    frame.id = 0x800;
+    EXPECT(ccan_frame_bits(&frame, &bits) == CCAN_FRAME_RANGE && bits == 53);
+    EXPECT(ccan_bit_time(0x2301, 0) == 16 && ccan_bit_time(0, 0) == 3 && ccan_bit_time(0xffff, 0xffff) == 25600);
+}
+
 static void the_version_is_that_of_the_header(void) { EXPECT(ccan_version() == CCAN_VERSION); }
 
 /* ---- running them */
@@ -918,6 +1103,15 @@ static const struct { const char *name; void (*run)(void); } tests[] = {
     TEST(what_the_bus_tells_a_host_heeds),
     TEST(a_note_is_told_anew_and_forgotten),
     TEST(closed_handles_tell_and_heed_nothing),
+    TEST(a_closed_chip_has_no_part_in_a_frame),
+    TEST(a_frame_begins_and_ends),
+    TEST(a_silent_chip_receives),
+    TEST(events_that_are_none_are_refused),
+    TEST(ends_out_of_range_are_refused),
+    TEST(members_out_of_range_are_refused),
+    TEST(a_node_takes_part),
+    TEST(nodes_out_of_range_are_refused),
+    TEST(frames_and_bits_have_lengths),
     TEST(the_version_is_that_of_the_header) };
 
 /* Ends a chip that a test has left open. */

@@ -125,6 +125,61 @@ static void numbers(void)
     EXPECT(ccan_version() == CCAN_VERSION && ccan_is_open(&chip));
 }
 
+/* Object 3 sends the extended identifier on a bus of several chips. The fields of what begins and ends a frame; a member and a wire
+ * are read as they are written. */
+static void frames(void)
+{
+    GUARDED(ccan_member) member;
+    GUARDED(ccan_wire) wire;
+    GUARDED(ccan_finished) ended;
+    GUARDED(ccan_node) node;
+    GUARDED(uint32_t) word;
+    static const uint8_t ours[8] = { 1, 2, 3, 4, 5, 6, 7, 8 };
+    ccan_member members[32] = { { .role = CCAN_ROLE_ABSENT } };
+    FILL(member);
+    FILL(wire);
+    FILL(ended);
+    FILL(node);
+    FILL(word);
+    write_object(3, 0xe48c, 0x0188);
+    EXPECT(ccan_begin(&chip.bus, &member.out) == CCAN_DONE && INTACT(member));
+    EXPECT(member.out.role == CCAN_ROLE_ACTIVE && member.out.fault == CCAN_QUIET && member.out.sends == 1);
+    EXPECT(is_frame(&member.out.frame, 0x048c89abu, 1, 0, 8, ours));
+    EXPECT(ccan_frame_bits(&member.out.frame, &word.out) == CCAN_DONE && INTACT(word) && word.out >= 128);
+    members[30] = member.out;
+    node.out = (ccan_node){ .tec = 2, .rec = 130, .groups = 0 };
+    EXPECT(ccan_node_begin(&node.out, 0, &member.out.frame, &members[31]) == CCAN_DONE);
+    EXPECT(members[31].role == CCAN_ROLE_PASSIVE && members[31].sends == 0 && members[31].frame.id == 0);
+    EXPECT(ccan_decide(members, 32, &wire.out) == CCAN_DONE && INTACT(wire));
+    EXPECT(wire.out.kind == CCAN_WIRE_CARRIED && wire.out.flagged == 0 && is_frame(&wire.out.frame, 0x048c89abu, 1, 0, 8, ours));
+    EXPECT(wire.out.part[30] == CCAN_PART_SENDER && wire.out.part[31] == CCAN_PART_LISTENER && wire.out.part[0] == CCAN_PART_LISTENER);
+    EXPECT(ccan_stay(&chip.bus, &member.out) == CCAN_DONE && INTACT(member) && !memcmp(&member.out, &members[30], sizeof members[30]));
+    EXPECT(ccan_finish(&chip.bus, &wire.out, 30, CCAN_QUIET, &ended.out) == CCAN_DONE && INTACT(ended));
+    EXPECT(ended.out.event == CCAN_EVENT_SENT && ended.out.code == 0 && ended.out.counts == CCAN_COUNTS_SENT);
+    EXPECT(ended.out.object == 3 && is_written(&ended.out.finished, 0xe48c89abu, 0x0088));
+    EXPECT(ended.out.stored == 0 && ended.out.stored_record.arbitration == 0 && ended.out.refused == CCAN_STEP_NONE);
+    EXPECT(ccan_node_finish(&node.out, &wire.out, 31, &members[31], &word.out) == CCAN_DONE && INTACT(node) && INTACT(word));
+    EXPECT(word.out == CCAN_EVENT_RECEIVED && node.out.tec == 2 && node.out.rec == 119 && node.out.groups == 0);
+    node.out.tec = 256;
+    EXPECT(ccan_node_recessive(&node.out, 5) == CCAN_DONE && INTACT(node) && node.out.groups == 5);
+    /* the other fields of a wire and of a member: the chip, at the place 31, finds an error in a frame that it stores nowhere */
+    EXPECT(ccan_begin(&chip.bus, &member.out) == CCAN_DONE && member.out.sends == 0);
+    EXPECT(ccan_finish(&chip.bus, &wire.out, 31, CCAN_CRC, &ended.out) == CCAN_DONE && INTACT(ended));
+    EXPECT(ended.out.event == CCAN_EVENT_ERROR && ended.out.code == 6 && ended.out.counts == CCAN_COUNTS_RECEIVE_ERROR);
+    EXPECT(ended.out.object == 0 && ended.out.finished.arbitration == 0);
+    /* an object that stores a frame: object 5 takes whatever has the first bits of 0x123 */
+    wire.out.frame = (ccan_frame){ .id = 0x123, .dlc = 2, .bytes = { 0x11, 0x22 } };
+    EXPECT(ccan_begin(&chip.bus, &member.out) == CCAN_DONE);
+    EXPECT(ccan_finish(&chip.bus, &wire.out, 31, CCAN_QUIET, &ended.out) == CCAN_DONE && ended.out.event == CCAN_EVENT_RECEIVED);
+    EXPECT(ended.out.stored == 5 && ended.out.stored_record.arbitration == 0x848c0000u && ended.out.stored_record.bytes[1] == 0x22);
+    EXPECT(ccan_retry_event(&chip.bus, &ended.out) == CCAN_DONE);
+    wire.out.kind = CCAN_WIRE_UNHEARD;
+    wire.out.flagged = 1;
+    EXPECT(ccan_begin(&chip.bus, &member.out) == CCAN_DONE);
+    EXPECT(ccan_finish(&chip.bus, &wire.out, 31, CCAN_QUIET, &ended.out) == CCAN_DONE && ended.out.code == 2);
+    EXPECT(ccan_bit_time(0x7fff, 0x000f) == 25600);
+}
+
 int main(void)
 {
     static GUARDED(ccan_final) last;
@@ -137,6 +192,7 @@ int main(void)
     EXPECT(ccan_peek(&chip.if2, 3, &record.out) == CCAN_DONE && INTACT(record) && is_written(&record.out, 0xe48c89abu, 0x0188));
     rounds();
     numbers();
+    frames();
     EXPECT(ccan_end(&chip, &last.out) == CCAN_DONE && INTACT(last) && last.out.objects == 32);
     EXPECT(is_written(&last.out.records[2], 0xe48c89abu, 0x0088) && last.out.records[4].bytes[0] == 0x11);
     EXPECT(last.out.records[63].masks == 0 && last.out.records[63].control == 0);

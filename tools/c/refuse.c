@@ -52,6 +52,10 @@ static int all_calls(ccan_chip *chip)
     ccan_outcome outcome;
     ccan_offer none;
     ccan_record found;
+    ccan_member member;
+    ccan_wire wire;
+    ccan_finished ended;
+    static const ccan_finished error = { .event = CCAN_EVENT_ERROR, .code = 1, .counts = CCAN_COUNTS_RECEIVE_ERROR };
     static ccan_saved saved;
     return !ccan_save(chip, &saved) && !ccan_set(&chip->if1, CCAN_CMASK, 0x0090) && !ccan_set(&chip->if1, CCAN_CTRL, 0x8000)
         && !ccan_request(&chip->if1, 7) && !ccan_get(&chip->if1, CCAN_CTRL, &value)
@@ -68,6 +72,8 @@ static int all_calls(ccan_chip *chip)
         && !ccan_bus_line(&chip->bus, &number)
         && !ccan_counters(&chip->bus, 0, &counts)
         && !ccan_bus_flags(&chip->bus, CCAN_NEWDAT, &word) && !ccan_bus_interrupt(&chip->bus, &value)
+        && !ccan_begin(&chip->bus, &member) && !ccan_decide(&member, 1, &wire) && !ccan_stay(&chip->bus, &member)
+        && !ccan_finish(&chip->bus, &wire, 0, CCAN_QUIET, &ended) && !ccan_retry_event(&chip->bus, &error)
         && !ccan_reset(chip);
 }
 

@@ -16,6 +16,10 @@ static ccan_record record;
 static ccan_loaded loaded;
 static ccan_outcome outcome;
 static ccan_counts counts;
+static ccan_member members[32];
+static ccan_wire wire;
+static ccan_finished ended;
+static ccan_node node;
 static ccan_note note = CCAN_NOTE_EMPTY;
 static uint16_t value;
 static uint32_t number;
@@ -68,6 +72,26 @@ static uint32_t bus_registers(void)
     return ccan_bus_read16(&chip.bus, CCAN_OFFSET_INTERRUPT, &value) | ccan_bus_write16(&chip.bus, CCAN_OFFSET_CONTROL, 0)
         | ccan_bus_line(&chip.bus, &number);
 }
+
+/* The frame of a chip at the place 1, and a node that acknowledges at the place 2. */
+static uint32_t begin(void)
+{
+    return sender() | ccan_begin(&chip.bus, &members[1]) | ccan_node_begin(&node, 0, &members[1].frame, &members[2]);
+}
+static uint32_t stay(void) { return ccan_stay(&chip.bus, &members[1]); }
+static uint32_t decide(void) { return ccan_decide(members, 32, &wire); }
+static uint32_t decide_again(void)
+{
+    const ccan_wire start = wire;
+    return ccan_decide_again(&start, members, 32, &wire);
+}
+static uint32_t finish(void) { return ccan_finish(&chip.bus, &wire, 1, CCAN_QUIET, &ended); }
+static uint32_t retry_event(void) { return ccan_retry_event(&chip.bus, &ended); }
+static uint32_t node_finish(void)
+{
+    return ccan_node_finish(&node, &wire, 2, &members[2], &number) | ccan_node_recessive(&node, 1)
+        | ccan_frame_bits(&members[1].frame, &number) | (ccan_bit_time(0x2301, 0) != 16);
+}
 static uint32_t end(void) { return ccan_end(&chip, &last); }
 
 static const struct { const char *name; uint32_t (*call)(void); } calls[] = {
@@ -77,7 +101,10 @@ static const struct { const char *name; uint32_t (*call)(void); } calls[] = {
     { "status", status }, { "control", control }, { "recessive", recessive }, { "bus flags", bus_flags },
     { "bus interrupt", bus_interrupt }, { "open after a reset", open_reset }, { "read Status", read_status },
     { "read Interrupt", read_interrupt }, { "read flags", read_flags }, { "write Control", write_control },
-    { "write Command Request", write_request }, { "line", line }, { "registers by the bus", bus_registers }, { "end", end } };
+    { "write Command Request", write_request }, { "line", line }, { "registers by the bus", bus_registers },
+    { "open for several chips", open_chip }, { "begin", begin }, { "decide", decide }, { "stay", stay },
+    { "decide again", decide_again }, { "finish", finish }, { "retry event", retry_event }, { "node finish", node_finish },
+    { "end", end } };
 
 static void *work(void *at)
 {
