@@ -1,12 +1,12 @@
-/* Two controllers on one bus, in one thread of C++: each round, what one chip has loaded is offered to the other.
+/* Two controllers on one bus, in one thread of C++, over ccan_network.h: it asks both chips at the start of each frame, and gives each
+ * its event at the end.
  *
- * Both want to send: chip A the identifier 0x200, chip B 0x100. B wins the first round, and A stores its frame; A wins the
- * second, and B stores its frame. Between the chips stands nothing but the bus, so each is node 1 to the other.
- * It holds while both chips are on and no error comes: a chip is to the other a node that always acknowledges, and that has error
- * counters of its own there (docs/EMBEDDING.md, "Two chips on one bus").
+ * Both want to send: chip A the identifier 0x200, chip B 0x100. B wins the first frame, and A stores it; A sends the second one, and B
+ * stores it. Then B is taken off the bus, so that nobody acknowledges what A sends: an acknowledge error, LEC 3, and 8 in A's TEC.
+ * With B on the bus again A's frame goes out, and TEC is 7.
  *
  *   c++ -std=c++11 two_chips.cpp $(pkg-config --cflags --libs ccan) */
-#include <ccan.h>
+#include <ccan_network.h>
 #include <cinttypes>
 #include <cstdio>
 #include <stdexcept>
@@ -21,7 +21,7 @@ static void must(uint32_t code, const char *what)
 /* A chip that is open as long as this object is there. It can't be copied or moved, and neither can its handles. */
 class Chip {
 public:
-    Chip(uint32_t profile, uint32_t nodes, uint32_t tries) { must(ccan_open(&chip, profile, nodes, tries), "ccan_open"); }
+    Chip(uint32_t profile, uint32_t tries) { must(ccan_open(&chip, profile, 0, tries), "ccan_open"); }
     ~Chip()
     {
         ccan_final last;
@@ -31,6 +31,7 @@ public:
     Chip(const Chip &) = delete;
     Chip &operator=(const Chip &) = delete;
 
+    ccan_bus *bus() { return &chip.bus; }
     void set(uint32_t reg, uint16_t value) { must(ccan_set(&chip.if1, reg, value), "ccan_set"); }
     void request(uint16_t object) { must(ccan_request(&chip.if1, object), "ccan_request"); }
     /* Shows each port what the others have done: the program goes from IF1 to the bus and back. */
@@ -43,22 +44,52 @@ public:
         return record;
     }
 
-    ccan_loaded load()
+    uint32_t tec()
     {
-        ccan_loaded loaded;
-        must(ccan_load(&chip.bus, &loaded), "ccan_load");
-        return loaded;
-    }
-
-    ccan_outcome round(const ccan_offer &offer, bool offered)
-    {
-        ccan_outcome outcome;
-        must(ccan_round(&chip.bus, &offer, offered ? 1 : 0, CCAN_QUIET, &outcome), "ccan_round");
-        return outcome;
+        ccan_counts counts;
+        must(ccan_counters(&chip.bus, 0, &counts), "ccan_counters");
+        return counts.tec;
     }
 
 private:
     ccan_chip chip = CCAN_CHIP_CLOSED;
+};
+
+/* A bus, with the time in bits. */
+class Network {
+public:
+    Network() { ccan_network_init(&network, now); }
+
+    uint32_t add(Chip &chip)
+    {
+        uint32_t place = 0;
+        must(ccan_network_add_chip(&network, chip.bus(), &place), "ccan_network_add_chip");
+        return place;
+    }
+
+    void remove(uint32_t place) { must(ccan_network_remove(&network, place), "ccan_network_remove"); }
+
+    /* Plays one frame, from the first time at which one may begin. Whether somebody wants to send. */
+    bool frame()
+    {
+        uint64_t until;
+        must(ccan_network_start(&network, now, &until), "ccan_network_start");
+        while (!network.under_way) {
+            if (until == CCAN_NETWORK_NEVER)
+                return false;
+            now = until;
+            must(ccan_network_start(&network, now, &until), "ccan_network_start");
+        }
+        must(ccan_network_finish(&network, until, &now), "ccan_network_finish");
+        return true;
+    }
+
+    const ccan_finished &at(uint32_t place) const { return network.at[place].ended; }
+    uint32_t id() const { return network.wire.frame.id; }
+
+private:
+    ccan_network network;
+    uint64_t now = 0;
 };
 
 /* Object 1 sends this identifier with one byte, and object 2 receives the identifier of the other chip. */
@@ -74,42 +105,44 @@ static void configure(Chip &chip, uint16_t sends, uint16_t byte, uint16_t receiv
     chip.request(1);
 }
 
-/* The frame of a standard identifier that a started object sends, as node 1 offers it. */
-static ccan_offer offer_of(const ccan_record &record)
+static void print(const char *name, const ccan_finished &ended, uint32_t id)
 {
-    ccan_offer offer = {};
-    offer.id = record.arbitration >> 18 & 0x7ff;
-    offer.node = 1;
-    offer.dlc = record.control & 0xf;
-    for (int i = 0; i < 8; i++)
-        offer.bytes[i] = record.bytes[i];
-    return offer;
-}
-
-static void print_round(const char *name, const ccan_outcome &outcome)
-{
-    std::printf("%s: %s, frame %03" PRIx32 "\n", name, outcome.winner == 0 ? "sent" : "received", outcome.frame.id);
+    static const char *const events[] = { "has no part in", "sent", "received", "looped", "has an error in" };
+    std::printf("%s %s frame %03" PRIx32, name, events[ended.event], id);
+    if (ended.code != 0)
+        std::printf(", LEC %" PRIu32, ended.code);
+    std::printf("\n");
 }
 
 int main()
 {
     try {
-        Chip a(1, 1, 100), b(1, 1, 100);
+        Chip a(1, 100), b(1, 100);
+        Network network;
+        const uint32_t at_a = network.add(a), at_b = network.add(b);
         configure(a, 0x200, 0x00aa, 0x100);
         configure(b, 0x100, 0x00bb, 0x200);
-        for (int round = 0; round < 2; round++) {
-            a.meet();
-            b.meet();
-            /* After a round with a frame nothing is loaded any more, so each chip loads anew. */
-            const ccan_loaded from_a = a.load(), from_b = b.load();
-            const ccan_outcome at_a = a.round(offer_of(from_b.held), from_b.kind == CCAN_LOAD_LOADED);
-            const ccan_outcome at_b = b.round(offer_of(from_a.held), from_a.kind == CCAN_LOAD_LOADED);
-            print_round("A", at_a);
-            print_round("B", at_b);
+        a.meet();
+        b.meet();
+        while (network.frame()) {
+            print("A", network.at(at_a), network.id());
+            print("B", network.at(at_b), network.id());
         }
         a.meet();
         b.meet();
         std::printf("A has %02x, B has %02x\n", a.peek(2).bytes[0], b.peek(2).bytes[0]);
+        network.remove(at_b);
+        a.set(CCAN_DATAA1, 0x00ac);
+        a.request(1);
+        a.meet();
+        network.frame();
+        print("A", network.at(at_a), network.id());
+        std::printf("TEC of A: %" PRIu32 "\n", a.tec());
+        network.add(b);
+        network.frame();
+        print("A", network.at(at_a), network.id());
+        b.meet();
+        std::printf("TEC of A: %" PRIu32 ", B has %02x\n", a.tec(), b.peek(2).bytes[0]);
     } catch (const std::runtime_error &error) {
         std::fprintf(stderr, "%s\n", error.what());
         return 1;
