@@ -18,22 +18,24 @@
  *              ccan_peek, ccan_bus_flags, and a read of a register of a flag. At the controller: ccan_status, ccan_control,
  *              ccan_init, ccan_recessive and ccan_counters of node 0 where they are done; a read or a write of
  *              Control, Status, Bit Timing, Test and BRP Extension, and a read of Error Counter; ccan_loop_back, to switch it
- *              off.
+ *              off; ccan_stay, and ccan_retry_event where it is done.
  *      two     ccan_bus_interrupt, ccan_line, ccan_bus_line and a read of Interrupt: a look at the controller, and then, where
  *              no status interrupt is shown, all objects in one moment. ccan_loop_back, to switch it on.
  *      more    ccan_until: its looks. ccan_load: a look at the controller, then the choice of what is sent, and its start; where
  *              the look finds that the controller comes back (Init was 1 and is 0 again), a change by which the bus joins it, and
  *              another look, come before the choice. ccan_round: what ccan_load does, then the finish, the store or both, and last
- *              the round's event at the controller. ccan_save: a look at the controller and one at each object. ccan_reset: a
- *              change of the controller and one of each object.
+ *              the round's event at the controller. ccan_begin: what ccan_load does. ccan_finish: a look at the controller, the
+ *              finish, the store or both, and last the event at the controller. ccan_save: a look at the controller and one at
+ *              each object. ccan_reset: a change of the controller and one of each object.
  *      none    ccan_set, ccan_get, ccan_meet, ccan_tell, ccan_heed and the two of the bus, ccan_counters of another node; reads
- *              and writes of the other registers of an interface, and writes of registers that can only be read.
+ *              and writes of the other registers of an interface, and writes of registers that can only be read; and the calls
+ *              that have no handle, as ccan_decide and those of a node.
  *      A word of 32 bits: one, where a read is of two registers of a flag; else those of its two halves, in the order in which
  *      they are read or written.
- *    Between two of a call's places steps of other ports may stand. What ccan_load and ccan_round choose to send is chosen at one
- *    place, as on the part: the first object that is ready there, or, where its start finds it ready no more, the next one that
- *    was. ccan_end gives the records that the whole history leaves. All this holds however the chip was opened: ccan_restore begins
- *    as ccan_open_reset does, and the steps by which it puts the chip back are the bus's.
+ *    Between two of a call's places steps of other ports may stand. What ccan_load, ccan_round and ccan_begin choose to send is
+ *    chosen at one place, as on the part: the first object that is ready there, or, where its start finds it ready no more, the
+ *    next one that was. ccan_end gives the records that the whole history leaves. All this holds however the chip was opened:
+ *    ccan_restore begins as ccan_open_reset does, and the steps by which it puts the chip back are the bus's.
  *  - ccan_round takes part as the controller is at its look, and its event is made of the controller as it is then; the error
  *    counters are still those of the look. It also reports what came of its steps: whether it loaded an object itself, whose
  *    frame was on the bus and which one, and which step was refused.
@@ -412,7 +414,7 @@ CCAN_CODE ccan_write32(ccan_host *host, uint32_t offset, uint32_t value);
  * the pending status interrupts and IntPnd (read off their definitions, not proved):
  *  - ccan_request, and a write of Command Request;
  *  - a read of Status, and a write of Control; ccan_status and ccan_control;
- *  - ccan_round and ccan_recessive.
+ *  - ccan_round and ccan_recessive; ccan_finish and ccan_retry_event.
  * No other call on a handle changes it. Of those on the whole chip ccan_reset may, and those that open one. */
 CCAN_CODE ccan_line(ccan_host *host, uint32_t *out);
 
@@ -668,7 +670,8 @@ CCAN_HOLDS(offsetof(ccan_wire, part) == 24);
 /* The start of a frame, at a chip. Looks at the controller, and joins the bus if the controller comes back, as ccan_load does. What
  * an earlier ccan_begin has loaded is dropped if Init was 1 meanwhile, even only for a moment, or the chip was reset or went bus off.
  * If nothing is loaded and the role may send (not CCAN_ROLE_ABSENT, not CCAN_ROLE_SILENT), an object is chosen and started as ccan_load does;
- * else what is loaded stays. What ccan_load has loaded is dropped; ccan_load and ccan_round drop what ccan_begin has. `out` is what
+ * else what is loaded stays. An object that is started while DAR of Control is 1 is tried once: its TxRqst is 0 from its start on,
+ * whatever becomes of its frame. What ccan_load has loaded is dropped; ccan_load and ccan_round drop what ccan_begin has. `out` is what
  * the chip is to the bus, without a fault. CCAN_BUSY, CCAN_SPENT: the start of an object was refused, and the member sends nothing. */
 CCAN_CODE ccan_begin(ccan_bus *bus, ccan_member *out);
 

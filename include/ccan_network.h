@@ -73,7 +73,8 @@ typedef struct {
     ccan_frame frame;    /* that frame */
     uint32_t fault;      /* an enum ccan_fault: the error that it finds by itself in this frame, or in the next one */
     uint32_t takes_part; /* switch: it was there when the frame that is under way began, and has not been removed */
-    uint32_t waits;      /* switch: it may not start yet, since it is error passive and sent the frame before */
+    uint32_t waits;      /* switch: it may not start yet, since it is error passive and sent the frame before. Its object is
+                            started all the same: so with DAR its one try is over if another's frame comes first */
     uint32_t was_sender; /* switch: it sent the frame before */
     ccan_member member;  /* what it is to the frame that is under way, else what it was to the bus when that was asked last */
     ccan_finished ended; /* what the last frame was to it; of a node `event` alone, and all else is zero */
