@@ -236,8 +236,9 @@ enum ccan_layout {
 /* Opens a chip as a part is after its reset, all of it or nothing: Init is 1, so that it takes part only once a write of Control
  * has cleared it; Bit Timing is 0x2301; all bits of the masks of IF1 and IF2 are 1, but for bit 13 of Mask 2, which is reserved
  * and reads 0 (Mask 1 reads 0xffff, Mask 2 0xdfff); Command Request reads 1; in CCAN_LAYOUT_D_CAN Control reads 0x1401 and Status
- * 7; every other register is 0, and so are the records, which a part leaves undefined. `layout` is an enum ccan_layout. Answers the first of CCAN_PROFILE_RANGE, CCAN_NODES_RANGE,
- * CCAN_TRIES_RANGE and CCAN_LAYOUT_RANGE that applies; all else is as with ccan_open. */
+ * 7; every other register is 0, and so are the records, which a part leaves undefined. `layout` is an enum ccan_layout. Answers
+ * the first of CCAN_PROFILE_RANGE, CCAN_NODES_RANGE, CCAN_TRIES_RANGE and CCAN_LAYOUT_RANGE that applies; all else is as with
+ * ccan_open. */
 CCAN_CODE ccan_open_reset(ccan_chip *chip, uint32_t profile, uint32_t nodes, uint32_t tries, uint32_t layout);
 
 /* Whether all three handles are open. */

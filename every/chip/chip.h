@@ -1,4 +1,5 @@
-/* A C_CAN or a D_CAN of one thread, whose calls are those of ccan.h, made of steps: each place of a call in the chip's history is a step. */
+/* A C_CAN or a D_CAN of one thread, whose calls are those of ccan.h, made of steps: each place of a call in the chip's history is
+ * a step. */
 #ifndef CHIP_H
 #define CHIP_H
 #include "../explorer.h"

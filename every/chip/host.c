@@ -178,19 +178,12 @@ void transfer(unsigned side, uint16_t request)
     transfer_with(side, object ? object : C.objects, TXRQST);
 }
 
-/* Eight bits of it are the object's number; where none has it, it is read back. */
+/* Eight bits of it are the object's number; where none has it, nothing happens. */
 void request_of_d_can(unsigned side, uint16_t request)
 {
     unsigned number = request & 0xff;
-    if (number && number <= C.objects) {
+    if (number && number <= C.objects)
         transfer_with(side, number, TXRQST | NEWDAT);
-        return;
-    }
-    step_at_interface(side, 0, 1ull << COMMAND_REQUEST);
-    interface before = C.interfaces[side];
-    C.interfaces[side].request = (uint16_t)number;
-    changed_interface(side, &before);
-    tell("requests object %u by IF%u, which is none", number, side + 1);
 }
 
 uint32_t ccan_request(ccan_host *host, uint16_t request)

@@ -248,9 +248,9 @@ static void interface(uint32_t first)
     put(row, 0x8005);
     EXPECT(get(row) == 5);
     put(row, 0xffc0);
-    EXPECT(get(row) == (is_dcan() ? 0xc0 : objects)); /* eight bits of it, of no object */
+    EXPECT(get(row) == (is_dcan() ? 5 : objects)); /* no object has a number of these eight bits */
     put(row, 0x0021);
-    EXPECT(get(row) == (objects == 32 && !is_dcan() ? 1 : 0x21));
+    EXPECT(get(row) == (objects == 64 ? 0x21 : is_dcan() ? 5 : 1));
 }
 
 /* The last object of each register of a flag, valid and with this Message Control. */

@@ -2,8 +2,8 @@
 -- Control Register" (SWR, PMD), "Error and Status Register" and "Test Register" (their bits), "IF1 and IF2 Command Registers"
 -- (TxRqst/NewDat, Message Number). (own): parity is not there, so PMD reads 5, which is off, and can't be written; a write with
 -- SWR resets where it has Init too, whatever Init was before, and else its SWR is dropped; a request of a number that no object
--- has makes no transfer.
-use Rattle.std.specs.Prelude.{ℕ, ◌≡◌, ◌+◌, Bool, true, false, ◌&&◌, ◌||◌, not, [], Result, Ok, Err, nat_le}
+-- has does nothing.
+use Rattle.std.specs.Prelude.{ℕ, ◌≡◌, ◌+◌, Bool, false, ◌&&◌, [], Result, Ok, Err, nat_le}
 use Rattle.ccan_object.specs.declared.command.CommandMask.{CommandMask}
 use Rattle.ccan_object.specs.declared.profile.Profile.{Profile}
 use Rattle.ccan_object.specs.Command.{has_txrqst_newdat, is_write}
@@ -71,12 +71,12 @@ number_in request = part request 0 8
 abbrev pub is_object_of : Profile → ℕ → Bool
 is_object_of profile number = nat_le 1 number && nat_le number (objects_in profile)
 
--- a request that names no object: it is read back, and that is all
-pub record NamesNone (number : ℕ) (own : InterfaceSet) (added : ChipHistory) (told : Result (Unit {0}) AccessError)
+-- a request that names no object: nothing happens, and the register still reads the number of the object that was named last
+pub record NamesNone (own : InterfaceSet) (added : ChipHistory) (told : Result (Unit {0}) AccessError)
     (left : InterfaceSet) : Type 0 where
   pub quiet : added ≡ []
   pub told_is : told ≡ Ok tt
-  pub left_is : left ≡ record own { asked = number }
+  pub left_is : left ≡ own
 
 -- how a change of an object ends that fits each record, so that only a refusal keeps it from being made
 abbrev pub change_told : Result Changed Refused → Result (Unit {0}) AccessError

@@ -192,7 +192,7 @@ RequestsBy Wide terms tries value own seen added told left = Requests terms trie
 RequestsBy Dcan terms tries value own seen added told left =
     MatchBool (is_object_of terms.profile (number_in value))
     (RequestsObject terms tries (number_in value) own seen added told left)
-    (NamesNone (number_in value) own added told left)
+    (NamesNone own added told left)
 
 -- a write of another register: of an interface, or of one that can only be read
 abbrev pub WritesRest : Terms → ℕ → Map → Register → ℕ → InterfaceSet → ChipHistory → ChipHistory

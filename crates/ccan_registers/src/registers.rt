@@ -225,7 +225,7 @@ fn write_request(
     transfer_told(&reply)
 }
 
-/// The request of a D_CAN: its number has eight bits, and where no object has it, nothing is moved.
+/// The request of a D_CAN: its number has eight bits, and where no object has it, nothing happens.
 #[inline(never)]
 fn write_request_of_dcan(
     own: &mut InterfaceSet,
@@ -243,10 +243,7 @@ fn write_request_of_dcan(
             send(own, ram, holder, object, tries)
         }
         Some(object) => write_request(own, ram, holder, u16::from(object.get()), tries),
-        None => {
-            own.asked = value % 256;
-            Ok(())
-        }
+        None => Ok(()),
     }
 }
 

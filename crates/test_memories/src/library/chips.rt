@@ -383,7 +383,7 @@ fn a_command_of_a_dcan_sends_new_data(rt: HostRuntime) {
     same(&rt, played(&rt, &mut chip.bus, &[], 0).kind, 0);
 }
 
-/// A request of a D_CAN has eight bits, and 0 and 33 are no objects of 32.
+/// A request of a D_CAN has eight bits, and 0 and 33 are no objects of 32: nothing happens.
 #[test]
 fn a_request_of_a_dcan_may_name_no_object(rt: HostRuntime) {
     let mut chip = reset(&rt, rt.alloc(), 2);
@@ -393,7 +393,7 @@ fn a_request_of_a_dcan_may_name_no_object(rt: HostRuntime) {
             &mut chip.if1,
             &[(0x10a, 0xa400), (0x102, 0x00b6), (0x100, *number)],
         );
-        same(&rt, reads(&rt, &mut chip.if1, 0x100), *number);
+        same(&rt, reads(&rt, &mut chip.if1, 0x100), 1);
         same(&rt, reads(&rt, &mut chip.if1, 0xc4), 0);
         same(&rt, reads(&rt, &mut chip.if1, 0xc6), 0);
     }

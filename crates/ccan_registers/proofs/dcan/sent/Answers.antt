@@ -1,4 +1,4 @@
-use Rattle.std.proofs.Common.{◌≡◌, Err, Ok, sym, ap, subst, ◌∙◌}
+use Rattle.std.proofs.Common.{Err, Ok, sym, ap, subst, ◌∙◌}
 use Rattle.std.specs.Prelude.{Result}
 use Rattle.ccan_object.specs.declared.command.CommandMask.{CommandMask}
 use Rattle.ccan_object.specs.declared.record.Record.{Record}
@@ -10,7 +10,6 @@ use Rattle.ccan_ram.specs.Access.{Goes}
 use Rattle.ccan_ram.specs.Attempt.{Attempt}
 use Rattle.ccan_ram.specs.SharedRam.{passes_of}
 use Rattle.ccan_endless.specs.Layout.{same_object}
-use Rattle.ccan_registers.specs.declared.interface_set.InterfaceSet.{InterfaceSet}
 use Rattle.ccan_registers.specs.Dcan.{change_told, sent_from}
 use Rattle.ccan_registers.proofs.Sending.{object_sent}
 use Rattle.ccan_registers.proofs.dcan.sent.Goals as goal
