@@ -373,6 +373,23 @@ static void groups_pass(void)
     EXPECT(network.at[off].member.role == CCAN_ROLE_ACTIVE);
 }
 
+/* The frame of a passive sender that nobody acknowledges is recessive from its CRC delimiter on: 10 bits before its end, 6 behind it. */
+static void groups_pass_behind_an_unheard_frame(void)
+{
+    ccan_network_init(&network, 0);
+    const uint32_t a = add_node(), off = add_node();
+    network.at[a].node.tec = 128;
+    network.at[off].node.tec = 256;
+    EXPECT(ccan_network_offer(&network, a, &frame) == CCAN_DONE);
+    starts(0);
+    finishes(until);
+    EXPECT(network.ended == 59 && network.wire.kind == CCAN_WIRE_UNHEARD);
+    starts(64);
+    EXPECT(network.at[off].node.groups == 1);
+    starts(65);
+    EXPECT(network.at[off].node.groups == 2);
+}
+
 /* A chip that is bus off counts groups once its host has cleared Init. */
 static void a_chip_comes_back(void)
 {
@@ -441,6 +458,24 @@ static void a_host_sets_init_in_mid_frame(void)
     EXPECT(network.at[b].ended.event == CCAN_EVENT_ERROR && network.at[b].ended.code == 1 && counts_of(&chips[1]).rec == 1);
     starts(until);
     EXPECT(network.under_way && network.wire.part[a] == CCAN_PART_SENDER);
+    finishes(until);
+    EXPECT(network.at[a].ended.event == CCAN_EVENT_SENT && network.at[b].ended.event == CCAN_EVENT_RECEIVED);
+    end_all();
+}
+
+/* A chip that is removed in mid-frame, and added at its place again, has left that frame: it has no event of it, and is in the next. */
+static void a_chip_is_removed_in_mid_frame(void)
+{
+    ccan_network_init(&network, 0);
+    open_all();
+    const uint32_t a = add_chip(&chips[0]), b = add_chip(&chips[1]);
+    asks_to_send(&chips[0], 0x123, 0x11);
+    starts(0);
+    EXPECT(ccan_network_remove(&network, a) == CCAN_DONE && add_chip(&chips[0]) == a);
+    finishes(until);
+    EXPECT(network.wire.kind == CCAN_WIRE_BROKEN && network.at[b].ended.event == CCAN_EVENT_ERROR);
+    EXPECT(network.at[a].ended.event == CCAN_EVENT_NONE && counts_of(&chips[0]).tec == 0);
+    starts(until);
     finishes(until);
     EXPECT(network.at[a].ended.event == CCAN_EVENT_SENT && network.at[b].ended.event == CCAN_EVENT_RECEIVED);
     end_all();
@@ -621,8 +656,9 @@ static void hosts_in_threads(unsigned frames)
 static const struct { const char *name; void (*run)(void); } tests[] = {
 #define RUN(test) { #test, test }
     RUN(members_come_and_go), RUN(a_frame_has_its_time), RUN(a_new_offer_stays), RUN(a_passive_sender_waits),
-    RUN(spoiled_frames_have_their_length), RUN(who_is_removed_is_absent), RUN(groups_pass), RUN(a_chip_comes_back),
-    RUN(a_chip_in_loop_back_mode), RUN(a_host_sets_init_in_mid_frame) };
+    RUN(spoiled_frames_have_their_length), RUN(who_is_removed_is_absent), RUN(groups_pass),
+    RUN(groups_pass_behind_an_unheard_frame), RUN(a_chip_comes_back), RUN(a_chip_in_loop_back_mode),
+    RUN(a_host_sets_init_in_mid_frame), RUN(a_chip_is_removed_in_mid_frame) };
 
 int main(int count, char **words)
 {
