@@ -28,9 +28,9 @@
  * added here is who takes part, when, and for how long. It is tested by tools/c/network.c, with three chips whose hosts run in
  * threads, and by examples/c/network.c, whose times and counters were worked out by hand.
  *
- * It takes no memory, and has no state but the struct. One thread at a time may be in a call with a network. The calls use the bus's
- * handles of its chips, which no other thread may use meanwhile (promise 2 of ccan.h). Hosts may run beside them, in threads of
- * their own. Whoever has all in one thread calls ccan_meet of each chip before ccan_network_start and ccan_network_finish.
+ * It takes no memory, and has no state but the struct. One thread at a time may be in a call with a network. The calls use the
+ * bus's handles of its chips, which no other thread may use meanwhile (promise 2 of ccan.h). Hosts may run beside them, in threads
+ * of their own. Whoever has all in one thread calls ccan_meet of each chip before ccan_network_start and ccan_network_finish.
  *
  * What is exact, and what is not:
  *  - A frame that ends well has its exact length, and so has one that an error passive sender ends alone since nobody acknowledges
@@ -180,10 +180,10 @@ static inline CCAN_CODE ccan_network_withdraw(ccan_network *network, uint32_t pl
     return CCAN_DONE;
 }
 
-/* The member at this place finds an error by itself, an enum ccan_fault, in the frame that is under way if it takes part in it, else
- * in the next frame in which it does. CCAN_QUIET takes that back. What the others make of its error flag follows (docs/EMBEDDING.md,
- * "Several chips and a clock"). The end of the frame forgets it. The first of CCAN_PLACE_RANGE, nobody is there, and
- * CCAN_FAULT_RANGE. */
+/* The member at this place finds an error by itself, an enum ccan_fault, in the frame that is under way if it takes part in it,
+ * else in the next frame in which it does. CCAN_QUIET takes that back. What the others make of its error flag follows
+ * (docs/EMBEDDING.md, "Several chips and a clock"). The end of the frame forgets it. The first of CCAN_PLACE_RANGE, nobody is
+ * there, and CCAN_FAULT_RANGE. */
 static inline CCAN_CODE ccan_network_fault(ccan_network *network, uint32_t place, uint32_t fault)
 {
     if (place >= CCAN_NETWORK_MEMBERS || network->at[place].kind == CCAN_NETWORK_NOBODY)
@@ -238,7 +238,7 @@ static inline CCAN_CODE ccan_network_pass(ccan_network *network, uint64_t now)
     return told;
 }
 
-/* When a group of recessive bits is over that may bring this member back: CCAN_NETWORK_NEVER if it isn't bus off, or its Init is 1. */
+/* When a group of recessive bits is over that may bring this member back: CCAN_NETWORK_NEVER if it isn't bus off, or Init is 1. */
 static inline uint64_t ccan_network_private_back(const ccan_network *network, const ccan_network_member *at)
 {
     ccan_counts counts;
@@ -323,7 +323,7 @@ static inline uint64_t ccan_network_private_length(const ccan_network *network, 
 {
     const uint64_t bits = network->bits;
     switch (network->wire.kind) {
-    case CCAN_WIRE_UNHEARD: /* an error flag begins behind the ACK slot, 8 bits before the end: 6 bits, a later one, a delimiter of 8 */
+    case CCAN_WIRE_UNHEARD: /* an error flag begins behind the ACK slot, 8 bits before the end: 6 bits, one later, delimiter of 8 */
         return bits - 8 + 6 + (network->wire.flagged ? 1 : 0) + 8;
     case CCAN_WIRE_FLAGGED: /* behind the ACK delimiter, 7 bits before the end; the others' flags begin a bit later */
         return bits - 7 + 6 + 1 + 8;
