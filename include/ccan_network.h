@@ -335,15 +335,15 @@ static inline uint64_t ccan_network_private_length(const ccan_network *network, 
     }
 }
 
-/* At the time `now`: begins a frame, if the bus is free and a member wants to send. `under_way` of the network then is 1, `wire` and
- * each member's `member` say what is on the bus, and `until` is when the frame ends if nothing disturbs it: call
+/* At the time `now`: begins a frame, if the bus is free and a member wants to send. `under_way` of the network then is 1, `wire`
+ * and each member's `member` say what is on the bus, and `until` is when the frame ends if nothing disturbs it: call
  * ccan_network_finish then. Else `under_way` is 0, and `until` is when to call it again: during the intermission of 3 bits its end;
  * for a member that may not start yet, since it is error passive and sent the frame before, 8 bits later; for one that is on its
  * way back from bus off the end of the next group of recessive bits; and CCAN_NETWORK_NEVER if nothing happens by itself. A host's
  * request and ccan_network_offer are seen by the next call, so call it behind these too.
  *
- * While a frame is under way nothing is done but to tell its end. Time passes as by ccan_network_pass. A chip in loop back mode that
- * sends to itself is a frame under way too, also if the bus is idle (`wire.kind` is CCAN_WIRE_IDLE).
+ * While a frame is under way nothing is done but to tell its end. Time passes as by ccan_network_pass. A chip in loop back mode
+ * that sends to itself is a frame under way too, also if the bus is idle (`wire.kind` is CCAN_WIRE_IDLE).
  *
  * The code is that of the first member with another one than CCAN_DONE, and all else is done: CCAN_CLOSED, it takes no part;
  * CCAN_BUSY, CCAN_SPENT, the start of its object was refused, and it sends nothing, or it has missed groups of recessive bits;

@@ -2,13 +2,22 @@
  * and its time; and three chips whose hosts run in threads, with so many frames, of which each 11th is spoiled: no frame may be
  * lost or come twice, and each event and each error counter has to be that of a second model, which stands here.
  * Usage: network FRAMES */
-#include <ccan_network.h>
+#include <ccan.h>
 #include <pthread.h>
 #include <sched.h>
 #include <stdatomic.h>
 #include <stdio.h>
 #include <stdlib.h>
 #include <string.h>
+
+/* The network calls these two in place of the library's, so that an event can be lost as if other ports had changed the controller. */
+static uint32_t finish_or_lose(ccan_bus *bus, const ccan_wire *wire, uint32_t place, uint32_t fault, ccan_finished *out);
+static uint32_t retry_or_lose(ccan_bus *bus, const ccan_finished *lost);
+#define ccan_finish finish_or_lose
+#define ccan_retry_event retry_or_lose
+#include <ccan_network.h>
+#undef ccan_finish
+#undef ccan_retry_event
 
 #define EXPECT(holds) do { if (!(holds)) { printf("%s, line %d: not so: %s\n", running, __LINE__, #holds); exit(1); } } while (0)
 #define COUNT(array) (sizeof (array) / sizeof (array)[0])
@@ -481,6 +490,58 @@ static void a_chip_is_removed_in_mid_frame(void)
     end_all();
 }
 
+/* ---- events that are lost at first */
+
+static const ccan_finished *loses; /* what the next end of a frame tells, whose event is lost; null for none */
+static int more_losses;            /* and so many tries after that */
+
+static uint32_t finish_or_lose(ccan_bus *bus, const ccan_wire *wire, uint32_t place, uint32_t fault, ccan_finished *out)
+{
+    if (loses == NULL)
+        return ccan_finish(bus, wire, place, fault, out);
+    *out = *loses;
+    out->refused = CCAN_STEP_EVENT;
+    loses = NULL;
+    return CCAN_BUSY;
+}
+
+static uint32_t retry_or_lose(ccan_bus *bus, const ccan_finished *lost)
+{
+    return more_losses-- > 0 ? CCAN_BUSY : ccan_retry_event(bus, lost);
+}
+
+/* The end of a frame of one chip, of which this is told, and the event lost so often. What the network answers. */
+static uint32_t ends_with_losses(const ccan_finished *told, int losses)
+{
+    end_all();
+    open_all();
+    ccan_network_init(&network, 0);
+    EXPECT(add_chip(&chips[0]) == 0);
+    asks_to_send(&chips[0], 0x123, 0x11);
+    starts(0);
+    loses = told;
+    more_losses = losses - 1;
+    return ccan_network_finish(&network, until, &until);
+}
+
+/* A lost event is made once. If a step at an object was given up beside it, that is told then; and if it is lost for good, that. */
+static void lost_events_are_made(void)
+{
+    static const ccan_finished error = { .event = CCAN_EVENT_ERROR, .code = 3, .counts = CCAN_COUNTS_NO_ACK };
+    static const ccan_finished sent = { .event = CCAN_EVENT_SENT, .counts = CCAN_COUNTS_SENT, .object = SENDS };
+    static const ccan_finished received = { .event = CCAN_EVENT_RECEIVED, .counts = CCAN_COUNTS_RECEIVED, .object = 2 };
+    open_all();
+    EXPECT(ends_with_losses(&error, 1) == CCAN_DONE && ends_with_losses(&error, 500) == CCAN_DONE);
+    EXPECT(network.at[0].code == CCAN_DONE && network.at[0].ended.refused == CCAN_STEP_NONE && counts_of(&chips[0]).tec == 8);
+    EXPECT(ends_with_losses(&sent, 3) == CCAN_BUSY && network.at[0].ended.refused == CCAN_STEP_FINISH);
+    EXPECT(ends_with_losses(&received, 3) == CCAN_BUSY && network.at[0].ended.refused == CCAN_STEP_STORE);
+    EXPECT(ends_with_losses(&error, 5000) == CCAN_BUSY && network.at[0].ended.refused == CCAN_STEP_EVENT);
+    EXPECT(network.at[0].code == CCAN_BUSY && counts_of(&chips[0]).tec == 0 && !network.under_way);
+    end_all();
+    loses = NULL;
+    more_losses = 0;
+}
+
 /* ---- three chips whose hosts run in threads */
 
 static atomic_uint seen[CHIPS][CHIPS]; /* how many frames of the second a chip's host has read */
@@ -658,7 +719,7 @@ static const struct { const char *name; void (*run)(void); } tests[] = {
     RUN(members_come_and_go), RUN(a_frame_has_its_time), RUN(a_new_offer_stays), RUN(a_passive_sender_waits),
     RUN(spoiled_frames_have_their_length), RUN(who_is_removed_is_absent), RUN(groups_pass),
     RUN(groups_pass_behind_an_unheard_frame), RUN(a_chip_comes_back), RUN(a_chip_in_loop_back_mode),
-    RUN(a_host_sets_init_in_mid_frame), RUN(a_chip_is_removed_in_mid_frame) };
+    RUN(a_host_sets_init_in_mid_frame), RUN(a_chip_is_removed_in_mid_frame), RUN(lost_events_are_made) };
 
 int main(int count, char **words)
 {
