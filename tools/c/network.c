@@ -10,7 +10,7 @@
 #include <stdlib.h>
 #include <string.h>
 
-/* The network calls these two in place of the library's, so that an event can be lost as if other ports had changed the controller. */
+/* The network calls these two in place of the library's, so that an event can be lost as if other ports changed the controller. */
 static uint32_t finish_or_lose(ccan_bus *bus, const ccan_wire *wire, uint32_t place, uint32_t fault, ccan_finished *out);
 static uint32_t retry_or_lose(ccan_bus *bus, const ccan_finished *lost);
 #define ccan_finish finish_or_lose
@@ -89,8 +89,8 @@ static void end_all(void)
 
 enum { NOTHING = -1 };
 
-/* What a chip is to the bus: its role, the byte that it sends with the identifier 0x100 or NOTHING, and the error that it finds. And
- * what the frame is to it: the event, the last error code, and what is added to TEC and REC. */
+/* What a chip is to the bus: its role, the byte that it sends with the identifier 0x100 or NOTHING, and the error that it finds.
+ * And what the frame is to it: the event, the last error code, and what is added to TEC and REC. */
 struct part { uint32_t role; int sends; uint32_t fault; uint32_t event, code; int tec, rec; };
 
 struct round { const char *name; struct part part[CHIPS]; uint32_t kind, flagged; };
@@ -107,7 +107,8 @@ struct round { const char *name; struct part part[CHIPS]; uint32_t kind, flagged
  * passive one that detects no dominant bit while it sends its passive error flag for a missing acknowledgement: no more), 7 and 8
  * (1 less); "Error Signalling" and "Error Frame" for where a flag begins and who sees it. */
 static const struct round rounds[] = {
-    { "a frame is acknowledged", { { ACTIVE, 1, 0, SENT, -1, 0 }, { ACTIVE, NOTHING, 0, RECEIVED, 0, -1 }, NOBODY }, CCAN_WIRE_CARRIED, 0 },
+    { "a frame is acknowledged",
+      { { ACTIVE, 1, 0, SENT, -1, 0 }, { ACTIVE, NOTHING, 0, RECEIVED, 0, -1 }, NOBODY }, CCAN_WIRE_CARRIED, 0 },
     { "nobody acknowledges: an active sender", { { ACTIVE, 1, 0, ERROR(3), 8, 0 }, NOBODY, NOBODY }, CCAN_WIRE_UNHEARD, 1 },
     { "nobody acknowledges: a passive sender", { { PASSIVE, 1, 0, ERROR(3), 0, 0 }, NOBODY, NOBODY }, CCAN_WIRE_UNHEARD, 0 },
     { "a silent monitor does not acknowledge, and hears a passive sender's frame",
@@ -115,7 +116,8 @@ static const struct round rounds[] = {
     { "a silent monitor sees an active sender's error flag as a form error",
       { { ACTIVE, 1, 0, ERROR(3), 8, 0 }, { CCAN_ROLE_SILENT, NOTHING, 0, ERROR(2), 0, 1 }, NOBODY }, CCAN_WIRE_UNHEARD, 1 },
     { "a silent monitor that finds an error disturbs nobody",
-      { { ACTIVE, 1, 0, SENT, -1, 0 }, { CCAN_ROLE_SILENT, NOTHING, CCAN_STUFF, ERROR(1), 0, 1 }, { ACTIVE, NOTHING, 0, RECEIVED, 0, -1 } },
+      { { ACTIVE, 1, 0, SENT, -1, 0 }, { CCAN_ROLE_SILENT, NOTHING, CCAN_STUFF, ERROR(1), 0, 1 },
+        { ACTIVE, NOTHING, 0, RECEIVED, 0, -1 } },
       CCAN_WIRE_CARRIED, 0 },
     { "the only listener finds the CRC sequence wrong, and does not acknowledge",
       { { ACTIVE, 1, 0, ERROR(3), 8, 0 }, { ACTIVE, NOTHING, CCAN_CRC, ERROR(6), 0, 1 }, NOBODY }, CCAN_WIRE_UNHEARD, 1 },
@@ -141,10 +143,12 @@ static const struct round rounds[] = {
       { { ACTIVE, 1, 0, SENT, -1, 0 }, { PASSIVE, 2, 0, ERROR(4), 8, 0 }, { ACTIVE, NOTHING, 0, RECEIVED, 0, -1 } },
       CCAN_WIRE_CARRIED, 0 },
     { "equal frames are one frame",
-      { { ACTIVE, 1, 0, SENT, -1, 0 }, { ACTIVE, 1, 0, SENT, -1, 0 }, { ACTIVE, NOTHING, 0, RECEIVED, 0, -1 } }, CCAN_WIRE_CARRIED, 0 },
+      { { ACTIVE, 1, 0, SENT, -1, 0 }, { ACTIVE, 1, 0, SENT, -1, 0 }, { ACTIVE, NOTHING, 0, RECEIVED, 0, -1 } },
+      CCAN_WIRE_CARRIED, 0 },
     { "equal frames that nobody else acknowledges",
       { { ACTIVE, 1, 0, ERROR(3), 8, 0 }, { ACTIVE, 1, 0, ERROR(3), 8, 0 }, NOBODY }, CCAN_WIRE_UNHEARD, 1 },
-    { "nobody sends", { { ACTIVE, NOTHING, 0, CCAN_EVENT_NONE, 0, 0, 0 }, { PASSIVE, NOTHING, 0, CCAN_EVENT_NONE, 0, 0, 0 }, NOBODY },
+    { "nobody sends",
+      { { ACTIVE, NOTHING, 0, CCAN_EVENT_NONE, 0, 0, 0 }, { PASSIVE, NOTHING, 0, CCAN_EVENT_NONE, 0, 0, 0 }, NOBODY },
       CCAN_WIRE_IDLE, 0 },
 };
 
@@ -241,10 +245,12 @@ static void members_come_and_go(void)
     EXPECT(ccan_network_remove(&network, 7) == CCAN_DONE && ccan_network_remove(&network, 7) == CCAN_PLACE_RANGE);
     EXPECT(ccan_network_remove(&network, 32) == CCAN_PLACE_RANGE);
     EXPECT(add_chip(&chips[1]) == 7);
-    EXPECT(ccan_network_offer(&network, 32, &frame) == CCAN_PLACE_RANGE && ccan_network_offer(&network, 0, &frame) == CCAN_PLACE_RANGE);
+    EXPECT(ccan_network_offer(&network, 32, &frame) == CCAN_PLACE_RANGE);
+    EXPECT(ccan_network_offer(&network, 0, &frame) == CCAN_PLACE_RANGE);
     EXPECT(ccan_network_offer(&network, 1, &wide) == CCAN_FRAME_RANGE && !network.at[1].offers);
     EXPECT(ccan_network_withdraw(&network, 0) == CCAN_PLACE_RANGE && ccan_network_withdraw(&network, 32) == CCAN_PLACE_RANGE);
-    EXPECT(ccan_network_fault(&network, 32, CCAN_CRC) == CCAN_PLACE_RANGE && ccan_network_fault(&network, 0, 6) == CCAN_FAULT_RANGE);
+    EXPECT(ccan_network_fault(&network, 32, CCAN_CRC) == CCAN_PLACE_RANGE);
+    EXPECT(ccan_network_fault(&network, 0, 6) == CCAN_FAULT_RANGE);
     end_all();
     EXPECT(ccan_network_start(&network, 0, &until) == CCAN_CLOSED && network.at[0].code == CCAN_CLOSED && !network.under_way);
 }
@@ -287,8 +293,8 @@ static void a_new_offer_stays(void)
     EXPECT(network.at[a].ended.event == CCAN_EVENT_SENT && network.at[a].offers);
 }
 
-/* A passive sender that nobody acknowledges: its flag of six recessive bits begins behind the ACK slot, so 6 bits more; and it waits
- * for 3 and 8 bits. Meanwhile another may start, and it listens. */
+/* A passive sender that nobody acknowledges: its flag of six recessive bits begins behind the ACK slot, so 6 bits more; and it
+ * waits for 3 and 8 bits. Meanwhile another may start, and it listens. */
 static void a_passive_sender_waits(void)
 {
     ccan_network_init(&network, 0);
@@ -382,7 +388,7 @@ static void groups_pass(void)
     EXPECT(network.at[off].member.role == CCAN_ROLE_ACTIVE);
 }
 
-/* The frame of a passive sender that nobody acknowledges is recessive from its CRC delimiter on: 10 bits before its end, 6 behind it. */
+/* The frame of a passive sender that nobody acknowledges is recessive from its CRC delimiter on: 10 bits of it, and 6 behind it. */
 static void groups_pass_behind_an_unheard_frame(void)
 {
     ccan_network_init(&network, 0);
@@ -472,7 +478,7 @@ static void a_host_sets_init_in_mid_frame(void)
     end_all();
 }
 
-/* A chip that is removed in mid-frame, and added at its place again, has left that frame: it has no event of it, and is in the next. */
+/* A chip that is removed in mid-frame, and added at its place again, has left that frame: it has no event of it. */
 static void a_chip_is_removed_in_mid_frame(void)
 {
     ccan_network_init(&network, 0);
@@ -579,7 +585,8 @@ static void *sends_numbers(void *at)
     EXPECT(ccan_set(host, CCAN_CMASK, 0x0087) == CCAN_DONE); /* write TxRqst and the data */
     for (unsigned number = 1; number <= each; number++) {
         int turns = 0;
-        while (seen[(self + 1) % CHIPS][self] != number - 1 || seen[(self + 2) % CHIPS][self] != number - 1 || has_flag(host, CCAN_TXRQST, SENDS))
+        while (seen[(self + 1) % CHIPS][self] != number - 1 || seen[(self + 2) % CHIPS][self] != number - 1
+            || has_flag(host, CCAN_TXRQST, SENDS))
             wait_a_turn(&turns);
         EXPECT(ccan_set(host, CCAN_DATAA1, (uint16_t)number) == CCAN_DONE);
         EXPECT(ccan_set(host, CCAN_DATAA2, (uint16_t)(number >> 16)) == CCAN_DONE);
@@ -663,8 +670,8 @@ static bool compares(uint32_t sender, uint32_t finder, uint32_t fault)
     return fault == CCAN_QUIET;
 }
 
-/* The bus: plays frames until all were sent, and spoils each 11th of each sender, found by each chip and with each error in turn. So
- * TEC, 8 more and then 10 less, stays below 16, and all chips are error active. */
+/* The bus: plays frames until all were sent, and spoils each 11th of each sender, found by each chip and with each error in turn.
+ * So TEC, 8 more and then 10 less, stays below 16, and all chips are error active. */
 static unsigned plays(unsigned frames)
 {
     uint64_t now = 0;
