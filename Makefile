@@ -2,12 +2,30 @@
 SCRIPT ?= examples/first_write.json
 PREFIX ?= /usr/local
 EARLIER ?=
-export SCRIPT PREFIX EARLIER
+CRATE ?=
+ONLY ?=
+BASE ?=
+export SCRIPT PREFIX EARLIER CRATE ONLY BASE
 
-.PHONY: help run try examples prove wrong test install dist dist-test bench sweep hostile soak c-test c-wrong every-test python-test schema clean
+.PHONY: help check gate quick docs hook run try examples prove wrong test install dist dist-test bench sweep hostile soak c-test c-wrong every-test python-test schema clean
 
 help:
 	@tools/targets
+
+check:
+	@tools/dev/check "$$CRATE" "$$ONLY"
+
+gate:
+	@tools/dev/gate "$$CRATE"
+
+quick:
+	@tools/dev/quick $${BASE:+"$$BASE"}
+
+docs:
+	@tools/dev/docs
+
+hook:
+	@tools/dev/hook
 
 run:
 	@tools/run "$$SCRIPT"
