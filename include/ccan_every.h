@@ -21,8 +21,8 @@
  * doesn't link.
  *
  * Not seen, and refused with a word: files, sockets, signals, clocks, processes, random numbers, thread-local variables, a second
- * chip, and the calls of ccan.h for several chips on one bus, from ccan_begin to ccan_bit_time. Not seen, and not noticed: code that
- * was compiled without -fsanitize=thread, and assembler. */
+ * chip, and the calls of ccan.h for several chips on one bus, from ccan_begin to ccan_bit_time. Not seen, and not noticed: code
+ * that was compiled without -fsanitize=thread, and assembler. */
 #ifndef CCAN_EVERY_H
 #define CCAN_EVERY_H
 #include "ccan.h"

@@ -136,20 +136,3 @@ void chip_line_footprint(footprint *into)
     if ((C.controller.control & IE) && !shows_status())
         into->reads[ROW_INTPND] |= up_to_first_pending();
 }
-
-/* ---- texts */
-
-const char *flags_changed(const ccan_record *before, const ccan_record *now)
-{
-    static const struct { uint16_t bit; const char *name; } flags[] = {
-        { NEWDAT, "NewDat" }, { MSGLST, "MsgLst" }, { INTPND, "IntPnd" }, { TXRQST, "TxRqst" } };
-    static char text[64];
-    int length = 0;
-    text[0] = '\0';
-    for (int flag = 0; flag < 4; flag++) {
-        bool was = before->control & flags[flag].bit, is = now->control & flags[flag].bit;
-        if (was || is)
-            length += sprintf(text + length, " %s%s", was == is ? "" : is ? "+" : "-", flags[flag].name);
-    }
-    return length ? text : " no flag";
-}

@@ -1,5 +1,5 @@
-/* A C_CAN or a D_CAN of one thread, whose calls are those of ccan.h, made of steps: each place of a call in the chip's history is
- * a step. */
+/* A C_CAN or a D_CAN of one thread, whose calls are those of ccan.h, made of steps: each place of a call in the chip's history is a
+ * step. */
 #ifndef CHIP_H
 #define CHIP_H
 #include "../explorer.h"
@@ -62,7 +62,6 @@ void step_at_controller(uint64_t reads, uint64_t writes);
 void changed_controller(const controller *before);
 void step_at_interface(unsigned side, uint64_t reads, uint64_t writes);
 enum { ALL_ROWS = (1 << ROW_CONTROLLER) - 1 };
-const char *flags_changed(const ccan_record *before, const ccan_record *now);
 
 /* controller.c */
 bool is_off(const counters *of);
@@ -87,6 +86,18 @@ ccan_record stored(const ccan_record *record, const frame *of);
 bool is_ready(const ccan_record *record);
 uint32_t arbitration_key(const frame *of);
 const char *text_of(const frame *of);
+
+/* words.c */
+enum { COMMAND_REQUEST = 10 }; /* of an interface, behind the registers of ccan.h */
+enum reg_name {
+    CONTROL, STATUS, ERROR_COUNTER, BIT_TIMING, INTERRUPT, TEST_REGISTER, EXTENSION, OF_INTERFACE, OF_FLAG, NO_REGISTER
+};
+const char *interface_words(unsigned side, uint32_t reg, uint16_t value);
+const char *controller_words(enum reg_name name, uint16_t value);
+const char *code_words(uint16_t status);
+const char *record_words(const ccan_record *record);
+const char *flags_changed(const ccan_record *before, const ccan_record *now);
+const char *objects_words(uint64_t which);
 
 /* host.c and registers.c */
 unsigned side_of(const ccan_host *host);

@@ -70,14 +70,16 @@ uint32_t arbitration_key(const frame *of)
     return (of->id >> 18) << 21 | 3u << 19 | (of->id & 0x3ffff) << 1 | of->rtr;
 }
 
-/* As can-utils write a frame. */
+/* As candump writes a frame: a remote one with its length where that isn't 0, and a length code above 8 behind the bytes. */
 const char *text_of(const frame *of)
 {
     static char text[40];
-    int length = sprintf(text, of->xtd ? "%08x#" : "%03x#", (unsigned)of->id);
+    int length = sprintf(text, of->xtd ? "%08X#" : "%03X#", (unsigned)of->id);
     if (of->rtr)
-        length += sprintf(text + length, "R");
+        length += sprintf(text + length, of->dlc ? "R%u" : "R", length_of(of->dlc));
     for (unsigned byte = 0; !of->rtr && byte < length_of(of->dlc); byte++)
-        length += sprintf(text + length, "%02x", of->bytes[byte]);
+        length += sprintf(text + length, "%02X", of->bytes[byte]);
+    if (of->dlc > 8)
+        sprintf(text + length, "_%X", of->dlc);
     return text;
 }

@@ -2,10 +2,6 @@
 #include "chip.h"
 
 const char *const flag_names[5] = { "NewDat", "MsgLst", "IntPnd", "TxRqst", "MsgVal" };
-static const char *const register_names[] = {
-    "Command Mask", "Mask 1", "Mask 2", "Arbitration 1", "Arbitration 2", "Message Control", "Data A1", "Data A2", "Data B1",
-    "Data B2", "Command Request" };
-enum { COMMAND_REQUEST = 10 };
 
 unsigned side_of(const ccan_host *host) { return (interface *)host->ccan_private_at == &C.interfaces[1]; }
 
@@ -63,14 +59,14 @@ void set_register(unsigned side, uint32_t reg, uint16_t value)
     interface before = C.interfaces[side];
     put(side, reg, value);
     changed_interface(side, &before);
-    tell("writes %s of IF%u: %04x", register_names[reg], side + 1, value);
+    tell("writes %s", interface_words(side, reg, value));
 }
 
 uint16_t get_register(unsigned side, uint32_t reg)
 {
     step_at_interface(side, 1ull << reg, 0);
     uint16_t value = shown(side, reg);
-    tell("reads %s of IF%u: %04x", register_names[reg], side + 1, value);
+    tell("reads %s", interface_words(side, reg, value));
     return value;
 }
 
@@ -99,7 +95,8 @@ uint32_t ccan_get(ccan_host *host, uint32_t reg, uint16_t *out)
 
 /* In Command Mask. */
 enum {
-    WRITE = 0x80, MASKS = 0x40, ARBITRATION = 0x20, CONTROL = 0x10, CLEAR_INTPND = 0x08, REQUEST = 0x04, DATA_A = 0x02, DATA_B = 0x01
+    WRITE = 0x80, MASKS = 0x40, ARBITRATION = 0x20, MESSAGE_CONTROL = 0x10, CLEAR_INTPND = 0x08, REQUEST = 0x04, DATA_A = 0x02,
+    DATA_B = 0x01
 };
 
 static void take_groups(ccan_record *to, const ccan_record *from, uint16_t mask)
@@ -108,7 +105,7 @@ static void take_groups(ccan_record *to, const ccan_record *from, uint16_t mask)
         to->masks = from->masks;
     if (mask & ARBITRATION)
         to->arbitration = from->arbitration;
-    if (mask & CONTROL)
+    if (mask & MESSAGE_CONTROL)
         to->control = from->control;
     if (mask & DATA_A)
         copy_bytes(to->bytes, from->bytes, 4);
@@ -121,7 +118,7 @@ static unsigned rows_of_read(uint16_t mask)
     unsigned rows = 0;
     rows |= mask & MASKS ? 1 << ROW_REST : 0;
     rows |= mask & ARBITRATION ? 1 << ROW_REST | 1 << ROW_MSGVAL : 0;
-    rows |= mask & CONTROL ? 1 << ROW_REST | 1 << ROW_NEWDAT | 1 << ROW_MSGLST | 1 << ROW_INTPND | 1 << ROW_TXRQST : 0;
+    rows |= mask & MESSAGE_CONTROL ? 1 << ROW_REST | 1 << ROW_NEWDAT | 1 << ROW_MSGLST | 1 << ROW_INTPND | 1 << ROW_TXRQST : 0;
     rows |= mask & CLEAR_INTPND ? 1 << ROW_INTPND : 0;
     rows |= mask & REQUEST ? 1 << ROW_NEWDAT : 0;
     rows |= mask & (DATA_A | DATA_B) ? 1 << ROW_DATA : 0;
@@ -168,8 +165,8 @@ static void transfer_with(unsigned side, unsigned object, uint16_t sets)
     changed_interface(side, &before);
     if (!writes)
         E->event->writes[ROW_INTERFACES] |= (uint64_t)0x3fe << 16 * side; /* it may have written over what it didn't read */
-    tell("%s object %u by IF%u, mask %02x:%s, data %02x%02x..", writes ? "writes" : "reads", object, side + 1, of->mask,
-        flags_changed(&was, record), record->bytes[0], record->bytes[1]);
+    tell("%s object %u by IF%u, mask %02x: %s%s", writes ? "writes" : "reads", object, side + 1, of->mask,
+        record_words(&of->buffer), flags_changed(&was, record));
 }
 
 void transfer(unsigned side, uint16_t request)
@@ -215,7 +212,7 @@ uint64_t flags_now(uint32_t flag, uint64_t which)
     E->event->reads[row_of_flag(flag)] |= which;
     for (unsigned object = 0; object < C.objects; object++)
         word |= (uint64_t)shows_flag(&C.records[object], flag) << object;
-    tell("reads %s of the objects: %llx", flag_names[flag], (unsigned long long)(word & which));
+    tell("reads %s:%s", flag_names[flag], objects_words(word & which));
     return word & which;
 }
 
@@ -242,7 +239,7 @@ uint32_t ccan_interrupt(ccan_host *host, uint16_t *out)
     if (!host->ccan_private_full)
         return CCAN_CLOSED;
     uint16_t value = pending_object();
-    tell("reads the interrupt value of the objects: %u", value);
+    tell("reads the interrupt value of the objects: %04x", value);
     give(out, &value, sizeof value);
     return CCAN_DONE;
 }
@@ -256,7 +253,7 @@ uint32_t ccan_peek(ccan_host *host, uint32_t object, ccan_record *out)
     step_at_object(object, false);
     read_object(object, ALL_ROWS);
     ccan_record found = C.records[object - 1];
-    tell("looks at object %u:%s", (unsigned)object, flags_changed(&found, &found));
+    tell("looks at object %u: %s%s", (unsigned)object, record_words(&found), flags_changed(&found, &found));
     give(out, &found, sizeof found);
     return CCAN_DONE;
 }

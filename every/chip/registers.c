@@ -2,14 +2,9 @@
  * Technical Reference Manual, chapter DCAN. */
 #include "chip.h"
 
-enum reg_name {
-    CONTROL, STATUS, ERROR_COUNTER, BIT_TIMING, INTERRUPT, TEST_REGISTER, EXTENSION, OF_INTERFACE, OF_FLAG, NO_REGISTER
-};
-static const char *const names[] = { "Control", "Status", "Error Counter", "Bit Timing", "Interrupt", "Test", "BRP Extension" };
-
 /* A register: its number within an interface or a flag, and the interface or the flag. */
 typedef struct { enum reg_name name; unsigned number, of; } reg;
-enum { COMMAND_REQUEST = 10, OF_BUS = 2 };
+enum { OF_BUS = 2 };
 static const reg none = { NO_REGISTER, 0, 0 };
 
 /* ---- layouts */
@@ -103,7 +98,7 @@ static uint16_t status_read(bool clears_flags)
     if (clears_flags)
         C.controller.flags = 7;
     changed_controller(&before);
-    tell("reads Status: %04x", value);
+    tell("reads %s", controller_words(STATUS, value));
     return value;
 }
 
@@ -113,12 +108,12 @@ uint16_t read_interrupt(void)
 {
     step_at_controller(PART_ENABLES | PART_PENDING, 0);
     if (shows_status()) {
-        tell("reads Interrupt: a status interrupt");
+        tell("reads %s", controller_words(INTERRUPT, 0x8000));
         return 0x8000;
     }
-    tell("reads Interrupt: no status interrupt");
+    tell("reads Interrupt: no status, so it looks at the objects");
     uint16_t object = pending_object();
-    tell("reads Interrupt: object %u", object);
+    tell("reads %s", controller_words(INTERRUPT, object));
     return object;
 }
 
@@ -140,7 +135,7 @@ static uint16_t controller_read(enum reg_name name)
     const controller *of = &C.controller;
     uint16_t value = name == CONTROL ? of->control | (is_d_can() ? PMD_OFF : 0) : name == ERROR_COUNTER ? error_counter_word() :
         name == BIT_TIMING ? of->timing : name == TEST_REGISTER ? of->test | RX_RECESSIVE : of->extension;
-    tell("reads %s: %04x", names[name], value);
+    tell("reads %s", controller_words(name, value));
     return value;
 }
 
@@ -233,7 +228,7 @@ static void controller_write(enum reg_name name, uint16_t value)
     controller before = C.controller;
     controller_written(name, value);
     changed_controller(&before);
-    tell("writes %s: %04x", names[name], value);
+    tell("writes %s", controller_words(name, value));
 }
 
 /* A software reset of a D_CAN: the controller, and then each object. */

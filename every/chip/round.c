@@ -53,7 +53,7 @@ static bool start_object(unsigned object)
     C.loaded = object;
     C.held = *record;
     frame sent = frame_of(record);
-    tell("round: starts object %u, %s:%s", object, text_of(&sent), flags_changed(&before, record));
+    tell("round: starts object %u, %s%s", object, text_of(&sent), flags_changed(&before, record));
     return true;
 }
 
@@ -67,7 +67,7 @@ static void load(void)
     for (unsigned object = 0; object < C.objects; object++)
         ready |= (uint64_t)is_ready(&C.records[object]) << object;
     if (ready)
-        tell("round: chooses among the objects %llx", (unsigned long long)ready);
+        tell("round: chooses among%s", objects_words(ready));
     while (ready && !start_object((unsigned)__builtin_ctzll(ready) + 1))
         ready &= ready - 1;
 }
@@ -111,7 +111,7 @@ static void finish_object(unsigned object, ccan_outcome *told)
     changed_object(object, &before);
     told->object = object;
     told->finished = *record;
-    tell("round: finishes object %u:%s", object, flags_changed(&before, record));
+    tell("round: sent from object %u: %s%s", object, record_words(record), flags_changed(&before, record));
 }
 
 static bool offered(unsigned object, const frame *of, ccan_outcome *told)
@@ -127,7 +127,7 @@ static bool offered(unsigned object, const frame *of, ccan_outcome *told)
     changed_object(object, &before);
     told->stored = object;
     told->stored_record = *record;
-    tell("round: object %u stores %s:%s", object, text_of(of), flags_changed(&before, record));
+    tell("round: stored in object %u: %s%s", object, record_words(record), flags_changed(&before, record));
     return true;
 }
 
@@ -153,7 +153,7 @@ static void make_event(enum counted what, uint8_t code, uint8_t done)
         of->has_left = true;
     }
     changed_controller(&before);
-    tell("round: the event at the controller: LEC %u%s%s, TEC %u, REC %u%s", code, done & 1 ? ", TxOk" : "",
+    tell("round: the event at the controller: LEC %u %s%s%s, TEC %u, REC %u%s", code, code_words(code), done & 1 ? ", TxOk" : "",
         done & 2 ? ", RxOk" : "", of->counters.tec, of->counters.rec, is_off(&of->counters) ? ", bus off" : "");
 }
 
@@ -333,7 +333,7 @@ static void change_control(uint64_t parts, uint16_t bits, uint16_t to)
     controller before = C.controller;
     set_control((uint16_t)((C.controller.control & ~bits) | to));
     changed_controller(&before);
-    tell("changes Control: %04x", C.controller.control);
+    tell("changes %s", controller_words(CONTROL, C.controller.control));
 }
 
 uint32_t ccan_control(ccan_bus *bus, uint32_t sie, uint32_t eie)
