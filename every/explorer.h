@@ -83,13 +83,13 @@ enum ending { GOES_ON, COMPLETE, FAILED, KNOWN, ASLEEP, TOO_LONG };
 
 /* ---- the explorer's own memory, of which nothing is put back */
 
-typedef struct { uint64_t states, runs, ends, restarts, longest; bool whole; double seconds; } figures;
+typedef struct { uint64_t states, runs, ends, restarts, longest; bool whole, counted; double seconds; } figures;
 
 typedef struct {
     uint64_t most;
     uint32_t turns;
     double seconds;
-    bool stops_at_first, histories, progress, brief, no_known, no_sleep, all_steps, no_turns;
+    bool stops_at_first, histories, progress, brief, counts, no_known, no_sleep, all_steps, no_turns;
     const char *replay;
 } options;
 
@@ -99,6 +99,8 @@ typedef struct explorer {
     figures figures;
     bool running;               /* a program's thread runs, or the explorer on its behalf */
     bool telling, replaying, grew;
+    bool counting;              /* the search that counts schedules goes on */
+    double began;
     volatile bool interrupted;
     double next_progress;
     uint64_t last_seen;         /* by the alarm: how far the search was, and for how many seconds it was there */
@@ -115,7 +117,8 @@ typedef struct explorer {
     char *files, *files_end;    /* stdout and stderr of the program */
     char *stacks, *arena, *text;
     FILE *real_out;
-    footprint reach[MOST_THREADS], most_of_next[MOST_THREADS]; /* what each thread has touched in any run so far */
+    footprint reach[MOST_THREADS]; /* what each thread has touched or waited for in any run so far */
+    uint32_t stepped;           /* the threads that have made a step in any run so far */
     int arguments;
     char **argument_list;
 } explorer;
@@ -157,6 +160,8 @@ void step(const footprint *most);
 void step_when(const footprint *most, condition *may, const void *about);
 uint32_t step_choosing(uint32_t alternatives);
 uint32_t next_replayed_choice(uint32_t alternatives);
+void last_place(void);     /* the place before a run ends */
+void learn(int thread, const footprint *touched);
 void pause_here(condition *may, const void *about, uint32_t alternatives); /* a place, always */
 bool replay_passes(void);  /* whether a replay goes on through this place */
 void end_run(enum ending ending) __attribute__((noreturn));
@@ -170,6 +175,7 @@ int begin_thread(const char *name, void *(*body)(void *), void *argument);
 
 /* turns.c */
 void end_turn(int thread);
+void turns_key(uint64_t key[2]);
 bool count_on(void);
 void note_write(uintptr_t at);
 int counting_sites(uintptr_t **sites);
@@ -212,9 +218,24 @@ void make_step(int chosen, uint32_t alternative, footprint *event);
 uint16_t *known_state(const uint64_t key[2], bool *is_new);
 void forget_known(void);
 
+/* counts.c: the graph of states, and the number of ways through it */
+enum { COUNTED_START };
+void begin_counts(void);
+uint32_t counted_state(const uint64_t key[2], bool *is_new);
+void counted_step(uint32_t from, uint32_t to, bool is_new);
+void counted_end(uint32_t from, int outcome);
+void counted_whole(uint32_t state); /* all steps from it are known */
+void count_ways(void);
+uint64_t add_saturating(uint64_t a, uint64_t b);
+bool counts_have_cycle(void);
+
 /* outcomes.c, output.c, names.c */
 typedef struct { uint8_t thread; uint8_t alternative; } choice;
-void keep_outcome(const choice *path, int depth, bool is_failure);
+int keep_outcome(const choice *path, int depth, bool is_failure); /* its number, or -1 where there are too many */
+uint64_t *schedules_of_outcome(int number);
+uint64_t schedules_found(void);
+const char *schedules_text(uint64_t number);
+void count_runs_as_schedules(void);
 void forget_outcomes(void);
 uint64_t failures_found(void);
 int outcomes_found(void);
@@ -236,4 +257,5 @@ void chip_reset(void);
 size_t chip_bytes(void **at);
 bool chip_pulls_line(void);
 void chip_line_footprint(footprint *into);
+void chip_line_reach(footprint *into); /* all that it may depend on */
 #endif

@@ -18,6 +18,7 @@ static const char help[] =
     "  --turns N          goes through the first N turns of each loop that counts its turns (0 if left out)\n"
     "  --first            ends at the first failure\n"
     "  --histories        prints a history of each outcome, and not only of the failures\n"
+    "  --count            counts the schedules of each outcome, however many states there are\n"
     "  --replay HISTORY   runs one history alone, as it stands below an outcome\n"
     "  --quiet            shows no progress on a terminal\n"
     "  --brief            prints what the schedules end in, and nothing else\n"
@@ -42,7 +43,7 @@ static void read_option(char **words, int *at)
     bool *flag = !strcmp(word, "--first") ? &of->stops_at_first : !strcmp(word, "--histories") ? &of->histories :
         !strcmp(word, "--all-steps") ? &of->all_steps : !strcmp(word, "--no-sleep") ? &of->no_sleep :
         !strcmp(word, "--no-known") ? &of->no_known : !strcmp(word, "--no-turns") ? &of->no_turns :
-        !strcmp(word, "--brief") ? &of->brief : NULL;
+        !strcmp(word, "--brief") ? &of->brief : !strcmp(word, "--count") ? &of->counts : NULL;
     if (flag) {
         *flag = true;
     } else if (!strcmp(word, "--quiet")) {
@@ -85,7 +86,14 @@ static void read_environment(void)
 
 /* ---- signals: a crash of the program is a failure, and the user may end the search */
 
-static void end_crashed(void) { end_run(FAILED); }
+static void end_crashed(void)
+{
+    char failure[sizeof E->failure];
+    copy_bytes(failure, E->failure, sizeof failure); /* others may fail meanwhile */
+    last_place();
+    copy_bytes(E->failure, failure, sizeof failure);
+    end_run(FAILED);
+}
 
 static void note_crash(int number, siginfo_t *info, void *context)
 {

@@ -1,7 +1,7 @@
-/* What schedules ended in: what the program printed, or a failure. Of each the number of runs, and the shortest that was found. */
+/* What schedules ended in: what the program printed, or a failure. Of each the number of schedules, and the shortest found. */
 #include "explorer.h"
 
-typedef struct { uint64_t key[2], runs; bool is_failure; char *text; choice *path; int depth, room; } outcome;
+typedef struct { uint64_t key[2], runs, schedules; bool is_failure; char *text; choice *path; int depth, room; } outcome;
 enum { MOST_OUTCOMES = 4096 };
 static struct { outcome list[MOST_OUTCOMES]; int count; uint64_t failures, dropped; } *O;
 
@@ -28,7 +28,17 @@ static char *text_now(bool is_failure)
     return text;
 }
 
-void keep_outcome(const choice *path, int depth, bool is_failure)
+static void keep_path(outcome *of, const choice *path, int depth)
+{
+    if (depth > of->room) {
+        of->room = depth * 2;
+        of->path = own_pool((size_t)of->room * sizeof *path);
+    }
+    copy_bytes(of->path, path, (size_t)depth * sizeof *path);
+    of->depth = depth;
+}
+
+int keep_outcome(const choice *path, int depth, bool is_failure)
 {
     uint64_t key[2] = { (uint64_t)is_failure, 1 };
     if (!O)
@@ -38,24 +48,37 @@ void keep_outcome(const choice *path, int depth, bool is_failure)
         length++;
     hash_bytes(key, E->text, is_failure ? 0 : R.printed);
     hash_bytes(key, E->failure, length);
-    O->failures += is_failure;
     outcome *of = outcome_of(key);
+    O->failures += is_failure && (!of || !of->runs);
     if (!of) {
         O->dropped++;
-        return;
+        return -1;
     }
     if (!of->runs++) {
         of->is_failure = is_failure;
         of->text = text_now(is_failure);
     }
-    if (depth >= of->depth)
-        return;
-    if (depth > of->room) {
-        of->room = depth * 2;
-        of->path = own_pool((size_t)of->room * sizeof *path);
-    }
-    copy_bytes(of->path, path, (size_t)depth * sizeof *path);
-    of->depth = depth;
+    if (depth < of->depth)
+        keep_path(of, path, depth);
+    return (int)(of - O->list);
+}
+
+uint64_t *schedules_of_outcome(int number) { return &O->list[number].schedules; }
+
+/* Of all outcomes. */
+uint64_t schedules_found(void)
+{
+    uint64_t all = 0;
+    for (int i = 0; i < outcomes_found(); i++)
+        all = add_saturating(all, O->list[i].schedules);
+    return all;
+}
+
+/* After a search in which each schedule was a run of its own. */
+void count_runs_as_schedules(void)
+{
+    for (int i = 0; i < outcomes_found(); i++)
+        O->list[i].schedules = O->list[i].runs;
 }
 
 void forget_outcomes(void)
@@ -72,15 +95,27 @@ bool outcomes_dropped(void) { return O && O->dropped; }
 
 /* ---- printing */
 
+/* A number of schedules: at least so many where it is too large to be counted, or where a schedule may go round in a cycle. */
+const char *schedules_text(uint64_t number)
+{
+    static char text[64];
+    bool is_least = number == UINT64_MAX || counts_have_cycle();
+    snprintf(text, sizeof text, "%s%llu schedule%s", is_least ? "at least " : "", (unsigned long long)number,
+        number == 1 ? "" : "s");
+    return text;
+}
+
 static void print_one(FILE *to, const outcome *of, int number)
 {
+    const char *kind = of->is_failure ? "failure" : "outcome", *by = E->figures.counted ? ", by " : "";
+    const char *schedules = E->figures.counted ? schedules_text(of->schedules) : "";
+    bool with_history = of->is_failure || E->options.histories;
     if (E->options.brief) {
-        fprintf(to, "%s: %s", of->is_failure ? "failure" : "outcome", of->text);
+        fprintf(to, "%s%s%s: %s", kind, E->options.counts ? by : "", E->options.counts ? schedules : "", of->text);
         return;
     }
-    bool with_history = of->is_failure || E->options.histories;
-    fprintf(to, "\n%s %d, by %llu run%s; the shortest has %d step%s\n", of->is_failure ? "failure" : "outcome", number,
-        (unsigned long long)of->runs, of->runs == 1 ? "" : "s", of->depth, of->depth == 1 ? "" : "s");
+    fprintf(to, "\n%s %d%s%s", kind, number, by, schedules);
+    fprintf(to, "; the shortest that was found has %d step%s\n", of->depth, of->depth == 1 ? "" : "s");
     fprintf(to, "%s", of->text);
     run_again(of->path, of->depth, with_history ? to : NULL);
     print_replay(to, of->is_failure && E->ending == GOES_ON);

@@ -226,8 +226,9 @@ void print_result(void)
     print_counting(to);
     if (of->whole && !outcomes_found())
         fprintf(to, "warning: no schedule comes to its end\n");
-    fprintf(to, "%s: %llu states, %d outcome%s, %llu failure%s, %d shared word%s, longest schedule %llu steps, %.1f s\n",
-        how_far(), (unsigned long long)of->states, outcomes_found(), outcomes_found() == 1 ? "" : "s",
+    fprintf(to, "%s: %llu states, %s%s%d outcome%s, %llu failure%s, %d shared word%s, longest schedule %llu steps, %.1f s\n",
+        how_far(), (unsigned long long)of->states, of->counted ? schedules_text(schedules_found()) : "",
+        of->counted ? ", " : "", outcomes_found(), outcomes_found() == 1 ? "" : "s",
         (unsigned long long)failures_found(), failures_found() == 1 ? "" : "s", words_shared(), words_shared() == 1 ? "" : "s",
         (unsigned long long)of->longest, of->seconds);
     fprintf(to, "The chip's steps and this search are tested, and not proved.\n");
@@ -244,7 +245,7 @@ void show_progress(bool last)
     int length = last ? snprintf(line, sizeof line, "%s", clear) :
         snprintf(line, sizeof line, "%s%llu states, %llu runs, %d outcomes, %llu failures, %.0f s", clear,
             (unsigned long long)E->figures.states, (unsigned long long)E->figures.runs, outcomes_found(),
-            (unsigned long long)failures_found(), now - E->figures.seconds);
+            (unsigned long long)failures_found(), now - E->began);
     E->next_progress = last ? 0 : now + 0.5;
     if (syscall(SYS_write, 2, line, (size_t)length) < 0)
         E->options.progress = false;

@@ -120,7 +120,7 @@ static void tell_access(const memory_access *of)
 static void give_way(void)
 {
     enum { LONG = 20000 };
-    if (++ME->accesses < LONG)
+    if (R.alone || E->replaying || ++ME->accesses < LONG)
         return;
     ME->gives_way = true;
     pause_here(NULL, NULL, 1);
@@ -141,8 +141,8 @@ static void access_memory(const void *at, size_t size, const memory_access *of, 
         ME->next.size = 0;
     } else {
         ME->fine++;
-        give_way();
     }
+    give_way();
     mark(at, size, of->writes);
     if (bits && of->pc && E->telling)
         tell_access(of);

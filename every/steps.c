@@ -87,6 +87,21 @@ void pause_here(condition *may, const void *about, uint32_t alternatives)
         E->event->reads[ROW_TOKENS] |= 1ull << (TOKEN_CPU + me->cpu);
 }
 
+/* What a thread touches; where that is more than was known, the search begins anew. */
+void learn(int number, const footprint *touched)
+{
+    if (add_footprint(&E->reach[number], touched))
+        E->grew = true;
+}
+
+/* A thread that waits looks at what it waits for. */
+static void learn_wait(const footprint *most)
+{
+    footprint looks = *most;
+    clear_bytes(looks.writes, sizeof looks.writes);
+    learn(R.me, &looks);
+}
+
 /* Whether a replay goes on through this place. */
 bool replay_passes(void) { return E->replaying && ME->fine != E->replay_until; }
 
@@ -100,7 +115,23 @@ void step_when(const footprint *most, condition *may, const void *about)
         return;
     if (!E->replaying && !may && !ME->at_wait && is_undisturbed(most))
         return;
+    if (may)
+        learn_wait(most);
     pause_here(may, about, 1);
+}
+
+/* Before a run ends: where a thread has made no step in any run so far, nothing is known of what it touches, and the others go on
+ * here. Else this is no place, since what they do now comes too late. */
+void last_place(void)
+{
+    bool is_place = false;
+    for (int other = 0; other < R.count; other++)
+        is_place |= other != R.me && !R.threads[other].is_done && !(E->stepped >> other & 1);
+    if (R.alone)
+        return;
+    ME->fine++;
+    if (E->replaying ? !replay_passes() : is_place)
+        pause_here(NULL, NULL, 1);
 }
 
 void step(const footprint *most) { step_when(most, NULL, NULL); }

@@ -21,9 +21,10 @@ static footprint token(unsigned number, bool writes)
 
 static void trampoline(void)
 {
+    void *result = ME->body(ME->argument);
+    if (!R.me)
+        last_place();
     thread *me = ME;
-    void *result = me->body(me->argument);
-    me = ME;
     me->result = result;
     footprint end = token(TOKEN_THREAD + (unsigned)R.me, true);
     add_footprint(E->event, &end);
@@ -129,6 +130,8 @@ int pthread_setname_np(pthread_t id, const char *name) { return (void)id, (void)
 
 void pthread_exit(void *result)
 {
+    if (!R.me)
+        last_place();
     thread *me = ME;
     me->result = result;
     footprint end = token(TOKEN_THREAD + (unsigned)R.me, true);
@@ -176,6 +179,9 @@ void ccan_irq(const char *name, int cpu, void (*handler)(void))
     if (cpu < 0 || cpu >= MOST_CPUS)
         stop(2, "ccan_irq: %d is no processor", cpu);
     thread *of = &R.threads[begin_thread(name, run_interrupt, (void *)handler)];
+    footprint line = { 0 };
+    chip_line_reach(&line);
+    learn((int)(of - R.threads), &line);
     of->is_interrupt = true;
     of->cpu = cpu;
     of->may = line_is_pulled;
@@ -246,6 +252,7 @@ void ccan_quiet(void)
 void ccan_fail(const char *format, ...)
 {
     va_list arguments;
+    last_place();
     va_start(arguments, format);
     vsnprintf(E->failure, sizeof E->failure, format, arguments);
     va_end(arguments);
@@ -262,6 +269,7 @@ void exit(int status)
     }
     if (status)
         ccan_fail("the program ends with exit(%d)", status);
+    last_place();
     end_run(COMPLETE);
 }
 

@@ -217,4 +217,22 @@ void apply_event(int number, const footprint *event)
     }
 }
 
+/* What settles, besides the state, which turns will be in vain: of each thread that has waited, how its turn has gone so far. */
+void turns_key(uint64_t key[2])
+{
+    for (int number = 0; number < R.count; number++) {
+        const thread *of = &R.threads[number];
+        if (of->is_done || !of->base)
+            continue;
+        uint64_t rest[] = {
+            (uint64_t)number, (uint64_t)of->is_fresh | (uint64_t)of->turn_overflows << 1 | (uint64_t)of->counted << 32,
+            (uint64_t)of->base, of->base_site, of->passed, of->written };
+        hash_bytes(key, rest, sizeof rest);
+        hash_bytes(key, &of->turn, sizeof of->turn);
+        hash_bytes(key, of->old, of->written * sizeof of->old[0]);
+        if (of->is_idle)
+            hash_bytes(key, &of->looked, sizeof of->looked);
+    }
+}
+
 void begin_turns(void) { T = own_memory(sizeof *T); }

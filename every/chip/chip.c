@@ -130,6 +130,12 @@ bool chip_pulls_line(void)
     return C.is_open && (C.controller.control & IE) && (shows_status() || first_pending());
 }
 
+void chip_line_reach(footprint *into)
+{
+    into->reads[ROW_CONTROLLER] |= PART_IE | PART_ENABLES | PART_PENDING;
+    into->reads[ROW_INTPND] |= all_objects();
+}
+
 void chip_line_footprint(footprint *into)
 {
     into->reads[ROW_CONTROLLER] |= PART_IE | PART_ENABLES | PART_PENDING;

@@ -31,6 +31,18 @@ WRONG = [
           "    step_at_object(object, true);\n    ccan_record *record = &C.records[object - 1], before = *record;\n    if (!accepts",
           "    ccan_record *record = &C.records[object - 1], before = *record;\n    if (!accepts"),
     Fault("an access to shared memory that is no step", "shared.c", "        step_when(&most, may, at);", "        (void)most;"),
+    Fault("an end of a run at which a thread that never stepped is left behind", "steps.c",
+          "if (E->replaying ? !replay_passes() : is_place)", "if (E->replaying && !replay_passes())"),
+    Fault("an interrupt that is not known to look at its line before it first runs", "threads.c",
+          "    learn((int)(of - R.threads), &line);\n", ""),
+    # Numbers of schedules.
+    Fault("a number of schedules by one way to each state", "counts.c",
+          "*ways = add_saturating(*ways, from->ways);", "*ways = *ways ? *ways : from->ways;"),
+    Fault("a number of schedules over states whose turns have gone otherwise", "search.c", "    turns_key(key);\n", ""),
+    Fault("a number of schedules that begins anew behind the largest", "counts.c",
+          "return a + b < a ? UINT64_MAX : a + b;", "return a + b;"),
+    Fault("a number of schedules in a cycle that is told as exact", "counts.c",
+          "        G->has_cycle = true;\n", "        (void)0;\n"),
     # Loops that wait.
     Fault("a poll ended too soon: what it looked at has changed in its turn", "turns.c",
           "    of->is_idle = is_vain && of->is_fresh;", "    of->is_idle = is_vain;"),
