@@ -315,9 +315,9 @@ frame_looked call old new what does f = (
       subst (λ (b : ChipBus). LedTo past b.bus) (sym does.kept.bus) led,
       weaker (port_of old) (port_of new) _ _ does.goes (λ seen added h.
           subst (λ (s : StationState). FrameCallMeans (terms_at (port_of old)) old.tries call
-              (record { past = past; station = station_of old }) seen added (record { past = past; station = s }))
-              (sym does.kept.station)
-              (f (record { past = past; station = station_of old }) seen added h)),
+          (record { past = past; station = station_of old }) seen added (record { past = past; station = s }))
+          (sym does.kept.station)
+          (f (record { past = past; station = station_of old }) seen added h)),
     );
   },
 )

@@ -10,3 +10,4 @@ pub mod KeepsChoice
 pub mod ThreadsFit
 pub mod CallsApart
 pub mod TurnsInOrder
+pub mod SharedFrames

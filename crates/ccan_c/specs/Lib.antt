@@ -28,6 +28,7 @@ pub mod Note
 pub mod HostCall
 pub mod BusCall
 pub mod FrameCall
+pub mod SharedFrames
 pub mod Threads
 pub mod OneThread
 pub mod Saving

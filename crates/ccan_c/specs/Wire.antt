@@ -155,11 +155,15 @@ winner_in shown =
 abbrev pub is_wire : ShownWire → Bool
 is_wire shown = nat_le shown.kind 5 && (if nat_le 2 shown.kind then is_shown_frame shown.frame else true)
 
-abbrev pub wire_in : ShownWire → Wire
-wire_in shown =
-    if shown.kind == 1 then Collided (map is_sender shown.part)
-    else (if shown.kind == 2 then Broken (winner_in shown)
-    else (if shown.kind == 3 then Flagged (winner_in shown)
-    else (if shown.kind == 4 then Unheard (winner_in shown) (is_on shown.flagged)
-    else (if shown.kind == 5 then Carried (winner_in shown)
+-- of this kind
+abbrev pub wire_of : ℕ → ShownWire → Wire
+wire_of kind shown =
+    if kind == 1 then Collided (map is_sender shown.part)
+    else (if kind == 2 then Broken (winner_in shown)
+    else (if kind == 3 then Flagged (winner_in shown)
+    else (if kind == 4 then Unheard (winner_in shown) (is_on shown.flagged)
+    else (if kind == 5 then Carried (winner_in shown)
     else Idle))))
+
+abbrev pub wire_in : ShownWire → Wire
+wire_in shown = wire_of shown.kind shown

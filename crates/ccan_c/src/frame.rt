@@ -6,9 +6,7 @@ ghost use Rattle.ccan_c.specs.FrameCall as frame_call;
 ghost use Rattle.ccan_c.specs.FrameCall.{FrameCallDoes};
 
 use crate::bus_handle::BusHandle;
-use crate::code::{
-    BUSY, CLOSED, DONE, EVENT_RANGE, FAULT_RANGE, PLACE_RANGE, WIRE_RANGE, code_of,
-};
+use crate::code::{BUSY, CLOSED, DONE, EVENT_RANGE, FAULT_RANGE, PLACE_RANGE, WIRE_RANGE, code_of};
 use crate::shown_finished::{ShownFinished, code_of_end};
 use crate::shown_member::{ShownMember, flaw_in};
 use crate::shown_wire::ShownWire;

@@ -1,6 +1,7 @@
 //! Laws of the library. The functions do nothing: their contracts are the laws.
 ghost use Rattle.ccan_c.specs.FrameCall.{CallsKeepTheChoice};
 ghost use Rattle.ccan_c.specs.OneThread.{TurnsRunInOrder};
+ghost use Rattle.ccan_c.specs.SharedFrames.{SendersSendTheSame, SentFramesAreReceived};
 ghost use Rattle.ccan_c.specs.Threads.{CallsFitOneHistory};
 
 /// A call on the bus's handle keeps how the bus chooses what it sends: that of a chip always does so at one moment.
@@ -20,4 +21,16 @@ pub fn calls_fit_one_history()
 /// their order, and the records that it leaves.
 pub fn turns_run_in_order()
     ensures { TurnsRunInOrder }
+{}
+
+/// A frame that some chip on a bus of several has sent was received by another of its members: if C decides the frame over its
+/// members at its start and again at its end, and ends it at the chip by what it was given. The chip's member is as its last look
+/// found it.
+pub fn sent_frames_are_received()
+    ensures { SentFramesAreReceived }
+{}
+
+/// Two chips on such a bus that have both sent in one frame have sent the same frame.
+pub fn senders_send_the_same()
+    ensures { SendersSendTheSame }
 {}

@@ -6,7 +6,8 @@ ghost use Rattle.ccan_c.specs.Finished.{event_in, event_number, refused_at_end, 
 
 use crate::code::{BUSY, code_of};
 use crate::shown_outcome::{
-    NOT_NOTED, finished_of, is_lost, object_of, step_number, stored_object, stored_of, stored_record,
+    NOT_NOTED, finished_of, is_lost, object_of, step_number, stored_object, stored_of,
+    stored_record,
 };
 use crate::shown_record::ShownRecord;
 use ccan_chip::OwnEvent;

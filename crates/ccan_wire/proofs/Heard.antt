@@ -25,7 +25,7 @@ use Rattle.ccan_wire.specs.Wire.{Carries, Ends}
 use Rattle.ccan_wire.specs.Laws.{Hears, has_sent}
 
 -- a frame is on the bus and acknowledged, and the member is one of its senders
-abbrev CarriedBy : Wire → ℕ → Type 0
+abbrev pub CarriedBy : Wire → ℕ → Type 0
 CarriedBy Idle k = ⊥
 CarriedBy (Collided who) k = ⊥
 CarriedBy (Broken winner) k = ⊥
@@ -100,7 +100,7 @@ carried_as Alone w k x e = absurd (no_loop x.frame e)
 carried_as Passive w k x e = in_part w k x (part_on w k) refl e
 carried_as Active w k x e = in_part w k x (part_on w k) refl e
 
-carried : (m : ℕ → Member) (w : Wire) (k : ℕ) → event_of w k (m k) ≡ has_sent → CarriedBy w k
+pub carried : (m : ℕ → Member) (w : Wire) (k : ℕ) → event_of w k (m k) ≡ has_sent → CarriedBy w k
 carried m w k e = carried_as (m k).role w k (m k) e
 
 -- ---- who has heard

@@ -7,7 +7,7 @@ use Rattle.ccan_c.proofs.held.Held.reset.Goals as goal
 
 pub returns : goal.returns
 returns c = record {
-  kept = record { works = record { tries = refl; nodes = refl; map = refl }; own = refl; bus = refl };
+  kept = record { works = record { tries = refl; nodes = refl; map = refl }; own = refl; bus = refl; station = refl };
   goes =
       subst (λ (z : ControllerChange). ChipGoes (port_at c.args.self.now.port) (port_at c.reset.new.holder)
       (λ terms seen added. ResetsChip terms z c.args.self.now.tries seen added c.reset.result)) c.reset_of.ensures.value
