@@ -8,7 +8,8 @@ use ccan_accept::Frame;
 use ccan_handler::{ScanRefused, Stored};
 use ccan_object::{ObjectNo, Profile, Record};
 use ccan_ram::{
-    Change, Changed, CommitError, Final, HandlerRegisters, PortName, Refused, Sending, SharedRam, Tries,
+    Change, Changed, CommitError, Final, HandlerRegisters, PortName, Refused, Sending, SharedRam,
+    Tries,
 };
 use std::alloc::Global;
 use std::process::Abort;
