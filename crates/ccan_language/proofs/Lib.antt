@@ -1,5 +1,8 @@
-pub mod Added
 pub mod Grown
-pub mod Inserted
-pub mod Joined
+pub mod Keys
+pub mod Made
+pub mod Order
 pub mod Said
+pub mod Same
+pub mod Union
+pub mod With

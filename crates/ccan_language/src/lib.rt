@@ -2,13 +2,18 @@
 //! ways to an end.
 //!
 //! A word has a letter for each place at which something was answered, in the order of the places, whatever the order in which
-//! the letters were said. Nodes are made anew by each call: equal ones are not looked up.
+//! the letters were said. Nodes that are equal are one.
 #![tactic(auto)]
 
 pub mod graph;
 pub mod letter;
+pub mod no_room;
+pub mod node;
 pub mod states;
+mod turn;
 
-pub use graph::{Edge, Graph, Node};
+pub use graph::Graph;
 pub use letter::Letter;
+pub use no_room::NoRoom;
+pub use node::{Edge, Node};
 pub use states::{State, Step, steps_lead_back, words_of_each};

@@ -7,6 +7,9 @@ use ccan_language::{Graph, Letter, State, Step, steps_lead_back, words_of_each};
 use std::alloc::{AllocError, Global};
 use std::process::Abort;
 
+/// More nodes than any of these graphs needs.
+const MOST: usize = 100;
+
 /// A letter.
 fn letter(place: usize, answer: usize) -> Letter {
     Letter { place, answer }
@@ -56,14 +59,14 @@ fn says(rt: &impl Abort, alloc: Global, index: usize, answers: (usize, usize), w
     if !steps_lead_back(states) {
         panic!(rt; "a step leads on")
     }
-    let mut graph = Graph::new(alloc);
+    let mut graph = Graph::new(alloc, MOST);
     let Ok(made) = words_of_each(&mut graph, alloc, states) else {
         panic!(rt; "no memory")
     };
     let Some(node) = made.as_slice().get(index) else {
         panic!(rt; "no such state")
     };
-    if *node >= graph.nodes.len() {
+    if *node >= graph.len() {
         panic!(rt; "no such node")
     }
     let word = [letter(0, answers.0), letter(1, answers.1)];
@@ -97,17 +100,17 @@ fn knows_a_step_that_leads_on(rt: HostRuntime) {
 #[test]
 fn unites_the_words_of_two_nodes(rt: HostRuntime) {
     let alloc = rt.alloc();
-    let mut graph = Graph::new(alloc);
-    let Ok(end) = graph.only(alloc, true) else {
+    let mut graph = Graph::new(alloc, MOST);
+    let Ok(end) = graph.only(true) else {
         panic!(&rt; "no memory")
     };
-    let Ok(one) = graph.with(alloc, end, letter(0, 1)) else {
+    let Ok(one) = graph.with(end, letter(0, 1)) else {
         panic!(&rt; "no memory")
     };
-    if end >= graph.nodes.len() {
+    if end >= graph.len() {
         panic!(&rt; "no such node")
     }
-    let Ok(both) = graph.union(alloc, end, one) else {
+    let Ok(both) = graph.union(end, one) else {
         panic!(&rt; "no memory")
     };
     holds(&rt, graph.contains(both, &[]));

@@ -1,0 +1,25 @@
+use crate::letter::Letter;
+
+/// An edge from one node to another, on which a letter stands, and what stands beside it.
+#[derive(Clone, Copy, PartialEq, Eq, Hash, Debug, Drop)]
+pub struct Edge {
+    /// The letter.
+    pub letter: Letter,
+    /// The index of the node that it leads to.
+    pub to: usize,
+    /// The index of the node of the other words: those that begin with later letters, and the empty word.
+    pub others: usize,
+}
+
+/// A node: a set of words.
+///
+/// The edges of a fork are its own, that of the others' node if this is a fork, and so on, in the order of their letters.
+#[derive(Clone, Copy, PartialEq, Eq, Hash, Debug, Drop)]
+pub enum Node {
+    /// No word.
+    Nothing,
+    /// The empty word alone.
+    End,
+    /// The words that go on by an edge, and those beside it.
+    Fork(Edge),
+}
