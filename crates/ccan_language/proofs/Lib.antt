@@ -1,4 +1,6 @@
+pub mod Decided
 pub mod Grown
+pub mod Kept
 pub mod Keys
 pub mod Made
 pub mod Order

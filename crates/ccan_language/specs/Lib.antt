@@ -1,2 +1,3 @@
+pub mod Memo
 pub mod States
 pub mod Words

@@ -7,6 +7,7 @@
 
 pub mod graph;
 pub mod letter;
+pub mod memo;
 pub mod no_room;
 pub mod node;
 pub mod states;
@@ -14,6 +15,7 @@ mod turn;
 
 pub use graph::Graph;
 pub use letter::Letter;
+pub use memo::{Longer, Pair};
 pub use no_room::NoRoom;
 pub use node::{Edge, Node};
 pub use states::{State, Step, steps_lead_back, words_of_each};

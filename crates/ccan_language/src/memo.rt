@@ -1,0 +1,19 @@
+use crate::letter::Letter;
+
+/// A call of `union`.
+#[derive(Clone, Copy, PartialEq, Eq, Hash, Debug, Drop)]
+pub struct Pair {
+    /// The index of the first node.
+    pub first: usize,
+    /// The index of the second node.
+    pub second: usize,
+}
+
+/// A call of `with`.
+#[derive(Clone, Copy, PartialEq, Eq, Hash, Debug, Drop)]
+pub struct Longer {
+    /// The index of the node.
+    pub index: usize,
+    /// The letter that its words get.
+    pub letter: Letter,
+}
