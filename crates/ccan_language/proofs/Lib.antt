@@ -1,7 +1,9 @@
+pub mod Counted
 pub mod Decided
 pub mod Grown
 pub mod Kept
 pub mod Keys
+pub mod Listed
 pub mod Made
 pub mod Order
 pub mod Said

@@ -1,3 +1,4 @@
+pub mod Count
 pub mod Memo
 pub mod States
 pub mod Words
