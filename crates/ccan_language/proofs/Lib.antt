@@ -5,6 +5,7 @@ pub mod Kept
 pub mod Keys
 pub mod Listed
 pub mod Made
+pub mod Numbered
 pub mod Order
 pub mod Said
 pub mod Same
