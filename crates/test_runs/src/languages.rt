@@ -3,7 +3,7 @@
 //! answer 1 at place 1 to 2. So its words are 0 0 and 1 1, and 0 1 and 1 0 are none. Two steps leave 5, which come to the same
 //! word in either order: with answer 0 at place 0 to 1, and with answer 0 at place 1 to 3.
 use crate::expect::holds;
-use ccan_language::{Graph, Letter, State, Step, steps_lead_back, words_of_each};
+use ccan_language::{Graph, Letter, NoRoom, State, Step, steps_lead_back, words_of_each};
 use std::alloc::{AllocError, Global};
 use std::process::Abort;
 
@@ -116,4 +116,70 @@ fn unites_the_words_of_two_nodes(rt: HostRuntime) {
     holds(&rt, graph.contains(both, &[]));
     holds(&rt, graph.contains(both, &[letter(0, 1)]));
     holds(&rt, !graph.contains(both, &[letter(0, 0)]));
+}
+
+/// Holds whether the answers of the word with this number, in the order of the places, are these, or there is none.
+fn has_word(rt: &impl Abort, alloc: Global, graph: &Graph, node: usize, number: u64, want: Option<(usize, usize)>) {
+    if node >= graph.len() {
+        panic!(rt; "no such node")
+    }
+    let Ok(found) = graph.word_at(alloc, node, number) else {
+        panic!(rt; "no memory")
+    };
+    match (found, want) {
+        (None, None) => (),
+        (Some(word), Some(answers)) => {
+            holds(rt, word.as_slice() == [letter(0, answers.0), letter(1, answers.1)].as_slice());
+        }
+        (None, Some(_)) | (Some(_), None) => panic!(rt; "another number of words"),
+    }
+}
+
+/// Two words go from state 4, in the order of their letters.
+#[test]
+fn counts_and_numbers_words(rt: HostRuntime) {
+    let alloc = rt.alloc();
+    let Ok(all) = states(alloc) else {
+        panic!(&rt; "no memory")
+    };
+    if !steps_lead_back(all.as_slice()) {
+        panic!(&rt; "a step leads on")
+    }
+    let mut graph = Graph::new(alloc, MOST);
+    let Ok(made) = words_of_each(&mut graph, alloc, all.as_slice()) else {
+        panic!(&rt; "no memory")
+    };
+    let Some(node) = made.as_slice().get(4) else {
+        panic!(&rt; "no such state")
+    };
+    if *node >= graph.len() {
+        panic!(&rt; "no such node")
+    }
+    holds(&rt, graph.count(*node) == 2);
+    has_word(&rt, alloc, &graph, *node, 0, Some((0, 0)));
+    has_word(&rt, alloc, &graph, *node, 1, Some((1, 1)));
+    has_word(&rt, alloc, &graph, *node, 2, None);
+}
+
+/// A word of one letter takes three nodes: the end, no word beside it, and its own. What stands already takes none.
+#[test]
+fn stops_at_its_bound(rt: HostRuntime) {
+    let alloc = rt.alloc();
+    let mut graph = Graph::new(alloc, 3);
+    let Ok(end) = graph.only(true) else {
+        panic!(&rt; "no memory")
+    };
+    if end >= graph.len() {
+        panic!(&rt; "no such node")
+    }
+    let Ok(_) = graph.with(end, letter(0, 0)) else {
+        panic!(&rt; "no memory")
+    };
+    let Ok(_) = graph.with(end, letter(0, 0)) else {
+        panic!(&rt; "no memory")
+    };
+    match graph.with(end, letter(0, 1)) {
+        Err(NoRoom::Bound) => (),
+        Err(NoRoom::Memory) | Ok(_) => panic!(&rt; "the bound is not kept"),
+    }
 }
