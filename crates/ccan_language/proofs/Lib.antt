@@ -7,6 +7,7 @@ pub mod Listed
 pub mod Made
 pub mod Numbered
 pub mod Order
+pub mod Reached
 pub mod Said
 pub mod Same
 pub mod Union

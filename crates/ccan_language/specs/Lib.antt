@@ -1,3 +1,4 @@
+pub mod Answers
 pub mod Count
 pub mod Memo
 pub mod States

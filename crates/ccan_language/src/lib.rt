@@ -5,6 +5,7 @@
 //! the letters were said. Nodes that are equal are one.
 #![tactic(auto)]
 
+pub mod answers;
 pub mod graph;
 pub mod letter;
 pub mod memo;

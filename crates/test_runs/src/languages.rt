@@ -135,7 +135,7 @@ fn has_word(rt: &impl Abort, alloc: Global, graph: &Graph, node: usize, number: 
     }
 }
 
-/// Two words go from state 4, in the order of their letters.
+/// Two words go from state 4, in the order of their letters, and both answers stand at place 1.
 #[test]
 fn counts_and_numbers_words(rt: HostRuntime) {
     let alloc = rt.alloc();
@@ -159,6 +159,10 @@ fn counts_and_numbers_words(rt: HostRuntime) {
     has_word(&rt, alloc, &graph, *node, 0, Some((0, 0)));
     has_word(&rt, alloc, &graph, *node, 1, Some((1, 1)));
     has_word(&rt, alloc, &graph, *node, 2, None);
+    let Ok(answers) = graph.answers_at(alloc, *node, 1) else {
+        panic!(&rt; "no memory")
+    };
+    holds(&rt, answers.len() == 2 && answers.contains(&0) && answers.contains(&1));
 }
 
 /// A word of one letter takes three nodes: the end, no word beside it, and its own. What stands already takes none.
