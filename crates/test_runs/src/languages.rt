@@ -119,7 +119,14 @@ fn unites_the_words_of_two_nodes(rt: HostRuntime) {
 }
 
 /// Holds whether the answers of the word with this number, in the order of the places, are these, or there is none.
-fn has_word(rt: &impl Abort, alloc: Global, graph: &Graph, node: usize, number: u64, want: Option<(usize, usize)>) {
+fn has_word(
+    rt: &impl Abort,
+    alloc: Global,
+    graph: &Graph,
+    node: usize,
+    number: u64,
+    want: Option<(usize, usize)>,
+) {
     if node >= graph.len() {
         panic!(rt; "no such node")
     }
@@ -129,7 +136,10 @@ fn has_word(rt: &impl Abort, alloc: Global, graph: &Graph, node: usize, number: 
     match (found, want) {
         (None, None) => (),
         (Some(word), Some(answers)) => {
-            holds(rt, word.as_slice() == [letter(0, answers.0), letter(1, answers.1)].as_slice());
+            holds(
+                rt,
+                word.as_slice() == [letter(0, answers.0), letter(1, answers.1)].as_slice(),
+            );
         }
         (None, Some(_)) | (Some(_), None) => panic!(rt; "another number of words"),
     }
@@ -142,11 +152,12 @@ fn counts_and_numbers_words(rt: HostRuntime) {
     let Ok(all) = states(alloc) else {
         panic!(&rt; "no memory")
     };
-    if !steps_lead_back(all.as_slice()) {
+    let states = all.as_slice();
+    if !steps_lead_back(states) {
         panic!(&rt; "a step leads on")
     }
     let mut graph = Graph::new(alloc, MOST);
-    let Ok(made) = words_of_each(&mut graph, alloc, all.as_slice()) else {
+    let Ok(made) = words_of_each(&mut graph, alloc, states) else {
         panic!(&rt; "no memory")
     };
     let Some(node) = made.as_slice().get(4) else {
@@ -162,7 +173,10 @@ fn counts_and_numbers_words(rt: HostRuntime) {
     let Ok(answers) = graph.answers_at(alloc, *node, 1) else {
         panic!(&rt; "no memory")
     };
-    holds(&rt, answers.len() == 2 && answers.contains(&0) && answers.contains(&1));
+    holds(
+        &rt,
+        answers.len() == 2 && answers.contains(&0) && answers.contains(&1),
+    );
 }
 
 /// A word of one letter takes three nodes: the end, no word beside it, and its own. What stands already takes none.
