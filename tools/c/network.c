@@ -319,6 +319,21 @@ static void a_passive_sender_waits(void)
     EXPECT(network.under_way && network.wire.part[a] == CCAN_PART_SENDER);
 }
 
+/* An active sender that nobody acknowledges: its flag begins behind the ACK slot, 8 bits before the end of the frame, a later one a
+ * bit behind it, and the delimiter has 8: 53 - 8 + 6 + 1 + 8 = 60. It doesn't wait. */
+static void an_active_sender_is_not_heard(void)
+{
+    ccan_network_init(&network, 0);
+    const uint32_t a = add_node();
+    EXPECT(ccan_network_offer(&network, a, &frame) == CCAN_DONE);
+    starts(0);
+    EXPECT(network.wire.kind == CCAN_WIRE_UNHEARD && network.wire.flagged && until == 60);
+    finishes(60);
+    EXPECT(network.at[a].ended.event == CCAN_EVENT_ERROR && network.at[a].node.tec == 8 && until == 63 && network.ended == 60);
+    starts(63);
+    EXPECT(network.under_way);
+}
+
 /* The lengths of frames that an error flag ends. */
 static void spoiled_frames_have_their_length(void)
 {
@@ -724,6 +739,7 @@ static void hosts_in_threads(unsigned frames)
 static const struct { const char *name; void (*run)(void); } tests[] = {
 #define RUN(test) { #test, test }
     RUN(members_come_and_go), RUN(a_frame_has_its_time), RUN(a_new_offer_stays), RUN(a_passive_sender_waits),
+    RUN(an_active_sender_is_not_heard),
     RUN(spoiled_frames_have_their_length), RUN(who_is_removed_is_absent), RUN(groups_pass),
     RUN(groups_pass_behind_an_unheard_frame), RUN(a_chip_comes_back), RUN(a_chip_in_loop_back_mode),
     RUN(a_host_sets_init_in_mid_frame), RUN(a_chip_is_removed_in_mid_frame), RUN(lost_events_are_made) };
