@@ -90,7 +90,8 @@ typedef struct {
     uint32_t turns;
     double seconds;
     bool stops_at_first, histories, progress, brief, counts, no_known, no_sleep, all_steps, no_turns;
-    const char *replay;
+    const char *replay, *picture;
+    uint32_t outcome;           /* the number of the one that is drawn */
 } options;
 
 typedef struct explorer {
@@ -99,6 +100,7 @@ typedef struct explorer {
     figures figures;
     bool running;               /* a program's thread runs, or the explorer on its behalf */
     bool telling, replaying, grew;
+    bool drawing;               /* what is told goes to a picture */
     bool counting;              /* the search that counts schedules goes on */
     double began;
     volatile bool interrupted;
@@ -150,6 +152,14 @@ static inline void move_bytes(void *to, const void *from, size_t bytes)
 static inline void clear_bytes(void *at, size_t bytes)
 {
     __asm__ volatile("rep stosb" : "+D"(at), "+c"(bytes) : "a"(0) : "memory");
+}
+
+static inline size_t text_length(const char *text)
+{
+    size_t length = 0;
+    while (text[length])
+        length++;
+    return length;
 }
 
 double seconds_now(void);
@@ -252,8 +262,17 @@ const char *name_of_data(uintptr_t at);
 const char *name_of_code(uintptr_t pc);     /* the function */
 const char *line_of_code(uintptr_t pc);     /* function (file:line), by addr2line */
 
+/* rows.c and picture.c: a history that is drawn */
+typedef struct { int step, thread; const char *name, *words; uint64_t flags[4]; } row; /* flags: NewDat, MsgLst, IntPnd, TxRqst */
+void forget_rows(void);
+void tell_row(int step, const char *line);
+void settle_rows(void);
+int rows_told(const row **rows);
+void draw_rows(const char *path, const char *ending);
+
 /* ---- the chip, for the explorer (chip/) */
 void chip_reset(void);
+void chip_flags(uint64_t flags[4]); /* of the objects: NewDat, MsgLst, IntPnd, TxRqst */
 size_t chip_bytes(void **at);
 bool chip_pulls_line(void);
 void chip_line_footprint(footprint *into);

@@ -20,6 +20,8 @@ static const char help[] =
     "  --histories        prints a history of each outcome, and not only of the failures\n"
     "  --count            counts the schedules of each outcome, however many states there are\n"
     "  --replay HISTORY   runs one history alone, as it stands below an outcome\n"
+    "  --svg FILE         draws the history of the first failure, or of the first outcome if none fails, or that of --replay\n"
+    "  --outcome N        draws that of outcome N of the list\n"
     "  --quiet            shows no progress on a terminal\n"
     "  --brief            prints what the schedules end in, and nothing else\n"
     "  --all-steps, --no-sleep, --no-known, --no-turns  leave out a part of what makes the search fast; for tests\n"
@@ -56,6 +58,10 @@ static void read_option(char **words, int *at)
         of->turns = (uint32_t)number_of(word, words[++*at]);
     } else if (!strcmp(word, "--replay") && words[*at + 1]) {
         of->replay = words[++*at];
+    } else if (!strcmp(word, "--svg") && words[*at + 1]) {
+        of->picture = words[++*at];
+    } else if (!strcmp(word, "--outcome")) {
+        of->outcome = (uint32_t)number_of(word, words[++*at]);
     } else if (!strcmp(word, "--help")) {
         fputs(help, stdout);
         fflush(stdout);
@@ -183,7 +189,7 @@ static int status(void)
 int __wrap_main(int count, char **list)
 {
     E = own_memory(sizeof *E);
-    E->options = (options){ .most = 10000000, .progress = isatty(2) };
+    E->options = (options){ .most = 10000000, .outcome = 1, .progress = isatty(2) };
     take_arguments(count, list);
     if (!has_hooks)
         stop(REFUSED, "the program was compiled without -fsanitize=thread, so its memory can't be seen");

@@ -105,6 +105,17 @@ const char *schedules_text(uint64_t number)
     return text;
 }
 
+/* Its history as a picture, if it is the one that was asked for. */
+static void draw(const outcome *of, int number)
+{
+    if (!E->options.picture || number != (int)E->options.outcome)
+        return;
+    E->drawing = true;
+    run_again(of->path, of->depth, NULL);
+    draw_rows(E->options.picture, of->text);
+    E->drawing = false;
+}
+
 static void print_one(FILE *to, const outcome *of, int number)
 {
     const char *kind = of->is_failure ? "failure" : "outcome", *by = E->figures.counted ? ", by " : "";
@@ -112,6 +123,7 @@ static void print_one(FILE *to, const outcome *of, int number)
     bool with_history = of->is_failure || E->options.histories;
     if (E->options.brief) {
         fprintf(to, "%s%s%s: %s", kind, E->options.counts ? by : "", E->options.counts ? schedules : "", of->text);
+        draw(of, number);
         return;
     }
     fprintf(to, "\n%s %d%s%s", kind, number, by, schedules);
@@ -119,6 +131,7 @@ static void print_one(FILE *to, const outcome *of, int number)
     fprintf(to, "%s", of->text);
     run_again(of->path, of->depth, with_history ? to : NULL);
     print_replay(to, of->is_failure && E->ending == GOES_ON);
+    draw(of, number);
 }
 
 void print_outcomes(FILE *to)

@@ -53,32 +53,48 @@ static struct {
     size_t shown; /* of what the program printed */
 } *H;
 
-static void print_head(void) { fprintf(H->to, "%6d  %-*s%*s", H->step, NAME, ME->name, COLUMN * R.me, ""); }
+/* A line of a step, in the text of the history and in its picture. */
+static void show_line(const char *line)
+{
+    if (H->to)
+        fprintf(H->to, "%6d  %-*s%*s%s\n", H->step, NAME, ME->name, COLUMN * R.me, "", line);
+    if (E->drawing)
+        tell_row(H->step, line);
+}
 
 void tell_line(const char *format, ...)
 {
+    static char line[2048];
     va_list arguments;
-    if (!H->to || R.alone)
+    if ((!H->to && !E->drawing) || R.alone)
         return;
     bool was_running = E->running;
     E->running = false;
-    print_head();
     va_start(arguments, format);
-    vfprintf(H->to, format, arguments);
+    vsnprintf(line, sizeof line, format, arguments);
     va_end(arguments);
-    fputc('\n', H->to);
+    show_line(line);
     E->running = was_running;
 }
 
 /* What the program printed in the last step. */
 static void tell_printed(void)
 {
-    if (H->to && R.printed > H->shown) {
-        print_head();
-        const char *end = E->text[R.printed - 1] == '\n' ? "" : "\n";
-        fprintf(H->to, "prints %.*s%s", (int)(R.printed - H->shown), E->text + H->shown, end);
+    static char line[2048];
+    if ((H->to || E->drawing) && R.printed > H->shown) {
+        size_t size = R.printed - H->shown - (E->text[R.printed - 1] == '\n');
+        snprintf(line, sizeof line, "prints %.*s", (int)size, E->text + H->shown);
+        show_line(line);
     }
     H->shown = R.printed;
+}
+
+/* A step is made, and all that it told is there. */
+static void end_step(void)
+{
+    tell_printed();
+    if (E->drawing)
+        settle_rows();
 }
 
 static void note_segment(int number, uint64_t places)
@@ -98,8 +114,12 @@ static void begin_history(FILE *to)
     H->shown = 0;
     H->to = to;
     E->telling = true;
+    if (E->drawing)
+        forget_rows();
     restart_program();
     H->shown = R.printed;
+    if (E->drawing)
+        settle_rows();
 }
 
 void run_again(const choice *path, int depth, FILE *to)
@@ -116,7 +136,7 @@ void run_again(const choice *path, int depth, FILE *to)
         make_step(path[at].thread, path[at].alternative, &event);
         bool has_ended = of->is_done || E->ending != GOES_ON; /* then it is not at a place, but behind its last one */
         note_segment(path[at].thread, of->fine - before + has_ended);
-        tell_printed();
+        end_step();
     }
     E->telling = false;
 }
@@ -178,7 +198,12 @@ void replay(const char *text)
     E->telling = true;
     H->to = E->real_out;
     E->replay_until = H->segments[0].places;
+    E->drawing = E->options.picture != NULL;
+    if (E->drawing)
+        forget_rows();
     restart_program();
+    if (E->drawing)
+        settle_rows();
     for (int i = 1; i < H->count && E->ending == GOES_ON && !R.threads[0].is_done; i++) {
         int number = H->segments[i].thread;
         if (number >= R.count || R.threads[number].is_done)
@@ -186,12 +211,15 @@ void replay(const char *text)
         H->step = i;
         E->replay_until = R.threads[number].fine + H->segments[i].places;
         make_step(number, 0, &event);
-        tell_printed();
+        end_step();
     }
     if (stands_still && E->ending == GOES_ON)
         E->ending = stand_still();
-    fprintf(E->real_out, "%.*s%s\n", (int)R.printed, E->text, E->ending == FAILED ? E->failure : "the schedule ends");
+    const char *end = E->ending == FAILED ? E->failure : "the schedule ends";
+    fprintf(E->real_out, "%.*s%s\n", (int)R.printed, E->text, end);
     fflush(E->real_out);
+    if (E->drawing)
+        draw_rows(E->options.picture, end);
 }
 
 /* ---- the summary */
@@ -216,6 +244,8 @@ void print_result(void)
     const figures *of = &E->figures;
     FILE *to = E->real_out;
     print_outcomes(to);
+    if (E->options.picture && (int)E->options.outcome > outcomes_found())
+        fprintf(to, "note: there is no outcome %u to draw\n", (unsigned)E->options.outcome);
     if (E->options.brief) {
         fprintf(to, "%s\n", how_far());
         fflush(to);

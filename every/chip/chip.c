@@ -123,6 +123,16 @@ void step_at_interface(unsigned side, uint64_t reads, uint64_t writes)
     E->event->reads[ROW_INTERFACES] |= most.reads[ROW_INTERFACES];
 }
 
+void chip_flags(uint64_t flags[4])
+{
+    static const uint16_t bits[] = { NEWDAT, MSGLST, INTPND, TXRQST };
+    for (int flag = 0; flag < 4; flag++) {
+        flags[flag] = 0;
+        for (unsigned object = 0; object < 64; object++)
+            flags[flag] |= (uint64_t)((C.records[object].control & bits[flag]) != 0) << object;
+    }
+}
+
 /* ---- the interrupt line, for the explorer's interrupts */
 
 bool chip_pulls_line(void)

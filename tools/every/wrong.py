@@ -43,6 +43,13 @@ WRONG = [
           "return a + b < a ? UINT64_MAX : a + b;", "return a + b;"),
     Fault("a number of schedules in a cycle that is told as exact", "counts.c",
           "        G->has_cycle = true;\n", "        (void)0;\n"),
+    # Pictures.
+    Fault("a bar that ends a row too late", "picture.c",
+          "int end = i < of->count ? of->tops[i] + MARK : of->tops[i];", "int end = of->tops[i < of->count ? i + 1 : i];"),
+    Fault("flags of a row that are those before its step", "rows.c",
+          "        chip_flags(W->rows[W->settled].flags);", "        chip_flags(W->rows[W->settled ? W->settled - 1 : 0].flags);"),
+    Fault("a box in the lane of another thread", "picture.c", "(area){ in->x, y + 2,", "(area){ of->lanes[0].x, y + 2,"),
+    Fault("a text with marks of XML as it stands", "svg.c", "    case '<': fputs(\"&lt;\", to); break;\n", ""),
     # Loops that wait.
     Fault("a poll ended too soon: what it looked at has changed in its turn", "turns.c",
           "    of->is_idle = is_vain && of->is_fresh;", "    of->is_idle = is_vain;"),
