@@ -105,7 +105,10 @@ def bars_drawn(picture, tops, bottom):
 def faults(svg, history):
     """What is wrong with the picture of a history that is printed so."""
     steps = steps_told(history)
-    picture = ElementTree.fromstring(svg)
+    try:
+        picture = ElementTree.fromstring(svg)
+    except ElementTree.ParseError as error:
+        return [f"no XML: {error}"]
     width, height = int(picture.get("width")), int(picture.get("height"))
     found = list(text_faults(picture, width, height))
     for it in picture.iter(SVG + "rect"):
