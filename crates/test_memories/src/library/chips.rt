@@ -458,7 +458,7 @@ fn loop_back_mode_is_in_the_registers(rt: HostRuntime) {
     asks_to_send(&rt, &mut chip.if1);
     same(&rt, loop_back(&mut chip.bus, 1), 0);
     same(&rt, reads(&rt, &mut chip.if2, 0x00), 0x0080);
-    same(&rt, reads(&rt, &mut chip.if2, 0x0a), 0x0010);
+    same(&rt, reads(&rt, &mut chip.if2, 0x0a), 0x0090);
     same(&rt, played(&rt, &mut chip.bus, &[], 0).kind, 7);
     same(&rt, loop_back(&mut chip.bus, 0), 0);
     same(&rt, reads(&rt, &mut chip.if2, 0x00), 0);
