@@ -1,0 +1,3 @@
+pub mod Data
+pub mod Json
+pub mod PageText
