@@ -17,9 +17,6 @@
  * Nothing of this library is proved. The chip is written in C once more, with steps that can be seen; it is compared with the
  * proved library in a test. The search and what it leaves out are tested against plain searches of all interleavings.
  *
- * Not in this library: the calls of ccan.h for several chips on one bus, from ccan_begin to ccan_bit_time. A program that makes them
- * doesn't link.
- *
  * Not seen, and refused with a word: files, sockets, signals, clocks, processes, random numbers, thread-local variables, a second
  * chip, and the calls of ccan.h for several chips on one bus, from ccan_begin to ccan_bit_time. Not seen, and not noticed: code
  * that was compiled without -fsanitize=thread, and assembler. */
