@@ -233,6 +233,14 @@ static void print_counting(FILE *to)
             line_of_code(sites[i]), (unsigned)E->options.turns);
 }
 
+/* Where a number of schedules was asked for, and there is none. */
+static void print_uncounted(FILE *to)
+{
+    if (E->options.counts && !E->figures.counted)
+        fprintf(to, "note: the schedules were not counted, since %s was given up\n",
+            E->figures.whole ? "the search that counts them" : "the search");
+}
+
 static const char *how_far(void)
 {
     uintptr_t *sites;
@@ -246,6 +254,7 @@ void print_result(void)
     print_outcomes(to);
     if (E->options.picture && (int)E->options.outcome > outcomes_found())
         fprintf(to, "note: there is no outcome %u to draw\n", (unsigned)E->options.outcome);
+    print_uncounted(to);
     if (E->options.brief) {
         fprintf(to, "%s\n", how_far());
         fflush(to);

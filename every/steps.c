@@ -139,9 +139,12 @@ void step(const footprint *most) { step_when(most, NULL, NULL); }
 /* One of 0 to alternatives - 1: each is tried. */
 uint32_t step_choosing(uint32_t alternatives)
 {
+    enum { MOST = 256 };
     ME->fine++;
     if (alternatives < 2)
         return 0;
+    if (alternatives > MOST)
+        stop(2, "the program calls ccan_choose(%u), and a history tells apart %d ways", (unsigned)alternatives, MOST);
     if (!replay_passes())
         pause_here(NULL, NULL, alternatives);
     if (E->replaying)

@@ -42,7 +42,7 @@ void ccan_on_cpu(int cpu);
 void ccan_irq_off(void);
 void ccan_irq_on(void);
 
-/* One of 0 to count - 1. Each of them is gone through, wherever it is called. 0 where count is 0 or 1. */
+/* One of 0 to count - 1. Each of them is gone through, wherever it is called. 0 where count is 0 or 1. At most 256. */
 unsigned ccan_choose(unsigned count);
 
 /* The end of a turn of a loop that waits for something. sched_yield, usleep, sleep, nanosleep and thrd_yield are the same. A turn
