@@ -249,6 +249,7 @@ void count_runs_as_schedules(void);
 void forget_outcomes(void);
 uint64_t failures_found(void);
 int outcomes_found(void);
+bool outcomes_dropped(void); /* whether there were more than can be listed */
 void print_result(void);
 void print_outcomes(FILE *to);
 void print_replay(FILE *to, bool stands_still);

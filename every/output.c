@@ -244,7 +244,7 @@ static void print_uncounted(FILE *to)
 static const char *how_far(void)
 {
     uintptr_t *sites;
-    return !E->figures.whole ? "given up" : counting_sites(&sites) ? "whole but for counted turns" : "whole";
+    return !E->figures.whole ? "given up" : outcomes_dropped() ? "whole but for outcomes that are not listed" : counting_sites(&sites) ? "whole but for counted turns" : "whole";
 }
 
 void print_result(void)
@@ -263,6 +263,8 @@ void print_result(void)
     fputc('\n', to);
     print_races(to);
     print_counting(to);
+    if (outcomes_dropped())
+        fprintf(to, "warning: there are more outcomes than the %d that are listed and counted\n", outcomes_found());
     if (of->whole && !outcomes_found())
         fprintf(to, "warning: no schedule comes to its end\n");
     fprintf(to, "%s: %llu states, %s%s%d outcome%s, %llu failure%s, %d shared word%s, longest schedule %llu steps, %.1f s\n",
