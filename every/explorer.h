@@ -120,7 +120,7 @@ typedef struct explorer {
     char *stacks, *arena, *text;
     FILE *real_out;
     footprint reach[MOST_THREADS]; /* what each thread has touched or waited for in any run so far */
-    uint32_t stepped;           /* the threads that have made a step in any run so far */
+    bool learning, met_last;    /* the ends of runs are places; whether one was */
     int arguments;
     char **argument_list;
 } explorer;

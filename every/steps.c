@@ -120,15 +120,16 @@ void step_when(const footprint *most, condition *may, const void *about)
     pause_here(may, about, 1);
 }
 
-/* Before a run ends: where a thread has made no step in any run so far, nothing is known of what it touches, and the others go on
- * here. Else this is no place, since what they do now comes too late. */
+/* Before a run ends. Nothing may be known yet of what the other threads touch, as they have made no step; so in a first search they
+ * go on here. When all is known this is no place, since what they do now comes too late. */
 void last_place(void)
 {
     bool is_place = false;
     for (int other = 0; other < R.count; other++)
-        is_place |= other != R.me && !R.threads[other].is_done && !(E->stepped >> other & 1);
+        is_place |= E->learning && other != R.me && !R.threads[other].is_done;
     if (R.alone)
         return;
+    E->met_last |= is_place;
     ME->fine++;
     if (E->replaying ? !replay_passes() : is_place)
         pause_here(NULL, NULL, 1);

@@ -1,5 +1,6 @@
 /* A program made of a number, SEED in the environment, of every kind of step: tools/check_every runs it under different searches
- * and compares what they find. SIZE is the most operations of a thread. With COUNTS=0 the loops that count their turns don't. */
+ * and compares what they find. SIZE is the most operations of a thread. With COUNTS=0 the loops that count their turns don't. With
+ * EARLY main waits for no thread. */
 #include <ccan_every.h>
 #include <pthread.h>
 #include <sched.h>
@@ -227,6 +228,16 @@ static void set_up(unsigned size)
     }
 }
 
+/* The end of main while the threads go on: it looks at what they have come to, and waits for nothing. */
+static int end_early(void)
+{
+    uint64_t found[3];
+    for (uint32_t flag = 0; flag < 3; flag++)
+        must(ccan_flags(&chip.if1, flag, &found[flag]));
+    printf("%x %x %x %d\n", (unsigned)found[0], (unsigned)found[1], (unsigned)found[2], atomic_load(&cells[0]));
+    return 0;
+}
+
 int main(void)
 {
     static ccan_final last;
@@ -240,6 +251,8 @@ int main(void)
         ccan_irq("interrupt", kinds & 4 ? 1 : 0, on_interrupt);
     for (long me = 0; me < THREADS; me++)
         pthread_create(&threads[me], NULL, thread_of, (void *)me);
+    if (getenv("EARLY"))
+        return end_early();
     for (int me = 0; me < THREADS; me++)
         pthread_join(threads[me], NULL);
     if (kinds & 1)
