@@ -622,7 +622,9 @@ CCAN_CODE ccan_bus_flags(ccan_bus *bus, uint32_t flag, uint64_t *out);
  *
  * What is decided follows CAN Specification 2.0 (arbitration, acknowledgement, error signalling and fault confinement); the table
  * with each case stands in docs/EMBEDDING.md. The events of a chip stand in that chip's history, as those of a round do. Of several
- * chips no common history is promised: what joins them is that each one's events are its part of the same wires. */
+ * chips no common history is promised: what joins them is that each one's events are its part of the same wires. So what one chip
+ * has sent, another member has received, and two that have sent have sent the same frame: if C passes on what it was given, and
+ * each chip is still as its ccan_stay found it. */
 
 /* What a member does on the bus (User's Manual, "CAN Control Register", "Test Mode"). */
 enum ccan_role {
