@@ -1,4 +1,4 @@
-/* A history as a picture, as `ccan-lab draw` draws a run (docs/FORMATS.md): a lane for each thread, a row for each step, and bars
+/* A history as a picture, as `ccan-lab draw` draws a run (docs/OUTPUT.md): a lane for each thread, a row for each step, and bars
  * that show how long the flags of an object are set. */
 #include "picture.h"
 #include <fcntl.h>

@@ -1,4 +1,4 @@
-/* Registers and records in words, as `ccan-lab explain` has them (docs/FORMATS.md; C_CAN User's Manual 1.2, the sections of the
+/* Registers and records in words, as `ccan-lab explain` has them (docs/OUTPUT.md; C_CAN User's Manual 1.2, the sections of the
  * registers). Each function has a text of its own, which stays until it is called again. */
 #include "chip.h"
 

@@ -131,7 +131,7 @@ class Chip:
     # ---- saving, restoring and resetting
 
     def save(self) -> bytes:
-        """The chip as 1672 bytes, by the format "A saved chip" of docs/FORMATS.md. Nothing is changed."""
+        """The chip as 1672 bytes, by the format in docs/REGISTERS.md, "A saved chip". Nothing is changed."""
         out = header.ccan_saved()
         self._whole("ccan_save", ctypes.byref(out))
         return bytes(out.bytes)

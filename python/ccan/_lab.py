@@ -1,6 +1,6 @@
 """Questions about scripts, which the program ``ccan-lab`` answers.
 
-Its manual page and docs/FORMATS.md say what each answer is.
+Its manual page, docs/FORMATS.md and docs/OUTPUT.md say what each answer is.
 """
 from __future__ import annotations
 

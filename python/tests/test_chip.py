@@ -1,6 +1,6 @@
 """A chip from its opening to its end.
 
-Values are those of docs/FORMATS.md ("Registers by offset", "A saved chip") and of examples/.
+Values are those of docs/REGISTERS.md ("Registers by offset", "A saved chip") and of examples/.
 """
 from __future__ import annotations
 

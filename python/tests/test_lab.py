@@ -1,4 +1,4 @@
-"""The questions that ``ccan-lab`` answers. Answers are those of examples/ and of docs/FORMATS.md."""
+"""The questions that ``ccan-lab`` answers. Answers are those of examples/, docs/FORMATS.md and docs/OUTPUT.md."""
 from __future__ import annotations
 
 import json

@@ -31,12 +31,12 @@ def shown_flags(chip: ccan.Chip, word: int) -> str:
 
 
 def object_of(chip: ccan.Chip, request: int) -> int:
-    """The object of a request, by the table "Command Request" of docs/FORMATS.md."""
+    """The object of a request, by the table of docs/REGISTERS.md, "Command Request"."""
     return ((request & 63) - 1) % chip.objects + 1
 
 
 class Player:
-    """Plays lines of a script on a chip, and writes what each answers as docs/FORMATS.md has it."""
+    """Plays lines of a script on a chip, and writes what each answers as docs/OUTPUT.md has it."""
 
     def __init__(self, chip: ccan.Chip) -> None:
         self.chip = chip

@@ -380,6 +380,6 @@ int main(void)
         }
     }
     EXPECT(ccan_open_reset(&chip, 1, 2, 100, layout) == CCAN_LAYOUT_RANGE && !ccan_is_open(&chip));
-    printf("%d registers in three layouts: offsets are those of the manuals, reset values, bits and reads those of docs/FORMATS.md\n", ROWS);
+    printf("%d registers in three layouts: offsets are those of the manuals, reset values, bits and reads those of docs/REGISTERS.md\n", ROWS);
     return 0;
 }
