@@ -7,7 +7,7 @@ ONLY ?=
 BASE ?=
 export SCRIPT PREFIX EARLIER CRATE ONLY BASE
 
-.PHONY: help check gate quick docs hook run try examples prove wrong test install dist dist-test bench sweep hostile soak c-test c-wrong every-test python-test page-test schema clean
+.PHONY: help check gate quick docs hook run try examples prove wrong test install dist dist-test bench sweep hostile soak c-test c-wrong every-test python-test schema clean
 
 help:
 	@tools/targets
@@ -97,11 +97,6 @@ every-test:
 
 python-test:
 	@tools/check_python
-
-page-test:
-	@tools/build ccan_lab
-	tools/check_page crates/ccan_lab/out/ccan_lab
-	tools/check_page_in_browser crates/ccan_lab/out/ccan_lab
 
 schema:
 	tools/check_documents

@@ -17,7 +17,6 @@ mod first_fault;
 mod json_text;
 mod line_path;
 mod line_remark;
-pub mod line_texts;
 mod member;
 mod member_checks;
 mod member_remark;
@@ -34,7 +33,6 @@ mod told_line;
 mod walk;
 mod warning;
 
-pub use line_texts::{LineSpan, has_member, line_spans};
 pub use place::Place;
 pub use print::{print_report, remark_line};
 pub use report::{Fault, Remark, Report};
