@@ -1,88 +1,27 @@
 /* libccan 0.5: a Bosch C_CAN controller (User's Manual 1.2) as a proved library for C11 and C++11.
  *
- * A chip is the message RAM and the controller's registers, with three ports: the hosts behind the interface registers IF1 and
- * IF2, and the bus. A ccan_chip has a handle for each, and each handle may be used by a thread of its own, without a lock.
- * Every handle reads and writes the registers of the chip by their offsets, as a driver does, while the bus plays rounds.
- * docs/EMBEDDING.md shows how, from ccan_open to a running example and to a device of an emulator.
+ * A chip has three handles: two for the hosts at IF1 and IF2, and one for the bus. Each may be used by a thread of its own,
+ * without a lock. docs/EMBEDDING.md has a first program, what each call counts in the one history of the chip, and how calls
+ * differ from the lines of a script. docs/PROVED.md has what is proved. No proof reads this header; tests hold it to the library.
  *
- * What is proved of each call of the library. No proof reads this header; that it has the library's numbers, structs and
- * functions is tested.
- *  - It is safe for every number that it is given, and it ends by returning, whatever the other threads do. It isn't wait-free:
- *    a look begins anew where another port changed what it looks at, and that it ends rests on the 2^47 - 1 changes that a port
- *    may make.
- *  - There is one history of the chip from its opening to ccan_end, of its objects and of its controller, in which the steps of
- *    each port stand in the order of the calls on its handle. What a call answers is what a memory of one thread answers at its
- *    place there. How many places that is, besides those of its tries that were lost, each of which has looks at places of its
- *    own:
- *      one     at the objects: ccan_request where it is done, and a write of Command Request; ccan_flags, ccan_interrupt,
- *              ccan_peek, ccan_bus_flags, and a read of a register of a flag. At the controller: ccan_status, ccan_control,
- *              ccan_init, ccan_recessive and ccan_counters of node 0 where they are done; a read or a write of
- *              Control, Status, Bit Timing, Test and BRP Extension, and a read of Error Counter; ccan_loop_back, to switch it
- *              off; ccan_stay, and ccan_retry_event where it is done.
- *      two     ccan_bus_interrupt, ccan_line, ccan_bus_line and a read of Interrupt: a look at the controller, and then, where
- *              no status interrupt is shown, all objects in one moment. ccan_loop_back, to switch it on.
- *      more    ccan_until: its looks. ccan_load: a look at the controller, then the choice of what is sent, and its start; where
- *              the look finds that the controller comes back (Init was 1 and is 0 again), a change by which the bus joins it, and
- *              another look, come before the choice. ccan_round: what ccan_load does, then the finish, the store or both, and last
- *              the round's event at the controller. ccan_begin: what ccan_load does. ccan_finish: a look at the controller, the
- *              finish, the store or both, and last the event at the controller. ccan_save: a look at the controller and one at
- *              each object. ccan_reset: a change of the controller and one of each object.
- *      none    ccan_set, ccan_get, ccan_meet, ccan_tell, ccan_heed and the two of the bus, ccan_counters of another node; reads
- *              and writes of the other registers of an interface, and writes of registers that can only be read; and the calls
- *              that have no handle, as ccan_decide and those of a node.
- *      A word of 32 bits: one, where a read is of two registers of a flag; else those of its two halves, in the order in which
- *      they are read or written.
- *    Between two of a call's places steps of other ports may stand. What ccan_load, ccan_round and ccan_begin choose to send is
- *    chosen at one place, as on the part: the first object that is ready there, or, where its start finds it ready no more, the
- *    next one that was. ccan_end gives the records that the whole history leaves. All this holds however the chip was opened:
- *    ccan_restore begins as ccan_open_reset does, and the steps by which it puts the chip back are the bus's.
- *  - ccan_round takes part as the controller is at its look, and its event is made of the controller as it is then; the error
- *    counters are still those of the look. It also reports what came of its steps: whether it loaded an object itself, whose
- *    frame was on the bus and which one, and which step was refused.
- *  - It answers the numbers below, in exactly the cases that are said at each call. That is only tested of CCAN_NO_MEMORY and
- *    CCAN_SHARED, and of which number ccan_restore answers for the bytes of a saved chip that it doesn't open. If a call is
- *    refused, that is for each number but CCAN_DONE, CCAN_BUSY, CCAN_SPENT and CCAN_SHARED, handle and output stay as they were.
- * Read off the sources: that a call takes no lock, except those of malloc, realloc and free in ccan_open, ccan_open_reset,
- * ccan_restore, ccan_end and the calls that are given a note; and that a round's event, and the change by which the bus joins,
- * are tried 1000 times, however few tries the chip was opened with. Only tested: that no call but the three that open,
- * ccan_tell and ccan_bus_tell takes memory, that a call needs at most 16 KiB of stack, that CCAN_SHARED never comes where C
- * keeps its promises, and that this header has the numbers, sizes and offsets of the library.
- * Not proved, and not claimed: how long a call takes, and that a thread is ever run. A look at objects begins anew where another
- * port changed what it looks at meanwhile: one object for ccan_request, ccan_until, ccan_peek and a write of Command Request, any
- * object for flags, interrupt values and the interrupt line.
- *
- * What differs from a line of that name in a script of the program `ccan`: all calls on objects, ccan_load and ccan_round mean
- * what these lines mean, but for these.
- *  - A status interrupt is raised whatever SIE and EIE are, and these mask it only where it is shown: one that was raised while
- *    its enable was 0 is shown once the enable is 1, unless Status was read in between.
- *  - Going bus off sets Init. ccan_init, or a write of Control with Init 0, then starts the way back, as a script's line init does.
- *  - Init that is set by a write of Control keeps the controller out of rounds. The next load or round drops what was loaded, also
- *    if Init is 0 again by then, and its object stays requested.
- *  - Flags and interrupt values are of one moment, and what is sent is chosen at one, as on the part; a script's lines go on
- *    object after object.
- *
- * What C promises. The proofs assume it, and no call of the proved library can check it. The checked one, libccan_checked.a,
- * has the same calls; it reports a broken promise that it sees, and aborts:
- *  1. A ccan_chip begins as CCAN_CHIP_CLOSED, or by ccan_chip_init. C neither reads nor writes the insides of a chip or a
- *     handle, and neither copies nor moves them. Only handles of such a chip are passed to a call.
+ * C promises the following, which no call of the proved library checks. libccan_checked.a reports what it sees, and aborts.
+ *  1. A ccan_chip begins as CCAN_CHIP_CLOSED, or by ccan_chip_init. C neither reads nor writes the insides of a chip or a handle,
+ *     nor copies or moves them. Only handles of such a chip are passed to a call.
  *  2. A handle is in one call at a time. Different handles of one chip may be in calls at the same time.
  *  3. ccan_open, ccan_open_reset, ccan_restore, ccan_reset, ccan_save, ccan_end, ccan_meet and ccan_is_open take the whole chip:
  *     while one of them runs, no other of them does on that chip, and no call on one of its handles.
- *  4. Where calls on one handle, or on the whole chip, are made by different threads, C orders them: by the start or the join
- *     of a thread, a mutex, a condition variable or a barrier, or an atomic that is stored and then loaded as seq_cst. So
- *     the opening comes before the first call of a thread that is started after it. The same orders the calls on one note. A call
- *     orders no memory of C's own: what one thread wrote, another reads only after one of these too.
- *  5. Each pointer leads to a valid object of its type, none is null, and no two arguments of a call overlap. While a call
- *     runs, nobody else touches what its arguments lead to. A call writes to an output that may have held anything.
- *  6. malloc, realloc and free are of one allocator, whose blocks are aligned to 16. No call is made from a signal handler,
- *     nor in the child of a fork of a process with several threads.
- *  7. A chip that is let go without ccan_end loses its memory, and so does a note that is neither heeded nor forgotten.
- *  8. A ccan_note begins as CCAN_NOTE_EMPTY. C neither reads nor writes its insides, and neither copies nor moves it. Only a
- *     handle of the chip that told it heeds it, and only until that chip is ended or restored.
+ *  4. C orders calls of different threads on one handle, chip or note: by the start or the join of a thread, a mutex, a condition
+ *     variable, a barrier, or an atomic stored and then loaded as seq_cst. Memory of C's own is ordered by these too, and by no call.
+ *  5. Each pointer leads to a valid object of its type, none is null, and no two arguments of a call overlap. While a call runs,
+ *     nobody else touches what its arguments lead to. An output may have held anything.
+ *  6. malloc, realloc and free are of one allocator, whose blocks are aligned to 16. No call is made from a signal handler, nor in
+ *     the child of a fork of a process with several threads.
+ *  7. A chip that is discarded without ccan_end leaks its memory, and so does a note that is neither heeded nor forgotten.
+ *  8. A ccan_note begins as CCAN_NOTE_EMPTY. C neither reads, writes, copies nor moves its insides. Only a handle of the chip that
+ *     told it heeds it, and only until that chip is ended or restored.
  * A call on a closed handle is safe, and so is a second ccan_end: both answer CCAN_CLOSED.
  *
- * The library is built for Linux on x86-64, for processors of x86-64-v2 or later. The asserts below hold the compiler of C to
- * the layout that the library has there. */
+ * The library is built for Linux on x86-64, x86-64-v2 or later. The asserts below hold the compiler of C to its layout. */
 #ifndef CCAN_H
 #define CCAN_H
 #include <stdbool.h>
