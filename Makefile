@@ -5,9 +5,10 @@ EARLIER ?=
 CRATE ?=
 ONLY ?=
 BASE ?=
-export SCRIPT PREFIX EARLIER CRATE ONLY BASE
+FOLDER ?=
+export SCRIPT PREFIX EARLIER CRATE ONLY BASE FOLDER
 
-.PHONY: help check gate quick docs hook run try examples prove wrong test install dist dist-test bench sweep hostile soak c-test c-wrong every-test python-test schema clean
+.PHONY: help check gate quick docs hook run try examples prove wrong test install dist dist-test bench sweep hostile soak c-test c-wrong every-test python-test qemu schema clean
 
 help:
 	@tools/targets
@@ -97,6 +98,9 @@ every-test:
 
 python-test:
 	@tools/check_python
+
+qemu:
+	tools/check_qemu $${FOLDER:+"$$FOLDER"}
 
 schema:
 	tools/check_documents
