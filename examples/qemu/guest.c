@@ -2,7 +2,8 @@
  * The first process of a guest that has two C_CANs on one bus, as Linux's
  * driver c_can_pci runs them: loads the modules, starts can0 and can1 at
  * 500 kbit/s, sends numbered frames both ways at once, and sees that each
- * comes once and in order. Then it switches the machine off.
+ * comes once and in order. Then it switches the machine off. How many frames
+ * each sends is the word frames=N of the kernel's command line.
  *
  * At most eight frames wait at each: with 16 the driver takes a seventeenth
  * too many. See docs/EMBEDDING.md, "The Linux driver on it".
@@ -28,7 +29,9 @@
 #include <time.h>
 #include <unistd.h>
 
-enum { BITRATE = 500000, WAITING = 8, FRAMES = 2000, SECONDS = 120 };
+enum { BITRATE = 500000, WAITING = 8, SECONDS = 120 };
+
+static uint32_t frames = 2000; /* that each interface sends */
 
 /* What one interface has sent and received. */
 struct end {
@@ -192,7 +195,7 @@ static bool is_numbered(const struct can_frame *frame, canid_t id,
 
 static void hand_over(struct end *end)
 {
-    while (end->handed < FRAMES && end->handed - end->sent < WAITING) {
+    while (end->handed < frames && end->handed - end->sent < WAITING) {
         struct can_frame frame = numbered(end->id, end->handed);
 
         must(write(end->socket, &frame, sizeof(frame)) == sizeof(frame),
@@ -219,7 +222,7 @@ static void take(struct end *end)
 
 static bool is_done(const struct end *end)
 {
-    return end->sent == FRAMES && end->received == FRAMES;
+    return end->sent == frames && end->received == frames;
 }
 
 static void exchange(void)
@@ -274,9 +277,12 @@ int main(void)
         start_interface(ends[k].name);
         open_socket(&ends[k]);
     }
+    if (getenv("frames"))
+        frames = (uint32_t)strtoul(getenv("frames"), NULL, 10);
+    printf("guest: begins\n");
     began = seconds();
     exchange();
-    printf("guest: %d frames each way in %.3f s\n", FRAMES, seconds() - began);
+    printf("guest: %u frames each way in %.3f s\n", frames, seconds() - began);
     print_line_of("/proc/interrupts");
     print_line_of("/proc/net/dev");
     printf("guest: done\n");

@@ -56,14 +56,17 @@ static Card find_card(QPCIBus *bus, int slot, int bar)
     return card;
 }
 
+static QTestState *start_qemu(const char *more)
+{
+    return qtest_initf("-machine pc -nodefaults -object can-bus,id=bus0"
+                       " -device ccan-pci,id=can0,canbus=bus0,addr=4"
+                       " -device ccan-pci,id=can1,canbus=bus0,addr=5 %s", more);
+}
+
 static Bench start(const char *more)
 {
-    Bench b;
+    Bench b = { .qts = start_qemu(more) };
 
-    b.qts = qtest_initf("-machine pc -nodefaults -object can-bus,id=bus0"
-                        " -device ccan-pci,id=can0,canbus=bus0,addr=4"
-                        " -device ccan-pci,id=can1,canbus=bus0,addr=5 %s",
-                        more);
     b.bus = qpci_new_pc(b.qts, NULL);
     b.cards[0] = find_card(b.bus, 4, 1);
     b.cards[1] = find_card(b.bus, 5, 1);
@@ -224,6 +227,44 @@ static void test_frame(void)
     stop(&b);
 }
 
+/* A status interrupt goes with a read of Status. */
+static void test_status_interrupt(void)
+{
+    Bench b = start("");
+    Card *card = &b.cards[1];
+
+    open_both(&b);
+    set(card, CCAN_OFFSET_CONTROL, IE | SIE);
+    set_object(card, RECEIVES, 0x8000, 0x1080, 0); /* without RxIE */
+    request(&b.cards[0], 0x100, 0xbb);
+    qtest_clock_step(b.qts, FRAME);
+    g_assert_true(pulled(card));
+    g_assert_cmphex(get(card, CCAN_OFFSET_INTERRUPT), ==, STATUS_INTERRUPT);
+    g_assert_cmphex(get(card, CCAN_OFFSET_STATUS), ==, RXOK);
+    g_assert_false(pulled(card));
+    g_assert_cmphex(get(card, CCAN_OFFSET_INTERRUPT), ==, 0);
+    stop(&b);
+}
+
+/* 20 quanta of 64 + 1 periods of 50 MHz: BRP 0, BRPE 1; a bit is 26 us. */
+static void test_bit_time(void)
+{
+    Bench b = start("");
+    int64_t frame = 55 * 26000;
+
+    for (int k = 0; k < 2; k++) {
+        set(&b.cards[k], CCAN_OFFSET_CONTROL, INIT | CCE);
+        set(&b.cards[k], CCAN_OFFSET_BRP_EXTENSION, 1);
+        open_card(&b.cards[k], TIMING_50MHZ & ~0x3f, IE);
+    }
+    request(&b.cards[0], 0x100, 0xbb);
+    qtest_clock_step(b.qts, frame - 1);
+    assert_nothing_came(&b.cards[1]);
+    qtest_clock_step(b.qts, 1);
+    assert_taken(&b.cards[1], 0x100, 0xbb);
+    stop(&b);
+}
+
 /*
  * The second card requests a lower identifier while the first one's frame is
  * under way, and waits for its end; then both want, and the lower one wins.
@@ -330,6 +371,49 @@ static void test_soft_reset(void)
     stop(&b);
 }
 
+/* A card that is unplugged in the middle of its frame. */
+static void test_unplug(void)
+{
+    Bench b = start("");
+    Card *left = &b.cards[1];
+
+    open_both(&b);
+    request(&b.cards[0], 0x100, 0xbb);
+    qtest_clock_step(b.qts, 20 * BIT);
+    qpci_unplug_acpi_device_test(b.qts, "can0", 4);
+    qtest_clock_step(b.qts, 2 * FRAME);
+    assert_nothing_came(left);
+    g_assert_cmphex(get(left, CCAN_OFFSET_ERROR_COUNTER), ==, 1 << 8);
+    request(left, 0x200, 0xaa);
+    qtest_clock_step(b.qts, FRAME + 7 * BIT);
+    g_assert_cmphex(get(left, CCAN_OFFSET_STATUS), ==, 3);
+    stop(&b);
+}
+
+/* A frame stays on its can-bus. */
+static void test_two_buses(void)
+{
+    Bench b = start("-object can-bus,id=bus1"
+                    " -device ccan-pci,canbus=bus1,addr=6"
+                    " -device ccan-pci,canbus=bus1,addr=7");
+    Card other[2] = { find_card(b.bus, 6, 1), find_card(b.bus, 7, 1) };
+
+    open_both(&b);
+    open_card(&other[0], TIMING_50MHZ, IE);
+    open_card(&other[1], TIMING_50MHZ, IE);
+    request(&b.cards[0], 0x100, 0xbb);
+    request(&other[0], 0x200, 0xaa);
+    qtest_clock_step(b.qts, FRAME);
+    assert_taken(&b.cards[1], 0x100, 0xbb);
+    assert_taken(&other[1], 0x200, 0xaa);
+    qtest_clock_step(b.qts, 2 * FRAME);
+    assert_nothing_came(&b.cards[1]);
+    assert_nothing_came(&other[1]);
+    g_free(other[0].dev);
+    g_free(other[1].dev);
+    stop(&b);
+}
+
 static void test_system_reset(void)
 {
     Bench b = start("");
@@ -349,11 +433,9 @@ static void test_system_reset(void)
     stop(&b);
 }
 
-/* A message for each rise of the line; here it goes into memory. */
-static void test_msi(void)
+/* Messages go into memory. */
+static void enable_msi(Card *card)
 {
-    Bench b = start("");
-    Card *card = &b.cards[1];
     uint8_t at = qpci_find_capability(card->dev, PCI_CAP_ID_MSI, 0);
     uint16_t flags = qpci_config_readw(card->dev, at + PCI_MSI_FLAGS);
 
@@ -364,6 +446,15 @@ static void test_msi(void)
     qpci_config_writew(card->dev, at + PCI_MSI_DATA_64, MSI_DATA);
     qpci_config_writew(card->dev, at + PCI_MSI_FLAGS,
                        flags | PCI_MSI_FLAGS_ENABLE);
+}
+
+/* A message for each rise of the line. */
+static void test_msi(void)
+{
+    Bench b = start("");
+    Card *card = &b.cards[1];
+
+    enable_msi(card);
     open_both(&b);
     for (int k = 0; k < 2; k++) {
         qtest_writel(b.qts, MSI_ADDRESS, 0);
@@ -373,6 +464,9 @@ static void test_msi(void)
         qtest_clock_step(b.qts, 1);
         g_assert_cmphex(qtest_readl(b.qts, MSI_ADDRESS), ==, MSI_DATA);
         g_assert_false(pulled(card));
+        qtest_writel(b.qts, MSI_ADDRESS, 0);
+        set(card, CCAN_OFFSET_CONTROL, IE); /* and it still is up */
+        g_assert_cmphex(qtest_readl(b.qts, MSI_ADDRESS), ==, 0);
         assert_taken(card, 0x100, 0xbb);
         qtest_clock_step(b.qts, INTERMISSION);
     }
@@ -497,6 +591,8 @@ static void test_other_device_sends(void)
     qtest_clock_step(b.qts, INTERMISSION + FRAME);
     assert_taken(&b.cards[0], 0x200, 0xaa);
     assert_taken(&b.cards[1], 0x200, 0xaa);
+    qtest_clock_step(b.qts, 2 * FRAME);
+    assert_nothing_came(&b.cards[0]);
     g_free(sja.dev);
     stop(&b);
 }
@@ -519,17 +615,13 @@ static void wait_for_migration(QTestState *qts)
     }
 }
 
-static Bench migrate(Bench *from, int64_t now)
+/* To a QEMU with the same devices, `more` of them; its clock then is `now`. */
+static Bench migrate(Bench *from, const char *more, int64_t now)
 {
     g_autofree char *uri = g_strdup_printf("unix:/tmp/ccan-pci-test-%d",
                                            getpid());
-    g_autofree char *more = g_strdup_printf("-incoming %s", uri);
-    Bench to = {
-        .qts = qtest_initf("-machine pc -nodefaults -object can-bus,id=bus0"
-                           " -device ccan-pci,id=can0,canbus=bus0,addr=4"
-                           " -device ccan-pci,id=can1,canbus=bus0,addr=5 %s",
-                           more),
-    };
+    g_autofree char *words = g_strdup_printf("%s -incoming %s", more, uri);
+    Bench to = { .qts = start_qemu(words) };
 
     qtest_qmp_assert_success(from->qts, "{ 'execute': 'migrate',"
                              " 'arguments': { 'uri': %s } }", uri);
@@ -557,7 +649,7 @@ static void test_migration(void)
     request(&from.cards[0], 0x200, 0xaa);
     request(&from.cards[1], 0x300, 0xcc);
     qtest_clock_step(from.qts, 20 * BIT);
-    to = migrate(&from, 20 * BIT);
+    to = migrate(&from, "", 20 * BIT);
     stop(&from);
     g_assert_cmphex(get(&to.cards[0], CCAN_OFFSET_BIT_TIMING), ==, TIMING_50MHZ);
     assert_nothing_came(&to.cards[1]);
@@ -582,7 +674,7 @@ static void test_migration_idle(void)
     open_both(&from);
     request(&from.cards[0], 0x100, 0xbb);
     qtest_clock_step(from.qts, FRAME);
-    to = migrate(&from, FRAME);
+    to = migrate(&from, "", FRAME);
     stop(&from);
     g_assert_true(pulled(&to.cards[1]));
     assert_taken(&to.cards[1], 0x100, 0xbb);
@@ -593,16 +685,65 @@ static void test_migration_idle(void)
     stop(&to);
 }
 
+/* With the line up and MSI: no second message of the same rise. */
+static void test_migration_msi(void)
+{
+    Bench from = start("");
+    Bench to;
+
+    enable_msi(&from.cards[1]);
+    open_both(&from);
+    request(&from.cards[0], 0x100, 0xbb);
+    qtest_clock_step(from.qts, FRAME);
+    g_assert_cmphex(qtest_readl(from.qts, MSI_ADDRESS), ==, MSI_DATA);
+    qtest_writel(from.qts, MSI_ADDRESS, 0);
+    to = migrate(&from, "", FRAME);
+    stop(&from);
+    set(&to.cards[1], CCAN_OFFSET_CONTROL, IE);
+    g_assert_cmphex(qtest_readl(to.qts, MSI_ADDRESS), ==, 0);
+    assert_taken(&to.cards[1], 0x100, 0xbb);
+    request(&to.cards[0], 0x100, 0xbb);
+    qtest_clock_step(to.qts, INTERMISSION + FRAME);
+    g_assert_cmphex(qtest_readl(to.qts, MSI_ADDRESS), ==, MSI_DATA);
+    stop(&to);
+}
+
+/* What another device has sent, and waits for the bus. */
+static void test_migration_other_device(void)
+{
+    const char *more = "-device kvaser_pci,canbus=bus0,addr=6";
+    Bench from = start(more);
+    Card sja = sja_open(&from);
+    Bench to;
+
+    open_both(&from);
+    sja_send(&sja, 0x200, 0xaa);
+    sja_send(&sja, 0x100, 0xbb);
+    qtest_clock_step(from.qts, 20 * BIT);
+    to = migrate(&from, more, 20 * BIT);
+    g_free(sja.dev);
+    stop(&from);
+    qtest_clock_step(to.qts, FRAME);
+    assert_taken(&to.cards[1], 0x200, 0xaa);
+    qtest_clock_step(to.qts, INTERMISSION + FRAME);
+    assert_taken(&to.cards[1], 0x100, 0xbb);
+    stop(&to);
+}
+
 int main(int argc, char **argv)
 {
     g_test_init(&argc, &argv, NULL);
     qtest_add_func("/ccan-pci/reset-values", test_reset_values);
     qtest_add_func("/ccan-pci/accesses", test_accesses);
     qtest_add_func("/ccan-pci/frame", test_frame);
+    qtest_add_func("/ccan-pci/status-interrupt", test_status_interrupt);
+    qtest_add_func("/ccan-pci/bit-time", test_bit_time);
     qtest_add_func("/ccan-pci/arbitration", test_arbitration);
     qtest_add_func("/ccan-pci/no-acknowledge", test_no_acknowledge);
     qtest_add_func("/ccan-pci/bus-off", test_bus_off);
     qtest_add_func("/ccan-pci/soft-reset", test_soft_reset);
+    qtest_add_func("/ccan-pci/unplug", test_unplug);
+    qtest_add_func("/ccan-pci/two-buses", test_two_buses);
     qtest_add_func("/ccan-pci/system-reset", test_system_reset);
     qtest_add_func("/ccan-pci/msi", test_msi);
     qtest_add_func("/ccan-pci/sta2x11", test_sta2x11);
@@ -612,5 +753,8 @@ int main(int argc, char **argv)
     qtest_add_func("/ccan-pci/other-device/sends", test_other_device_sends);
     qtest_add_func("/ccan-pci/migration/frame", test_migration);
     qtest_add_func("/ccan-pci/migration/idle", test_migration_idle);
+    qtest_add_func("/ccan-pci/migration/msi", test_migration_msi);
+    qtest_add_func("/ccan-pci/migration/other-device",
+                   test_migration_other_device);
     return g_test_run();
 }
