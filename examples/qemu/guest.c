@@ -2,8 +2,11 @@
  * The first process of a guest that has two C_CANs on one bus, as Linux's
  * driver c_can_pci runs them: loads the modules, starts can0 and can1 at
  * 500 kbit/s, sends numbered frames both ways at once, and sees that each
- * comes once and in order. Then it switches the machine off. How many frames
- * each sends is the word frames=N of the kernel's command line.
+ * comes once. Then it switches the machine off. How many frames each sends is
+ * the word frames=N of the kernel's command line.
+ *
+ * A frame may be overtaken by later ones: the driver says of itself that a
+ * slow readout may order frames anew. How many were is counted.
  *
  * At most eight frames wait at each: with 16 the driver takes a seventeenth
  * too many. See docs/EMBEDDING.md, "The Linux driver on it".
@@ -29,7 +32,7 @@
 #include <time.h>
 #include <unistd.h>
 
-enum { BITRATE = 500000, WAITING = 8, SECONDS = 120 };
+enum { BITRATE = 500000, WAITING = 8, SECONDS = 20, MOST = 1000000 };
 
 static uint32_t frames = 2000; /* that each interface sends */
 
@@ -42,6 +45,9 @@ struct end {
     uint32_t handed;    /* to the driver */
     uint32_t sent;      /* as the driver says */
     uint32_t received;
+    uint32_t overtaken; /* that came behind a later one */
+    uint32_t next;      /* the number behind the highest that came */
+    bool came[MOST];
 };
 
 static struct end ends[] = {
@@ -184,13 +190,19 @@ static struct can_frame numbered(canid_t id, uint32_t number)
     return frame;
 }
 
-static bool is_numbered(const struct can_frame *frame, canid_t id,
-                        uint32_t number)
+/* The number of a frame with this identifier. Fails if it is none. */
+static uint32_t number_of(const struct can_frame *frame, canid_t id)
 {
-    struct can_frame wanted = numbered(id, number);
+    struct can_frame wanted;
+    uint32_t number;
 
-    return frame->can_id == wanted.can_id && frame->can_dlc == wanted.can_dlc
-           && memcmp(frame->data, wanted.data, sizeof(wanted.data)) == 0;
+    memcpy(&number, frame->data, sizeof(number));
+    wanted = numbered(id, number);
+    errno = 0;
+    must(frame->can_id == wanted.can_id && frame->can_dlc == wanted.can_dlc
+         && memcmp(frame->data, wanted.data, sizeof(wanted.data)) == 0
+         && number < frames, "a frame that nobody sent");
+    return number;
 }
 
 static void hand_over(struct end *end)
@@ -204,25 +216,67 @@ static void hand_over(struct end *end)
     }
 }
 
+static void receive(struct end *end, uint32_t number)
+{
+    must(!end->came[number], "a frame that came twice");
+    end->came[number] = true;
+    end->received++;
+    if (number < end->next)
+        end->overtaken++;
+    else
+        end->next = number + 1;
+}
+
 static void take(struct end *end)
 {
     struct can_frame frame;
 
     must(read(end->socket, &frame, sizeof(frame)) == sizeof(frame), "read");
-    errno = 0;
     if (frame.can_id == end->id) {
-        must(is_numbered(&frame, end->id, end->sent), "sent out of order");
+        must(number_of(&frame, end->id) == end->sent, "sent out of order");
         end->sent++;
     } else {
-        must(is_numbered(&frame, end->other, end->received),
-             "received out of order");
-        end->received++;
+        receive(end, number_of(&frame, end->other));
     }
 }
 
 static bool is_done(const struct end *end)
 {
     return end->sent == frames && end->received == frames;
+}
+
+/* The lines of a file that name an interface. */
+static void print_lines_of(const char *path)
+{
+    char line[512];
+    FILE *file = fopen(path, "r");
+
+    if (!file)
+        return;
+    while (fgets(line, sizeof(line), file)) {
+        if (strstr(line, "can"))
+            printf("guest: %s", line);
+    }
+    fclose(file);
+}
+
+static void print_end(const struct end *end)
+{
+    printf("guest: %s: %u handed over, %u sent, %u received\n", end->name,
+           end->handed, end->sent, end->received);
+}
+
+static void wait_for_frames(struct pollfd polled[2])
+{
+    int ready = poll(polled, 2, SECONDS * 1000);
+
+    if (ready == 0) {
+        print_end(&ends[0]);
+        print_end(&ends[1]);
+        print_lines_of("/proc/net/dev");
+        errno = ETIMEDOUT;
+    }
+    must(ready > 0, "waiting for a frame");
 }
 
 static void exchange(void)
@@ -235,7 +289,7 @@ static void exchange(void)
     while (!is_done(&ends[0]) || !is_done(&ends[1])) {
         hand_over(&ends[0]);
         hand_over(&ends[1]);
-        must(poll(polled, 2, SECONDS * 1000) > 0, "no frame came");
+        wait_for_frames(polled);
         for (int k = 0; k < 2; k++) {
             if (polled[k].revents & POLLIN)
                 take(&ends[k]);
@@ -249,20 +303,6 @@ static double seconds(void)
 
     clock_gettime(CLOCK_MONOTONIC, &now);
     return (double)now.tv_sec + (double)now.tv_nsec / 1e9;
-}
-
-static void print_line_of(const char *path)
-{
-    char line[512];
-    FILE *file = fopen(path, "r");
-
-    if (!file)
-        return;
-    while (fgets(line, sizeof(line), file)) {
-        if (strstr(line, "can"))
-            printf("guest: %s", line);
-    }
-    fclose(file);
 }
 
 int main(void)
@@ -279,12 +319,14 @@ int main(void)
     }
     if (getenv("frames"))
         frames = (uint32_t)strtoul(getenv("frames"), NULL, 10);
+    must(frames <= MOST, "too many frames");
     printf("guest: begins\n");
     began = seconds();
     exchange();
-    printf("guest: %u frames each way in %.3f s\n", frames, seconds() - began);
-    print_line_of("/proc/interrupts");
-    print_line_of("/proc/net/dev");
+    printf("guest: %u frames each way in %.3f s, %u overtaken\n", frames,
+           seconds() - began, ends[0].overtaken + ends[1].overtaken);
+    print_lines_of("/proc/interrupts");
+    print_lines_of("/proc/net/dev");
     printf("guest: done\n");
     switch_off();
     return 0;
