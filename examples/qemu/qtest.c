@@ -651,7 +651,8 @@ static void test_migration(void)
     qtest_clock_step(from.qts, 20 * BIT);
     to = migrate(&from, "", 20 * BIT);
     stop(&from);
-    g_assert_cmphex(get(&to.cards[0], CCAN_OFFSET_BIT_TIMING), ==, TIMING_50MHZ);
+    g_assert_cmphex(get(&to.cards[0], CCAN_OFFSET_BIT_TIMING), ==,
+                    TIMING_50MHZ);
     assert_nothing_came(&to.cards[1]);
     qtest_clock_step(to.qts, FRAME - 1);
     assert_nothing_came(&to.cards[1]);
