@@ -4,7 +4,7 @@ use Rattle.std.specs.Prelude.{is_some, if◌then◌else◌}
 use Rattle.ccan_wire.specs.declared.flaw.Flaw.{Flaw}
 use Rattle.ccan_wire.specs.declared.member.Member.{Member}
 use Rattle.ccan_wire.specs.declared.role.Role.{Role}
-use Rattle.ccan_wire.specs.declared.role.Role.TheVariants.{Absent, Silent, Alone, Passive, Active}
+use Rattle.ccan_wire.specs.declared.role.Role.TheVariants.{Absent, Silent, Alone, Passive, Active, Looped}
 use Rattle.ccan_wire.specs.declared.winner.Part.{Part}
 use Rattle.ccan_wire.specs.declared.winner.Part.TheVariants.{Sender, Dropped, Listener}
 use Rattle.ccan_wire.specs.declared.winner.Winner.{Winner}
@@ -120,6 +120,7 @@ event_same w v k x Silent e d = d
 event_same w v k x Alone e d = refl
 event_same w v k x Passive e d = e
 event_same w v k x Active e d = e
+event_same w v k x Looped e d = refl
 
 in_same : (w v : Wire) (x : Member) (p : Part) → sender_event w x.role x.flaw ≡ sender_event v x.role x.flaw
     → listener_event w x.flaw ≡ listener_event v x.flaw

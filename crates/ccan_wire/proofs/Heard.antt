@@ -9,7 +9,7 @@ use Rattle.ccan_confine.specs.declared.status_event.StatusEvent.TheVariants as s
 use Rattle.ccan_wire.specs.declared.flaw.Flaw.{Flaw}
 use Rattle.ccan_wire.specs.declared.member.Member.{Member}
 use Rattle.ccan_wire.specs.declared.role.Role.{Role}
-use Rattle.ccan_wire.specs.declared.role.Role.TheVariants.{Absent, Silent, Alone, Passive, Active}
+use Rattle.ccan_wire.specs.declared.role.Role.TheVariants.{Absent, Silent, Alone, Passive, Active, Looped}
 use Rattle.ccan_wire.specs.declared.winner.Part.{Part}
 use Rattle.ccan_wire.specs.declared.winner.Part.TheVariants.{Sender, Dropped, Listener}
 use Rattle.ccan_wire.specs.declared.winner.Winner.{Winner}
@@ -18,7 +18,7 @@ use Rattle.ccan_wire.specs.declared.wire.Wire.TheVariants.{Idle, Collided, Broke
 use Rattle.ccan_wire.specs.Event.{event_alone, event_as, event_in, event_of, listener_event, own_or, part_on}
 use Rattle.ccan_wire.specs.Event.{receive_fault, received_unheard, received_well, send_fault, sender_event, sent_unheard}
 use Rattle.ccan_wire.specs.Member.{sent_by}
-use Rattle.ccan_wire.specs.Role.{drives, is_active}
+use Rattle.ccan_wire.specs.Role.{drives, hears, is_active}
 use Rattle.ccan_wire.specs.Sign.{acknowledges}
 use Rattle.ccan_wire.specs.Winner.{part_of}
 use Rattle.ccan_wire.specs.Wire.{Carries, Ends}
@@ -99,6 +99,7 @@ carried_as Silent w k x e = absurd (not_heard w x.flaw e)
 carried_as Alone w k x e = absurd (no_loop x.frame e)
 carried_as Passive w k x e = in_part w k x (part_on w k) refl e
 carried_as Active w k x e = in_part w k x (part_on w k) refl e
+carried_as Looped w k x e = absurd (no_loop x.frame e)
 
 pub carried : (m : ℕ → Member) (w : Wire) (k : ℕ) → event_of w k (m k) ≡ has_sent → CarriedBy w k
 carried m w k e = carried_as (m k).role w k (m k) e
@@ -114,19 +115,24 @@ is_none-none : (o : Option Flaw) → is_none o ≡ true → o ≡ None
 is_none-none None e = refl
 is_none-none (Some f) e = absurd cc
 
-pub driven : (r : Role) (w : Wire) (k : ℕ) (x : Member) → drives r ≡ true → event_as r w k x ≡ event_in (part_on w k) w x
-driven Absent w k x e = absurd cc
-driven Silent w k x e = absurd cc
-driven Alone w k x e = absurd cc
-driven Passive w k x e = refl
-driven Active w k x e = refl
+pub driven : (r : Role) (w : Wire) (k : ℕ) (x : Member) → drives r ≡ true → hears r ≡ true
+    → event_as r w k x ≡ event_in (part_on w k) w x
+driven Absent w k x e d = absurd cc
+driven Silent w k x e d = absurd cc
+driven Alone w k x e d = absurd cc
+driven Passive w k x e d = refl
+driven Active w k x e d = refl
+driven Looped w k x e d = absurd cc
 
--- who acknowledges listens, takes part, and found no error
-pub by_ack : (p : Part) (x : Member) → acknowledges p x ≡ true → (p ≡ Listener) × (drives x.role ≡ true) × (x.flaw ≡ None)
+-- who acknowledges listens, takes part, hears the bus, and found no error
+pub by_ack : (p : Part) (x : Member) → acknowledges p x ≡ true
+    → (p ≡ Listener) × (drives x.role ≡ true) × (hears x.role ≡ true) × (x.flaw ≡ None)
 by_ack Sender x e = absurd cc
 by_ack Dropped x e = absurd cc
 by_ack Listener x e =
-    let parts = both (drives x.role) (is_none x.flaw) e in (refl, parts.0, is_none-none x.flaw parts.1)
+    let parts = both (drives x.role) (hears x.role && is_none x.flaw) e in
+    let found = both (hears x.role) (is_none x.flaw) parts.1 in
+    (refl, parts.0, found.0, is_none-none x.flaw found.1)
 
 -- who acknowledges a frame that is carried hears it
 hears_carried : (m : ℕ → Member) (winner : Winner) (j : ℕ) → acknowledges (part_of winner j) (m j) ≡ true
@@ -135,10 +141,11 @@ hears_carried m winner j e =
     let parts = by_ack (part_of winner j) (m j) e in
     record {
       drives = parts.1;
+      hears = parts.2;
       listens = parts.0;
       received =
-          driven (m j).role (Carried winner) j (m j) parts.1
-          ∙ (ap (λ p. event_in p (Carried winner) (m j)) parts.0 ∙ ap received_well parts.2);
+          driven (m j).role (Carried winner) j (m j) parts.1 parts.2
+          ∙ (ap (λ p. event_in p (Carried winner) (m j)) parts.0 ∙ ap received_well parts.3);
     }
 
 pub heard : (m : ℕ → Member) (w : Wire) (k : ℕ) → Ends m w → event_of w k (m k) ≡ has_sent → (j : ℕ) × Hears m w j

@@ -8,3 +8,4 @@ pub mod Ended
 pub mod Heard
 pub mod Listening
 pub mod Lone
+pub mod LoopBack

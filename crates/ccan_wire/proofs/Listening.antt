@@ -4,7 +4,7 @@ use Rattle.std.specs.Prelude.{is_none, is_some, if◌then◌else◌}
 use Rattle.ccan_accept.specs.declared.frame.Frame.{Frame}
 use Rattle.ccan_wire.specs.declared.member.Member.{Member}
 use Rattle.ccan_wire.specs.declared.role.Role.{Role}
-use Rattle.ccan_wire.specs.declared.role.Role.TheVariants.{Absent, Silent, Alone, Passive, Active}
+use Rattle.ccan_wire.specs.declared.role.Role.TheVariants.{Absent, Silent, Alone, Passive, Active, Looped}
 use Rattle.ccan_wire.specs.declared.start.Start.{Start}
 use Rattle.ccan_wire.specs.declared.start.Start.TheVariants.{Nothing, Collision, Won}
 use Rattle.ccan_wire.specs.declared.winner.Part.{Part}
@@ -14,9 +14,9 @@ use Rattle.ccan_wire.specs.declared.wire.Wire.{Wire}
 use Rattle.ccan_wire.specs.declared.wire.Wire.TheVariants.{Idle, Collided, Broken, Flagged, Unheard, Carried}
 use Rattle.ccan_wire.specs.Flaw.{found_at_delimiter, found_early}
 use Rattle.ccan_wire.specs.Member.{sent_by}
-use Rattle.ccan_wire.specs.Role.{drives, is_active}
+use Rattle.ccan_wire.specs.Role.{drives, hears, is_active}
 use Rattle.ccan_wire.specs.Sign.{acknowledges, breaks, covers, flags, goes_on, protests}
-use Rattle.ccan_wire.specs.Start.{DropsOut, SendsLeast, Starts}
+use Rattle.ccan_wire.specs.Start.{DropsOut, Loses, SendsLeast, Starts}
 use Rattle.ccan_wire.specs.Winner.{part_of}
 use Rattle.ccan_wire.specs.Wire.{Carries, Ends, IsWhole, Nobody, Someone, start_of}
 use Rattle.ccan_wire.specs.Laws.{DriveTheSame}
@@ -32,6 +32,7 @@ not_active Silent e = refl
 not_active Alone e = refl
 not_active Passive e = refl
 not_active Active e = absurd cc
+not_active Looped e = absurd cc
 
 abbrev IsQuiet : (Part → Member → Bool) → Type 0
 IsQuiet shows = (p : Part) (x : Member) → drives x.role ≡ false → shows p x ≡ false
@@ -57,14 +58,14 @@ protests-quiet Dropped x e = refl
 protests-quiet Listener x e = ap (λ b. b && is_some x.flaw) (not_active x.role e)
 
 goes_on-quiet : IsQuiet goes_on
-goes_on-quiet Sender x e = ap (λ d. d && not (found_early true x.flaw)) e
+goes_on-quiet Sender x e = ap (λ d. d && not (hears x.role && found_early true x.flaw)) e
 goes_on-quiet Dropped x e = refl
 goes_on-quiet Listener x e = refl
 
 acknowledges-quiet : IsQuiet acknowledges
 acknowledges-quiet Sender x e = refl
 acknowledges-quiet Dropped x e = refl
-acknowledges-quiet Listener x e = ap (λ d. d && is_none x.flaw) e
+acknowledges-quiet Listener x e = ap (λ d. d && (hears x.role && is_none x.flaw)) e
 
 by_drive : (x : Member) (P : Type 0) → (drives x.role ≡ true → P) → (drives x.role ≡ false → P) → P
 by_drive x P driving quiet =
@@ -106,11 +107,11 @@ module _ (m other : ℕ → Member) (h : DriveTheSame m other) where
         sends = same_sent a.one ∙ a.sends;
         first = λ k g among its. a.first k g among (sym (same_sent k) ∙ its);
         another = a.another;
-        another_is = a.another_is;
-        different = λ e. a.different (sym (same_sent a.another) ∙ e);
-        stays = λ d.
-            let mine = a.only a.another a.another_is in
-            a.stays (subst (λ x. DropsOut x a.frame) (same_sender a.another mine.frame mine.sends) d);
+        its = a.its;
+        its_sends = same_sent a.another ∙ a.its_sends;
+        different = a.different;
+        drives_on = λ l. a.drives_on (subst (λ x. Loses x a.frame) (same_sender a.another a.its a.its_sends) l);
+        stays = λ d. a.stays (subst (λ x. DropsOut x a.frame) (same_sender a.another a.its a.its_sends) d);
       }
   same_start (Won w) a =
       record {
@@ -119,7 +120,9 @@ module _ (m other : ℕ → Member) (h : DriveTheSame m other) where
         drop = λ k p.
             let d = a.drop k p in
             subst (λ x. DropsOut x w.frame) (sym (same_sender k d.other d.sends)) d;
-        first = λ k g p its. a.first k g p (sym (same_sent k) ∙ its);
+        first = λ k g p its.
+            let mine : sent_by (m k) ≡ Some g = sym (same_sent k) ∙ its in
+            subst (λ x. Loses x w.frame) (sym (same_sender k g mine)) (a.first k g p mine);
       }
 
   -- a sign that nobody shows who drives nothing

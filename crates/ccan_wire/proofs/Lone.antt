@@ -1,13 +1,13 @@
 -- A sender that no other member hears.
 use Rattle.std.proofs.Common.{ℕ, ◌≡◌, ◌+◌, ◌==◌, Bool, true, false, ◌&&◌, not, inl, inr, Some, None, refl, sym, ap, ◌∙◌, arith}
-use Rattle.std.specs.Prelude.{if◌then◌else◌}
+use Rattle.std.specs.Prelude.{is_some, if◌then◌else◌}
 use Rattle.std.proofs.lemmas.Bool.Decides.{nat_tests}
 use Rattle.ccan_confine.specs.declared.bus_event.BusEvent.TheVariants as event
 use Rattle.ccan_confine.specs.declared.status_event.StatusEvent.TheVariants as status
 use Rattle.ccan_confine.specs.Counters.{Levels, is_off, levels_after, reaches}
 use Rattle.ccan_wire.specs.declared.member.Member.{Member}
 use Rattle.ccan_wire.specs.declared.role.Role.{Role}
-use Rattle.ccan_wire.specs.declared.role.Role.TheVariants.{Absent, Silent, Alone, Passive, Active}
+use Rattle.ccan_wire.specs.declared.role.Role.TheVariants.{Absent, Silent, Alone, Passive, Active, Looped}
 use Rattle.ccan_wire.specs.declared.winner.Part.{Part}
 use Rattle.ccan_wire.specs.declared.winner.Part.TheVariants.{Sender, Dropped, Listener}
 use Rattle.ccan_wire.specs.declared.winner.Winner.{Winner}
@@ -16,12 +16,13 @@ use Rattle.ccan_wire.specs.declared.wire.Wire.TheVariants.{Idle, Collided, Broke
 use Rattle.ccan_wire.specs.Event.{event_in, event_of, sent_unheard, unacknowledged}
 use Rattle.ccan_wire.specs.Flaw.{found_at_delimiter, found_early}
 use Rattle.ccan_wire.specs.Member.{sent_by}
-use Rattle.ccan_wire.specs.Role.{drives, is_active}
-use Rattle.ccan_wire.specs.Sign.{acknowledges, breaks, covers, goes_on, protests}
+use Rattle.ccan_wire.specs.Role.{drives, hears, is_active}
+use Rattle.ccan_wire.specs.Sign.{acknowledges, breaks, covers, flags, goes_on, protests}
 use Rattle.ccan_wire.specs.Start.{Wins}
 use Rattle.ccan_wire.specs.Winner.{part_of}
 use Rattle.ccan_wire.specs.Wire.{Carries, Someone}
 use Rattle.ccan_wire.specs.Laws.{IsLoneSender}
+use Rattle.ccan_wire.proofs.Frames.{same_frame}
 use Rattle.ccan_wire.proofs.Heard.{by_ack, driven}
 use Rattle.ccan_wire.proofs.Listening.{sender_drives}
 
@@ -31,6 +32,7 @@ active_drives Silent e = absurd cc
 active_drives Alone e = absurd cc
 active_drives Passive e = absurd cc
 active_drives Active e = refl
+active_drives Looped e = absurd cc
 
 left_of : (a b : Bool) → (a && b) ≡ true → a ≡ true
 left_of true b e = refl
@@ -57,19 +59,26 @@ protests_active Dropped x e = absurd cc
 protests_active Listener x e = left_of (is_active x.role) _ e
 
 -- and found an error
-breaks_flawless : (p : Part) (x : Member) → breaks p x ≡ true → x.flaw ≡ None → ⊥
+pub breaks_flawless : (p : Part) (x : Member) → breaks p x ≡ true → x.flaw ≡ None → ⊥
 breaks_flawless Sender x e none =
     let early = right_of (is_active x.role) _ e in let no = ap (found_early true) none in cc
 breaks_flawless Dropped x e none = cc
 breaks_flawless Listener x e none =
     let early = right_of (is_active x.role) _ e in let no = ap (found_early false) none in cc
 
-covers_flawless : (p : Part) (x : Member) → covers p x ≡ true → x.flaw ≡ None → ⊥
+pub covers_flawless : (p : Part) (x : Member) → covers p x ≡ true → x.flaw ≡ None → ⊥
 covers_flawless Sender x e none =
     let there = right_of (is_active x.role) _ e in let no = ap (found_at_delimiter true) none in cc
 covers_flawless Dropped x e none = cc
 covers_flawless Listener x e none =
     let there = right_of (is_active x.role) _ e in let no = ap (found_at_delimiter false) none in cc
+
+pub flags_flawless : (p : Part) (x : Member) → flags p x ≡ true → x.flaw ≡ None → ⊥
+flags_flawless Sender x e none =
+    let some = right_of (is_active x.role) _ e in let no = ap (λ o. is_some o) none in cc
+flags_flawless Dropped x e none = cc
+flags_flawless Listener x e none =
+    let some = right_of (is_active x.role) _ e in let no = ap (λ o. is_some o) none in cc
 
 module _ (m : ℕ → Member) (k : ℕ) (lone : IsLoneSender m k) where
   it_is : (j : ℕ) → drives (m j).role ≡ true → j ≡ k
@@ -113,8 +122,9 @@ module _ (m : ℕ → Member) (k : ℕ) (lone : IsLoneSender m k) where
     goes_on_itself : goes_on (part_of w k) (m k) ≡ true
     goes_on_itself =
         ap (λ p. goes_on p (m k)) its_own
-        ∙ (ap (λ b. b && not (found_early true (m k).flaw)) (sender_drives (m k) lone.frame lone.sends)
-        ∙ ap (λ o. not (found_early true o)) lone.flawless)
+        ∙ (ap (λ b. b && not (hears (m k).role && found_early true (m k).flaw)) (sender_drives (m k) lone.frame lone.sends)
+        ∙ (ap (λ b. not (b && found_early true (m k).flaw)) lone.hears
+        ∙ ap (λ o. not (found_early true o)) lone.flawless))
 
     -- where there is a flag of dominant bits it is its own
     its_count : (x : Bool) → (x ≡ true → Someone protests m w) → unacknowledged x (m k).role ≡ event.SendNoAck
@@ -129,10 +139,12 @@ module _ (m : ℕ → Member) (k : ℕ) (lone : IsLoneSender m k) where
   pub unheard : (w : Wire) → Carries m w → event_of w k (m k) ≡ Some (event.SendNoAck, status.Fault 3)
   unheard Idle a = let none = a.starts k in let some = lone.sends in absurd cc
   unheard (Collided who) a =
-      let q = a.starts.only a.starts.another a.starts.another_is in
       let one = it_is a.starts.one (sender_drives (m a.starts.one) a.starts.frame a.starts.sends) in
-      let another = it_is a.starts.another (sender_drives (m a.starts.another) q.frame q.sends) in
-      absurd (a.starts.different (ap (λ i. sent_by (m i)) (another ∙ sym one) ∙ a.starts.sends))
+      let another = it_is a.starts.another (sender_drives (m a.starts.another) a.starts.its a.starts.its_sends) in
+      let same = ap (λ i. sent_by (m i)) (another ∙ sym one) ∙ a.starts.sends in
+      absurd
+      (a.starts.different
+      (same_frame (sent_by (m a.starts.another)) a.starts.its a.starts.frame a.starts.its_sends same))
   unheard (Broken w) a = elim a.ends [
     | inl some ↦ absurd (not_broken w a.starts some)
     | inr none ↦ let on = goes_on_itself w a.starts in let off = none k in absurd cc
@@ -142,7 +154,7 @@ module _ (m : ℕ → Member) (k : ℕ) (lone : IsLoneSender m k) where
     | inr two ↦ absurd (not_heard w a.starts two.0)
   ]
   unheard (Unheard w x) a =
-      driven (m k).role (Unheard w x) k (m k) (sender_drives (m k) lone.frame lone.sends)
+      driven (m k).role (Unheard w x) k (m k) (sender_drives (m k) lone.frame lone.sends) lone.hears
       ∙ (ap (λ p. event_in p (Unheard w x) (m k)) (its_own w a.starts)
       ∙ (ap (sent_unheard x (m k).role) lone.flawless
       ∙ ap (λ e. Some (e, status.Fault 3)) (its_count w a.starts x a.ends.flag)))

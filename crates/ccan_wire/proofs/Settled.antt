@@ -8,7 +8,7 @@ use Rattle.ccan_wire.specs.declared.winner.Part.TheVariants.{Sender, Dropped}
 use Rattle.ccan_wire.specs.declared.winner.Winner.{Winner}
 use Rattle.ccan_wire.specs.Arbitration.{beats}
 use Rattle.ccan_wire.specs.Member.{sent_by}
-use Rattle.ccan_wire.specs.Start.{Collides, ComesLater, DropsOut, Starts, Wins}
+use Rattle.ccan_wire.specs.Start.{Collides, ComesLater, DropsOut, Loses, Starts, Wins}
 use Rattle.ccan_wire.specs.Winner.{is_among, part_of}
 use Rattle.ccan_wire.specs.Laws.{SomeLeave}
 use Rattle.ccan_wire.proofs.Frames.{beats-itself, not_itself, one_way, same_frame}
@@ -20,6 +20,10 @@ use Rattle.ccan_wire.proofs.Parts.{by_part}
 -- who drops out sends a frame that comes later
 drop_later : (x : Member) (f g : Frame) → DropsOut x f → sent_by x ≡ Some g → ComesLater f g
 drop_later x f g d is = subst (λ h. ComesLater f h) (same_frame (sent_by x) d.other g d.sends is) d.later
+
+-- who loses the arbitration sends a frame that is preceded
+lost_to : (x : Member) (f g : Frame) → Loses x f → sent_by x ≡ Some g → beats f g ≡ true
+lost_to x f g l is = subst (λ h. beats f h ≡ true) (same_frame (sent_by x) l.other g l.sends is) l.lost
 
 not_later_than_itself : (f : Frame) → ComesLater f f → ⊥
 not_later_than_itself f c = let less = c.recessive in omega arith
@@ -33,7 +37,7 @@ wins_least m w a j other its =
     let same = same_frame (sent_by (m j)) other w.frame its (a.theirs j p) in
     subst (λ h. beats h w.frame ≡ false) (sym same) (beats-itself w.frame))
     (λ p. (drop_later (m j) w.frame other (a.drop j p) its).not_before)
-    (λ p. one_way w.frame other (a.first j other p its))
+    (λ p. one_way w.frame other (lost_to (m j) w.frame other (a.first j other p its) its))
 
 -- what a member sends, by its part: the frame, one that comes later, or one that it precedes
 by_sent : (m : ℕ → Member) (w : Winner) → Wins m w → (k : ℕ) (f : Frame) → sent_by (m k) ≡ Some f → (P : Type 0)
@@ -43,7 +47,8 @@ by_sent : (m : ℕ → Member) (w : Winner) → Wins m w → (k : ℕ) (f : Fram
     → P
 by_sent m w a k f its P same later after =
     by_part (part_of w k) P (λ p. same (same_frame (sent_by (m k)) w.frame f (a.theirs k p) its))
-    (λ p. later (drop_later (m k) w.frame f (a.drop k p) its)) (λ p. after (a.first k f p its))
+    (λ p. later (drop_later (m k) w.frame f (a.drop k p) its))
+    (λ p. after (lost_to (m k) w.frame f (a.first k f p its) its))
 
 -- ---- two starts of the same members
 
@@ -70,7 +75,7 @@ module _ (m : ℕ → Member) (v w : Winner) (a : Wins m v) (b : Wins m w) where
       let mine : sent_by (m k) ≡ Some w.frame = a.theirs k p ∙ ap Some same in
       by_part (part_of w k) (part_of w k ≡ Sender) (λ q. q)
       (λ q. absurd (not_later_than_itself w.frame (drop_later (m k) w.frame w.frame (b.drop k q) mine)))
-      (λ q. absurd (not_itself w.frame (b.first k w.frame q mine)))
+      (λ q. absurd (not_itself w.frame (lost_to (m k) w.frame w.frame (b.first k w.frame q mine) mine)))
 
   a_dropped : (k : ℕ) → part_of v k ≡ Dropped → part_of w k ≡ Dropped
   a_dropped k p =
@@ -81,7 +86,10 @@ module _ (m : ℕ → Member) (v w : Winner) (a : Wins m v) (b : Wins m w) where
       let is = same_frame (sent_by (m k)) d.other w.frame d.sends (b.theirs k q) in
       absurd (not_later_than_itself w.frame (subst (λ f. ComesLater w.frame f) is later)))
       (λ q. q)
-      (λ q. let first = b.first k d.other q d.sends in let no = later.not_after in absurd cc)
+      (λ q.
+      let first = lost_to (m k) w.frame d.other (b.first k d.other q d.sends) d.sends in
+      let no = later.not_after in
+      absurd cc)
 
 pub same_parts : (m : ℕ → Member) (v w : Winner) → Wins m v → Wins m w → (k : ℕ) → part_of v k ≡ part_of w k
 same_parts m v w a b k =
@@ -109,7 +117,7 @@ module _ (m : ℕ → Member) (w : Winner) (who : List Bool) (a : Wins m w) (b :
       by_part (part_of w k) P (λ p. same (same_frame (sent_by (m k)) w.frame f (a.theirs k p) its)) drops
       (λ p.
       let least = b.only k among in
-      let first = a.first k least.frame p least.sends in
+      let first = lost_to (m k) w.frame least.frame (a.first k least.frame p least.sends) least.sends in
       let no = least.least a.some.0 w.frame (a.theirs a.some.0 a.some.1) in
       absurd cc)
 
@@ -127,10 +135,14 @@ module _ (m : ℕ → Member) (w : Winner) (who : List Bool) (a : Wins m w) (b :
 
   pub not_both : (A : Type 0) → A
   not_both A =
-      let least = b.only b.another b.another_is in
-      colliding b.another least.frame b.another_is least.sends A
-      (λ e. absurd (b.different (least.sends ∙ ap Some (sym e ∙ sym goes_on))))
+      by_part (part_of w b.another) A
+      (λ p.
+      let is = same_frame (sent_by (m b.another)) b.its w.frame b.its_sends (a.theirs b.another p) in
+      absurd (b.different (is ∙ sym goes_on)))
       (λ p. absurd (b.stays (subst (λ f. DropsOut (m b.another) f) (sym goes_on) (a.drop b.another p))))
+      (λ p.
+      let lost = a.first b.another b.its p b.its_sends in
+      absurd (b.drives_on (subst (λ f. Loses (m b.another) f) (sym goes_on) lost)))
 
 pub not_nothing : (m : ℕ → Member) (w : Winner) → Wins m w → ((k : ℕ) → sent_by (m k) ≡ None) → (A : Type 0) → A
 not_nothing m w a b A = let p = a.theirs a.some.0 a.some.1 in let q = b a.some.0 in absurd cc
@@ -151,7 +163,7 @@ module _ (m other : ℕ → Member) (w : Winner) (a : Wins m w) (sender : ℕ) (
   -- what is left is the frame, comes later, or is preceded by it
   left : (k : ℕ) (f : Frame) → sent_by (other k) ≡ Some f → (P : Type 0) → (w.frame ≡ f → P)
       → (DropsOut (other k) w.frame → ComesLater w.frame f → P)
-      → (beats w.frame f ≡ true → P)
+      → (Loses (other k) w.frame → beats w.frame f ≡ true → P)
       → P
   left k f its P same later after =
       let before = h.leave k f its in
@@ -159,8 +171,12 @@ module _ (m other : ℕ → Member) (w : Winner) (a : Wins m w) (sender : ℕ) (
       (λ p.
       let d = a.drop k p in
       let is = drop_later (m k) w.frame f d before.sent in
-      later (record { other = f; sends = its; later = is; passive = before.passive d.passive }) is)
-      (λ p. after (a.first k f p before.sent))
+      later
+      (record { other = f; sends = its; later = is; hears = before.hears d.hears; passive = before.passive d.passive }) is)
+      (λ p.
+      let l = a.first k f p before.sent in
+      let is = lost_to (m k) w.frame f l before.sent in
+      after (record { other = f; sends = its; lost = is; hears = before.hears l.hears }) is)
 
   -- no frame that is left precedes it
   still_least : (j : ℕ) (f : Frame) → sent_by (other j) ≡ Some f → beats f w.frame ≡ false
@@ -174,16 +190,14 @@ module _ (m other : ℕ → Member) (w : Winner) (a : Wins m w) (sender : ℕ) (
       let first : b.frame ≡ w.frame =
       left b.one b.frame b.sends (b.frame ≡ w.frame) (λ e. sym e)
       (λ d later. let high = later.recessive in absurd (omega arith))
-      (λ after.
+      (λ l after.
       let is = same_frame (sent_by (other b.one)) one.frame b.frame one.sends b.sends in
       let no = one.least sender w.frame sends in
       let is_before : beats w.frame one.frame ≡ true = ap (λ f. beats w.frame f) is ∙ after in
       absurd cc) in
-      let least = b.only b.another b.another_is in
-      left b.another least.frame least.sends A
-      (λ e. absurd (b.different (least.sends ∙ ap Some (sym e ∙ sym first))))
+      left b.another b.its b.its_sends A (λ e. absurd (b.different (sym e ∙ sym first)))
       (λ d later. absurd (b.stays (subst (λ f. DropsOut (other b.another) f) (sym first) d)))
-      (λ after. let no = least.least sender w.frame sends in absurd cc)
+      (λ l after. absurd (b.drives_on (subst (λ f. Loses (other b.another) f) (sym first) l)))
 
   still_frame : (v : Winner) → Wins other v → v.frame ≡ w.frame
   still_frame v b =
@@ -193,10 +207,10 @@ module _ (m other : ℕ → Member) (w : Winner) (a : Wins m w) (sender : ℕ) (
       (λ later.
       left t v.frame its (v.frame ≡ w.frame) (λ e. sym e)
       (λ d also. let x = later.recessive in let y = also.recessive in absurd (omega arith))
-      (λ after. let no = later.not_before in absurd cc))
+      (λ l after. let no = later.not_before in absurd cc))
       (λ first.
       left t v.frame its (v.frame ≡ w.frame) (λ e. sym e) (λ d also. let no = also.not_before in absurd cc)
-      (λ after. let no = one_way w.frame v.frame after in absurd cc))
+      (λ l after. let no = one_way w.frame v.frame after in absurd cc))
 
   pub still_won : (start : Start) → Starts other start → StillWon start w.frame
   still_won Nothing b = let none = b sender in let some = sends in absurd cc

@@ -1,5 +1,5 @@
 -- What the least number of the members says of how a frame starts.
-use Rattle.std.proofs.Common.{ℕ, ◌≡◌, ◌≢◌, ◌≤◌, ◌<◌, ◌^◌, ◌==◌, Bool, true, false, ◌&&◌, not}
+use Rattle.std.proofs.Common.{ℕ, ◌≡◌, ◌≢◌, ◌≤◌, ◌<◌, ◌^◌, ◌==◌, Bool, true, false, ◌&&◌, not, subst}
 use Rattle.std.proofs.Common.{List, length, Option, Some, None, refl, sym, ap, ◌∙◌, inl, inr, arith}
 use Rattle.std.specs.Prelude.{nat_lt}
 use Rattle.std.proofs.lemmas.Bool.Decides.{nat_tests}
@@ -7,9 +7,12 @@ use Rattle.ccan_accept.specs.declared.frame.Frame.{Frame}
 use Rattle.ccan_wire.specs.declared.member.Member.{Member}
 use Rattle.ccan_wire.specs.Arbitration.{arbitration_bits, beats, rest_of}
 use Rattle.ccan_wire.specs.Member.{member_at, sent_by}
-use Rattle.ccan_wire.specs.Packed.{Agrees, Dissents, IsLeast, IsLeastAmong, key_of, number_of, packed, rest_by, rest_of_some}
-use Rattle.ccan_wire.specs.Start.{Collides, ComesLater, DropsOut, SendsLeast, Wins}
+use Rattle.ccan_wire.specs.Packed.{Agrees, Dissents, IsLeast, IsLeastAmong, key_of, number_of, packed, rest_by}
+use Rattle.ccan_wire.specs.Packed.{rest_of_some}
+use Rattle.ccan_wire.specs.Role.{hears}
+use Rattle.ccan_wire.specs.Start.{Collides, ComesLater, DropsOut, Loses, SendsLeast, Wins}
 use Rattle.ccan_wire.specs.Winner.{is_among}
+use Rattle.ccan_wire.proofs.Frames.{same_frame}
 use Rattle.ccan_wire.proofs.Members.{by_among, by_place, nobody_past}
 use Rattle.ccan_wire.proofs.Order.{packed-order, value_of-below}
 use Rattle.ccan_wire.proofs.Parts.{dropped-part, listener-part, part-sender, sender-part}
@@ -27,6 +30,10 @@ no_frame (Some f) h = let low = packed-below f in absurd (omega arith)
 some_frame : (o : Option Frame) → number_of o < 2 ^ 32 → (f : Frame) × (o ≡ Some f)
 some_frame None h = absurd (omega arith)
 some_frame (Some f) h = (f, refl)
+
+some_sent : (o : Option Frame) → o ≢ None → (f : Frame) × (o ≡ Some f)
+some_sent None h = absurd (h refl)
+some_sent (Some f) h = (f, refl)
 
 beats_less : (f g : Frame) → packed f < packed g → beats f g ≡ true
 beats_less f g h = let less : nat_lt (packed f) (packed g) ≡ true = grind (arith, nat_tests) in packed-order f g ∙ less
@@ -127,9 +134,12 @@ module _ (members : List Member) (least : ℕ) (L : IsLeast (λ k. key_of (membe
             recessive = omega arith;
           }
 
-      -- who of them does not let it go on
-      pub collided : (k : ℕ) → is_among who k ≡ true → Dissents (member_at members k) f → Collides (member_at members) who
-      collided k among d =
+      -- some member does not let it go on
+      collides_by : (k : ℕ) (over : Frame) → sent_by (member_at members k) ≡ Some over → over ≢ f
+          → (Loses (member_at members k) f → ⊥)
+          → (DropsOut (member_at members k) f → ⊥)
+          → Collides (member_at members) who
+      collides_by k over sent different drives_on stays =
           record {
             only = sends_least;
             all = λ j s.
@@ -149,16 +159,47 @@ module _ (members : List Member) (least : ℕ) (L : IsLeast (λ k. key_of (membe
                 let there = rest_is j other theirs in
                 omega arith;
             another = k;
-            another_is = among;
-            different = d.0;
-            stays = λ out. elim d.1 [
-              | inl active ↦ let passive = out.passive in cc
-              | inr less ↦
-                  let there = rest_is k out.other out.sends in
-                  let more = out.later.recessive in
-                  omega arith
-            ];
+            its = over;
+            its_sends = sent;
+            different = different;
+            drives_on = drives_on;
+            stays = stays;
           }
+
+      -- it is one of these
+      collided_among : (k : ℕ) → is_among who k ≡ true → Dissents true (member_at members k) f → Collides (member_at members) who
+      collided_among k among d =
+          let s = sends_least k among in
+          collides_by k s.frame s.sends (λ e. d.0 (s.sends ∙ ap Some e))
+          (λ l.
+          let is = same_frame (sent_by (member_at members k)) l.other s.frame l.sends s.sends in
+          let lost : beats f s.frame ≡ true = subst (λ h. beats f h ≡ true) is l.lost in
+          let no = s.least first f sends in
+          cc)
+          (λ out.
+          let there = rest_is k out.other out.sends in
+          let more = out.later.recessive in
+          d.1 (record { hears = out.hears; passive = out.passive; later = omega arith }))
+
+      -- it is another
+      collided_over : (k : ℕ) → is_among who k ≡ false → Dissents false (member_at members k) f → Collides (member_at members) who
+      collided_over k outside d =
+          let found = some_sent (sent_by (member_at members k)) d.0 in
+          let deaf = d.1 in
+          collides_by k found.0 found.1
+          (λ e.
+          let sent : sent_by (member_at members k) ≡ Some f = found.1 ∙ ap Some e in
+          let there = key_is k f sent in
+          let here = key_first in
+          let among = among_of k (within k f sent) (there ∙ here) in
+          cc)
+          (λ l. let hears = l.hears in cc) (λ out. let hears = out.hears in cc)
+
+      pub collided : (k : ℕ) → Dissents (is_among who k) (member_at members k) f → Collides (member_at members) who
+      collided k d =
+          by_among who k (Collides (member_at members) who)
+          (λ e. collided_among k e (subst (λ b. Dissents b (member_at members k) f) e d))
+          (λ e. collided_over k e (subst (λ b. Dissents b (member_at members k) f) e d))
 
       -- each lets it go on
       module _ (senders dropped : List Bool)
@@ -166,7 +207,19 @@ module _ (members : List Member) (least : ℕ) (L : IsLeast (λ k. key_of (membe
           ≡ (nat_lt k (length members)
           && (is_among who k && rest_by (member_at members k) == rest_by (member_at members first))))
           (of_dropped : (k : ℕ) → is_among dropped k ≡ (is_among who k && not (is_among senders k)))
-          (agree : (k : ℕ) → k < length members → is_among who k ≡ true → Agrees (member_at members k) f) where
+          (agree : (k : ℕ) → k < length members → Agrees (is_among who k) (member_at members k) f) where
+        agree_among : (k : ℕ) → is_among who k ≡ true → Agrees true (member_at members k) f
+        agree_among k among =
+            subst (λ b. Agrees b (member_at members k) f) among (agree k (of_among k among).0)
+
+        stops : (k : ℕ) (other : Frame) → is_among who k ≡ false → sent_by (member_at members k) ≡ Some other
+            → hears (member_at members k).role ≡ true
+        stops k other outside theirs =
+            elim (subst (λ b. Agrees b (member_at members k) f) outside (agree k (within k other theirs))) [
+              | inl none ↦ absurd cc
+              | inr hears ↦ hears
+            ]
+
         same_rest : (k : ℕ) → is_among senders k ≡ true
             → (is_among who k ≡ true) × (rest_by (member_at members k) ≡ rest_by (member_at members first))
         same_rest k e =
@@ -186,18 +239,24 @@ module _ (members : List Member) (least : ℕ) (L : IsLeast (λ k. key_of (membe
         theirs_is : (k : ℕ) → is_among senders k ≡ true → sent_by (member_at members k) ≡ Some f
         theirs_is k e =
             let there = same_rest k e in
-            elim (agree k (of_among k there.0).0 there.0) [
+            elim (agree_among k there.0) [
               | inl sent ↦ sent
-              | inr out ↦ let less = out.1 in let same = there.1 in let here = rest_first in absurd (omega arith)
+              | inr out ↦ let less = out.later in let same = there.1 in let here = rest_first in absurd (omega arith)
             ]
 
         drops_out : (k : ℕ) → is_among senders k ≡ false → is_among who k ≡ true → DropsOut (member_at members k) f
-        drops_out k out among = elim (agree k (of_among k among).0 among) [
+        drops_out k out among = elim (agree_among k among) [
           | inl sent ↦
               let is = is_sender k among (rest_is k f sent ∙ sym rest_first) in absurd cc
           | inr late ↦
               let s = sends_least k among in
-              record { other = s.frame; sends = s.sends; later = later k s.frame among s.sends late.1; passive = late.0 }
+              record {
+                other = s.frame;
+                sends = s.sends;
+                later = later k s.frame among s.sends late.later;
+                hears = late.hears;
+                passive = late.passive;
+              }
         ]
 
         pub won : Wins (member_at members) (record { frame = f; senders = senders; dropped = dropped })
@@ -223,5 +282,10 @@ module _ (members : List Member) (least : ℕ) (L : IsLeast (λ k. key_of (membe
                   let there = key_is k other theirs in
                   let differ : key_of (member_at members k) ≢ key_of (member_at members least) =
                   λ e. (let among = among_of k lt e in cc) in
-                  beats_less f other (omega arith);
+                  record {
+                    other = other;
+                    sends = theirs;
+                    lost = beats_less f other (omega arith);
+                    hears = stops k other not_among theirs;
+                  };
             }

@@ -2,7 +2,8 @@
 -- that the member itself can see. Source: CAN Specification 2.0, "Error Detection", "Error Signalling", "Fault Confinement"
 -- (rules 1, 3, 7 and 8); C_CAN User's Manual 1.2, "Status Register" (LEC), "Silent Mode", "Loop Back Mode". That what a member
 -- sees behind its own error flag counts nothing more (rules 2, 4, 5 and 6), that the second exception of rule 3 does not come,
--- and that a silent member counts as others do, are (own).
+-- that a silent member counts as others do, and that frames which spoil each other, as one is of a member in loop back mode, are a
+-- bit error to those who hear and send them and a stuff error to all others who hear, are (own).
 use Rattle.std.specs.Prelude.{ℕ, Bool, ◌&&◌, not, [], Option, Some, None, if◌then◌else◌}
 use Rattle.ccan_accept.specs.declared.frame.Frame.{Frame}
 use Rattle.ccan_confine.specs.declared.bus_event.BusEvent.{BusEvent}
@@ -12,7 +13,7 @@ use Rattle.ccan_confine.specs.declared.status_event.StatusEvent.TheVariants as s
 use Rattle.ccan_wire.specs.declared.flaw.Flaw.{Flaw}
 use Rattle.ccan_wire.specs.declared.member.Member.{Member}
 use Rattle.ccan_wire.specs.declared.role.Role.{Role}
-use Rattle.ccan_wire.specs.declared.role.Role.TheVariants.{Absent, Silent, Alone, Passive, Active}
+use Rattle.ccan_wire.specs.declared.role.Role.TheVariants.{Absent, Silent, Alone, Passive, Active, Looped}
 use Rattle.ccan_wire.specs.declared.wire.Wire.{Wire}
 use Rattle.ccan_wire.specs.declared.wire.Wire.TheVariants.{Idle, Collided, Broken, Flagged, Unheard, Carried}
 use Rattle.ccan_wire.specs.declared.winner.Part.{Part}
@@ -89,7 +90,7 @@ event_in Sender wire m = sender_event wire m.role m.flaw
 event_in Dropped wire m = send_fault 4
 event_in Listener wire m = listener_event wire m.flaw
 
--- to one in loop back mode: its own frame, if it has one, acknowledged or not
+-- to one in loop back mode: its own frame, if it has one, acknowledged or not, and whatever else is on the bus
 abbrev pub event_alone : Option Frame → Option (BusEvent × StatusEvent)
 event_alone None = None
 event_alone (Some frame) = Some (event.Sent, status.Looped)
@@ -100,6 +101,7 @@ event_as Silent wire k m = listener_event wire m.flaw
 event_as Alone wire k m = event_alone m.frame
 event_as Passive wire k m = event_in (part_on wire k) wire m
 event_as Active wire k m = event_in (part_on wire k) wire m
+event_as Looped wire k m = event_alone m.frame
 
 -- what is on the bus, to the member at this place
 abbrev pub event_of : Wire → ℕ → Member → Option (BusEvent × StatusEvent)

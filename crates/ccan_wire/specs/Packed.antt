@@ -5,7 +5,7 @@ use Rattle.ccan_accept.specs.declared.frame.Frame.{Frame}
 use Rattle.ccan_wire.specs.declared.member.Member.{Member}
 use Rattle.ccan_wire.specs.Arbitration.{arbitration_bits, rest_of}
 use Rattle.ccan_wire.specs.Member.{sent_by}
-use Rattle.ccan_wire.specs.Role.{is_active}
+use Rattle.ccan_wire.specs.Role.{hears, is_active}
 use Rattle.ccan_wire.specs.Winner.{is_among}
 
 -- a list of bits as a number of so many bits, the first the highest
@@ -43,10 +43,19 @@ pub record IsLeastAmong (key : ℕ → ℕ) (who : List Bool) (count place : ℕ
   pub within : is_among who place ≡ true
   pub floor : (k : ℕ) → k < count → is_among who k ≡ true → key place ≤ key k
 
--- a member with the same bits of arbitration as this frame lets it go on: it sends it too, or just drops out
-abbrev pub Agrees : Member → Frame → Type 0
-Agrees m frame = (sent_by m ≡ Some frame) ⊎ ((is_active m.role ≡ false) × (rest_of frame < rest_by m))
+-- a member just drops out behind the arbitration
+pub record IsLate (m : Member) (frame : Frame) : Type 0 where
+  pub hears : hears m.role ≡ true
+  pub passive : is_active m.role ≡ false
+  pub later : rest_of frame < rest_by m
+
+-- A member lets the frame go on that none precedes. If it has the same bits of arbitration (`true`) it sends that frame too, or
+-- just drops out; else it sends nothing, or hears that it lost the arbitration
+abbrev pub Agrees : Bool → Member → Frame → Type 0
+Agrees true m frame = (sent_by m ≡ Some frame) ⊎ IsLate m frame
+Agrees false m frame = (sent_by m ≡ None) ⊎ (hears m.role ≡ true)
 
 -- or it does not
-abbrev pub Dissents : Member → Frame → Type 0
-Dissents m frame = (sent_by m ≢ Some frame) × ((is_active m.role ≡ true) ⊎ (rest_by m ≤ rest_of frame))
+abbrev pub Dissents : Bool → Member → Frame → Type 0
+Dissents true m frame = (sent_by m ≢ Some frame) × (IsLate m frame → ⊥)
+Dissents false m frame = (sent_by m ≢ None) × (hears m.role ≡ false)

@@ -100,7 +100,7 @@ fn received_unheard(flagged: bool, flaw: Option<Flaw>) -> Option<(BusEvent, Stat
     }
 }
 
-/// To a member in loop back mode: it sends its own frame to itself, acknowledged or not.
+/// To a member in loop back mode: it sends its own frame to itself, acknowledged or not, and whatever else is on the bus.
 fn event_alone(frame: Option<Frame>) -> Option<(BusEvent, StatusEvent)>
     ensures is { result ≡ event_alone frame }
     ensures known { IfSome result (λ event. HasFaultCode event.1) }
@@ -167,7 +167,7 @@ impl Wire {
         match member.role {
             Role::Absent => None,
             Role::Silent => self.listener_event(member.flaw),
-            Role::Alone => event_alone(member.frame),
+            Role::Alone | Role::Looped => event_alone(member.frame),
             Role::Passive | Role::Active => self.event_in(self.part(place), member),
         }
     }

@@ -1,6 +1,7 @@
 //! Laws of what is on a bus, each proved of all members. The functions do nothing: their contracts are the laws.
 
 ghost use Rattle.ccan_wire.specs.Laws.{AtMostOneFrameIsSent, DecidedAgainAsAtFirst, EachRoundHasOneWire, ListenersChangeNothing};
+ghost use Rattle.ccan_wire.specs.Laws.{LoneFramesAreReceived, LoopBackDisregardsTheBus, LoopBackFramesGoOnOrSpoil};
 ghost use Rattle.ccan_wire.specs.Laws.{NobodyHearsALoneSender, SentIsHeard, UnheardSendersStayOn, WinnersAreSettledAtTheStart};
 
 /// The members settle who sends, and what becomes of it for each of them.
@@ -41,4 +42,20 @@ pub fn unheard_senders_stay_on()
 /// The frame that won at the start is the one that wins where the members who are left are asked anew, if one of its senders is.
 pub fn winners_are_settled_at_the_start()
     ensures { WinnersAreSettledAtTheStart }
+{}
+
+/// To a member in loop back mode its event is the same, whatever is on the bus.
+pub fn loop_back_disregards_the_bus()
+    ensures { LoopBackDisregardsTheBus }
+{}
+
+/// A frame that one member alone sends, in loop back mode or not, is received by each other that takes part and hears the bus, if
+/// nobody finds an error by itself.
+pub fn lone_frames_are_received()
+    ensures { LoneFramesAreReceived }
+{}
+
+/// A frame of a member in loop back mode is whole on the bus, or no frame is.
+pub fn loop_back_frames_go_on_or_spoil()
+    ensures { LoopBackFramesGoOnOrSpoil }
 {}

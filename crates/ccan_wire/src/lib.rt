@@ -34,10 +34,20 @@
 //! | passive +, active + with a recessive bit first, active - | `Collided` | LEC 4; LEC 4; LEC 1 |
 //! | two active + of the same frame, active - | `Carried` | sent; sent; received |
 //! | two active + of the same frame, nobody else | `Unheard`, flagged by both | LEC 3; LEC 3 |
+//! | looped +, active - | `Carried` | sent to itself; received |
+//! | looped +, active - with a stuff error, active - | `Broken` | sent to itself; LEC 1; LEC 1 |
+//! | looped +, active - with an error of its check sequence | `Unheard`, flagged | sent to itself; LEC 6 |
+//! | looped +, nobody else but a silent - | `Unheard`, not flagged | sent to itself; received |
+//! | looped +, active + whose frame it precedes | `Carried` | sent to itself; received |
+//! | looped +, active + whose frame precedes it, active - | `Collided` | sent to itself; LEC 4; LEC 1 |
+//! | two looped + of different frames, active - | `Collided` | both sent to themselves; LEC 1 |
+//! | active +, looped - | `Unheard`, flagged by its sender | LEC 3, TEC and 8; nothing |
 //!
 //! What the model leaves out:
 //!
-//! - A member in loop back mode drives nothing that others see. A part in this mode without Silent drives its frames.
+//! - A member in loop back mode (without Silent) starts its frame when the others start theirs; a part starts it at any time, also
+//!   into another's frame. Of two different frames, of which neither stops, none is whole, though by the bits one may rarely cover
+//!   the other; and what is left of the frame in loop back mode disturbs nothing behind an error flag.
 //! - An error counts 1 at each receiver. Rule 2 of fault confinement adds 8 where a dominant bit stands behind its own flag.
 //! - A stuff error in the arbitration field of a sender counts 8 as others do: the second exception of rule 3 does not come.
 //! - There are no overload frames, and an error passive sender does not wait before its next frame.

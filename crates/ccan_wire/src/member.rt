@@ -23,14 +23,15 @@ pub struct Member {
     pub role: Role,
     /// The frame that it starts to send, if its role lets it: what a chip has loaded, or what another node offers.
     pub frame: Option<Frame>,
-    /// The error that it finds by itself. Where an earlier one ends the frame for all, give no later one.
+    /// The error that it finds by itself, which counts for nothing in one that doesn't hear the bus. Where an earlier one ends the
+    /// frame for all, give no later one.
     pub flaw: Option<Flaw>,
 }
 
 impl Member {
     ghost use Rattle.ccan_wire.specs.Flaw.{found_at_delimiter, found_early};
     ghost use Rattle.ccan_wire.specs.Member.{sent_by};
-    ghost use Rattle.ccan_wire.specs.Packed.{Agrees, Dissents, key_of, rest_by};
+    ghost use Rattle.ccan_wire.specs.Packed.{Agrees, Dissents, IsLate, key_of, rest_by};
     ghost use Rattle.ccan_wire.specs.Sign.{shows};
 
     /// The frame that it sends: the one that it has, if its role lets it send.
@@ -67,12 +68,23 @@ impl Member {
         }
     }
 
-    /// Whether it lets this frame go on, which has the same bits of arbitration as its own.
-    pub(crate) fn agrees(&self, frame: &Frame) -> bool
-        ensures agrees { result ≡ true → Agrees self.now frame.now }
-        ensures dissents { result ≡ false → Dissents self.now frame.now }
+    /// Whether it just drops out behind the arbitration, where this frame has the same bits of arbitration as its own.
+    fn is_late(&self, frame: &Frame) -> bool
+        ensures { IsTrue result ↔ IsLate self.now frame.now }
     {
-        self.sends(frame) || !self.role.is_active() && rest(frame) < self.rest()
+        self.role.hears() && !self.role.is_active() && rest(frame) < self.rest()
+    }
+
+    /// Whether it lets this frame go on, which no frame precedes; `contends` says that its own has the same bits of arbitration.
+    pub(crate) fn agrees(&self, frame: &Frame, contends: bool) -> bool
+        ensures agrees { result ≡ true → Agrees contends self.now frame.now }
+        ensures dissents { result ≡ false → Dissents contends self.now frame.now }
+    {
+        if contends {
+            self.sends(frame) || self.is_late(frame)
+        } else {
+            self.sent().is_none() || self.role.hears()
+        }
     }
 
     /// Whether it finds an error before the end of the check sequence.
@@ -100,7 +112,7 @@ impl Member {
     {
         match sign {
             Sign::Breaks => self.role.is_active() && self.is_early(true),
-            Sign::GoesOn => self.role.drives() && !self.is_early(true),
+            Sign::GoesOn => self.role.drives() && !(self.role.hears() && self.is_early(true)),
             Sign::Covers => self.role.is_active() && self.is_at_delimiter(true),
             Sign::Flags => self.role.is_active() && self.flaw.is_some(),
             Sign::Protests => self.role.is_active(),
@@ -116,7 +128,7 @@ impl Member {
             Sign::GoesOn => false,
             Sign::Covers => self.role.is_active() && self.is_at_delimiter(false),
             Sign::Flags | Sign::Protests => self.role.is_active() && self.flaw.is_some(),
-            Sign::Acknowledges => self.role.drives() && self.flaw.is_none(),
+            Sign::Acknowledges => self.role.drives() && self.role.hears() && self.flaw.is_none(),
         }
     }
 

@@ -1,5 +1,5 @@
 ghost use Rattle.std.specs.Prelude.{◌≡◌};
-ghost use Rattle.ccan_wire.specs.Role.{drives, hears, in_mode, is_active, role_of, role_of_state};
+ghost use Rattle.ccan_wire.specs.Role.{drives, hears, in_mode, is_active, looped, role_of, role_of_state};
 
 use ccan_confine::{Controller, Counters, NodeState};
 
@@ -11,13 +11,26 @@ pub enum Role {
     Absent,
     /// It hears, and sends recessive bits only: no frame, no acknowledgement, no error flag (Silent).
     Silent,
-    /// It hears itself and nobody else (LBack, with or without Silent). A part in this mode without Silent drives its frames
-    /// onto the bus at any time; here it is taken as disconnected from the bus, and nobody else sees its bits.
+    /// It hears itself and nobody else, and nobody else sees its bits (LBack and Silent: hot self test).
     Alone,
     /// It takes part and is error passive: its error flags are of recessive bits.
     Passive,
     /// It takes part and is error active: its error flags are of dominant bits.
     Active,
+    /// It hears itself and nobody else, and sends its frames onto the bus (LBack without Silent). It never stops: it acknowledges
+    /// nothing, finds no error, and needs no acknowledgement.
+    Looped,
+}
+
+/// The role of a controller in loop back mode.
+fn looped(controller: &Controller) -> Role
+    ensures { result ≡ looped controller.now }
+{
+    if controller.test.silent {
+        Role::Alone
+    } else {
+        Role::Looped
+    }
 }
 
 /// The role of a controller in a mode of its Test register, which counts only while Test of the Control register is 1.
@@ -25,7 +38,7 @@ fn in_mode(controller: &Controller, role: Role) -> Role
     ensures { result ≡ in_mode controller.now role }
 {
     if controller.control.test && controller.test.lback {
-        Role::Alone
+        looped(controller)
     } else if controller.control.test && controller.test.silent {
         Role::Silent
     } else {
@@ -64,18 +77,18 @@ impl Role {
         ensures { result ≡ hears self }
     {
         match self {
-            Role::Absent | Role::Alone => false,
+            Role::Absent | Role::Alone | Role::Looped => false,
             Role::Silent | Role::Passive | Role::Active => true,
         }
     }
 
-    /// Whether it sends frames and acknowledgements.
+    /// Whether it sends frames onto the bus. One that also hears the bus sends acknowledgements.
     pub fn drives(self) -> bool
         ensures { result ≡ drives self }
     {
         match self {
             Role::Absent | Role::Silent | Role::Alone => false,
-            Role::Passive | Role::Active => true,
+            Role::Passive | Role::Active | Role::Looped => true,
         }
     }
 

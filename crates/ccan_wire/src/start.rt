@@ -12,8 +12,9 @@ use ccan_accept::Frame;
 pub enum Start {
     /// Nobody sends.
     Nothing,
-    /// These members send frames that are equal in the bits of arbitration, and no other frame precedes them. One of them sees a
-    /// bit error behind the arbitration and is error active: its error flag ends all these frames.
+    /// No frame is whole on the bus. These members send frames that are equal in the bits of arbitration, and no other frame
+    /// precedes them. One of them sees a bit error behind the arbitration and is error active, so that its error flag ends all
+    /// these frames; or a member in loop back mode sends another frame over them.
     Collision(Places),
     /// This frame won the bus.
     Won(Winner),
@@ -88,16 +89,15 @@ fn except(who: &Places, those: &Places) -> Places
     others
 }
 
-/// One among these members that does not let the frame go on.
+/// A member that does not let the frame go on, where these have the same bits of arbitration.
 fn dissenter(members: &[Member], who: &Places, frame: &Frame) -> Option<usize>
     requires { length members.now ≤ MOST_MEMBERS }
-    ensures some { IfSome result (λ k. (is_among who.now k ≡ true)
-        × Dissents (member_at members.now k) frame.now) }
-    ensures none { IfNone result ((k : ℕ) → k < length members.now → is_among who.now k ≡ true
-        → Agrees (member_at members.now k) frame.now) }
+    ensures some { IfSome result (λ k. Dissents (is_among who.now k) (member_at members.now k) frame.now) }
+    ensures none { IfNone result ((k : ℕ) → k < length members.now
+        → Agrees (is_among who.now k) (member_at members.now k) frame.now) }
 {
     for place in 0..members.len() {
-        if who[place] && !members[place].agrees(frame) {
+        if !members[place].agrees(frame, who[place]) {
             return Some(place);
         }
     }

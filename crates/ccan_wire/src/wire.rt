@@ -7,7 +7,8 @@ use crate::winner::{Part, Winner};
 pub enum Wire {
     /// Nobody sends.
     Idle,
-    /// These members' frames collide: they are equal in the bits of arbitration, and an error flag of dominant bits ends them.
+    /// These members' frames collide: they are equal in the bits of arbitration, and an error flag of dominant bits ends them, or
+    /// a member in loop back mode sends another frame over them.
     Collided(Places),
     /// The frame ends before the end of its check sequence: by an error flag of dominant bits, or as nobody sends it any more.
     Broken(Winner),

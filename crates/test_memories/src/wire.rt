@@ -205,6 +205,98 @@ fn rounds_come_to_each_member_as_it_sees_them(rt: HostRuntime) {
     }
 }
 
+/// A frame in loop back mode, of identifier 5 with the byte 1 unless said otherwise. Its sender never stops, whatever is on the
+/// bus, and acknowledges nothing.
+#[test]
+fn loop_back_frames_are_on_the_bus_without_silent(rt: HostRuntime) {
+    use Flaw::{Bit0, Crc, Stuff};
+    use Role::{Absent, Active, Alone, Looped, Passive, Silent};
+    let one = Some((5, 1));
+    let absent = (Absent, None, None);
+    let listener = (Active, None, None);
+    let looped = (Looped, one, None);
+    let rounds = [
+        // the others hear it, and nobody needs to acknowledge it
+        (
+            [looped, listener, (Silent, None, None)],
+            [LOOPED, RECEIVED, RECEIVED],
+        ),
+        (
+            [looped, (Silent, None, None), absent],
+            [LOOPED, RECEIVED, None],
+        ),
+        ([(Alone, one, None), listener, absent], [LOOPED, None, None]),
+        (
+            [(Looped, one, Some(Bit0)), listener, absent],
+            [LOOPED, RECEIVED, None],
+        ),
+        // it acknowledges nothing
+        (
+            [(Active, one, None), (Looped, None, None), absent],
+            [NO_ACK, None, None],
+        ),
+        // errors of listeners spoil it for the others
+        (
+            [looped, (Active, None, Some(Stuff)), listener],
+            [LOOPED, receive_fault(1), receive_fault(1)],
+        ),
+        (
+            [looped, (Active, None, Some(Crc)), listener],
+            [LOOPED, receive_fault(6), receive_fault(2)],
+        ),
+        (
+            [looped, (Active, None, Some(Crc)), absent],
+            [LOOPED, receive_fault(6), None],
+        ),
+        // it wins the arbitration, or loses it and disturbs the frame that won
+        (
+            [looped, (Active, Some((6, 0)), None), listener],
+            [LOOPED, RECEIVED, RECEIVED],
+        ),
+        (
+            [(Looped, Some((6, 0)), None), (Active, one, None), listener],
+            [LOOPED, send_fault(4), receive_fault(1)],
+        ),
+        (
+            [looped, (Looped, Some((6, 0)), None), listener],
+            [LOOPED, LOOPED, receive_fault(1)],
+        ),
+        // the same identifier: 1 has a dominant bit where 2 has its first recessive one that differs
+        (
+            [looped, (Passive, Some((5, 2)), None), listener],
+            [LOOPED, send_fault(4), RECEIVED],
+        ),
+        (
+            [looped, (Active, Some((5, 2)), None), listener],
+            [LOOPED, send_fault(4), receive_fault(1)],
+        ),
+        (
+            [(Looped, Some((5, 2)), None), (Passive, one, None), listener],
+            [LOOPED, send_fault(4), receive_fault(1)],
+        ),
+        // the same frame is one on the bus, of which the other sender needs an acknowledgement
+        (
+            [looped, (Active, one, None), listener],
+            [LOOPED, SENT, RECEIVED],
+        ),
+        (
+            [looped, (Active, one, None), absent],
+            [LOOPED, NO_ACK, None],
+        ),
+    ];
+    for (rows, want) in rounds {
+        let members = members(rows);
+        let got = events(&decide(&members), &members);
+        same(&rt, (rows, got), (rows, want));
+    }
+
+    // its sender leaves, and nobody sends it any more
+    let start = decide(&members([looped, listener, listener]));
+    let left = members([absent, listener, listener]);
+    let got = events(&decide_again(&start, &left), &left);
+    same(&rt, got, [None, receive_fault(1), receive_fault(1)]);
+}
+
 #[test]
 fn laws_hold() {
     ccan_wire::laws::each_round_has_one_wire();
@@ -215,4 +307,7 @@ fn laws_hold() {
     ccan_wire::laws::nobody_hears_a_lone_sender();
     ccan_wire::laws::unheard_senders_stay_on();
     ccan_wire::laws::winners_are_settled_at_the_start();
+    ccan_wire::laws::loop_back_disregards_the_bus();
+    ccan_wire::laws::lone_frames_are_received();
+    ccan_wire::laws::loop_back_frames_go_on_or_spoil();
 }

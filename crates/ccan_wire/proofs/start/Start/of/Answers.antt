@@ -40,7 +40,7 @@ returns-in-Some-dissenter c =
     (λ k. c.holders-who.ensures k ∙ ap (λ n. nat_lt k (length ms) && key_of (member_at ms k) == n) key)
     c.least_rest-first.result c.least_rest-first.ensures.least c.in-Some-sent.frame
     (sym (ap sent_by at_first) ∙ (sym c.sent-2.ensures ∙ c.in-Some-sent.is))
-    c.in-Some-dissenter.field-0 c.in-Some-dissenter.ensures.some.0 c.in-Some-dissenter.ensures.some.1
+    c.in-Some-dissenter.field-0 c.in-Some-dissenter.ensures.some
 
 pub returns-in-None : goal.returns-in-None
 returns-in-None c =
