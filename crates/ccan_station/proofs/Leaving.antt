@@ -33,7 +33,7 @@ still_sends false x flaw is = absurd cc
 
 as_before : (stays : Bool) (x : Member) (flaw : Option Flaw) (frame : Frame) → sent_by (left_of stays flaw x) ≡ Some frame
     → IsAsBefore x (left_of stays flaw x) frame
-as_before true x flaw frame e = record { sent = e; passive = λ p. p }
+as_before true x flaw frame e = record { sent = e; hears = λ h. h; passive = λ p. p }
 as_before false x flaw frame e = absurd cc
 
 pub no_winner_changed : (m : ℕ → Member) (found : ℕ → Controller) (flaw : ℕ → Option Flaw) (wire later : Wire) (winner : Winner)

@@ -30,11 +30,11 @@ use Rattle.ccan_chip.proofs.Rounds.{found_on}
 use Rattle.ccan_wire.specs.declared.flaw.Flaw.{Flaw}
 use Rattle.ccan_wire.specs.declared.member.Member.{Member}
 use Rattle.ccan_wire.specs.declared.role.Role.{Role}
-use Rattle.ccan_wire.specs.declared.role.Role.TheVariants.{Absent, Silent, Alone}
+use Rattle.ccan_wire.specs.declared.role.Role.TheVariants.{Absent, Silent, Alone, Looped}
 use Rattle.ccan_wire.specs.declared.role.Role.TheVariants as role
 use Rattle.ccan_wire.specs.declared.wire.Wire.{Wire}
 use Rattle.ccan_wire.specs.Event.{event_of}
-use Rattle.ccan_wire.specs.Role.{role_of, role_of_running}
+use Rattle.ccan_wire.specs.Role.{looped, role_of, role_of_running}
 use Rattle.ccan_wire.specs.Wire.{start_of}
 use Rattle.ccan_station.specs.declared.loaded.Loaded.{Loaded}
 use Rattle.ccan_station.specs.Laws.{BeginsAreLoads, EndsAsItBegan, as_of_one}
@@ -55,21 +55,25 @@ not_so : (b : Bool) → not b ≡ true → b ≡ false
 not_so true h = absurd cc
 not_so false h = refl
 
-in_mode_sends : (alone silent : Bool) (r : Role) → may_send r ≡ true
-    → (if alone then Alone else (if silent then Silent else r)) ≢ Silent
-    → may_send (if alone then Alone else (if silent then Silent else r)) ≡ true
-in_mode_sends true silent r h drives = refl
-in_mode_sends false true r h drives = absurd (drives refl)
-in_mode_sends false false r h drives = h
+looped_sends : (silent : Bool) → may_send (if silent then Alone else Looped) ≡ true
+looped_sends true = refl
+looped_sends false = refl
+
+in_mode_sends : (loops silent : Bool) (c : Controller) (r : Role) → may_send r ≡ true
+    → (if loops then looped c else (if silent then Silent else r)) ≢ Silent
+    → may_send (if loops then looped c else (if silent then Silent else r)) ≡ true
+in_mode_sends true silent c r h drives = looped_sends c.test.silent
+in_mode_sends false true c r h drives = absurd (drives refl)
+in_mode_sends false false c r h drives = h
 
 running_sends : (c : Controller) (off passive : Bool) → off ≡ false
     → role_of_running c (if off then Off else (if passive then Passive else Active)) ≢ Silent
     → may_send (role_of_running c (if off then Off else (if passive then Passive else Active))) ≡ true
 running_sends c true passive is drives = absurd cc
 running_sends c false true is drives =
-    in_mode_sends (c.control.test && c.test.lback) (c.control.test && c.test.silent) role.Passive refl drives
+    in_mode_sends (c.control.test && c.test.lback) (c.control.test && c.test.silent) c role.Passive refl drives
 running_sends c false false is drives =
-    in_mode_sends (c.control.test && c.test.lback) (c.control.test && c.test.silent) role.Active refl drives
+    in_mode_sends (c.control.test && c.test.lback) (c.control.test && c.test.silent) c role.Active refl drives
 
 init_sends : (init : Bool) (r : Role) → init ≡ false → (r ≢ Silent → may_send r ≡ true)
     → (if init then Absent else r) ≢ Silent → may_send (if init then Absent else r) ≡ true

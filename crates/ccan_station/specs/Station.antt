@@ -1,6 +1,6 @@
 -- A chip's part in what is on a bus of several: what it does at the start of a frame, what is left of that at a look until the end,
 -- and what it does at the end. Source: C_CAN User's Manual 1.2, "CAN Control Register" (Init: setting it stops all transfer of
--- messages), "Silent Mode" (no transmission can be started) and section 4.2 (transmission of messages: after an error or a lost
+-- messages), "Silent Mode" (no transmission can be started), "Loop Back Mode" and section 4.2 (transmission of messages: after an error or a lost
 -- arbitration the objects are chosen from anew; acceptance filtering of received messages), and "Disabled Automatic
 -- Retransmission". (own): that a chip looks at its controller at the start and at the end of each frame, and makes its event there
 -- after the memory steps; that DAR counts as it is when a transmission starts.
@@ -31,7 +31,7 @@ use Rattle.ccan_chip.specs.Round.{Notes}
 use Rattle.ccan_wire.specs.declared.flaw.Flaw.{Flaw}
 use Rattle.ccan_wire.specs.declared.member.Member.{Member}
 use Rattle.ccan_wire.specs.declared.role.Role.{Role}
-use Rattle.ccan_wire.specs.declared.role.Role.TheVariants.{Absent, Silent, Alone, Passive, Active}
+use Rattle.ccan_wire.specs.declared.role.Role.TheVariants.{Absent, Silent, Alone, Passive, Active, Looped}
 use Rattle.ccan_wire.specs.declared.start.Start.{Start}
 use Rattle.ccan_wire.specs.declared.start.Start.TheVariants as start
 use Rattle.ccan_wire.specs.declared.wire.Wire.{Wire}
@@ -57,6 +57,7 @@ may_send Silent = false
 may_send Alone = true
 may_send Passive = true
 may_send Active = true
+may_send Looped = true
 
 -- what was loaded is dropped if the controller has left the bus, even for a moment
 abbrev pub loaded_before : Controller → Option Loaded → Option Loaded

@@ -21,10 +21,15 @@
 //! |---|---|---|
 //! | at the start | NewDat 0 | TxRqst 0 |
 //! | once it was sent | TxRqst 0, unless NewDat is 1 again | NewDat 0 |
-//! | if it failed, lost the arbitration or was dropped | it stays requested, and is tried again | NewDat stays 1, and a host has to set TxRqst |
+//! | if it failed, lost or was dropped | it stays requested and is tried again | NewDat stays as it was; a host has to set TxRqst |
+//!
+//! A frame is lost if another wins the arbitration, and dropped if the controller leaves the bus.
 //!
 //! Members are settled at the start: who has not begun by then begins with the next frame. Of several `end` calls the order is
 //! the caller's: those who listen first, if a stored frame is to stand before its sender's TxOk.
+//!
+//! A chip in loop back mode is a member that never stops (`Role::Looped`), or one that nobody sees, if Silent is 1 too
+//! (`Role::Alone`). Its frame is sent and received by itself, whatever else is on the bus.
 //!
 //! A [`Plain`] is a node without a chip.
 #![tactic(auto)]

@@ -28,7 +28,7 @@ pub(crate) fn may_send(role: Role) -> bool
 {
     match role {
         Role::Absent | Role::Silent => false,
-        Role::Alone | Role::Passive | Role::Active => true,
+        Role::Alone | Role::Passive | Role::Active | Role::Looped => true,
     }
 }
 
