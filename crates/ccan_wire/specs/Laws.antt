@@ -130,14 +130,14 @@ pub record IsLoopBackFrame (m : ℕ → Member) (k : ℕ) (frame : Frame) : Type
   pub sends : sent_by (m k) ≡ Some frame
   pub deaf : hears (m k).role ≡ false
 
--- it is sent by its member to the end
+-- it is the frame that goes on, and its member is one of its senders
 pub record IsSentBy (start : Start) (k : ℕ) (frame : Frame) : Type 0 where
   pub winner : Winner
   pub won : start ≡ Won winner
   pub is : winner.frame ≡ frame
   pub part : part_of winner k ≡ Sender
 
--- it is whole on the bus, or no frame is
+-- it goes on, or frames collide
 abbrev pub LoopBackFramesGoOnOrSpoil : Type 0
 LoopBackFramesGoOnOrSpoil =
     (m : ℕ → Member) (start : Start) (k : ℕ) (frame : Frame) → Starts m start → IsLoopBackFrame m k frame

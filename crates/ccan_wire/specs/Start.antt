@@ -4,8 +4,8 @@
 -- dominant one); C_CAN User's Manual 1.2, "Loop Back Mode" (the input is disregarded, and the messages are at the output). Members
 -- who send frames that are equal to the last bit see no difference: these are one frame on the bus.
 --
--- A member in loop back mode never stops: neither a lost arbitration nor another's bit is anything to it. So its frame is whole on
--- the bus if no other frame precedes it and the others who send all stop. That two different frames, of which neither stops, spoil
+-- A member in loop back mode never stops: neither a lost arbitration nor another's bit is anything to it. So its frame goes on as it
+-- is if no other frame precedes it and the others who send all stop. That two different frames, of which neither stops, spoil
 -- each other is (own): by the bits, one may rarely cover the other to its end. That it starts its frame when the others start
 -- theirs is (own) too: a part starts it at any time.
 use Rattle.std.specs.Prelude.{ℕ, ◌≡◌, ◌≢◌, ◌≤◌, ◌<◌, Bool, true, false, List, Some, None}

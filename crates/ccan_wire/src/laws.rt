@@ -55,7 +55,7 @@ pub fn lone_frames_are_received()
     ensures { LoneFramesAreReceived }
 {}
 
-/// A frame of a member in loop back mode is whole on the bus, or no frame is.
+/// A frame of a member in loop back mode wins the bus, with the member as a sender of it, or frames collide.
 pub fn loop_back_frames_go_on_or_spoil()
     ensures { LoopBackFramesGoOnOrSpoil }
 {}

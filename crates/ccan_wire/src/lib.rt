@@ -46,7 +46,7 @@
 //! What the model leaves out:
 //!
 //! - A member in loop back mode (without Silent) starts its frame when the others start theirs; a part starts it at any time, also
-//!   into another's frame. Of two different frames, of which neither stops, none is whole, though by the bits one may rarely cover
+//!   into another's frame. Of two different frames, of which neither stops, none goes on, though by the bits one may rarely cover
 //!   the other; and what is left of the frame in loop back mode disturbs nothing behind an error flag.
 //! - An error counts 1 at each receiver. Rule 2 of fault confinement adds 8 where a dominant bit stands behind its own flag.
 //! - A stuff error in the arbitration field of a sender counts 8 as others do: the second exception of rule 3 does not come.

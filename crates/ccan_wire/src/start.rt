@@ -12,7 +12,7 @@ use ccan_accept::Frame;
 pub enum Start {
     /// Nobody sends.
     Nothing,
-    /// No frame is whole on the bus. These members send frames that are equal in the bits of arbitration, and no other frame
+    /// No frame goes on. These members send frames that are equal in the bits of arbitration, and no other frame
     /// precedes them. One of them sees a bit error behind the arbitration and is error active, so that its error flag ends all
     /// these frames; or a member in loop back mode sends another frame over them.
     Collision(Places),
