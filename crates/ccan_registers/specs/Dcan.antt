@@ -65,7 +65,7 @@ is_sending command = is_write command && has_txrqst_newdat command
 
 -- the number in a request: its low eight bits
 abbrev pub number_in : ℕ → ℕ
-number_in request = part request 0 8
+number_in word = part word 0 8
 
 -- it is that of an object
 abbrev pub is_object_of : Profile → ℕ → Bool

@@ -68,9 +68,21 @@ pub(crate) fn test_written(map: Map, word: u16) -> TestRegister
 pub(crate) fn asks_for_reset(map: Map, register: Register, word: u16) -> bool
     ensures { result ≡ says.asks_for_reset map register word }
 {
-    match (map, register) {
-        (Map::Dcan, Register::Control) => word >= 1 << 15 && word % 2 == 1,
-        _ => false,
+    match map {
+        Map::Narrow => false,
+        Map::Wide => false,
+        Map::Dcan => match register {
+            Register::Control => word >= 1 << 15 && word % 2 == 1,
+            Register::Status => false,
+            Register::ErrorCounter => false,
+            Register::BitTiming => false,
+            Register::Interrupt => false,
+            Register::Test => false,
+            Register::Extension => false,
+            Register::Request(_) => false,
+            Register::Buffer(_, _) => false,
+            Register::Flags(_, _) => false,
+        },
     }
 }
 

@@ -58,9 +58,9 @@ fn reset_objects(ram: &EndlessRam, port: &mut Port, tries: Tries) -> Result<(), 
     Ok(())
 }
 
-/// Resets the controller, by this change, and then each object: MsgVal, NewDat, IntPnd and TxRqst of each become 0, and all else of the
-/// objects stays (C_CAN User's Manual 1.2, "Hardware Reset Description"). `Busy` of the controller: nothing was reset. `Busy`
-/// or `Spent` of an object: that one and those behind it were not reset. After `Busy` the call may be made again.
+/// Resets the controller, by this change, and then each object: MsgVal, NewDat, IntPnd and TxRqst of each become 0, and all else
+/// of the objects stays (C_CAN User's Manual 1.2, "Hardware Reset Description"). `Busy` of the controller: nothing was reset.
+/// `Busy` or `Spent` of an object: that one and those behind it were not reset. After `Busy` the call may be made again.
 pub fn reset(
     ram: &EndlessRam,
     holder: &mut PortHolder,
