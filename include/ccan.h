@@ -335,17 +335,20 @@ CCAN_CODE ccan_read16(ccan_host *host, uint32_t offset, uint16_t *out);
 CCAN_CODE ccan_write16(ccan_host *host, uint32_t offset, uint16_t value);
 
 /* Reads the word of 32 bits at an offset of the chip's layout, a multiple of 4. Where both halves are registers of one flag, its 32
- * objects are read at one moment. Else it is as ccan_read16 of its lower half, at the offset, and then, unless that is refused, of
+ * objects are read at one moment. Where they are Bit Timing and BRP Extension, as in CCAN_LAYOUT_D_CAN, it is one look at the
+ * controller. Else it is as ccan_read16 of its lower half, at the offset, and then, unless that is refused, of
  * its upper half, two bytes on: between these two reads steps of other ports may stand. A half where no register begins reads 0.
  * The first of CCAN_OFFSET_RANGE (also where neither half is a register), CCAN_OTHER_INTERFACE and CCAN_BUSY that applies; else
  * CCAN_DONE. */
 CCAN_CODE ccan_read32(ccan_host *host, uint32_t offset, uint32_t *out);
 
-/* Writes the word of 32 bits at an offset of the chip's layout, a multiple of 4: as ccan_write16 its upper half, two bytes on,
- * and then, unless that is refused, its lower half. So the mask of a command of CCAN_LAYOUT_D_CAN is there before its request
- * makes the transfer. What is for a half where no register begins is dropped. CCAN_OFFSET_RANGE (also where neither half is a
- * register) and CCAN_OTHER_INTERFACE: nothing was written. Else CCAN_DONE; CCAN_BUSY and CCAN_SPENT as with ccan_write16, of the
- * half that was refused: where that is the lower one, the upper one is written, and after CCAN_BUSY the call may be made again. */
+/* Writes the word of 32 bits at an offset of the chip's layout, a multiple of 4. Where its halves are Bit Timing and BRP Extension,
+ * as in CCAN_LAYOUT_D_CAN, both are set by one change of the controller, where Init and CCE are 1. Else it is as ccan_write16 of
+ * its upper half, two bytes on, and then, unless that is refused, of its lower half. So the mask of a command of
+ * CCAN_LAYOUT_D_CAN is there before its request makes the transfer. What is for a half where no register begins is dropped.
+ * CCAN_OFFSET_RANGE (also where neither half is a register) and CCAN_OTHER_INTERFACE: nothing was written. Else CCAN_DONE;
+ * CCAN_BUSY and CCAN_SPENT as with ccan_write16, of the half that was refused: where that is the lower one, the upper one is
+ * written, and after CCAN_BUSY the call may be made again. */
 CCAN_CODE ccan_write32(ccan_host *host, uint32_t offset, uint32_t value);
 
 /* Whether the part pulls its interrupt line: 1 where IE is 1 and the Interrupt register is not 0, else 0.

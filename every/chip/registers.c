@@ -181,6 +181,22 @@ static uint32_t word_refusal(unsigned side, uint32_t offset, reg *low, reg *high
     return code != CCAN_DONE || high->name == NO_REGISTER ? code : refusal(*high, side);
 }
 
+/* The halves are Bit Timing and BRP Extension: the BTR register of a D_CAN. */
+static bool is_bit_timing(reg low, reg high) { return low.name == BIT_TIMING && high.name == EXTENSION; }
+
+static void tell_bit_timing(const char *does, uint16_t register_value, uint16_t extension)
+{
+    tell("%s %s, BRPE %u", does, controller_words(BIT_TIMING, register_value), extension & 15);
+}
+
+static uint32_t bit_timing_read(void)
+{
+    step_at_controller(PART_TIMING | PART_EXTENSION, 0);
+    const controller *of = &C.controller;
+    tell_bit_timing("reads", of->timing, of->extension);
+    return (uint32_t)of->extension << 16 | of->timing;
+}
+
 static uint32_t read32(unsigned side, uint32_t offset, uint32_t *out)
 {
     reg low, high;
@@ -189,6 +205,8 @@ static uint32_t read32(unsigned side, uint32_t offset, uint32_t *out)
         return code;
     if (low.name == OF_FLAG && high.name == OF_FLAG) {
         value = (uint32_t)(flags_now(low.of, 0xffffffffull << 16 * low.number) >> 16 * low.number);
+    } else if (is_bit_timing(low, high)) {
+        value = bit_timing_read();
     } else {
         value = register_read(low);
         value |= (uint32_t)register_read(high) << 16;
@@ -229,6 +247,16 @@ static void controller_write(enum reg_name name, uint16_t value)
     controller_written(name, value);
     changed_controller(&before);
     tell("writes %s", controller_words(name, value));
+}
+
+static void bit_timing_write(uint16_t register_value, uint16_t extension)
+{
+    step_at_controller(PART_INIT | PART_CONTROL, PART_TIMING | PART_EXTENSION);
+    controller before = C.controller;
+    controller_written(BIT_TIMING, register_value);
+    controller_written(EXTENSION, extension);
+    changed_controller(&before);
+    tell_bit_timing("writes", register_value, extension);
 }
 
 /* A software reset of a D_CAN: the controller, and then each object. */
@@ -285,11 +313,15 @@ static uint32_t write32(unsigned side, uint32_t offset, uint32_t value)
 {
     reg low, high;
     uint32_t code = word_refusal(side, offset, &low, &high);
-    if (code == CCAN_DONE) {
+    if (code != CCAN_DONE)
+        return code;
+    if (is_bit_timing(low, high)) {
+        bit_timing_write((uint16_t)value, (uint16_t)(value >> 16));
+    } else {
         register_write(high, (uint16_t)(value >> 16));
         register_write(low, (uint16_t)value);
     }
-    return code;
+    return CCAN_DONE;
 }
 
 /* ---- the calls */

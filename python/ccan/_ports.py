@@ -93,11 +93,11 @@ class Port:
         self._call(self._prefix + "write16", unsigned(offset, 32, "offset"), unsigned(value, 16, "value"))
 
     def read32(self, offset: int) -> int:
-        """Reads the word of 32 bits at an offset, a multiple of 4: the lower half first, and two of a flag at one moment."""
+        """Reads the word of 32 bits at an offset, a multiple of 4: the lower half first; two of a flag, or BTR, at one moment."""
         return self._number(self._prefix + "read32", ctypes.c_uint32, unsigned(offset, 32, "offset"))
 
     def write32(self, offset: int, value: int) -> None:
-        """Writes the word of 32 bits at an offset, a multiple of 4: the upper half first."""
+        """Writes the word of 32 bits at an offset, a multiple of 4: the upper half first; BTR of a D_CAN at one moment."""
         self._call(self._prefix + "write32", unsigned(offset, 32, "offset"), unsigned(value, 32, "value"))
 
     def line(self) -> bool:

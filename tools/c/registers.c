@@ -346,6 +346,13 @@ static void words_written(void)
     EXPECT(ccan_bus_write32(&chip.bus, place_of(timing) & ~3u, (uint32_t)0x2301 << half) == CCAN_DONE && get(timing) == 0x2301);
     if (layout == CCAN_LAYOUT_C_CAN_32)
         return;
+    if (is_dcan()) { /* both halves of BTR at once, without the reserved bits, and neither without CCE */
+        EXPECT(ccan_meet(&chip) == CCAN_DONE);
+        EXPECT(ccan_write32(&chip.if1, 0x0c, 0xfff59c00) == CCAN_DONE && get(timing) == 0x1c00 && get(extension) == 0x0005);
+        put(control, 0x01);
+        EXPECT(ccan_meet(&chip) == CCAN_DONE);
+        EXPECT(ccan_write32(&chip.if1, 0x0c, 0x00002301) == CCAN_DONE && get(timing) == 0x1c00 && get(extension) == 0x0005);
+    }
     row = &rows[FLAGS + 6];
     put(&rows[8], 0x0000);  /* a Command Mask that moves nothing */
     put(&rows[12], 0x8000); /* MsgVal */

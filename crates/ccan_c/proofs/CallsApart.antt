@@ -66,7 +66,7 @@ use Rattle.ccan_registers.specs.Frames.{BeginsOnChip, EndsOnChip, StationState}
 use Rattle.ccan_registers.specs.InterfaceSet.{Transferred}
 use Rattle.ccan_registers.specs.Objects.{ShowsFlags, ShowsInterrupt, ShowsObject, WaitsFor, transfer}
 use Rattle.ccan_registers.specs.Register as access
-use Rattle.ccan_registers.specs.Register.{InterruptValue, PullsLine, Reads, ReadsApart, ReadsAt, ReadsFlags, ReadsHalves, ReadsWord, Writes, WritesAt, WritesRest, WritesWord, is_refused}
+use Rattle.ccan_registers.specs.Register.{InterruptValue, PullsLine, Reads, ReadsApart, ReadsAt, ReadsFlags, ReadsHalves, ReadsTiming, ReadsWord, Writes, WritesApart, WritesAt, WritesHalves, WritesRest, WritesTiming, WritesWord, is_refused}
 use Rattle.ccan_registers.specs.Register.{RequestsBy, change_by, is_own}
 use Rattle.ccan_registers.specs.Dcan.{Sends, asks_for_reset, is_object_of, is_sending, number_in}
 use Rattle.ccan_registers.specs.Resetting.{HaveReset, ResetsChip, ResetsObject, ResetsObjects}
@@ -424,8 +424,10 @@ module _ (terms : Terms) (tries : ℕ) (some : 1 ≤ tries) where
 
   word_apart : (layout : Map) (offset : ℕ) (own : InterfaceSet) (seen added : ChipHistory)
       (told : Option (Result ℕ AccessError)) → ActsAlone terms.port added
-      → ReadsFlags terms layout offset seen added told ⊎ ReadsApart terms tries layout offset own seen added told
-      → ReadsFlags single layout offset seen added told ⊎ ReadsApart single tries layout offset own seen added told
+      → ReadsFlags terms layout offset seen added told ⊎ ReadsTiming terms layout offset seen added told
+      ⊎ ReadsApart terms tries layout offset own seen added told
+      → ReadsFlags single layout offset seen added told ⊎ ReadsTiming single layout offset seen added told
+      ⊎ ReadsApart single tries layout offset own seen added told
   word_apart layout offset own seen added told alone (inl h) =
       inl (record {
         flag = h.flag;
@@ -436,8 +438,14 @@ module _ (terms : Terms) (tries : ℕ) (some : 1 ≤ tries) where
         shows = shown_flags_apart h.flag seen added h.word alone h.shows;
         told_is = h.told_is;
       })
-  word_apart layout offset own seen added told alone (inr h) =
-      inr (record { other = h.other; halves = halves_apart layout offset own seen added told alone h.halves })
+  word_apart layout offset own seen added told alone (inr (inl h)) =
+      inr (inl (record { are = h.are; found = h.found; looks = h.looks; told_is = h.told_is }))
+  word_apart layout offset own seen added told alone (inr (inr h)) =
+      inr (inr (record {
+        no_flags = h.no_flags;
+        no_timing = h.no_timing;
+        halves = halves_apart layout offset own seen added told alone h.halves;
+      }))
 
   reads_word_apart : (layout : Map) (offset : ℕ) (own : InterfaceSet) (seen added : ChipHistory)
       (told : Option (Result ℕ AccessError)) → ActsAlone terms.port added
@@ -445,25 +453,49 @@ module _ (terms : Terms) (tries : ℕ) (some : 1 ≤ tries) where
   reads_word_apart layout offset own seen added told alone h =
       passed_or_not (offset % 4 == 0) _ _ _ _ (word_apart layout offset own seen added told alone) same h
 
+  halves_written_apart : (layout : Map) (offset value : ℕ) (own left : InterfaceSet) (seen added : ChipHistory)
+      (told : Option (Result (Unit {0}) AccessError)) → ActsAlone terms.port added
+      → WritesHalves terms tries layout offset value own seen added told left
+      → WritesHalves single tries layout offset value own seen added told left
+  halves_written_apart layout offset value own left seen added told alone (high, k) = (
+    high,
+    passed_or_not (is_refused high) _ _ _ _
+        (λ (x, is). (writes_at_apart layout (offset + 2) (value / 2 ^ 16) own left seen added high alone x, is))
+        (λ (low, between, x, is). (
+          low,
+          between,
+          both_apart _ _ _ _ seen added alone
+              (λ s a only. writes_at_apart layout (offset + 2) (value / 2 ^ 16) own between s a high only)
+              (λ s a only. writes_at_apart layout offset (value % 2 ^ 16) between left s a low only) x,
+          is,
+        )) k,
+  )
+
+  word_written_apart : (layout : Map) (offset value : ℕ) (own left : InterfaceSet) (seen added : ChipHistory)
+      (told : Option (Result (Unit {0}) AccessError)) → ActsAlone terms.port added
+      → WritesTiming terms tries layout offset value own seen added told left
+      ⊎ WritesApart terms tries layout offset value own seen added told left
+      → WritesTiming single tries layout offset value own seen added told left
+      ⊎ WritesApart single tries layout offset value own seen added told left
+  word_written_apart layout offset value own left seen added told alone (inl h) =
+      inl (record {
+        are = h.are;
+        ended = h.ended;
+        writes = record { makes = h.writes.makes; left_is = h.writes.left_is };
+        told_is = h.told_is;
+      })
+  word_written_apart layout offset value own left seen added told alone (inr h) =
+      inr (record {
+        no_timing = h.no_timing;
+        halves = halves_written_apart layout offset value own left seen added told alone h.halves;
+      })
+
   writes_word_apart : (layout : Map) (offset value : ℕ) (own left : InterfaceSet) (seen added : ChipHistory)
       (told : Option (Result (Unit {0}) AccessError)) → ActsAlone terms.port added
       → WritesWord terms tries layout offset value own seen added told left
       → WritesWord single tries layout offset value own seen added told left
   writes_word_apart layout offset value own left seen added told alone h =
-      passed_or_not (offset % 4 == 0) _ _ _ _
-      (λ (high, k). (
-        high,
-        passed_or_not (is_refused high) _ _ _ _
-            (λ (x, is). (writes_at_apart layout (offset + 2) (value / 2 ^ 16) own left seen added high alone x, is))
-            (λ (low, between, x, is). (
-              low,
-              between,
-              both_apart _ _ _ _ seen added alone
-                  (λ s a only. writes_at_apart layout (offset + 2) (value / 2 ^ 16) own between s a high only)
-                  (λ s a only. writes_at_apart layout offset (value % 2 ^ 16) between left s a low only) x,
-              is,
-            )) k,
-      )) same h
+      passed_or_not (offset % 4 == 0) _ _ _ _ (word_written_apart layout offset value own left seen added told alone) same h
 
   -- ---- loads and rounds
 

@@ -202,6 +202,7 @@ host_after (change.WriteControlBits which to) c is =
 host_after (change.WriteTest test) c is = is
 host_after (change.WriteBitTiming word) c is = is
 host_after (change.WriteExtension word) c is = is
+host_after (change.WriteTiming register extension) c is = is
 host_after change.Reset c is = refl
 host_after change.ResetDcan c is = refl
 host_after change.Join c is = is

@@ -119,6 +119,7 @@ changed_by (change.WriteControlBits which to) c = controlled (control_with which
 changed_by (change.WriteTest test) c = record c { test = (if c.control.test then test else c.test) }
 changed_by (change.WriteBitTiming word) c = timed (timing_of word c.timing.extension) c
 changed_by (change.WriteExtension word) c = timed (timing_of c.timing.register word) c
+changed_by (change.WriteTiming register extension) c = timed (timing_of register extension) c
 changed_by change.Reset c = reset_controller
 changed_by change.ResetDcan c = record reset_controller { status = record { tx_ok = false; rx_ok = false; lec = 7 } }
 changed_by change.Join c = record c { has_left = false }

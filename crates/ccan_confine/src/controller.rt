@@ -273,6 +273,9 @@ impl Controller {
             ControllerChange::WriteTest(_) => self,
             ControllerChange::WriteBitTiming(word) => self.timed(self.timing.with_register(word)),
             ControllerChange::WriteExtension(word) => self.timed(self.timing.with_extension(word)),
+            ControllerChange::WriteTiming(register, extension) => {
+                self.timed(BitTiming::new(register, extension))
+            }
             ControllerChange::Reset => Controller::reset(),
             ControllerChange::ResetDcan => Controller {
                 status: StatusFlags::new(false, false, 7),

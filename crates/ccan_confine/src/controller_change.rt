@@ -33,6 +33,10 @@ pub enum ControllerChange {
     /// A host writes the BRP Extension register, without its reserved bits. It stays where Init or CCE of the Control register
     /// is 0 (C_CAN User's Manual 1.2, "BRP Extension Register").
     WriteExtension(u16),
+    /// A host writes the Bit Timing and the BRP Extension register at once, without their reserved bits: the BTR register of a
+    /// D_CAN has both. They stay where Init or CCE of the Control register is 0 (Texas Instruments, AM335x Technical Reference
+    /// Manual, chapter DCAN, "Bit Timing Register").
+    WriteTiming(u16, u16),
     /// A hardware reset: Init is 1, so the controller has left the bus, the Bit Timing register is 0x2301, and all else is 0
     /// as in a new controller (C_CAN User's Manual 1.2, "Hardware Reset Description"). By the message handler's side alone.
     Reset,

@@ -9,7 +9,7 @@ use Rattle.ccan_ram.specs.Terms.{Terms}
 use Rattle.ccan_ram.specs.Tries.{most_tries}
 use Rattle.ccan_bus.specs.Complete.{Completes}
 use Rattle.ccan_endless.specs.Chip.{ChipHistory}
-use Rattle.ccan_endless.specs.ChipPort.{ChipPass, SeesOne}
+use Rattle.ccan_endless.specs.ChipPort.{ChipPass}
 use Rattle.ccan_endless.specs.Layout.{same_object}
 use Rattle.ccan_station.specs.declared.begun.Begun.{Begun}
 use Rattle.ccan_station.specs.declared.ended.Ended.{Ended}
@@ -17,7 +17,6 @@ use Rattle.ccan_station.specs.declared.station.Station.{Station}
 use Rattle.ccan_station.specs.declared.stayed.Stayed.{Stayed}
 use Rattle.ccan_station.specs.Station.{Begins, Ends, Loads, Stays, due, frame_won, loaded_before, may_send, role_now, sending_now, sent_as, still_loaded}
 use Rattle.ccan_wire.specs.declared.flaw.Flaw.{Flaw}
-use Rattle.ccan_wire.specs.declared.member.Member.{Member}
 use Rattle.ccan_wire.specs.declared.wire.Wire.{Wire}
 use Rattle.ccan_wire.specs.Wire.{start_of}
 use Rattle.ccan_registers.specs.ChipSteps.{ChipGoes, OnObjects}

@@ -282,17 +282,32 @@ pub record ReadsFlags (terms : Terms) (map : Map) (offset : ℕ) (seen added : C
   pub shows : ShowsFlags terms flag seen added word
   pub told_is : told ≡ Some (Ok (part word (16 * index_of high) 16 * 2 ^ 16 + part word (16 * index_of low) 16))
 
+-- the halves of the word at an offset are Bit Timing and BRP Extension: it is the BTR register of a D_CAN
+pub record AreTiming (map : Map) (profile : Profile) (offset : ℕ) : Type 0 where
+  pub lower : IsAt map profile offset register.BitTiming
+  pub upper : IsAt map profile (offset + 2) register.Extension
+
+-- the bit timing, of which a word is read: one look at the controller
+pub record ReadsTiming (terms : Terms) (map : Map) (offset : ℕ) (seen added : ChipHistory)
+    (told : Option (Result ℕ AccessError)) : Type 0 where
+  pub are : AreTiming map terms.profile offset
+  pub found : Controller
+  pub looks : AtController terms.port Look found seen added
+  pub told_is : told ≡ Some (Ok (found.timing.extension * 2 ^ 16 + found.timing.register))
+
 -- any other word: its halves, one after the other
 pub record ReadsApart (terms : Terms) (tries : ℕ) (map : Map) (offset : ℕ) (own : InterfaceSet) (seen added : ChipHistory)
     (told : Option (Result ℕ AccessError)) : Type 0 where
-  pub other : (flag : Flag) (low high : FlagPart) → AreFlags map terms.profile offset flag low high → ⊥
+  pub no_flags : (flag : Flag) (low high : FlagPart) → AreFlags map terms.profile offset flag low high → ⊥
+  pub no_timing : AreTiming map terms.profile offset → ⊥
   pub halves : ReadsHalves terms tries map offset own seen added told
 
 -- A read of the word at an offset. One that is not a multiple of 4 is none of a word.
 abbrev pub ReadsWord : Terms → ℕ → Map → ℕ → InterfaceSet → ChipHistory → ChipHistory → Option (Result ℕ AccessError) → Type 0
 ReadsWord terms tries map offset own seen added told =
     MatchBool (offset % 4 == 0)
-    (ReadsFlags terms map offset seen added told ⊎ ReadsApart terms tries map offset own seen added told)
+    (ReadsFlags terms map offset seen added told ⊎ ReadsTiming terms map offset seen added told
+    ⊎ ReadsApart terms tries map offset own seen added told)
     ((added ≡ []) × (told ≡ None))
 
 -- how both halves were written, the upper one, which was not refused, before the lower one
@@ -301,7 +316,7 @@ abbrev pub both_written : Option (Result (Unit {0}) AccessError) → Option (Res
 both_written high None = high
 both_written high (Some low) = Some low
 
--- A write of the word at an offset: of its upper half, and then, unless that was refused, of its lower one. So the Command Mask
+-- A write of the halves of a word: of its upper one, and then, unless that was refused, of its lower one. So the Command Mask
 -- register of a D_CAN is written before the Command Request register, which stands below it and starts the transfer.
 abbrev pub WritesHalves : Terms → ℕ → Map → ℕ → ℕ → InterfaceSet → ChipHistory → ChipHistory
     → Option (Result (Unit {0}) AccessError) → InterfaceSet → Type 0
@@ -312,8 +327,26 @@ WritesHalves terms tries map offset value own seen added told left =
     × Then (λ s a. WritesAt terms tries map (offset + 2) (value / 2 ^ 16) own s a high between)
     (λ s a. WritesAt terms tries map offset (value % 2 ^ 16) between s a low left) seen added × (told ≡ both_written high low))
 
+-- the bit timing, of which a word is written: one change of the controller
+pub record WritesTiming (terms : Terms) (tries : ℕ) (map : Map) (offset value : ℕ) (own : InterfaceSet)
+    (seen added : ChipHistory) (told : Option (Result (Unit {0}) AccessError)) (left : InterfaceSet) : Type 0 where
+  pub are : AreTiming map terms.profile offset
+  pub ended : Result (Unit {0}) AccessError
+  pub writes :
+      WritesController terms (change.WriteTiming (value % 2 ^ 16) (value / 2 ^ 16)) tries own seen added ended left
+  pub told_is : told ≡ Some ended
+
+-- any other word: its halves, one after the other
+pub record WritesApart (terms : Terms) (tries : ℕ) (map : Map) (offset value : ℕ) (own : InterfaceSet)
+    (seen added : ChipHistory) (told : Option (Result (Unit {0}) AccessError)) (left : InterfaceSet) : Type 0 where
+  pub no_timing : AreTiming map terms.profile offset → ⊥
+  pub halves : WritesHalves terms tries map offset value own seen added told left
+
+-- A write of the word at an offset. One that is not a multiple of 4 is none of a word.
 abbrev pub WritesWord : Terms → ℕ → Map → ℕ → ℕ → InterfaceSet → ChipHistory → ChipHistory
     → Option (Result (Unit {0}) AccessError) → InterfaceSet → Type 0
 WritesWord terms tries map offset value own seen added told left =
-    MatchBool (offset % 4 == 0) (WritesHalves terms tries map offset value own seen added told left)
+    MatchBool (offset % 4 == 0)
+    (WritesTiming terms tries map offset value own seen added told left
+    ⊎ WritesApart terms tries map offset value own seen added told left)
     ((added ≡ []) × (told ≡ None) × (left ≡ own))

@@ -23,8 +23,8 @@
 //!
 //! A port tells another what it has seen by a note (`tell`, `heed`).
 //!
-//! A word of 32 bits (`read_word`, `write_word`) is two registers, one after the other. What a D_CAN does otherwise than a C_CAN
-//! stands in `dcan`.
+//! A word of 32 bits (`read_word`, `write_word`) is two registers, one after the other; two of one flag, and Bit Timing with BRP
+//! Extension, are one access. What a D_CAN does otherwise than a C_CAN stands in `dcan`.
 #![tactic(auto)]
 
 mod access_error;

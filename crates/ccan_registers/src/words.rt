@@ -1,18 +1,22 @@
 //! Reads and writes of two registers that make up a word of 32 bits.
-ghost use Rattle.std.specs.Prelude.{◌≡◌, ◌+◌, ◌<◌, ◌^◌, ◌⊎◌, IfNone, IfSome};
+ghost use Rattle.std.specs.Prelude.{◌≡◌, ◌+◌, ◌<◌, ◌*◌, ◌/◌, ◌%◌, ◌^◌, ◌⊎◌, true, false, IfNone, IfSome};
 ghost use Rattle.ccan_map.specs.declared.flag_part.FlagPart.{FlagPart};
 ghost use Rattle.ccan_ram.specs.declared.flag.Flag.{Flag};
 ghost use Rattle.ccan_ram.specs.declared.port.PortName.TheVariants.{Bus as BusPort};
-ghost use Rattle.ccan_registers.specs.ChipSteps.{ChipGoes};
+ghost use Rattle.ccan_confine.specs.declared.controller_change.ControllerChange.TheVariants.{WriteTiming};
+ghost use Rattle.ccan_registers.specs.ChipSteps.{ChipGoes, Makes};
 ghost use Rattle.ccan_registers.specs.PortHolder.{port_at};
 ghost use Rattle.ccan_registers.specs.Register as says;
-ghost use Rattle.ccan_registers.specs.Register.{AreFlags, ReadsApart, ReadsFlags, ReadsHalves, ReadsWord, WritesHalves, WritesWord};
+ghost use Rattle.ccan_registers.specs.Register.{AreFlags, AreTiming, ReadsApart, ReadsFlags, ReadsHalves, ReadsTiming, ReadsWord};
+ghost use Rattle.ccan_registers.specs.Register.{WritesApart, WritesHalves, WritesTiming, WritesWord};
 
 use crate::access_error::AccessError;
+use crate::controller::look;
 use crate::interface_set::InterfaceSet;
 use crate::objects::flags;
 use crate::port_holder::PortHolder;
-use crate::registers::{read_at, write_at};
+use crate::registers::{read_at, write_at, write_controller};
+use ccan_confine::{BitTiming, ControllerChange};
 use ccan_endless::EndlessRam;
 use ccan_map::{FlagPart, Map, Register};
 use ccan_object::Profile;
@@ -95,6 +99,50 @@ fn flags_at(map: Map, profile: Profile, offset: u32) -> Option<(Flag, FlagPart, 
     }
 }
 
+/// Whether the halves of the word at an offset are Bit Timing and BRP Extension.
+fn is_timing(map: Map, profile: Profile, offset: u32) -> bool
+    requires small { offset + 2 < 2 ^ 32 }
+    ensures yes { result ≡ true → AreTiming map profile offset }
+    ensures no { result ≡ false → AreTiming map profile offset → ⊥ }
+{
+    let lower = map.register_at(profile, offset);
+    let upper = map.register_at(profile, offset + 2);
+    matches!(
+        (lower, upper),
+        (Some(Register::BitTiming), Some(Register::Extension))
+    )
+}
+
+/// Bit Timing and BRP Extension in one word, the former in its lower half.
+fn timing_word(timing: BitTiming) -> u32
+    ensures { result ≡ timing.extension * 2 ^ 16 + timing.register }
+{
+    (u32::from(timing.extension()) << 16) + u32::from(timing.register())
+}
+
+/// Reads the word of 32 bits at an offset that is a multiple of 4, where it is none of flags.
+fn read_other(
+    own: &InterfaceSet,
+    ram: &EndlessRam,
+    holder: &mut PortHolder,
+    map: Map,
+    offset: u32,
+    tries: Tries,
+) -> Option<Result<u32, AccessError>>
+    requires memory { (port_at holder.old).pass.memory ≡ ram.now.words }
+    requires small { offset + 2 < 2 ^ 32 }
+    requires other { (flag : Flag) (low high : FlagPart)
+        → AreFlags map ram.now.words.profile offset flag low high → ⊥ }
+    ensures { ChipGoes (port_at holder.old) (port_at holder.new) (λ terms seen added.
+        ReadsTiming terms map offset seen added result
+        ⊎ ReadsApart terms tries map offset own.now seen added result) }
+{
+    if is_timing(map, ram.profile(), offset) {
+        return Some(Ok(timing_word(look(ram, holder).timing)));
+    }
+    read_halves(own, ram, holder, map, offset, tries)
+}
+
 /// Reads the word of 32 bits at an offset that is a multiple of 4.
 fn read_aligned(
     own: &InterfaceSet,
@@ -108,6 +156,7 @@ fn read_aligned(
     requires small { offset + 2 < 2 ^ 32 }
     ensures { ChipGoes (port_at holder.old) (port_at holder.new) (λ terms seen added.
         ReadsFlags terms map offset seen added result
+        ⊎ ReadsTiming terms map offset seen added result
         ⊎ ReadsApart terms tries map offset own.now seen added result) }
 {
     match flags_at(map, ram.profile(), offset) {
@@ -115,13 +164,13 @@ fn read_aligned(
             let word = flags(ram, holder, flag);
             Some(Ok((u32::from(high.of(word)) << 16) + u32::from(low.of(word))))
         }
-        None => read_halves(own, ram, holder, map, offset, tries),
+        None => read_other(own, ram, holder, map, offset, tries),
     }
 }
 
-/// Reads the word of 32 bits at an offset, in bytes from where the chip begins. Where both halves are registers of one flag, it
-/// is of one moment; else its lower half is read, and then its upper one. A half without a register reads 0. None where the
-/// offset is no multiple of 4, or neither half has a register.
+/// Reads the word of 32 bits at an offset, in bytes from where the chip begins. Where both halves are registers of one flag, or
+/// Bit Timing and BRP Extension, it is of one moment; else its lower half is read, and then its upper one. A half without a
+/// register reads 0. None where the offset is no multiple of 4, or neither half has a register.
 pub fn read_word(
     own: &InterfaceSet,
     ram: &EndlessRam,
@@ -167,9 +216,54 @@ fn write_halves(
     both_written(high, low)
 }
 
-/// Writes the word of 32 bits at an offset, in bytes from where the chip begins: its upper half, and then its lower one, so that
-/// a command of a D_CAN is there before its request. A half without a register drops its bits. None where the offset is no
-/// multiple of 4, or neither half has a register.
+/// Writes Bit Timing and BRP Extension by one change of the controller.
+fn write_timing(
+    ram: &EndlessRam,
+    holder: &mut PortHolder,
+    value: u32,
+    tries: Tries,
+) -> Result<(), AccessError>
+    requires memory { (port_at holder.old).pass.memory ≡ ram.now.words }
+    ensures { ChipGoes (port_at holder.old) (port_at holder.new) (λ terms seen added.
+        Makes terms (WriteTiming (value % 2 ^ 16) (value / 2 ^ 16)) tries seen added result) }
+{
+    let register = (value % (1 << 16)) as u16;
+    let extension = (value >> 16) as u16;
+    write_controller(
+        ram,
+        holder,
+        &ControllerChange::WriteTiming(register, extension),
+        tries,
+    )
+}
+
+/// Writes the word of 32 bits at an offset that is a multiple of 4.
+fn write_aligned(
+    own: &mut InterfaceSet,
+    ram: &EndlessRam,
+    holder: &mut PortHolder,
+    map: Map,
+    offset: u32,
+    value: u32,
+    tries: Tries,
+) -> Written
+    requires memory { (port_at holder.old).pass.memory ≡ ram.now.words }
+    requires small { offset + 2 < 2 ^ 32 }
+    ensures goes { ChipGoes (port_at holder.old) (port_at holder.new) (λ terms seen added.
+        WritesTiming terms tries map offset value own.old seen added result own.new
+        ⊎ WritesApart terms tries map offset value own.old seen added result own.new) }
+    ensures bus { (port_at holder.old).pass.port ≡ BusPort → own.new ≡ own.old }
+{
+    if is_timing(map, ram.profile(), offset) {
+        return Some(write_timing(ram, holder, value, tries));
+    }
+    write_halves(own, ram, holder, map, offset, value, tries)
+}
+
+/// Writes the word of 32 bits at an offset, in bytes from where the chip begins. Where its halves are Bit Timing and BRP
+/// Extension, that is one change of the controller. Else its upper half is written, and then its lower one, so that a command
+/// of a D_CAN is there before its request. A half without a register drops its bits. None where the offset is no multiple of 4,
+/// or neither half has a register.
 pub fn write_word(
     own: &mut InterfaceSet,
     ram: &EndlessRam,
@@ -187,5 +281,5 @@ pub fn write_word(
     if offset % 4 != 0 {
         return None;
     }
-    write_halves(own, ram, holder, map, offset, value, tries)
+    write_aligned(own, ram, holder, map, offset, value, tries)
 }

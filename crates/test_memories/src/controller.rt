@@ -5,7 +5,7 @@ ghost use Rattle.ccan_confine.specs.Controller.{CanMake};
 use crate::expect::{holds, same};
 use ccan_confine::ControllerChange::{
     Frame, Join, ReadAndClearStatus, ReadStatus, Recessive, Reset, ResetDcan, WriteBitTiming,
-    WriteControl, WriteControlBits, WriteExtension, WriteStatus, WriteTest,
+    WriteControl, WriteControlBits, WriteExtension, WriteStatus, WriteTest, WriteTiming,
 };
 use ccan_confine::{
     BitTiming, BusEvent, ControlRegister, Controller, ControllerChange, NodeState, StatusEvent,
@@ -136,6 +136,14 @@ fn some_registers_are_written_where_others_let(rt: HostRuntime) {
         (0x41, (0x2301, 3)),
     ] {
         let written = timed(word, 0xa301, 0xfff3);
+        same(&rt, (word, timing_of(&written)), (word, timing));
+    }
+    // So do both of its registers at once.
+    for (word, timing) in [(0x01, (0, 0)), (0x40, (0, 0)), (0x41, (0x2301, 3))] {
+        let written = after(
+            controlled(Controller::new(), word),
+            WriteTiming(0xa301, 0xfff3),
+        );
         same(&rt, (word, timing_of(&written)), (word, timing));
     }
     let timing = BitTiming::new(0x2301, 3);

@@ -344,6 +344,10 @@ fn a_frame_is_received_by_words_of_32_bits(rt: HostRuntime) {
 fn the_bus_reads_and_writes_words_of_32_bits(rt: HostRuntime) {
     let mut chip = reset(&rt, rt.alloc(), 2);
     let mut word = 7;
+    // Without CCE neither changes.
+    same(&rt, bus_write32(&mut chip.bus, 0x00c, 0x0005_1c00), 0);
+    same(&rt, bus_read32(&mut chip.bus, 0x00c, &mut word), 0);
+    same(&rt, word, 0x0000_2301);
     same(&rt, bus_write32(&mut chip.bus, 0x000, 0xffff_0041), 0);
     same(&rt, bus_read32(&mut chip.bus, 0x000, &mut word), 0);
     same(&rt, word, 0x0000_1441);

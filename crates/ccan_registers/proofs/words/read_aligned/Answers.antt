@@ -28,10 +28,8 @@ returns-in-Some c =
 
 pub returns-in-None : goal.returns-in-None
 returns-in-None c =
-    let same = c.profile.ensures ∙ sym (ap (λ (m : Memory). m.profile) c.requires.memory) in
-    weaker (port_at c.args.holder.now) _ _ _ c.read_halves.ensures
-    (λ seen added h. inr (record {
-      other = λ flag low high are. c.in-None.ensures.none flag low high
-          (subst (λ (p : Profile). AreFlags c.args.map p c.args.offset flag low high) (sym same) are);
-      halves = h;
-    }))
+    weaker (port_at c.args.holder.now) _ _ _ c.read_other.ensures (λ seen added h. inr h)
+
+pub read_other-requires-clause-other : goal.read_other-requires-clause-other
+read_other-requires-clause-other c = λ flag low high are. c.in-None.ensures.none flag low high
+    (subst (λ (p : Profile). AreFlags c.args.map p c.args.offset flag low high) (sym c.profile.ensures) are)

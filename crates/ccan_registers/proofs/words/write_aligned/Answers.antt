@@ -1,0 +1,30 @@
+use Rattle.std.proofs.Common.{ap, refl, sym, subst, inl, inr, ◌∙◌}
+use Rattle.ccan_object.specs.declared.profile.Profile.{Profile}
+use Rattle.ccan_ram.specs.SharedRam.{Memory}
+use Rattle.ccan_registers.specs.PortHolder.{port_at}
+use Rattle.ccan_registers.specs.Register.{AreTiming}
+use Rattle.ccan_registers.proofs.Going.{weaker}
+use Rattle.ccan_registers.proofs.words.write_aligned.Goals as goal
+
+pub returns-then-is_timing-clause-goes : goal.returns-then-is_timing-clause-goes
+returns-then-is_timing-clause-goes c =
+    let same = c.profile.ensures ∙ sym (ap (λ (m : Memory). m.profile) c.requires.memory) in
+    weaker (port_at c.args.holder.now) _ _ _ c.write_timing.ensures
+    (λ seen added h. inl (record {
+      are =
+          subst (λ (p : Profile). AreTiming c.args.map p c.args.offset) same
+          (c.is_timing.ensures.yes c.if-is_timing.true);
+      ended = c.write_timing.result;
+      writes = record { makes = h; left_is = refl };
+      told_is = refl;
+    }))
+
+pub returns-clause-goes : goal.returns-clause-goes
+returns-clause-goes c =
+    let same = c.profile.ensures ∙ sym (ap (λ (m : Memory). m.profile) c.requires.memory) in
+    weaker (port_at c.args.holder.now) _ _ _ c.write_halves.ensures.goes
+    (λ seen added h. inr (record {
+      no_timing = λ are. c.is_timing.ensures.no c.if-is_timing.false
+          (subst (λ (p : Profile). AreTiming c.args.map p c.args.offset) (sym same) are);
+      halves = h;
+    }))
