@@ -306,6 +306,7 @@ static int ccan_net_post_load(void *opaque, int version)
 {
     CcanNet *net = opaque;
 
+    /* What ccan_bit_time may answer. */
     if (net->periods < 3 || net->periods > 25600 || net->clock == 0) {
         return -EINVAL;
     }

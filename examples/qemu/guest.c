@@ -3,7 +3,9 @@
  * driver c_can_pci runs them: loads the modules, starts can0 and can1 at
  * 500 kbit/s, sends numbered frames both ways at once, and sees that each
  * comes once. Then it switches the machine off. How many frames each sends is
- * the word frames=N of the kernel's command line.
+ * the word frames=N of the kernel's command line. With the word off=1 it does
+ * something else: can0 sends frames one by one until it was bus off, and was
+ * restarted by the driver, and then as many as frames=N says.
  *
  * A frame may be overtaken by later ones: the driver says of itself that a
  * slow readout may order frames anew. How many were is counted.
@@ -14,6 +16,7 @@
 #include <errno.h>
 #include <fcntl.h>
 #include <linux/can.h>
+#include <linux/can/error.h>
 #include <linux/can/netlink.h>
 #include <linux/can/raw.h>
 #include <linux/rtnetlink.h>
@@ -32,7 +35,8 @@
 #include <time.h>
 #include <unistd.h>
 
-enum { BITRATE = 500000, WAITING = 8, SECONDS = 20, MOST = 1000000 };
+enum { BITRATE = 500000, WAITING = 8, SECONDS = 20, MOST = 1000000,
+       RESTART_MS = 50 };
 
 static uint32_t frames = 2000; /* that each interface sends */
 
@@ -144,6 +148,7 @@ static void ask_kernel(struct request *request)
 static void start_interface(const char *name)
 {
     struct can_bittiming timing = { .bitrate = BITRATE };
+    uint32_t restart = RESTART_MS;
     struct request request = {
         .head = { .nlmsg_len = NLMSG_LENGTH(sizeof(struct ifinfomsg)),
                   .nlmsg_type = RTM_NEWLINK,
@@ -159,6 +164,7 @@ static void start_interface(const char *name)
     add(&request, IFLA_INFO_KIND, "can", strlen("can"));
     data = add(&request, IFLA_INFO_DATA, NULL, 0);
     add(&request, IFLA_CAN_BITTIMING, &timing, sizeof(timing));
+    add(&request, IFLA_CAN_RESTART_MS, &restart, sizeof(restart));
     close_nest(&request, data);
     close_nest(&request, info);
     ask_kernel(&request);
@@ -200,8 +206,8 @@ static uint32_t number_of(const struct can_frame *frame, canid_t id)
     wanted = numbered(id, number);
     errno = 0;
     must(frame->can_id == wanted.can_id && frame->can_dlc == wanted.can_dlc
-         && memcmp(frame->data, wanted.data, sizeof(wanted.data)) == 0
-         && number < frames, "a frame that nobody sent");
+         && memcmp(frame->data, wanted.data, sizeof(wanted.data)) == 0,
+         "a frame that nobody sent");
     return number;
 }
 
@@ -218,6 +224,7 @@ static void hand_over(struct end *end)
 
 static void receive(struct end *end, uint32_t number)
 {
+    must(number < frames, "a frame that nobody sent");
     must(!end->came[number], "a frame that came twice");
     end->came[number] = true;
     end->received++;
@@ -279,12 +286,21 @@ static void wait_for_frames(struct pollfd polled[2])
     must(ready > 0, "waiting for a frame");
 }
 
+static double seconds(void)
+{
+    struct timespec now;
+
+    clock_gettime(CLOCK_MONOTONIC, &now);
+    return (double)now.tv_sec + (double)now.tv_nsec / 1e9;
+}
+
 static void exchange(void)
 {
     struct pollfd polled[2] = {
         { .fd = ends[0].socket, .events = POLLIN },
         { .fd = ends[1].socket, .events = POLLIN },
     };
+    double began = seconds();
 
     while (!is_done(&ends[0]) || !is_done(&ends[1])) {
         hand_over(&ends[0]);
@@ -295,20 +311,66 @@ static void exchange(void)
                 take(&ends[k]);
         }
     }
+    printf("guest: came to: %u frames each way in %.3f s, %u overtaken\n",
+           frames, seconds() - began, ends[0].overtaken + ends[1].overtaken);
 }
 
-static double seconds(void)
-{
-    struct timespec now;
+/* ---- bus off */
 
-    clock_gettime(CLOCK_MONOTONIC, &now);
-    return (double)now.tv_sec + (double)now.tv_nsec / 1e9;
+/* What the driver has said of can0 by error frames. */
+struct told {
+    uint32_t off;
+    uint32_t restarted;
+};
+
+/* Reads what waits at can0: its own frames, and error frames. */
+static void hear(struct told *told)
+{
+    struct can_frame frame;
+
+    while (recv(ends[0].socket, &frame, sizeof(frame), MSG_DONTWAIT) > 0) {
+        if (!(frame.can_id & CAN_ERR_FLAG))
+            continue;
+        told->off += !!(frame.can_id & CAN_ERR_BUSOFF);
+        told->restarted += !!(frame.can_id & CAN_ERR_RESTARTED);
+    }
+}
+
+/* Whether a frame of can0 comes to can1; what waits at a restart does not. */
+static bool comes(uint32_t number)
+{
+    struct pollfd polled = { .fd = ends[1].socket, .events = POLLIN };
+    struct can_frame frame = numbered(ends[0].id, number);
+
+    if (write(ends[0].socket, &frame, sizeof(frame)) != sizeof(frame)
+        || poll(&polled, 1, 2 * RESTART_MS) <= 0)
+        return false;
+    must(read(polled.fd, &frame, sizeof(frame)) == sizeof(frame), "read");
+    must(number_of(&frame, ends[0].id) == number, "another frame came");
+    return true;
+}
+
+static void go_off_and_back(void)
+{
+    can_err_mask_t mask = CAN_ERR_BUSOFF | CAN_ERR_RESTARTED;
+    struct told told = { 0 };
+    uint32_t number = 0, behind = 0;
+
+    must(setsockopt(ends[0].socket, SOL_CAN_RAW, CAN_RAW_ERR_FILTER, &mask,
+                    sizeof(mask)) == 0, "CAN_RAW_ERR_FILTER");
+    while (behind < frames) {
+        must(number < MOST, "can0 never was bus off");
+        if (comes(number) && told.off && told.restarted)
+            behind++;
+        number++;
+        hear(&told);
+    }
+    printf("guest: came to: %u times off, %u times restarted, then %u frames\n",
+           told.off, told.restarted, behind);
 }
 
 int main(void)
 {
-    double began;
-
     setvbuf(stdout, NULL, _IOLBF, 0);
     mkdir("/proc", 0755);
     must(mount("proc", "/proc", "proc", 0, NULL) == 0, "/proc");
@@ -321,10 +383,10 @@ int main(void)
         frames = (uint32_t)strtoul(getenv("frames"), NULL, 10);
     must(frames <= MOST, "too many frames");
     printf("guest: begins\n");
-    began = seconds();
-    exchange();
-    printf("guest: %u frames each way in %.3f s, %u overtaken\n", frames,
-           seconds() - began, ends[0].overtaken + ends[1].overtaken);
+    if (getenv("off"))
+        go_off_and_back();
+    else
+        exchange();
     print_lines_of("/proc/interrupts");
     print_lines_of("/proc/net/dev");
     printf("guest: done\n");
