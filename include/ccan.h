@@ -572,9 +572,11 @@ CCAN_CODE ccan_bus_flags(ccan_bus *bus, uint32_t flag, uint64_t *out);
 enum ccan_role {
     CCAN_ROLE_ABSENT,  /* nothing: Init is 1, it is bus off, or it has left since the start */
     CCAN_ROLE_SILENT,  /* it listens, and sends recessive bits alone: no frame, no acknowledgement, no error flag */
-    CCAN_ROLE_ALONE,   /* loop back mode: it hears itself and nobody else, and nobody sees its bits */
+    CCAN_ROLE_ALONE,   /* loop back mode with Silent: it hears itself and nobody else, and nobody sees its bits */
     CCAN_ROLE_PASSIVE, /* it takes part and is error passive: its error flags are of recessive bits */
-    CCAN_ROLE_ACTIVE   /* it takes part and is error active: its error flags are of dominant bits */
+    CCAN_ROLE_ACTIVE,  /* it takes part and is error active: its error flags are of dominant bits */
+    CCAN_ROLE_LOOPED   /* loop back mode without Silent: it hears itself and nobody else, and its frames are on the bus. It never
+                          stops, and acknowledges nothing; its own fault doesn't count */
 };
 
 /* A member of a bus while one frame is sent. */
@@ -591,7 +593,8 @@ CCAN_HOLDS(offsetof(ccan_member, frame) == 12);
 
 enum ccan_wire_kind {
     CCAN_WIRE_IDLE,     /* nobody sends */
-    CCAN_WIRE_COLLIDED, /* frames with the same bits of arbitration, and an error flag ends them all */
+    CCAN_WIRE_COLLIDED, /* frames with the same bits of arbitration, and an error flag ends them all; or a frame in loop back mode
+                           is driven over another */
     CCAN_WIRE_BROKEN,   /* the frame ends before the end of its CRC sequence: by an error flag, or as its senders have left */
     CCAN_WIRE_FLAGGED,  /* it is acknowledged or flagged in the ACK slot, and an error flag of dominant bits ends it */
     CCAN_WIRE_UNHEARD,  /* nobody acknowledges it; `flagged` says whether an error flag of dominant bits follows */

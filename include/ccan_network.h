@@ -37,8 +37,9 @@
  *    it. A frame that an error flag ends is taken as long as it can be: where in the frame an error stands is not known, unless
  *    ccan_network_finish is called then; and how the error flags of several members overlap isn't looked at. See
  *    ccan_network_finish.
- *  - A chip in loop back mode keeps no time of its own. It has its event when the frame on the bus ends; if nobody else sends, the
- *    others wait until its frame is over.
+ *  - A chip in loop back mode starts its frame when the others start theirs, and not at any time as a part does. If an error flag
+ *    ends the frame for the others, what the chip still sends of it disturbs nothing. With Silent it keeps no time of its own: it
+ *    has its event when the frame on the bus ends; if nobody else sends, the others wait until its frame is over.
  *  - Intermission, suspend transmission, and groups of eleven recessive bits are those of CAN Specification 2.0. There are no
  *    overload frames, no errors between frames and no second error in an error frame; and bits don't differ in length.
  *  - All members see a frame end at once: propagation takes no time. */
@@ -304,18 +305,30 @@ static inline CCAN_CODE ccan_network_private_decide(ccan_network *network, uint6
     return code != CCAN_DONE ? code : told;
 }
 
-/* How many bits the longest frame has that is sent, on the bus or in loop back mode if the bus is idle: 0 if none is. */
+/* How many bits the longest frame has that is sent, on the bus or only to itself if the bus is idle: 0 if none is. One in loop back
+ * mode drives its frame to the end, also if it loses the arbitration. */
 static inline uint32_t ccan_network_private_longest(const ccan_network *network)
 {
     uint32_t longest = 0, bits;
     for (uint32_t k = 0; k < CCAN_NETWORK_MEMBERS; k++) {
         const ccan_member *member = &network->at[k].member;
         const bool alone = network->wire.kind == CCAN_WIRE_IDLE && member->role == CCAN_ROLE_ALONE && member->sends;
-        if ((alone || network->wire.part[k] == CCAN_PART_SENDER) && ccan_frame_bits(&member->frame, &bits) == CCAN_DONE
+        const bool looped = member->role == CCAN_ROLE_LOOPED && member->sends;
+        if ((alone || looped || network->wire.part[k] == CCAN_PART_SENDER) && ccan_frame_bits(&member->frame, &bits) == CCAN_DONE
             && bits > longest)
             longest = bits;
     }
     return longest;
+}
+
+/* Whether a sender of the frame that is error passive is there, which flags a missing acknowledgement by six recessive bits. One in
+ * loop back mode does not. */
+static inline bool ccan_network_private_passive(const ccan_network *network)
+{
+    bool found = false;
+    for (uint32_t k = 0; k < CCAN_NETWORK_MEMBERS; k++)
+        found = found || (network->wire.part[k] == CCAN_PART_SENDER && network->at[k].member.role == CCAN_ROLE_PASSIVE);
+    return found;
 }
 
 /* How many bits stand between the start of a frame and the intermission, where an error that breaks it is found after so many. */
@@ -324,6 +337,8 @@ static inline uint64_t ccan_network_private_length(const ccan_network *network, 
     const uint64_t bits = network->bits;
     switch (network->wire.kind) {
     case CCAN_WIRE_UNHEARD: /* an error flag begins behind the ACK slot, 8 bits before the end: 6 bits, one later, delimiter of 8 */
+        if (!network->wire.flagged && !ccan_network_private_passive(network))
+            return bits;
         return bits - 8 + 6 + (network->wire.flagged ? 1 : 0) + 8;
     case CCAN_WIRE_FLAGGED: /* behind the ACK delimiter, 7 bits before the end; the others' flags begin a bit later */
         return bits - 7 + 6 + 1 + 8;
@@ -343,7 +358,7 @@ static inline uint64_t ccan_network_private_length(const ccan_network *network, 
  * request and ccan_network_offer are seen by the next call, so call it behind these too.
  *
  * While a frame is under way nothing is done but to tell its end. Time passes as by ccan_network_pass. A chip in loop back mode
- * that sends to itself is a frame under way too, also if the bus is idle (`wire.kind` is CCAN_WIRE_IDLE).
+ * with Silent that sends to itself is a frame under way too, also if the bus is idle (`wire.kind` is CCAN_WIRE_IDLE).
  *
  * The code is that of the first member with another one than CCAN_DONE, and all else is done: CCAN_CLOSED, it takes no part;
  * CCAN_BUSY, CCAN_SPENT, the start of its object was refused, and it sends nothing, or it has missed groups of recessive bits;
@@ -463,7 +478,8 @@ static inline CCAN_CODE ccan_network_private_end(ccan_network *network, bool sen
  * From the start of the frame to the intermission there are, with n bits of ccan_frame_bits:
  *
  *   CCAN_WIRE_CARRIED                 n, exactly
- *   CCAN_WIRE_UNHEARD, not flagged    n + 6, exactly: 6 recessive bits behind the ACK slot, and the delimiter of 8
+ *   CCAN_WIRE_UNHEARD, not flagged    n + 6, exactly: 6 recessive bits behind the ACK slot, and the delimiter of 8; or n, exactly,
+ *                                     if each of its senders that is still there is in loop back mode
  *   CCAN_WIRE_UNHEARD, flagged        n + 7: at most; n + 6 if the sender's error flag is the only one
  *   CCAN_WIRE_FLAGGED                 n + 8: at most; n + 7 if an error flag begins in the ACK slot or right behind it
  *   CCAN_WIRE_BROKEN, _COLLIDED       20 more than until the error: at most; an error frame has 14 to 20 bits, as the error flags
@@ -485,8 +501,10 @@ static inline CCAN_CODE ccan_network_finish(ccan_network *network, uint64_t now,
     network->ended = network->began
         + ccan_network_private_length(network, now > network->began ? now - network->began : 0);
     network->free = network->ended + 3;
-    if (network->wire.kind != CCAN_WIRE_IDLE) /* unacknowledged and unflagged, it is recessive from its CRC delimiter on */
-        network->group_began = network->ended - (network->wire.kind == CCAN_WIRE_UNHEARD && !network->wire.flagged ? 16 : 8);
+    if (network->wire.kind == CCAN_WIRE_UNHEARD && !network->wire.flagged)
+        network->group_began = network->began + network->bits - 10; /* it is recessive from its CRC delimiter on */
+    else if (network->wire.kind != CCAN_WIRE_IDLE)
+        network->group_began = network->ended - 8;
     network->under_way = 0;
     *until = network->free;
     return code != CCAN_DONE ? code : listeners != CCAN_DONE ? listeners : senders;

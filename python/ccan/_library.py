@@ -230,9 +230,10 @@ class Role(enum.IntEnum):
 
     ABSENT = 0  #: nothing: Init is 1, it is bus off, or it has left since the start
     SILENT = 1  #: it listens, and sends recessive bits alone
-    ALONE = 2  #: loop back mode: it hears itself and nobody else
+    ALONE = 2  #: loop back mode with Silent: it hears itself and nobody else, and nobody sees its bits
     PASSIVE = 3  #: it takes part and is error passive
     ACTIVE = 4  #: it takes part and is error active
+    LOOPED = 5  #: loop back mode without Silent: it hears itself and nobody else, and its frames are on the bus
 
 
 class WireKind(enum.IntEnum):

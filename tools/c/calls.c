@@ -985,7 +985,7 @@ static void members_out_of_range_are_refused(void)
     static const ccan_member many[33];
     const ccan_wire start = wire_of(sends(1), listens(CCAN_ROLE_ACTIVE, CCAN_QUIET));
     ccan_wire wire = { .kind = 77 }, wrong = start;
-    ccan_member member = listens(5, CCAN_QUIET);
+    ccan_member member = listens(6, CCAN_QUIET);
     EXPECT(ccan_decide(many, 33, &wire) == CCAN_MEMBERS_RANGE && ccan_decide(&member, 1, &wire) == CCAN_MEMBER_RANGE);
     EXPECT(ccan_decide_again(&start, many, 33, &wire) == CCAN_MEMBERS_RANGE);
     EXPECT(ccan_decide_again(&start, &member, 1, &wire) == CCAN_MEMBER_RANGE);
@@ -1024,7 +1024,7 @@ static void nodes_out_of_range_are_refused(void)
     ccan_wire no_wire = wire;
     ccan_frame wide = wire.frame;
     ccan_node wrong[] = { { .tec = 264 }, { .rec = 256 }, { .tec = 256, .groups = 128 }, { .groups = 1 } }, right = { .tec = 0 };
-    ccan_member member = listens(CCAN_ROLE_ACTIVE, CCAN_QUIET), no_member = listens(5, CCAN_QUIET);
+    ccan_member member = listens(CCAN_ROLE_ACTIVE, CCAN_QUIET), no_member = listens(6, CCAN_QUIET);
     uint32_t event = 77;
     no_wire.kind = 6;
     wide.dlc = 16;

@@ -100,6 +100,7 @@ struct round { const char *name; struct part part[CHIPS]; uint32_t kind, flagged
 #define NOBODY { CCAN_ROLE_ABSENT, NOTHING, CCAN_QUIET, CCAN_EVENT_NONE, 0, 0, 0 }
 #define SENT CCAN_EVENT_SENT, 0
 #define RECEIVED CCAN_EVENT_RECEIVED, 0
+#define LOOPED CCAN_EVENT_LOOPED, 0
 #define ERROR(code) CCAN_EVENT_ERROR, code
 
 /* A passive chip begins with TEC 128, another one with 8 and REC 4, so that a counter can go down. CAN Specification 2.0, part B:
@@ -147,10 +148,49 @@ static const struct round rounds[] = {
       CCAN_WIRE_CARRIED, 0 },
     { "equal frames that nobody else acknowledges",
       { { ACTIVE, 1, 0, ERROR(3), 8, 0 }, { ACTIVE, 1, 0, ERROR(3), 8, 0 }, NOBODY }, CCAN_WIRE_UNHEARD, 1 },
+    { "a frame in loop back mode is on the bus, and the others acknowledge and receive it",
+      { { CCAN_ROLE_LOOPED, 1, 0, LOOPED, -1, 0 }, { ACTIVE, NOTHING, 0, RECEIVED, 0, -1 },
+        { CCAN_ROLE_SILENT, NOTHING, 0, RECEIVED, 0, -1 } },
+      CCAN_WIRE_CARRIED, 0 },
+    { "with Silent nobody sees it",
+      { { CCAN_ROLE_ALONE, 1, 0, LOOPED, -1, 0 }, { ACTIVE, NOTHING, 0, CCAN_EVENT_NONE, 0, 0, 0 }, NOBODY }, CCAN_WIRE_IDLE, 0 },
+    { "in loop back mode no acknowledgement is missed",
+      { { CCAN_ROLE_LOOPED, 1, 0, LOOPED, -1, 0 }, { CCAN_ROLE_SILENT, NOTHING, 0, RECEIVED, 0, -1 }, NOBODY },
+      CCAN_WIRE_UNHEARD, 0 },
+    { "in loop back mode nothing is acknowledged",
+      { { ACTIVE, 1, 0, ERROR(3), 8, 0 }, { CCAN_ROLE_LOOPED, NOTHING, 0, CCAN_EVENT_NONE, 0, 0, 0 }, NOBODY },
+      CCAN_WIRE_UNHEARD, 1 },
+    { "a listener's flag spoils a frame in loop back mode for the others",
+      { { CCAN_ROLE_LOOPED, 1, 0, LOOPED, -1, 0 }, { ACTIVE, NOTHING, CCAN_STUFF, ERROR(1), 0, 1 },
+        { ACTIVE, NOTHING, 0, ERROR(1), 0, 1 } },
+      CCAN_WIRE_BROKEN, 0 },
+    { "a passive sender drops out against a frame in loop back mode",
+      { { CCAN_ROLE_LOOPED, 1, 0, LOOPED, -1, 0 }, { PASSIVE, 2, 0, ERROR(4), 8, 0 }, { ACTIVE, NOTHING, 0, RECEIVED, 0, -1 } },
+      CCAN_WIRE_CARRIED, 0 },
+    { "a frame in loop back mode is driven over one that it does not precede",
+      { { CCAN_ROLE_LOOPED, 2, 0, LOOPED, -1, 0 }, { PASSIVE, 1, 0, ERROR(4), 8, 0 }, { ACTIVE, NOTHING, 0, ERROR(1), 0, 1 } },
+      CCAN_WIRE_COLLIDED, 0 },
+    { "the same frame of another sender, which nobody acknowledges",
+      { { CCAN_ROLE_LOOPED, 1, 0, LOOPED, -1, 0 }, { ACTIVE, 1, 0, ERROR(3), 8, 0 }, NOBODY }, CCAN_WIRE_UNHEARD, 1 },
     { "nobody sends",
       { { ACTIVE, NOTHING, 0, CCAN_EVENT_NONE, 0, 0, 0 }, { PASSIVE, NOTHING, 0, CCAN_EVENT_NONE, 0, 0, 0 }, NOBODY },
       CCAN_WIRE_IDLE, 0 },
 };
+
+/* The word of Test by which a chip has this role. */
+static uint16_t mode_of(uint32_t role)
+{
+    switch (role) {
+    case CCAN_ROLE_SILENT:
+        return SILENT;
+    case CCAN_ROLE_ALONE:
+        return LBACK | SILENT;
+    case CCAN_ROLE_LOOPED:
+        return LBACK;
+    default:
+        return 0;
+    }
+}
 
 /* Brings a chip into a role, with counters that can go down, and requests what it sends. */
 static void prepare(ccan_chip *chip, const struct part *part)
@@ -166,7 +206,7 @@ static void prepare(ccan_chip *chip, const struct part *part)
     if (part->sends != NOTHING)
         asks_to_send(chip, 0x100, (uint8_t)part->sends);
     write_register(chip, CCAN_OFFSET_CONTROL, part->role == CCAN_ROLE_ABSENT ? INIT : TEST);
-    write_register(chip, CCAN_OFFSET_TEST, part->role == CCAN_ROLE_SILENT ? SILENT : 0);
+    write_register(chip, CCAN_OFFSET_TEST, mode_of(part->role));
 }
 
 /* Plays a round with all chips, each with its calls, and looks at what comes to each. */
@@ -444,8 +484,8 @@ static void a_chip_comes_back(void)
     end_all();
 }
 
-/* A chip in loop back mode has its event also if the bus is idle, and beside a frame of others, which it doesn't hear. */
-static void a_chip_in_loop_back_mode(void)
+/* A chip in loop back mode with Silent has its event also if the bus is idle, and beside others' frames, which it doesn't hear. */
+static void a_chip_in_hot_self_test(void)
 {
     ccan_record record;
     ccan_network_init(&network, 0);
@@ -453,7 +493,7 @@ static void a_chip_in_loop_back_mode(void)
     const uint32_t a = add_chip(&chips[0]), b = add_node();
     add_node();
     write_register(&chips[0], CCAN_OFFSET_CONTROL, TEST);
-    write_register(&chips[0], CCAN_OFFSET_TEST, LBACK);
+    write_register(&chips[0], CCAN_OFFSET_TEST, LBACK | SILENT);
     write_object(&chips[0], 2, 0x8000 | 0x123 << 2, 0x0080, 0);
     asks_to_send(&chips[0], 0x123, 0x11);
     starts(0);
@@ -468,6 +508,47 @@ static void a_chip_in_loop_back_mode(void)
     EXPECT(network.wire.kind == CCAN_WIRE_CARRIED);
     finishes(until);
     EXPECT(network.at[a].ended.event == CCAN_EVENT_LOOPED && network.at[b].ended.event == CCAN_EVENT_SENT);
+    end_all();
+}
+
+/* Without Silent its frame is on the bus, has its length there, and needs no acknowledgement; and it never stops. */
+static void a_chip_in_loop_back_mode(void)
+{
+    const ccan_frame higher = { 0x124, 0, 0, 0, { 0 } };
+    const ccan_frame lower = { 0x122, 0, 0, 0, { 0 } }; /* at most 44 bits and 8 stuff bits, for 34 may be stuffed */
+    ccan_network_init(&network, 0);
+    open_all();
+    const uint32_t a = add_chip(&chips[0]);
+    write_register(&chips[0], CCAN_OFFSET_CONTROL, TEST);
+    write_register(&chips[0], CCAN_OFFSET_TEST, LBACK);
+    asks_to_send(&chips[0], 0x123, 0x11);
+    starts(0);
+    EXPECT(network.under_way && network.wire.kind == CCAN_WIRE_UNHEARD && !network.wire.flagged && until == 53);
+    finishes(53);
+    EXPECT(network.at[a].ended.event == CCAN_EVENT_LOOPED && until == 56 && network.group_began == 43);
+    const uint32_t b = add_node(), c = add_node();
+    asks_to_send(&chips[0], 0x123, 0x11);
+    starts(100);
+    EXPECT(network.wire.kind == CCAN_WIRE_CARRIED && network.wire.part[a] == CCAN_PART_SENDER && until == 153);
+    finishes(153);
+    EXPECT(network.at[a].ended.event == CCAN_EVENT_LOOPED && network.at[b].ended.event == CCAN_EVENT_RECEIVED && until == 156);
+    asks_to_send(&chips[0], 0x123, 0x11);
+    EXPECT(ccan_network_offer(&network, b, &higher) == CCAN_DONE);
+    starts(156);
+    EXPECT(network.wire.kind == CCAN_WIRE_CARRIED && network.wire.part[b] == CCAN_PART_LISTENER && until == 156 + 53);
+    finishes(until);
+    EXPECT(network.at[a].ended.event == CCAN_EVENT_LOOPED && network.at[b].ended.event == CCAN_EVENT_RECEIVED);
+    asks_to_send(&chips[0], 0x123, 0x11);
+    EXPECT(network.at[b].offers && ccan_network_offer(&network, b, &lower) == CCAN_DONE);
+    starts(300); /* the longer frame counts, of 53 bits */
+    EXPECT(network.wire.kind == CCAN_WIRE_COLLIDED && network.bits == 53 && until == 300 + 53 - 10 + 20);
+    finishes(until);
+    EXPECT(network.at[a].ended.event == CCAN_EVENT_LOOPED && network.at[b].offers && network.at[b].node.tec == 8);
+    EXPECT(network.at[b].ended.event == CCAN_EVENT_ERROR && network.at[c].ended.event == CCAN_EVENT_ERROR);
+    starts(until);
+    EXPECT(network.wire.kind == CCAN_WIRE_CARRIED && network.wire.part[b] == CCAN_PART_SENDER);
+    finishes(until);
+    EXPECT(network.at[a].ended.event == CCAN_EVENT_NONE && network.at[b].ended.event == CCAN_EVENT_SENT);
     end_all();
 }
 
@@ -741,7 +822,8 @@ static const struct { const char *name; void (*run)(void); } tests[] = {
     RUN(members_come_and_go), RUN(a_frame_has_its_time), RUN(a_new_offer_stays), RUN(a_passive_sender_waits),
     RUN(an_active_sender_is_not_heard),
     RUN(spoiled_frames_have_their_length), RUN(who_is_removed_is_absent), RUN(groups_pass),
-    RUN(groups_pass_behind_an_unheard_frame), RUN(a_chip_comes_back), RUN(a_chip_in_loop_back_mode),
+    RUN(groups_pass_behind_an_unheard_frame), RUN(a_chip_comes_back), RUN(a_chip_in_hot_self_test),
+    RUN(a_chip_in_loop_back_mode),
     RUN(a_host_sets_init_in_mid_frame), RUN(a_chip_is_removed_in_mid_frame), RUN(lost_events_are_made) };
 
 int main(int count, char **words)

@@ -11,7 +11,7 @@ use Rattle.ccan_confine.specs.declared.status_event.StatusEvent.{StatusEvent}
 use Rattle.ccan_wire.specs.declared.flaw.Flaw.{Flaw}
 use Rattle.ccan_wire.specs.declared.member.Member.{Member}
 use Rattle.ccan_wire.specs.declared.role.Role.{Role}
-use Rattle.ccan_wire.specs.declared.role.Role.TheVariants.{Absent, Silent, Alone, Passive, Active}
+use Rattle.ccan_wire.specs.declared.role.Role.TheVariants.{Absent, Silent, Alone, Passive, Active, Looped}
 use Rattle.ccan_wire.specs.declared.start.Start.{Start}
 use Rattle.ccan_wire.specs.declared.start.Start.TheVariants.{Nothing, Collision, Won}
 use Rattle.ccan_wire.specs.declared.winner.Part.{Part}
@@ -131,6 +131,7 @@ same_as Silent on other k m same near = same.to_listener m.flaw
 same_as Alone on other k m same near = refl
 same_as Passive on other k m same near = same_at on other k m same near
 same_as Active on other k m same near = same_at on other k m same near
+same_as Looped on other k m same near = refl
 
 same_event : (on other : Wire) (k : ℕ) (m : Member) → IsTheSame on other → k < most_members
     → event_of other k m ≡ event_of on k m

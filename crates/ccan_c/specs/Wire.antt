@@ -9,7 +9,7 @@ use Rattle.ccan_wire.specs.declared.flaw.Flaw.{Flaw}
 use Rattle.ccan_wire.specs.declared.flaw.Flaw.TheVariants.{Stuff, Form, Bit1, Bit0, Crc}
 use Rattle.ccan_wire.specs.declared.member.Member.{Member}
 use Rattle.ccan_wire.specs.declared.role.Role.{Role}
-use Rattle.ccan_wire.specs.declared.role.Role.TheVariants.{Absent, Silent, Alone, Passive, Active}
+use Rattle.ccan_wire.specs.declared.role.Role.TheVariants.{Absent, Silent, Alone, Passive, Active, Looped}
 use Rattle.ccan_wire.specs.declared.winner.Part.{Part}
 use Rattle.ccan_wire.specs.declared.winner.Part.TheVariants.{Sender, Dropped, Listener}
 use Rattle.ccan_wire.specs.declared.winner.Winner.{Winner}
@@ -50,6 +50,7 @@ role_number Silent = 1
 role_number Alone = 2
 role_number Passive = 3
 role_number Active = 4
+role_number Looped = 5
 
 abbrev pub role_in : ℕ → Role
 role_in number =
@@ -57,7 +58,8 @@ role_in number =
     else (if number == 2 then Alone
     else (if number == 3 then Passive
     else (if number == 4 then Active
-    else Absent)))
+    else (if number == 5 then Looped
+    else Absent))))
 
 -- the error that a member finds by itself, by the numbers that faults have
 abbrev pub flaw_number : Option Flaw → ℕ
@@ -104,7 +106,7 @@ is_offer shown = if is_on shown.sends then is_shown_frame shown.frame else true
 
 -- its numbers are those of a member
 abbrev pub is_member : ShownMember → Bool
-is_member shown = nat_le shown.role 4 && (is_flaw shown.fault && is_offer shown)
+is_member shown = nat_le shown.role 5 && (is_flaw shown.fault && is_offer shown)
 
 abbrev pub member_in : ShownMember → Member
 member_in shown = record { role = role_in shown.role; frame = offered shown; flaw = flaw_in shown.fault }

@@ -13,7 +13,7 @@ use ccan_wire::{Flaw, MOST_MEMBERS, Member, Role};
 #[repr(C)]
 #[derive(Clone, Copy, PartialEq, Eq, Debug)]
 pub struct ShownMember {
-    /// What it does on the bus: 0 absent, 1 silent, 2 alone, 3 passive, 4 active.
+    /// What it does on the bus: 0 absent, 1 silent, 2 alone, 3 passive, 4 active, 5 looped.
     pub role: u32,
     /// The error that it finds by itself: 0 none, 1 stuff, 2 form, 3 bit 1, 4 bit 0, 5 CRC.
     pub fault: u32,
@@ -43,6 +43,7 @@ fn role_number(role: Role) -> u32
         Role::Alone => 2,
         Role::Passive => 3,
         Role::Active => 4,
+        Role::Looped => 5,
     }
 }
 
@@ -54,6 +55,7 @@ fn role_in(number: u32) -> Role
         2 => Role::Alone,
         3 => Role::Passive,
         4 => Role::Active,
+        5 => Role::Looped,
         _ => Role::Absent,
     }
 }
@@ -127,7 +129,7 @@ impl ShownMember {
         ensures { MatchOption result (is_member self.now ≡ false)
             (λ member. (is_member self.now ≡ true) × (member ≡ member_in self.now)) }
     {
-        if self.role > 4 || self.fault > 5 {
+        if self.role > 5 || self.fault > 5 {
             return None;
         }
         match self.offered() {

@@ -234,11 +234,11 @@ fn members_out_of_range_are_refused(rt: HostRuntime) {
     let start = wire(&rt, &[]);
     same(&rt, start.kind, 0);
     same(&rt, decide(&[nobody(); 33], &mut on), 26);
-    same(&rt, decide(&[listens(5, 0)], &mut on), 27);
+    same(&rt, decide(&[listens(6, 0)], &mut on), 27);
     same(&rt, decide(&[listens(4, 6)], &mut on), 27);
     same(&rt, decide_again(&no_wire(), &[nobody(); 33], &mut on), 28);
     same(&rt, decide_again(&start, &[nobody(); 33], &mut on), 26);
-    same(&rt, decide_again(&start, &[listens(5, 0)], &mut on), 27);
+    same(&rt, decide_again(&start, &[listens(6, 0)], &mut on), 27);
     let mut wide = sends(4, 0, 1);
     wide.frame.id = 0x800;
     same(&rt, decide(&[wide], &mut on), 27);
@@ -289,12 +289,12 @@ fn nodes_out_of_range_are_refused(rt: HostRuntime) {
     );
     same(
         &rt,
-        node_finish(&mut right, &on, 32, &listens(5, 0), &mut event),
+        node_finish(&mut right, &on, 32, &listens(6, 0), &mut event),
         29,
     );
     same(
         &rt,
-        node_finish(&mut right, &on, 0, &listens(5, 0), &mut event),
+        node_finish(&mut right, &on, 0, &listens(6, 0), &mut event),
         27,
     );
     same(&rt, event, 77);

@@ -325,9 +325,10 @@ fn role_of_node(rt: &impl Abort, tec: u32) -> u32 {
 fn roles(rt: HostRuntime) {
     same(&rt, role(&rt, rt.alloc(), 0x01, 0), 0); // CCAN_ROLE_ABSENT
     same(&rt, role(&rt, rt.alloc(), 0x80, 0x08), 1); // CCAN_ROLE_SILENT
-    same(&rt, role(&rt, rt.alloc(), 0x80, 0x10), 2); // CCAN_ROLE_ALONE
+    same(&rt, role(&rt, rt.alloc(), 0x80, 0x18), 2); // CCAN_ROLE_ALONE
     same(&rt, role_of_node(&rt, 128), 3); // CCAN_ROLE_PASSIVE
     same(&rt, role(&rt, rt.alloc(), 0, 0), 4); // CCAN_ROLE_ACTIVE
+    same(&rt, role(&rt, rt.alloc(), 0x80, 0x10), 5); // CCAN_ROLE_LOOPED
 }
 
 /// What two members put on the bus.

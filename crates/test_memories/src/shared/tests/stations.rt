@@ -75,17 +75,31 @@ impl Seat {
         })
     }
 
-    /// The host sets Test, and then Silent.
-    fn silence(&mut self) -> bool {
+    /// The host sets Test of the Control register, and then writes the Test register.
+    fn test(&mut self, mode: TestRegister) -> bool {
         let test = self.control(ControlRegister {
             test: true,
             ..ControlRegister::default()
         });
-        let silent = ControllerChange::WriteTest(TestRegister {
+        let written = ControllerChange::WriteTest(mode);
+        test && changed(&self.ram, &mut self.if1, &written, self.tries).is_some()
+    }
+
+    /// The host sets Test, and then Silent.
+    fn silence(&mut self) -> bool {
+        self.test(TestRegister {
             silent: true,
             ..TestRegister::default()
-        });
-        test && changed(&self.ram, &mut self.if1, &silent, self.tries).is_some()
+        })
+    }
+
+    /// The host sets Test, and then LBack, with Silent or without.
+    fn loop_back(&mut self, silent: bool) -> bool {
+        self.test(TestRegister {
+            lback: true,
+            silent,
+            ..TestRegister::default()
+        })
     }
 
     fn controller(&mut self) -> Controller {
@@ -350,6 +364,24 @@ fn a_silent_chip_loads_nothing_and_hears(rt: HostRuntime) {
     laws::who_left_has_no_event();
     laws::begins_are_loads();
     laws::ends_as_it_began();
+}
+
+/// A sends to itself, be it acknowledged or not. B receives the frame, and with Silent at A hears nothing of it.
+#[test]
+fn a_frame_in_loop_back_mode_is_heard_without_silent(rt: HostRuntime) {
+    let looped = Some((BusEvent::Sent, StatusEvent::Looped));
+    for (silent, role, to_others) in [(false, Role::Looped, RECEIVED), (true, Role::Alone, None)] {
+        let mut network = Network::open(&rt, rt.alloc());
+        holds(&rt, network.b.init(false));
+        holds(&rt, network.a.loop_back(silent));
+        let (network, wire) = network.start();
+        same(&rt, network.a.station.member().role, role);
+        let (mut network, to_a, to_b) = network.end(&wire);
+        same(&rt, (to_a, to_b), (looped, to_others));
+        same(&rt, network.waits(), (false, false));
+        // TxOk and RxOk.
+        same(&rt, network.a.controller().status_word(), 0x0018);
+    }
 }
 
 /// Sees that the next start finds nothing to send of A, whose object has NewDat 1 and TxRqst 0.
