@@ -34,6 +34,8 @@ mod runs;
 #[cfg(test)]
 mod searches;
 #[cfg(test)]
+mod stairs;
+#[cfg(test)]
 mod streams;
 #[cfg(test)]
 mod threads;

@@ -4,8 +4,8 @@ use crate::expect::{holds, same};
 use crate::runs::read;
 use ccan_object::ObjectNo;
 use ccan_outcomes::{
-    Ending, HistoryKind, HistoryStep, Outcomes, Watch, all_outcomes, history_of, kept_ending,
-    observed_history, observed_outcomes, states_along,
+    Ending, HistoryKind, HistoryStep, Outcomes, Watch, all_outcomes, answer_graph, history_of,
+    kept_ending, observed_history, observed_outcomes, states_along,
 };
 use ccan_script::Script;
 use ccan_search::Untold;
@@ -140,4 +140,27 @@ fn tells_apart_what_is_looked_at(rt: HostRuntime) {
     let (endings, states) = counted(&seen(&rt, rt.alloc(), &script, &nothing));
     same(&rt, endings, 1);
     holds(&rt, states < most);
+}
+
+/// How many states the graph of a script's outcomes has from which no edge leads.
+fn ends(rt: &impl Abort, alloc: Global, text: &str) -> usize {
+    let script = read(rt, alloc, text);
+    let Ok(Some(found)) = answer_graph(alloc, &script, 1000, &Untold) else {
+        panic!(rt; "not all outcomes")
+    };
+    let mut ends: usize = 0;
+    for edges in &found.graph.edges {
+        if edges.is_empty() {
+            ends = ends.saturating_add(1);
+        }
+    }
+    ends
+}
+
+#[test]
+fn has_no_more_ends_than_states_differ(rt: HostRuntime) {
+    // Either host may write last.
+    same(&rt, ends(&rt, rt.alloc(), TWO_WRITES), 2);
+    // Of the three outcomes two have the same second read, whose record stays in IF2's registers, and the same object.
+    same(&rt, ends(&rt, rt.alloc(), TWO_READS), 2);
 }

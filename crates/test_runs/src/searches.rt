@@ -3,7 +3,8 @@
 //! to 4; from 1 to the ground, and from 4 by 3 and 2 to 1 again.
 use crate::expect::{holds, same};
 use crate::ladder::Ladder;
-use ccan_search::{Progress, Untold, reachable, tale, way};
+use crate::stairs::Stairs;
+use ccan_search::{Edge, GraphFrom, Progress, Untold, graph_of, reachable, tale, way};
 use std::alloc::Global;
 use std::cell::Cell;
 use std::collections::VecDeque;
@@ -98,4 +99,42 @@ fn tells(rt: &impl Abort, alloc: Global, ahead: usize, rung: u64, want: &[u64]) 
 fn tells_of_passed_rungs(rt: HostRuntime) {
     tells(&rt, rt.alloc(), 0, 2, &[3, 2]);
     tells(&rt, rt.alloc(), 2, 4, &[6, 5, 4]);
+}
+
+/// The graph of the stairs below this one.
+fn stairs_below(rt: &impl Abort, alloc: Global, stair: u64) -> GraphFrom<u64, u64> {
+    let Ok(Some(found)) = graph_of(&Stairs, alloc, stair, 100, &Untold) else {
+        panic!(rt; "not all stairs")
+    };
+    found
+}
+
+/// How many stairs go down, and to which, by any of these edges, in all.
+fn sums(edges: &[Edge<u64>]) -> (u64, usize) {
+    let mut down = 0;
+    let mut to = 0;
+    for edge in edges {
+        down = edge.label.saturating_add(down);
+        to = edge.to.saturating_add(to);
+    }
+    (down, to)
+}
+
+/// Each stair stands behind those to which one goes down from it: so those below stair 3 stand in their order.
+#[test]
+fn finds_edges_with_labels(rt: HostRuntime) {
+    let found = stairs_below(&rt, rt.alloc(), 3);
+    same(&rt, found.graph.states.as_slice(), &[0, 1, 2, 3]);
+    same(&rt, found.start, 3);
+    for (edges, want) in found.graph.edges.iter().zip([(0, 0), (1, 0), (3, 1), (3, 3)]) {
+        same(&rt, sums(edges.as_slice()), want);
+    }
+}
+
+#[test]
+fn finds_no_graph_where_stairs_are_many(rt: HostRuntime) {
+    holds(
+        &rt,
+        matches!(graph_of(&Stairs, rt.alloc(), 3, 3, &Untold), Ok(None)),
+    );
 }
