@@ -62,6 +62,7 @@ CALL(uint32_t, ccan_interrupt, (ccan_host *host, uint16_t *out), (host, out), HO
 CALL(uint32_t, ccan_peek, (ccan_host *host, uint32_t object, ccan_record *out), (host, object, out), HOST(host) WRITES(out, 1))
 CALL(uint32_t, ccan_until, (ccan_host *host, uint32_t object, uint32_t flag, uint32_t turns, uint32_t *out),
     (host, object, flag, turns, out), HOST(host) WRITES(out, 1))
+CALL(uint32_t, ccan_clear_objects, (ccan_host *host), (host), HOST(host))
 
 /* ---- the bus */
 CALL(uint32_t, ccan_load, (ccan_bus *bus, ccan_loaded *out), (bus, out), BUS(bus) WRITES(out, 1))

@@ -167,9 +167,9 @@ CCAN_CODE ccan_open(ccan_chip *chip, uint32_t profile, uint32_t nodes, uint32_t 
 enum ccan_layout {
     CCAN_LAYOUT_C_CAN,    /* C_CAN: the registers side by side, at the offsets of enum ccan_offset */
     CCAN_LAYOUT_C_CAN_32, /* C_CAN: each register at twice that offset, alone in a word of 32 bits */
-    CCAN_LAYOUT_D_CAN     /* D_CAN: the halves of its registers of 32 bits, see docs/FORMATS.md. What differs from a C_CAN is said
+    CCAN_LAYOUT_D_CAN     /* D_CAN: the halves of its registers of 32 bits, see docs/REGISTERS.md. What differs from a C_CAN is said
                            * at the calls; what a D_CAN has beside that, as parity, auto bus on, power down, DMA, IF3 and a second
-                           * interrupt line, is left out */
+                           * interrupt line, is left out (docs/EMBEDDING.md) */
 };
 
 /* Opens a chip as a part is after its reset, all of it or nothing: Init is 1, so that it takes part only once a write of Control
@@ -355,7 +355,7 @@ CCAN_CODE ccan_write32(ccan_host *host, uint32_t offset, uint32_t value);
  *
  * So that a simulator needn't ask after each call, these are the calls that may change the line, by what they do to IE, SIE, EIE,
  * the pending status interrupts and IntPnd (read off their definitions, not proved):
- *  - ccan_request, and a write of Command Request;
+ *  - ccan_request, and a write of Command Request; ccan_clear_objects;
  *  - a read of Status, and a write of Control; ccan_status and ccan_control;
  *  - ccan_round and ccan_recessive; ccan_finish and ccan_retry_event.
  * No other call on a handle changes it. Of those on the whole chip ccan_reset may, and those that open one. */
@@ -403,6 +403,12 @@ CCAN_CODE ccan_peek(ccan_host *host, uint32_t object, ccan_record *out);
 /* Looks at an object until it shows the flag, at most `turns` times: 1 where a look did, else 0. The first of
  * CCAN_OBJECT_RANGE, CCAN_FLAG_RANGE and CCAN_TURNS_RANGE that applies. */
 CCAN_CODE ccan_until(ccan_host *host, uint32_t object, uint32_t flag, uint32_t turns, uint32_t *out);
+
+/* Makes each message object one of zeros, one after another in the order of their numbers, as dcan_raminit of an AM335x does with
+ * the message RAM of a D_CAN; in each layout. Nothing else changes: the interface registers stay, and what is loaded stays loaded.
+ * CCAN_BUSY, CCAN_SPENT: an object was refused, those before it are of zeros, and it and those behind it were not changed; after
+ * CCAN_BUSY the call may be made again. */
+CCAN_CODE ccan_clear_objects(ccan_host *host);
 
 /* ---- the bus: each call answers CCAN_CLOSED first, where its handle is closed */
 

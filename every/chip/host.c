@@ -191,6 +191,21 @@ uint32_t ccan_request(ccan_host *host, uint16_t request)
     return CCAN_DONE;
 }
 
+uint32_t ccan_clear_objects(ccan_host *host)
+{
+    if (!host->ccan_private_full)
+        return CCAN_CLOSED;
+    for (unsigned object = 1; object <= C.objects; object++) {
+        step_at_object(object, true);
+        read_object(object, ALL_ROWS);
+        ccan_record before = C.records[object - 1];
+        C.records[object - 1] = (ccan_record){ 0 };
+        changed_object(object, &before);
+        tell("clears object %u", object);
+    }
+    return CCAN_DONE;
+}
+
 /* ---- looks at objects */
 
 bool shows_flag(const ccan_record *record, uint32_t flag)

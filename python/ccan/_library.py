@@ -470,6 +470,7 @@ CALLS: Dict[str, List[Any]] = {
     "ccan_set": [_host, c_uint32, c_uint16],
     "ccan_get": [_host, c_uint32, _u16],
     "ccan_request": [_host, c_uint16],
+    "ccan_clear_objects": [_host],
     "ccan_flags": [_host, c_uint32, _u64],
     "ccan_interrupt": [_host, _u16],
     "ccan_peek": [_host, c_uint32, POINTER(ccan_record)],

@@ -149,6 +149,18 @@ class HostPort(Port):
         """
         self._call("ccan_request", unsigned(request, 16, "request"))
 
+    def clear_objects(self) -> None:
+        """Makes each message object one of zeros, as the initialisation of the message RAM of a D_CAN does.
+
+        The interface registers have no part in it.
+
+        Raises
+        ------
+        BusyError, SpentError
+            An object was refused: those before it are of zeros, and it and those behind it were not changed.
+        """
+        self._call("ccan_clear_objects")
+
     def transfer(self, request: int, **registers: int) -> Record:
         """Sets registers, makes a transfer, and reads the registers, as a line ``transfer`` of a script does.
 

@@ -69,6 +69,13 @@ def test_the_first_message(chip: ccan.Chip) -> None:
     assert chip.if2.peek(1) == record
 
 
+def test_all_objects_are_cleared(chip: ccan.Chip) -> None:
+    receive_0x123(chip.if1, 5)
+    chip.if2.clear_objects()
+    assert chip.if1.peek(5) == ccan.Record()
+    assert chip.if1["ARB2"] == 0x848C
+
+
 def test_registers_by_name_and_by_offset(chip: ccan.Chip) -> None:
     chip.if1["cmask"] = 0xFFF3
     assert chip.if1[ccan.Register.CMASK] == chip.if1.read16(Offset.IF1_COMMAND_MASK) == 0x00F3

@@ -715,6 +715,31 @@ static void init_set_and_cleared_drops_what_is_loaded(void)
     EXPECT(played_alone(&chip.bus).kind == CCAN_IDLE);
 }
 
+/* Each object is of zeros afterwards, the first and the last too. The registers of the interface stay, and those of the controller. */
+static void all_objects_are_cleared(void)
+{
+    static const ccan_record zero;
+    ccan_chip other = CCAN_CHIP_CLOSED;
+    ccan_record record;
+    uint64_t valid;
+    EXPECT(ccan_clear_objects(&other.if1) == CCAN_CLOSED);
+    reset(&chip, CCAN_LAYOUT_D_CAN);
+    for (uint16_t object = 1; object <= 32; object += 31) {
+        EXPECT(ccan_set(&chip.if1, CCAN_CMASK, 0x00f3) == CCAN_DONE && ccan_set(&chip.if1, CCAN_ARB2, 0xbfff) == CCAN_DONE);
+        EXPECT(ccan_set(&chip.if1, CCAN_CTRL, 0xff8f) == CCAN_DONE && ccan_set(&chip.if1, CCAN_DATAB2, 0x8877) == CCAN_DONE);
+        EXPECT(ccan_request(&chip.if1, object) == CCAN_DONE);
+    }
+    EXPECT(ccan_flags(&chip.if1, CCAN_MSGVAL, &valid) == CCAN_DONE && valid == 0x80000001);
+    EXPECT(ccan_clear_objects(&chip.if1) == CCAN_DONE);
+    for (uint32_t object = 1; object <= 32; object++) {
+        EXPECT(ccan_peek(&chip.if1, object, &record) == CCAN_DONE);
+        EXPECT(record.arbitration == zero.arbitration && record.masks == zero.masks && record.control == zero.control);
+        EXPECT(memcmp(record.bytes, zero.bytes, 8) == 0);
+    }
+    EXPECT(ccan_get(&chip.if1, CCAN_DATAB2, &record.control) == CCAN_DONE && record.control == 0x8877);
+    EXPECT(reads(&chip.if2, 0x00) == 0x1401);
+}
+
 /* The chip is reset while an object is loaded: the frame is gone, and so is the request. What the object sends later is what it was
  * given later. */
 static void a_reset_drops_what_is_loaded(void)
@@ -1097,6 +1122,7 @@ static const struct { const char *name; void (*run)(void); } tests[] = {
     TEST(going_off_sets_init),
     TEST(a_saved_chip_opens_again),
     TEST(init_set_and_cleared_drops_what_is_loaded),
+    TEST(all_objects_are_cleared),
     TEST(a_reset_drops_what_is_loaded),
     TEST(a_reset_leaves_the_data_of_the_message_ram),
     TEST(what_a_host_tells_the_other_heeds),

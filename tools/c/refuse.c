@@ -62,6 +62,7 @@ static int all_calls(ccan_chip *chip)
         && !ccan_flags(&chip->if2, CCAN_NEWDAT, &word) && !ccan_interrupt(&chip->if2, &value)
         && !ccan_until(&chip->if2, 7, CCAN_NEWDAT, 3, &number) && !ccan_meet(chip)
         && !ccan_peek(&chip->if2, 7, &found) && found.control == 0x8000
+        && !ccan_clear_objects(&chip->if1) && !ccan_peek(&chip->if1, 7, &found) && found.control == 0
         && !ccan_load(&chip->bus, &loaded) && !ccan_round(&chip->bus, &none, 0, CCAN_QUIET, &outcome)
         && !ccan_status(&chip->bus, &value) && !ccan_control(&chip->bus, 1, 1) && !ccan_init(&chip->bus)
         && !ccan_recessive(&chip->bus, 128, &number) && !ccan_loop_back(&chip->bus, 0)

@@ -43,6 +43,7 @@ static uint32_t sender(void) { return write(2, 0xa400, 0x0188); }
 static uint32_t host_flags(void) { return ccan_flags(&chip.if1, CCAN_MSGVAL, &word); }
 static uint32_t host_interrupt(void) { return ccan_interrupt(&chip.if1, &value); }
 static uint32_t peek(void) { return ccan_peek(&chip.if1, 1, &record) | ccan_get(&chip.if1, CCAN_CMASK, &value); }
+static uint32_t clear_objects(void) { return ccan_clear_objects(&chip.if1); }
 static uint32_t wait_for_flag(void) { return ccan_until(&chip.if1, 1, CCAN_NEWDAT, 3, &number); }
 static uint32_t load(void) { return ccan_load(&chip.bus, &loaded); }
 
@@ -97,6 +98,7 @@ static uint32_t end(void) { return ccan_end(&chip, &last); }
 static const struct { const char *name; uint32_t (*call)(void); } calls[] = {
     { "nothing", nothing }, { "open", open_chip }, { "meet", meet }, { "tell", tell }, { "bus tell", bus_tell }, { "request", receiver }, { "request to send", sender },
     { "flags", host_flags }, { "interrupt", host_interrupt }, { "peek", peek }, { "until", wait_for_flag },
+    { "clear_objects", clear_objects },
     { "round, received", round_received }, { "load", load }, { "round, sent", round_sent }, { "round, looped", round_looped },
     { "status", status }, { "control", control }, { "recessive", recessive }, { "bus flags", bus_flags },
     { "bus interrupt", bus_interrupt }, { "open after a reset", open_reset }, { "read Status", read_status },

@@ -13,7 +13,8 @@ enum { PROVED, EVERY };
 #define CALL(name) static typeof(ccan_##name) *name##_of[2]
 CALL(open); CALL(open_reset); CALL(is_open); CALL(end); CALL(meet); CALL(reset); CALL(read16); CALL(write16); CALL(read32); CALL(write32);
 CALL(line); CALL(bus_read16); CALL(bus_write16); CALL(bus_read32); CALL(bus_write32); CALL(bus_line); CALL(set); CALL(get);
-CALL(request); CALL(flags); CALL(interrupt); CALL(peek); CALL(until); CALL(load); CALL(round); CALL(status); CALL(counters);
+CALL(request); CALL(clear_objects); CALL(flags); CALL(interrupt); CALL(peek); CALL(until); CALL(load); CALL(round);
+CALL(status); CALL(counters);
 CALL(control); CALL(init); CALL(recessive); CALL(loop_back); CALL(bus_interrupt); CALL(bus_flags); CALL(version);
 
 static ccan_chip chips[2];
@@ -325,6 +326,10 @@ static void random_call(void)
     if (chance(400))
         random_storm();
     if (chance(400)) {
+        DOING("ccan_clear_objects");
+        BOTH(char, clear_objects, &chip->if2);
+    }
+    if (chance(400)) {
         DOING("ccan_reset");
         BOTH(char, reset, chip);
     }
@@ -347,8 +352,8 @@ static void take_calls(int of, const char *name)
 #define TAKE(call) call##_of[of] = (typeof(call##_of[of]))dlsym(library, "ccan_" #call)
     TAKE(open); TAKE(open_reset); TAKE(is_open); TAKE(end); TAKE(meet); TAKE(reset); TAKE(read16); TAKE(write16); TAKE(read32);
     TAKE(write32); TAKE(line); TAKE(bus_read16); TAKE(bus_write16); TAKE(bus_read32); TAKE(bus_write32); TAKE(bus_line); TAKE(set);
-    TAKE(get); TAKE(request); TAKE(flags); TAKE(interrupt); TAKE(peek); TAKE(until); TAKE(load); TAKE(round); TAKE(status);
-    TAKE(counters); TAKE(control); TAKE(init); TAKE(recessive); TAKE(loop_back); TAKE(bus_interrupt); TAKE(bus_flags); TAKE(version);
+    TAKE(get); TAKE(request); TAKE(clear_objects); TAKE(flags); TAKE(interrupt); TAKE(peek); TAKE(until); TAKE(load);
+    TAKE(round); TAKE(status); TAKE(counters); TAKE(control); TAKE(init); TAKE(recessive); TAKE(loop_back); TAKE(bus_interrupt); TAKE(bus_flags); TAKE(version);
 }
 
 int main(int count, char **words)

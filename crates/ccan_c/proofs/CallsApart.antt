@@ -13,6 +13,7 @@ use Rattle.ccan_confine.specs.declared.controller.Controller.{Controller}
 use Rattle.ccan_confine.specs.declared.controller_change.ControllerChange.{ControllerChange}
 use Rattle.ccan_confine.specs.declared.controller_change.ControllerChange.TheVariants.{ResetDcan}
 use Rattle.ccan_confine.specs.Controller.{shows_interrupt}
+use Rattle.ccan_ram.specs.declared.change.Change.{Change}
 use Rattle.ccan_ram.specs.declared.change.Change.TheVariants.{Finish, Reset, Send, Store}
 use Rattle.ccan_ram.specs.declared.change.Changed.TheVariants.{Done}
 use Rattle.ccan_ram.specs.declared.change.Refused.{Refused}
@@ -69,7 +70,9 @@ use Rattle.ccan_registers.specs.Register as access
 use Rattle.ccan_registers.specs.Register.{InterruptValue, PullsLine, Reads, ReadsApart, ReadsAt, ReadsFlags, ReadsHalves, ReadsTiming, ReadsWord, Writes, WritesApart, WritesAt, WritesHalves, WritesRest, WritesTiming, WritesWord, is_refused}
 use Rattle.ccan_registers.specs.Register.{RequestsBy, change_by, is_own}
 use Rattle.ccan_registers.specs.Dcan.{Sends, asks_for_reset, is_object_of, is_sending, number_in}
-use Rattle.ccan_registers.specs.Resetting.{HaveReset, ResetsChip, ResetsObject, ResetsObjects}
+use Rattle.ccan_registers.specs.AllObjects.{ChangesObject, ChangesObjects, HaveChanged}
+use Rattle.ccan_registers.specs.Clearing.{zeros}
+use Rattle.ccan_registers.specs.Resetting.{ResetsChip}
 use Rattle.ccan_registers.specs.Rounds.{LoadsOnChip, RecoversOnChip, RoundOnChip}
 use Rattle.ccan_station.specs.declared.begun.Begun.{Begun}
 use Rattle.ccan_station.specs.declared.ended.Ended.{Ended}
@@ -297,30 +300,33 @@ module _ (terms : Terms) (tries : ℕ) (some : 1 ≤ tries) where
         ends = g (h.earlier ++ seen) h.later parts.0 h.ends;
       }
 
-  -- a reset, which no other port disturbs at an object
-  object_reset_apart : (object : ℕ) (seen added : ChipHistory) (told : Result (Unit {0}) AccessError) → ActsAlone terms.port added
-      → ResetsObject terms tries object seen added told → ResetsObject single tries object seen added told
-  object_reset_apart object seen added told alone (outcome, h, is) = (
+  -- a change of each object, which no other port disturbs
+  object_changed_apart : (change : Change) (object : ℕ) (seen added : ChipHistory) (told : Result (Unit {0}) AccessError)
+      → ActsAlone terms.port added
+      → ChangesObject terms change tries object seen added told → ChangesObject single change tries object seen added told
+  object_changed_apart change object seen added told alone (outcome, h, is) = (
     outcome,
-    objects_apart _ _ seen added alone (λ s a only. attempts_undisturbed terms object Reset tries s a outcome some only) h,
+    objects_apart _ _ seen added alone (λ s a only. attempts_undisturbed terms object change tries s a outcome some only) h,
     is,
   )
 
-  have_reset_apart : (n : ℕ) (seen added : ChipHistory) → ActsAlone terms.port added
-      → HaveReset terms tries n seen added → HaveReset single tries n seen added
-  have_reset_apart zero seen added alone h = h
-  have_reset_apart (suc n) seen added alone h =
-      both_apart _ _ _ _ seen added alone (λ s a only. have_reset_apart n s a only)
-      (λ s a only. object_reset_apart (suc n) s a (Ok tt) only) h
+  have_changed_apart : (change : Change) (n : ℕ) (seen added : ChipHistory) → ActsAlone terms.port added
+      → HaveChanged terms change tries n seen added → HaveChanged single change tries n seen added
+  have_changed_apart change zero seen added alone h = h
+  have_changed_apart change (suc n) seen added alone h =
+      both_apart _ _ _ _ seen added alone (λ s a only. have_changed_apart change n s a only)
+      (λ s a only. object_changed_apart change (suc n) s a (Ok tt) only) h
 
-  objects_reset_apart : (seen added : ChipHistory) (told : Result (Unit {0}) AccessError) → ActsAlone terms.port added
-      → ResetsObjects terms tries seen added told → ResetsObjects single tries seen added told
-  objects_reset_apart seen added (Ok done) alone h = have_reset_apart (objects_in terms.profile) seen added alone h
-  objects_reset_apart seen added (Err why) alone (n, below, h) = (
+  objects_changed_apart : (change : Change) (seen added : ChipHistory) (told : Result (Unit {0}) AccessError)
+      → ActsAlone terms.port added
+      → ChangesObjects terms change tries seen added told → ChangesObjects single change tries seen added told
+  objects_changed_apart change seen added (Ok done) alone h =
+      have_changed_apart change (objects_in terms.profile) seen added alone h
+  objects_changed_apart change seen added (Err why) alone (n, below, h) = (
     n,
     below,
-    both_apart _ _ _ _ seen added alone (λ s a only. have_reset_apart n s a only)
-        (λ s a only. object_reset_apart (suc n) s a (Err why) only) h,
+    both_apart _ _ _ _ seen added alone (λ s a only. have_changed_apart change n s a only)
+        (λ s a only. object_changed_apart change (suc n) s a (Err why) only) h,
   )
 
   chip_reset_apart : (reset : ControllerChange) (seen added : ChipHistory) (told : Result (Unit {0}) AccessError)
@@ -328,7 +334,7 @@ module _ (terms : Terms) (tries : ℕ) (some : 1 ≤ tries) where
       → ResetsChip terms reset tries seen added told → ResetsChip single reset tries seen added told
   chip_reset_apart reset seen added told alone (inl h) = inl h
   chip_reset_apart reset seen added told alone (inr h) =
-      inr (then_apart _ _ _ seen added alone (λ s a only. objects_reset_apart s a told only) h)
+      inr (then_apart _ _ _ seen added alone (λ s a only. objects_changed_apart Reset s a told only) h)
 
   requests_apart : (value : ℕ) (own left : InterfaceSet) (seen added : ChipHistory) (told : Result (Unit {0}) AccessError)
       → ActsAlone terms.port added
@@ -645,6 +651,8 @@ module _ (terms : Terms) (tries : ℕ) (some : 1 ≤ tries) where
         (told, writes_word_apart layout offset value own left seen added told alone h, code)
     host_call_apart (host.line result out) own left (code, (pulls, is, h), keeps) =
         (code, (pulls, is, line_apart pulls seen added alone h), keeps)
+    host_call_apart (host.clear result) own left ((told, h, code), keeps) =
+        ((told, objects_changed_apart zeros seen added told alone h, code), keeps)
     host_call_apart (host.tell note result) own left h = h
     host_call_apart (host.heed note result) own left h = h
 

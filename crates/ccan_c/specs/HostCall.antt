@@ -15,6 +15,7 @@ use Rattle.ccan_registers.specs.declared.access_error.AccessError.{AccessError}
 use Rattle.ccan_registers.specs.declared.access_error.AccessError.TheVariants as why
 use Rattle.ccan_registers.specs.declared.interface_set.InterfaceSet.{InterfaceSet}
 use Rattle.ccan_registers.specs.ChipSteps.{ChipGoes}
+use Rattle.ccan_registers.specs.Clearing.{ClearsObjects}
 use Rattle.ccan_registers.specs.InterfaceSet.{Transferred}
 use Rattle.ccan_registers.specs.Objects.{ShowsFlags, ShowsInterrupt, ShowsObject, WaitsFor}
 use Rattle.ccan_registers.specs.Register.{PullsLine, ReadsAt, ReadsWord, WritesAt, WritesWord}
@@ -44,6 +45,7 @@ pub data HostCall : Type 0 where
   read32 : ℕ → ℕ → ℕ → HostCall
   write32 : ℕ → ℕ → ℕ → HostCall
   line : ℕ → ℕ → HostCall
+  clear : ℕ → HostCall
   -- with the note as the call left it
   tell : Option Told → ℕ → HostCall
   -- with the note as the call found it
@@ -63,6 +65,7 @@ code_got (write16 offset value result) = result
 code_got (read32 offset result out) = result
 code_got (write32 offset value result) = result
 code_got (line result out) = result
+code_got (clear result) = result
 code_got (tell _ result) = result
 code_got (heed _ result) = result
 
@@ -171,6 +174,9 @@ HostCallMeans terms tries map (write32 offset value result) own seen added left 
     WritesWordAtOffset terms tries map offset value own seen added result left
 HostCallMeans terms tries map (line result out) own seen added left =
     (result ≡ done) × ((pulls : Bool) × (out ≡ number_of pulls) × PullsLine terms seen added pulls) × (left ≡ own)
+HostCallMeans terms tries map (clear result) own seen added left =
+    ((told : Result (Unit {0}) AccessError) × ClearsObjects terms tries seen added told
+    × (result ≡ code_of_access (Some told))) × (left ≡ own)
 HostCallMeans terms tries map (tell note result) own seen added left = Tells note own seen added result left
 HostCallMeans terms tries map (heed note result) own seen added left = HeedsNote terms note own seen added result left
 

@@ -199,3 +199,16 @@ pub extern "C" fn ccan_write32(host: &mut HostHandle, offset: u32, value: u32) -
     let told = host.handle.seal.as_mut().write_word(offset, value);
     code_of_access(&told)
 }
+
+/// Makes each object of the chip one of zeros, one after another, as the initialisation of the message RAM of a D_CAN does. The
+/// interface registers have no part in it.
+#[unsafe(no_mangle)]
+pub extern "C" fn ccan_clear_objects(host: &mut HostHandle) -> u32
+    ensures { HostCallDoes (host_call.clear result) (held_by host.old) (held_by host.new) }
+{
+    if !host.handle.is_open() {
+        return CLOSED;
+    }
+    let told = host.handle.seal.as_mut().clear_objects();
+    code_of_access(&Some(told))
+}

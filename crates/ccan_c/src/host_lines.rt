@@ -5,12 +5,13 @@ use crate::numbers::flag_numbered;
 use ccan_line::LineAnswer;
 use ccan_object::{ObjectNo, Record};
 use ccan_ram::{Flag, SharedRam};
-use ccan_registers::{peek, wait};
+use ccan_registers::{AccessError, clear_objects, peek, wait};
 
 impl Held {
     ghost use Rattle.std.specs.Prelude.{◌≡◌, ◌↔◌, Some, true, false, IfErr, IfNone, IfOk, IfSome, IsSome, IsTrue};
     ghost use Rattle.ccan_object.specs.Profile.{Holds};
     ghost use Rattle.ccan_ram.specs.declared.flag.Flag.{Flag};
+    ghost use Rattle.ccan_registers.specs.Clearing.{ClearsObjects};
     ghost use Rattle.ccan_registers.specs.InterfaceSet.{Transferred};
     ghost use Rattle.ccan_registers.specs.Objects.{ShowsObject, WaitsFor};
     ghost use Rattle.ccan_line.specs.Limits.{most_turns};
@@ -29,6 +30,14 @@ impl Held {
     {
         self.own
             .request(&self.ram, &mut self.port, request, self.tries)
+    }
+
+    /// Makes each object of the chip one of zeros.
+    pub(crate) fn clear_objects(&mut self) -> Result<(), AccessError>
+        ensures { Steps (λ terms seen added. ClearsObjects terms self.old.tries seen added result)
+            self.old self.new }
+    {
+        clear_objects(&self.ram, &mut self.port, self.tries)
     }
 
     /// The object of this number, where the chip has it.

@@ -69,8 +69,8 @@ pub use ending::ccan_end;
 pub use frame::{ccan_begin, ccan_finish, ccan_retry_event, ccan_stay};
 pub use handle::{Handle, handles_may_cross};
 pub use host::{
-    ccan_flags, ccan_get, ccan_interrupt, ccan_line, ccan_peek, ccan_read16, ccan_read32,
-    ccan_request, ccan_set, ccan_until, ccan_write16, ccan_write32,
+    ccan_clear_objects, ccan_flags, ccan_get, ccan_interrupt, ccan_line, ccan_peek, ccan_read16,
+    ccan_read32, ccan_request, ccan_set, ccan_until, ccan_write16, ccan_write32,
 };
 pub use host_handle::HostHandle;
 pub use meeting::ccan_meet;

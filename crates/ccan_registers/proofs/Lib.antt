@@ -3,7 +3,7 @@ pub mod Going
 pub mod Lines
 pub mod Rounding
 pub mod Framing
-pub mod Resets
+pub mod Changing
 pub mod Accesses
 pub mod Halves
 pub mod Holders

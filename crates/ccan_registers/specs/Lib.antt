@@ -4,6 +4,8 @@ pub mod Objects
 pub mod InterfaceSet
 pub mod Dcan
 pub mod Resetting
+pub mod AllObjects
+pub mod Clearing
 pub mod Register
 pub mod Rounds
 pub mod Frames

@@ -24,10 +24,13 @@
 //! A port tells another what it has seen by a note (`tell`, `heed`).
 //!
 //! A word of 32 bits (`read_word`, `write_word`) is two registers, one after the other; two of one flag, and Bit Timing with BRP
-//! Extension, are one access. What a D_CAN does otherwise than a C_CAN stands in `dcan`.
+//! Extension, are one access. What a D_CAN does otherwise than a C_CAN stands in `dcan`, and the initialisation of its message RAM
+//! in `clearing`.
 #![tactic(auto)]
 
 mod access_error;
+mod all_objects;
+mod clearing;
 mod controller;
 mod dcan;
 mod frames;
@@ -41,6 +44,7 @@ mod rounds;
 mod words;
 
 pub use access_error::AccessError;
+pub use clearing::clear_objects;
 pub use controller::{change, look};
 pub use dcan::reset_of;
 pub use frames::{begin, end, stay};

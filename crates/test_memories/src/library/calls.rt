@@ -4,13 +4,13 @@ use ccan_c::{
     BusHandle, Chip, HostHandle, Offer, SavedChip, ShownCounters, ShownFinal, ShownFinished,
     ShownFrame, ShownLoad, ShownMember, ShownNode, ShownOutcome, ShownRecord, ShownWire,
     ccan_begin, ccan_bit_time, ccan_bus_flags, ccan_bus_interrupt, ccan_bus_line, ccan_bus_read16,
-    ccan_bus_read32, ccan_bus_write16, ccan_bus_write32, ccan_control, ccan_counters, ccan_decide,
-    ccan_decide_again, ccan_end, ccan_finish, ccan_flags, ccan_frame_bits, ccan_get, ccan_init,
-    ccan_interrupt, ccan_is_open, ccan_line, ccan_load, ccan_loop_back, ccan_meet, ccan_node_begin,
-    ccan_node_finish, ccan_node_recessive, ccan_open, ccan_open_reset, ccan_peek, ccan_read16,
-    ccan_read32, ccan_recessive, ccan_request, ccan_reset, ccan_restore, ccan_retry_event,
-    ccan_round, ccan_save, ccan_set, ccan_status, ccan_stay, ccan_until, ccan_write16,
-    ccan_write32,
+    ccan_bus_read32, ccan_bus_write16, ccan_bus_write32, ccan_clear_objects, ccan_control,
+    ccan_counters, ccan_decide, ccan_decide_again, ccan_end, ccan_finish, ccan_flags,
+    ccan_frame_bits, ccan_get, ccan_init, ccan_interrupt, ccan_is_open, ccan_line, ccan_load,
+    ccan_loop_back, ccan_meet, ccan_node_begin, ccan_node_finish, ccan_node_recessive, ccan_open,
+    ccan_open_reset, ccan_peek, ccan_read16, ccan_read32, ccan_recessive, ccan_request, ccan_reset,
+    ccan_restore, ccan_retry_event, ccan_round, ccan_save, ccan_set, ccan_status, ccan_stay,
+    ccan_until, ccan_write16, ccan_write32,
 };
 use std::alloc::Global;
 use std::process::Abort;
@@ -92,6 +92,10 @@ pub fn shown(rt: &impl Abort, host: &mut HostHandle, register: u32) -> u16 {
 
 pub fn request(host: &mut HostHandle, object: u16) -> u32 {
     ccan_request(host, object)
+}
+
+pub fn clear_objects(host: &mut HostHandle) -> u32 {
+    ccan_clear_objects(host)
 }
 
 pub fn flags(host: &mut HostHandle, flag: u32, word: &mut u64) -> u32 {

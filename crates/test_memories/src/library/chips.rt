@@ -1,9 +1,9 @@
 //! What the calls of C come to, each once. `tools/c/calls.c` has more of them, from C, with ranges and refusals.
 use super::calls::{
-    bus_flags, bus_interrupt, bus_line, bus_read16, bus_read32, bus_write16, bus_write32, control,
-    counters, end, flags, init, interrupt, is_open, load, loop_back, meet, open, open_reset,
-    opened, peek, pulls, read32, reads, recessive, request, reset, reset_in_place, restore, round,
-    save, set, set_all, shown, status, until, write_all, write32,
+    bus_flags, bus_interrupt, bus_line, bus_read16, bus_read32, bus_write16, bus_write32,
+    clear_objects, control, counters, end, flags, init, interrupt, is_open, load, loop_back, meet,
+    open, open_reset, opened, peek, pulls, read32, reads, recessive, request, reset,
+    reset_in_place, restore, round, save, set, set_all, shown, status, until, write_all, write32,
 };
 use crate::expect::{holds, same};
 use ccan_bus::LoadAnswer;
@@ -437,6 +437,29 @@ fn a_dcan_is_reset_by_software(rt: HostRuntime) {
     same(&rt, reads(&rt, &mut chip.if1, 0xc4), 0);
     write_all(&rt, &mut chip.if1, &[(0x00, 0)]);
     same(&rt, played(&rt, &mut chip.bus, &[], 0).kind, 0);
+}
+
+/// Object 5 has bits in Arbitration, Message Control and Data; each object is of zeros afterwards, and the interface registers
+/// stay.
+#[test]
+fn all_objects_are_cleared(rt: HostRuntime) {
+    let mut closed = Chip::closed(rt.alloc());
+    same(&rt, clear_objects(&mut closed.if1), 1);
+    let mut chip = opened(&rt, rt.alloc(), 1, 0);
+    let settings = [
+        (0, 0x00f3),
+        (1, 0x1234),
+        (4, 0xa48c),
+        (5, 0x8188),
+        (6, 0x2211),
+    ];
+    set_all(&rt, &mut chip.if1, &settings);
+    same(&rt, request(&mut chip.if1, 5), 0);
+    same(&rt, clear_objects(&mut chip.if1), 0);
+    let mut seen = no_record();
+    same(&rt, peek(&mut chip.if2, 5, &mut seen), 0);
+    same(&rt, seen, no_record());
+    same(&rt, shown(&rt, &mut chip.if1, 4), 0xa48c);
 }
 
 /// SIE is set once the frame was there: the status interrupt was raised all the same.

@@ -5,29 +5,29 @@ use Rattle.ccan_object.specs.Profile.{objects_in}
 use Rattle.ccan_ram.specs.SharedRam.{Memory}
 use Rattle.ccan_registers.specs.declared.access_error.AccessError.{AccessError}
 use Rattle.ccan_registers.specs.ChipSteps.{ChipGoes}
-use Rattle.ccan_registers.specs.Resetting.{HaveReset, ResetsObject}
+use Rattle.ccan_registers.specs.AllObjects.{HaveChanged, ChangesObject}
 use Rattle.ccan_registers.proofs.Going.{rests, weaker}
-use Rattle.ccan_registers.proofs.Resets.{one_more}
-use Rattle.ccan_registers.proofs.resetting.reset_objects.Goals as goal
+use Rattle.ccan_registers.proofs.Changing.{one_more}
+use Rattle.ccan_registers.proofs.all_objects.change_objects.Goals as goal
 
 pub loop-n-init : goal.loop-n-init
-loop-n-init c = rests c.args.port.now (λ terms seen added. HaveReset terms c.args.tries 0 seen added) refl
+loop-n-init c = rests c.args.port.now (λ terms seen added. HaveChanged terms c.args.change.now c.args.tries 0 seen added) refl
 
 pub loop-n-preserved : goal.loop-n-preserved
 loop-n-preserved c =
     let old = c.args.port.now in
-    let new = c.reset_object.new.port in
+    let new = c.change_object.new.port in
     let tries = c.args.tries in
     let object = c.object_behind-object.result in
-    subst (λ (k : ℕ). ChipGoes old new (λ terms seen added. HaveReset terms tries k seen added)) (sym (add-one c.loop-n.n))
-    (one_more old c.loop-n.port new tries c.loop-n.n object _ c.object_behind-object.ensures.number c.loop-n.invariant
+    subst (λ (k : ℕ). ChipGoes old new (λ terms seen added. HaveChanged terms c.args.change.now tries k seen added)) (sym (add-one c.loop-n.n))
+    (one_more old c.loop-n.port new c.args.change.now tries c.loop-n.n object _ c.object_behind-object.ensures.number c.loop-n.invariant
     (subst (λ (told : Result (Unit {0}) AccessError). ChipGoes c.loop-n.port new
-    (λ terms seen added. ResetsObject terms tries object seen added told)) c.in_default.is c.reset_object.ensures))
+    (λ terms seen added. ChangesObject terms c.args.change.now tries object seen added told)) c.in_default.is c.change_object.ensures))
 
 pub returns-in-Err : goal.returns-in-Err
 returns-in-Err c =
     let old = c.args.port.now in
-    let new = c.reset_object.new.port in
+    let new = c.change_object.new.port in
     let tries = c.args.tries in
     let object = c.object_behind-object.result in
     let below : c.loop-n.n < objects_in old.pass.memory.profile =
@@ -35,7 +35,7 @@ returns-in-Err c =
     (subst (λ (p : Profile). c.loop-n.n < objects_in p) c.profile.ensures
     (subst (λ (k : ℕ). c.loop-n.n < k) c.objects-n-end.ensures.number c.loop-n-test.true)) in
     weaker old new _ _
-    (one_more old c.loop-n.port new tries c.loop-n.n object _ c.object_behind-object.ensures.number c.loop-n.invariant
+    (one_more old c.loop-n.port new c.args.change.now tries c.loop-n.n object _ c.object_behind-object.ensures.number c.loop-n.invariant
     (subst (λ (told : Result (Unit {0}) AccessError). ChipGoes c.loop-n.port new
-    (λ terms seen added. ResetsObject terms tries object seen added told)) c.in-Err.is c.reset_object.ensures))
+    (λ terms seen added. ChangesObject terms c.args.change.now tries object seen added told)) c.in-Err.is c.change_object.ensures))
     (λ seen added h. (c.loop-n.n, below, h))
