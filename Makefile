@@ -8,7 +8,7 @@ BASE ?=
 FOLDER ?=
 export SCRIPT PREFIX EARLIER CRATE ONLY BASE FOLDER
 
-.PHONY: help check gate quick docs hook run try examples prove wrong test install dist dist-test bench sweep hostile soak c-test c-wrong every-test python-test qemu schema clean
+.PHONY: help check gate quick docs hook run try examples prove wrong test install dist dist-test bench sweep hostile soak c-test c-wrong every-test python-test page-test qemu schema clean
 
 help:
 	@tools/targets
@@ -101,6 +101,11 @@ python-test:
 
 qemu:
 	tools/check_qemu $${FOLDER:+"$$FOLDER"}
+
+page-test:
+	@tools/build ccan_lab
+	tools/check_page crates/ccan_lab/out/ccan_lab
+	tools/check_page_in_browser crates/ccan_lab/out/ccan_lab
 
 schema:
 	tools/check_documents

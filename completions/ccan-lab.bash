@@ -3,8 +3,8 @@ _ccan_lab() {
     local word=${COMP_WORDS[COMP_CWORD]} before=${COMP_WORDS[COMP_CWORD - 1]} words=
     COMPREPLY=()
     if [ "$COMP_CWORD" = 1 ]; then
-        words="outcomes check explain draw from-candump -h --help -V --version"
-    elif [[ "$before" =~ ^--(can|never|observe|most|outcome)$ ]]; then
+        words="outcomes check explain draw page from-candump -h --help -V --version"
+    elif [[ "$before" =~ ^--(can|never|observe|most|outcome|limit)$ ]]; then
         # A value that isn't the name of a file.
         compopt +o default 2> /dev/null
         return
@@ -14,6 +14,7 @@ _ccan_lab() {
             check) words="--strict --expect -h --help" ;;
             explain) words="--json --candump -h --help" ;;
             draw) words="--outcome --most -h --help" ;;
+            page) words="--run --outcomes --limit --most -h --help" ;;
             from-candump) words="-h --help" ;;
         esac
     fi

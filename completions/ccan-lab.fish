@@ -6,6 +6,7 @@ complete -c ccan-lab -n __fish_use_subcommand -f -a outcomes -d 'What can come o
 complete -c ccan-lab -n __fish_use_subcommand -f -a check -d 'The faults of scripts, each with its file, line and column'
 complete -c ccan-lab -n __fish_use_subcommand -f -a explain -d 'A run in order, told line by line'
 complete -c ccan-lab -n __fish_use_subcommand -f -a draw -d 'A picture of a run in order, as SVG'
+complete -c ccan-lab -n __fish_use_subcommand -f -a page -d 'A page to step through each outcome, or through a run'
 complete -c ccan-lab -n __fish_use_subcommand -f -a from-candump -d 'A script of a log that candump wrote'
 
 complete -c ccan-lab -n '__fish_seen_subcommand_from outcomes' -l all -d 'Show each outcome, with a history'
@@ -22,3 +23,8 @@ complete -c ccan-lab -n '__fish_seen_subcommand_from explain' -l candump -d 'The
 
 complete -c ccan-lab -n '__fish_seen_subcommand_from draw' -l outcome -x -d 'Draw a history of this outcome of outcomes --all'
 complete -c ccan-lab -n '__fish_seen_subcommand_from draw' -l most -x -d 'How many states to follow at most'
+
+complete -c ccan-lab -n '__fish_seen_subcommand_from page' -l run -d 'Show the run in order'
+complete -c ccan-lab -n '__fish_seen_subcommand_from page' -l outcomes -d 'Show the outcomes, also of a script with an order'
+complete -c ccan-lab -n '__fish_seen_subcommand_from page' -l limit -x -d 'How many outcomes to show at most'
+complete -c ccan-lab -n '__fish_seen_subcommand_from page' -l most -x -d 'How many states to follow at most'

@@ -17,6 +17,7 @@ mod first_fault;
 mod json_text;
 mod line_path;
 mod line_remark;
+pub mod line_texts;
 mod member;
 mod member_checks;
 mod member_remark;
@@ -33,6 +34,7 @@ mod told_line;
 mod walk;
 mod warning;
 
+pub use line_texts::{LineSpan, has_member, line_spans};
 pub use place::Place;
 pub use print::{print_report, remark_line};
 pub use report::{Fault, Remark, Report};

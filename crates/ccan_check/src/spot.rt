@@ -23,7 +23,7 @@ pub(crate) fn is_named(text: &[u8], child: Child, name: &str) -> bool {
 }
 
 /// Where the value of a member begins: the last one of its name, which is the one that counts.
-fn member_offset(text: &[u8], object: usize, name: &str) -> Option<usize> {
+pub(crate) fn member_offset(text: &[u8], object: usize, name: &str) -> Option<usize> {
     let mut found = None;
     let mut offset = object;
     for _member in 0..text.len() {

@@ -7,6 +7,7 @@ pub mod History
 pub mod LabError
 pub mod Observed
 pub mod Outcomes
+pub mod Paging
 pub mod Place
 pub mod Replay
 pub mod Report

@@ -6,7 +6,8 @@
 //! that begins so. `ccan-lab check` tells the faults of scripts, of each line the first, each with its file, line and column,
 //! and with `--expect TEXT` the first line of a run that is not as expected. `ccan-lab explain` runs
 //! a script in its order and tells each line decoded, and `ccan-lab from-candump` makes a script of a log of a bus.
-//! `ccan-lab draw` draws one picture of a run, or of a history of one of the outcomes.
+//! `ccan-lab draw` draws one picture of a run, or of a history of one of the outcomes. `ccan-lab page` writes a page to step
+//! through each outcome, or through a run.
 //!
 //! The exit status is 0 where it is as asked, and 6 where no outcome has the line of `--can`, or one has that of
 //! `--never`. A check ends with 1 where a script has faults, and else with 7 where there are warnings and `--strict` asks
@@ -34,6 +35,7 @@ pub mod laws;
 pub mod observed;
 pub mod outcome_rows;
 pub mod outcomes;
+pub mod paging;
 pub mod place;
 pub mod progress_line;
 pub mod question;
@@ -50,6 +52,7 @@ use crate::explaining::{answer_explain, answer_log};
 use crate::input::tell_terminal;
 use crate::lab_error::LabError;
 use crate::outcomes::answer_outcomes;
+use crate::paging::answer_page;
 use crate::progress_line::ProgressLine;
 use crate::question::{Question, question_asked};
 use clap::error::ErrorKind;
@@ -72,6 +75,7 @@ where
         Question::Outcomes(question) => tell_terminal(rt, "a script", question.file),
         Question::Explain(question) => tell_terminal(rt, "a script", question.file),
         Question::Draw(question) => tell_terminal(rt, "a script", question.file),
+        Question::Page(question) => tell_terminal(rt, "a script", question.file),
         Question::FromCandump(file) => tell_terminal(rt, "a log", *file),
         Question::Check(_) => {}
     }
@@ -103,6 +107,7 @@ where
         )),
         Question::Explain(question) => answer_explain(rt, question).map(status_told),
         Question::Draw(question) => answer_draw(rt, question, progress).map(status_told),
+        Question::Page(question) => answer_page(rt, question, progress).map(status_told),
         Question::FromCandump(file) => answer_log(rt, *file).map(status_told),
     }
 }

@@ -16,7 +16,7 @@ use ccan_script::{LineAnswer, Script, print_line};
 use std::alloc::{AllocError, Global};
 
 /// The answers of a port in an outcome.
-fn answers_of(ending: &Ending, port: PortName) -> &[LineAnswer] {
+pub(crate) fn answers_of(ending: &Ending, port: PortName) -> &[LineAnswer] {
     match port {
         PortName::If1 => ending.if1.as_slice(),
         PortName::If2 => ending.if2.as_slice(),
@@ -25,7 +25,7 @@ fn answers_of(ending: &Ending, port: PortName) -> &[LineAnswer] {
 }
 
 /// The line of a port's next step among these, from 1; where it has none, the number behind that of its last line.
-fn next_line(steps: &[HistoryStep], port: PortName, answers: &[LineAnswer]) -> usize {
+pub(crate) fn next_line(steps: &[HistoryStep], port: PortName, answers: &[LineAnswer]) -> usize {
     for step in steps {
         if step.port == port {
             return step.line;
@@ -35,7 +35,7 @@ fn next_line(steps: &[HistoryStep], port: PortName, answers: &[LineAnswer]) -> u
 }
 
 /// Adds the answers to the lines of a port from a line of this number, from 1, up to another, a line each.
-fn add_answers(
+pub(crate) fn add_answers(
     text: &mut String,
     port: PortName,
     answers: &[LineAnswer],
@@ -200,7 +200,7 @@ fn opening_rows(
 }
 
 /// The steps from this place on.
-fn behind(steps: &[HistoryStep], place: usize) -> &[HistoryStep] {
+pub(crate) fn behind(steps: &[HistoryStep], place: usize) -> &[HistoryStep] {
     steps.get(place..).unwrap_or(&[])
 }
 

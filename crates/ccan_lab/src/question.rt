@@ -5,6 +5,7 @@ use crate::command_words::over;
 use crate::drawing::{DrawQuestion, draw_command, draw_question};
 use crate::explaining::{ExplainQuestion, explain_command, explain_question, from_candump_command};
 use crate::outcomes::{DEFAULT_MOST, OutcomesQuestion, outcomes_command, outcomes_question};
+use crate::paging::{PageQuestion, page_command, page_question};
 use clap::{Command, Error};
 use std::alloc::{AllocError, Global};
 use std::convert::AsStr;
@@ -20,6 +21,8 @@ pub enum Question<'a> {
     Explain(ExplainQuestion<'a>),
     /// A picture of a run.
     Draw(DrawQuestion<'a>),
+    /// A page to step through.
+    Page(PageQuestion<'a>),
     /// A script of a log. The file: `None` or `-` means standard input.
     FromCandump(Option<&'a str>),
 }
@@ -50,6 +53,7 @@ fn command<'a>(alloc: Global) -> Result<Command<'a>, AllocError> {
     let asked = over(asked, check_command(alloc)?)?;
     let asked = over(asked, explain_command(alloc)?)?;
     let asked = over(asked, draw_command(alloc)?)?;
+    let asked = over(asked, page_command(alloc)?)?;
     over(asked, from_candump_command(alloc)?)
 }
 
@@ -64,6 +68,9 @@ pub fn question_asked<'a, S: AsStr>(alloc: Global, words: &'a [S]) -> Result<Que
     }
     if let Some(words) = matches.subcommand_matches("draw") {
         return Ok(Question::Draw(draw_question(words)));
+    }
+    if let Some(words) = matches.subcommand_matches("page") {
+        return Ok(Question::Page(page_question(alloc, words)?));
     }
     if let Some(words) = matches.subcommand_matches("from-candump") {
         return Ok(Question::FromCandump(words.get_str("file")));

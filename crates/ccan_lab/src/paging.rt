@@ -1,0 +1,226 @@
+//! The question `ccan-lab page`: its words, and the page.
+ghost use Rattle.std.specs.Prelude.{◌≡◌, IfOk, string_bytes};
+ghost use Rattle.std.specs.Option.{option_map};
+ghost use Rattle.ccan_lab.specs.Paging.{page_name};
+
+mod history_steps;
+mod outcome_pages;
+mod run_steps;
+
+use crate::command_words::{apart_from, command, file, number, switch, with};
+use crate::input::{bytes_asked, script_in};
+use crate::lab_error::LabError;
+use crate::outcomes::DEFAULT_MOST;
+use crate::paging::outcome_pages::outcomes_page;
+use crate::paging::run_steps::run_page;
+use crate::progress_line::ProgressLine;
+use ccan_check::{has_member, line_spans};
+use ccan_page::{LineText, Page, page_of};
+use ccan_script::Script;
+use ccan_search::Progress;
+use clap::error::ErrorKind;
+use clap::{Arg, ArgMatches, Command, Error};
+use std::alloc::{AllocError, Global};
+use std::fs::Files;
+use std::io;
+use std::io::{Input, Write};
+
+/// How many outcomes a page shows at most if the command line doesn't say.
+const DEFAULT_LIMIT: usize = 100;
+
+/// What a page is to show of a script.
+#[derive(Clone, Copy)]
+pub enum PageKind {
+    /// Its run in order where it has an order, and else its outcomes.
+    ByOrder,
+    /// Its run in order.
+    Run,
+    /// Its outcomes.
+    Outcomes,
+}
+
+/// What is asked of a page.
+#[derive(Clone, Copy)]
+pub struct PageQuestion<'a> {
+    /// What it is to show.
+    pub kind: PageKind,
+    /// How many outcomes it shows at most.
+    pub limit: usize,
+    /// How many states a search follows at most. If there are more, there is no page.
+    pub most: usize,
+    /// The file of the script: `None` or `-` means standard input.
+    pub file: Option<&'a str>,
+}
+
+/// The flag that asks for the run in order.
+fn run_flag<'a>(alloc: Global) -> Result<Arg<'a>, AllocError> {
+    let help = "Show the run in the script's order, as where the script has an order";
+    apart_from(
+        apart_from(apart_from(switch(alloc, "run", help), "outcomes")?, "limit")?,
+        "most",
+    )
+}
+
+/// The flag that asks for the outcomes.
+fn outcomes_flag<'a>(alloc: Global) -> Arg<'a> {
+    let help = "Show the outcomes, also where the script has an order";
+    switch(alloc, "outcomes", help)
+}
+
+/// The command that writes a page.
+pub fn page_command<'a>(alloc: Global) -> Result<Command<'a>, AllocError> {
+    let about =
+        "Writes a page in HTML to step through each outcome of a script, or through its run in order";
+    let paged = command(alloc, "page", about);
+    let paged = with(paged, run_flag(alloc)?)?;
+    let paged = with(paged, outcomes_flag(alloc))?;
+    let limit = number(alloc, "limit", "How many outcomes to show at most, from 1");
+    let paged = with(paged, limit.default_value("100"))?;
+    let most = number(alloc, "most", "How many states to follow at most");
+    let paged = with(paged, most.default_value("1000000"))?;
+    with(
+        paged,
+        file(alloc, "FILE", "The script; left out or -: standard input"),
+    )
+}
+
+/// What is told where no outcome is to be shown.
+fn no_outcome_shown(alloc: Global) -> Result<Error, Error> {
+    let message = "with '--limit <N>' N is at least 1";
+    Ok(page_command(alloc)?.error(ErrorKind::ValueValidation, message)?)
+}
+
+/// What the words say that a page is to show.
+fn kind_asked(words: &ArgMatches<'_>) -> PageKind {
+    if words.get_flag("run") {
+        PageKind::Run
+    } else if words.get_flag("outcomes") {
+        PageKind::Outcomes
+    } else {
+        PageKind::ByOrder
+    }
+}
+
+/// The question that the words after `page` ask.
+pub fn page_question<'a>(alloc: Global, words: &ArgMatches<'a>) -> Result<PageQuestion<'a>, Error> {
+    let limit = words.get_one::<usize>("limit").unwrap_or(DEFAULT_LIMIT);
+    if limit == 0 {
+        return Err(no_outcome_shown(alloc)?);
+    }
+    Ok(PageQuestion {
+        kind: kind_asked(words),
+        limit,
+        most: words.get_one::<usize>("most").unwrap_or(DEFAULT_MOST),
+        file: words.get_str("file"),
+    })
+}
+
+/// The lines of the list of this name in the text of a script.
+fn line_texts<'a>(
+    alloc: Global,
+    text: &'a [u8],
+    name: &str,
+) -> Result<Vec<LineText<'a>>, AllocError> {
+    let mut lines = Vec::new(alloc);
+    for span in line_spans(alloc, text, name)?.as_slice() {
+        lines.push(LineText {
+            row: span.row,
+            text: text.get(span.begin..span.end).unwrap_or(&[]),
+        })?;
+    }
+    Ok(lines)
+}
+
+/// A script's text, and the name of its file.
+#[derive(Drop)]
+struct Source {
+    /// The name that a page has for the file.
+    name: String,
+    /// All bytes of the file.
+    text: Vec<u8>,
+}
+
+/// The name that a page has for a file: none for standard input.
+fn name_of(alloc: Global, file: Option<&str>) -> Result<String, AllocError>
+    ensures { IfOk result (λ name. string_bytes name
+        ≡ page_name (option_map (λ path. path.now) file.entry)) }
+{
+    match file {
+        None | Some("-") => Ok(String::new(alloc)),
+        Some(path) => String::from_str(alloc, path),
+    }
+}
+
+/// Reads the script that was asked about.
+fn source_asked<T: AllocGlobal + Input + Files>(
+    rt: &T,
+    file: Option<&str>,
+) -> Result<Source, LabError>
+    ensures { IfOk result (λ source. string_bytes source.name
+        ≡ page_name (option_map (λ path. path.now) file.entry)) }
+{
+    let text = bytes_asked(rt, file)?;
+    let name = name_of(rt.alloc(), file)?;
+    Ok(Source { name, text })
+}
+
+/// A page of this script without an outcome.
+fn empty_page<'a>(alloc: Global, source: &'a Source) -> Result<Page<'a>, AllocError>
+    ensures { IfOk result (λ page. page.file.now ≡ string_bytes source.now.name) }
+{
+    let text = source.text.as_slice();
+    Ok(Page {
+        file: source.name.as_str(),
+        count: 0,
+        same: String::new(alloc),
+        if1: line_texts(alloc, text, "if1")?,
+        if2: line_texts(alloc, text, "if2")?,
+        bus: line_texts(alloc, text, "bus")?,
+        outcomes: Vec::new(alloc),
+    })
+}
+
+/// Whether a page is to show the run in order.
+fn is_run(kind: PageKind, text: &[u8]) -> bool {
+    match kind {
+        PageKind::Run => true,
+        PageKind::Outcomes => false,
+        PageKind::ByOrder => has_member(text, "order"),
+    }
+}
+
+/// The page that is asked of a script with this source.
+fn paged<'a, P: Progress>(
+    alloc: Global,
+    script: Script,
+    source: &'a Source,
+    question: &PageQuestion<'_>,
+    progress: &P,
+) -> Result<Page<'a>, LabError>
+    ensures { IfOk result (λ page. page.file.now ≡ string_bytes source.now.name) }
+{
+    let page = empty_page(alloc, source)?;
+    if is_run(question.kind, source.text.as_slice()) {
+        Ok(run_page(alloc, &script, page)?)
+    } else {
+        outcomes_page(alloc, script, question.limit, question.most, page, progress)
+    }
+}
+
+/// Writes the page that is asked for. On a terminal it is told how far a search for outcomes is.
+pub fn answer_page<T: AllocGlobal + Input + Files + Print + Eprint>(
+    rt: &T,
+    question: &PageQuestion<'_>,
+    progress: &ProgressLine<'_, T>,
+) -> Result<(), LabError> {
+    let source = source_asked(rt, question.file)?;
+    let script = script_in(rt.alloc(), source.text.as_slice())?;
+    let made = paged(rt.alloc(), script, &source, question, progress);
+    progress.clear();
+    let page = made?;
+    let text = page_of(rt.alloc(), &page)?;
+    match io::writer(rt).write_all(text.as_slice()) {
+        Ok(()) => Ok(()),
+        Err(_) => Err(LabError::Write),
+    }
+}

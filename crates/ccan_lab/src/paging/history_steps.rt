@@ -1,0 +1,218 @@
+//! The steps of a history, as a page shows them.
+ghost use Rattle.std.specs.Prelude.{◌≡◌, IfOk, map};
+ghost use Rattle.ccan_lab.specs.Paging.{line_of, line_stepped};
+
+use crate::history::{add_object, kind_text};
+use crate::outcome_rows::{add_answers, answers_of, behind, next_line};
+use ccan_bus::RoundLine;
+use ccan_object::{MOST_OBJECTS, ObjectNo, Record};
+use ccan_outcomes::all_ports::AllPorts;
+use ccan_outcomes::{Ending, HistoryKind, HistoryStep};
+use ccan_page as page;
+use ccan_page::{Change, ObjectChange, SentFrame};
+use ccan_ram::PortName;
+use ccan_script::{BusLine, Script};
+use std::alloc::{AllocError, Global};
+
+/// The states before a step and behind it.
+#[derive(Clone, Copy)]
+struct Moved<'a> {
+    before: &'a AllPorts,
+    after: &'a AllPorts,
+}
+
+/// The record of an object in a state; those behind the last that stand there are zero.
+fn record_in(state: &AllPorts, object: ObjectNo) -> Record {
+    let place = usize::from(object.get()) - 1;
+    match state.records.as_slice().get(place) {
+        Some(record) => *record,
+        None => Record::zero(),
+    }
+}
+
+/// A change, if it is one.
+fn if_changed(before: Record, after: Record) -> Option<Change> {
+    if before == after {
+        None
+    } else {
+        Some(Change { before, after })
+    }
+}
+
+/// The registers of a step's port before and behind it, if they differ.
+fn registers_of(moved: &Moved<'_>, port: PortName) -> Option<Change> {
+    match port {
+        PortName::If1 => if_changed(
+            moved.before.if1.registers.buffer(),
+            moved.after.if1.registers.buffer(),
+        ),
+        PortName::If2 => if_changed(
+            moved.before.if2.registers.buffer(),
+            moved.after.if2.registers.buffer(),
+        ),
+        PortName::Bus => None,
+    }
+}
+
+/// The objects that a step changed.
+fn objects_of(alloc: Global, moved: &Moved<'_>) -> Result<Vec<ObjectChange>, AllocError> {
+    let mut objects = Vec::new(alloc);
+    for place in 0..MOST_OBJECTS {
+        let object = ObjectNo::new(place as u8 + 1).unwrap();
+        let before = record_in(moved.before, object);
+        let after = record_in(moved.after, object);
+        if let Some(change) = if_changed(before, after) {
+            objects.push(ObjectChange { object, change })?;
+        }
+    }
+    Ok(objects)
+}
+
+/// The round that a line of the bus is, by its number from 1.
+fn round_at(script: &Script, line: usize) -> Option<&RoundLine> {
+    match script.bus.get(line.checked_sub(1)?)? {
+        BusLine::Round(round) => Some(round),
+        BusLine::Load
+        | BusLine::Status
+        | BusLine::Control { .. }
+        | BusLine::Interrupt
+        | BusLine::Flags(_)
+        | BusLine::Counters(_)
+        | BusLine::Init
+        | BusLine::Recessive(_)
+        | BusLine::LoopBack(_) => None,
+    }
+}
+
+/// The frame that was on the bus in a step: the winner of a decision, which is made again here.
+fn frame_of(script: &Script, step: &HistoryStep, moved: &Moved<'_>) -> Option<SentFrame> {
+    if step.kind != HistoryKind::Decides {
+        return None;
+    }
+    let round = round_at(script, step.line)?;
+    let mut bus = moved.before.bus.bus;
+    let (node, frame) = bus.decide(round).winner()?;
+    Some(SentFrame { node, frame })
+}
+
+/// What a step did, and at which object.
+fn deed_of(alloc: Global, step: &HistoryStep) -> Result<String, AllocError> {
+    let mut deed = String::from_str(alloc, kind_text(step.kind))?;
+    add_object(&mut deed, step.object)?;
+    Ok(deed)
+}
+
+/// What stands behind a step: the answer to its line where the step is the last of it, and those to the lines behind it that
+/// make no step.
+fn told_behind(
+    alloc: Global,
+    step: &HistoryStep,
+    later: &[HistoryStep],
+    ending: &Ending,
+) -> Result<String, AllocError> {
+    let answers = answers_of(ending, step.port);
+    let mut told = String::new(alloc);
+    let to = next_line(later, step.port, answers);
+    add_answers(&mut told, step.port, answers, step.line, to)?;
+    Ok(told)
+}
+
+/// What the states before a step and behind it show of it.
+#[derive(Drop)]
+struct Seen {
+    frame: Option<SentFrame>,
+    registers: Option<Change>,
+    objects: Vec<ObjectChange>,
+}
+
+/// What the states before a step and behind it show of it; nothing where one of them is not known.
+fn seen_of(
+    alloc: Global,
+    script: &Script,
+    step: &HistoryStep,
+    moved: Option<Moved<'_>>,
+) -> Result<Seen, AllocError> {
+    match moved {
+        Some(moved) => Ok(Seen {
+            frame: frame_of(script, step, &moved),
+            registers: registers_of(&moved, step.port),
+            objects: objects_of(alloc, &moved)?,
+        }),
+        None => Ok(Seen {
+            frame: None,
+            registers: None,
+            objects: Vec::new(alloc),
+        }),
+    }
+}
+
+/// A step of a history, as a page shows it, by the steps behind it and the states about it.
+fn shown_step(
+    alloc: Global,
+    script: &Script,
+    step: &HistoryStep,
+    later: &[HistoryStep],
+    moved: Option<Moved<'_>>,
+    ending: &Ending,
+) -> Result<page::Step, AllocError>
+    ensures { IfOk result (λ made. line_of made ≡ line_stepped step.now) }
+{
+    let deed = deed_of(alloc, step)?;
+    let told = told_behind(alloc, step, later, ending)?;
+    let Seen {
+        frame,
+        registers,
+        objects,
+    } = seen_of(alloc, script, step, moved)?;
+    Ok(page::Step {
+        port: step.port,
+        line: step.line.saturating_sub(1),
+        deed,
+        told,
+        object: step.object,
+        frame,
+        registers,
+        objects,
+    })
+}
+
+/// The states before the step of this place and behind it. There is one state more than there are steps, the first before any.
+fn moved_at(states: &[AllPorts], place: usize) -> Option<Moved<'_>> {
+    let before = states.get(place)?;
+    let after = states.get(place.saturating_add(1))?;
+    Some(Moved { before, after })
+}
+
+/// The steps of a history, as a page shows them: one for each.
+pub(crate) fn shown_history(
+    alloc: Global,
+    script: &Script,
+    steps: &[HistoryStep],
+    states: &[AllPorts],
+    ending: &Ending,
+) -> Result<Vec<page::Step>, AllocError>
+    ensures { IfOk result (λ made. map line_of made.items ≡ map line_stepped steps.now) }
+{
+    let mut made = Vec::new(alloc);
+    for step in steps {
+        let place = made.len();
+        let later = behind(steps, place.saturating_add(1));
+        made.push(shown_step(alloc, script, step, later, moved_at(states, place), ending)?)?;
+    }
+    Ok(made)
+}
+
+/// The answers to the lines of all ports before their first steps, which are run as the ports begin.
+pub(crate) fn opening_of(
+    alloc: Global,
+    steps: &[HistoryStep],
+    ending: &Ending,
+) -> Result<String, AllocError> {
+    let mut opening = String::new(alloc);
+    for port in [PortName::If1, PortName::If2, PortName::Bus] {
+        let answers = answers_of(ending, port);
+        let to = next_line(steps, port, answers);
+        add_answers(&mut opening, port, answers, 1, to)?;
+    }
+    Ok(opening)
+}
