@@ -1,14 +1,20 @@
--- What a page is named after, and which line a step of it is of. Source: this project's own.
-use Rattle.std.specs.Prelude.{ℕ, ◌≡◌, ◌-◌, List, [], Option, None, Some, codes, if◌then◌else◌, map, slice_get}
+-- What a page shows of the outcomes of a script. Source: this project's own.
+use Rattle.std.specs.Prelude.{ℕ, zero, suc, ◌≡◌, ◌+◌, ◌-◌, ◌++◌, ◌∷◌, List, [], Option, None, Some}
+use Rattle.std.specs.Prelude.{codes, if◌then◌else◌, length, map, min, slice_get, string_bytes}
 use Rattle.std.specs.Str.{bytes_eq}
 use Rattle.ccan_ram.specs.declared.port.PortName.{PortName}
 use Rattle.ccan_line.specs.Script.{ScriptFields}
 use Rattle.ccan_explain.specs.declared.step.Step as told
 use Rattle.ccan_outcomes.specs.declared.ending.Ending.{Ending}
 use Rattle.ccan_outcomes.specs.declared.history_step.HistoryStep.{HistoryStep}
+use Rattle.ccan_outcomes.specs.Ending.{AreOutcomes}
 use Rattle.ccan_outcomes.specs.History.{IsHistoryOf}
+use Rattle.ccan_outcomes.specs.Waits.{HaveSameOutcomes}
 use Rattle.ccan_page.specs.declared.page.Outcome.{Outcome}
+use Rattle.ccan_page.specs.declared.page.Page.{Page}
 use Rattle.ccan_page.specs.declared.page.Step as shown
+use Rattle.ccan_lab.specs.Report.{different_lines}
+use Rattle.ccan_lab.specs.Rows.{rows_of}
 
 -- the name that a page has for the script's file: none for standard input
 abbrev pub page_name : Option (List ℕ) → List ℕ
@@ -27,9 +33,27 @@ line_told step = (step.port, step.line)
 abbrev pub line_stepped : HistoryStep → PortName × ℕ
 line_stepped step = (step.port, step.line - 1)
 
--- the outcome shows a step for each step of a history of the ending in this place
-abbrev pub IsShown : ScriptFields → List Ending → ℕ → Outcome → Type 0
-IsShown script endings place outcome =
-    (steps : List HistoryStep)
-    × ((ending : Ending) → slice_get endings place ≡ Some ending → IsHistoryOf script ending steps)
-    × (map line_of outcome.history.items ≡ map line_stepped steps)
+-- the outcome has the number of the ending in this place, which is counted from 0, the lines of it that are not the same in
+-- all, and a step for each step of a history of it
+pub record IsShown (script : ScriptFields) (endings : List Ending) (place : ℕ) (outcome : Outcome) : Type 0 where
+  pub number_is : outcome.number ≡ place + 1
+  pub lines_are : string_bytes outcome.lines ≡ different_lines (map rows_of endings) place
+  pub steps : List HistoryStep
+  pub lead_to_it : (ending : Ending) → slice_get endings place ≡ Some ending → IsHistoryOf script ending steps
+  pub are_shown : map line_of outcome.history.items ≡ map line_stepped steps
+
+-- the outcomes are the endings before this place, in turn
+abbrev pub AreShown : ScriptFields → List Ending → ℕ → List Outcome → Type 0
+AreShown script endings zero outcomes = outcomes ≡ []
+AreShown script endings (suc place) outcomes =
+    (before : List Outcome) × (last : Outcome) × (outcomes ≡ before ++ (last ∷ []))
+    × AreShown script endings place before × IsShown script endings place last
+
+-- the page says how many outcomes there are, of a script that has the same, and has the first of them, at most so many
+pub record ShowsOutcomes (script : ScriptFields) (limit : ℕ) (page : Page) : Type 0 where
+  pub searched : ScriptFields
+  pub same_outcomes : HaveSameOutcomes script searched
+  pub endings : List Ending
+  pub complete : AreOutcomes searched endings
+  pub count_is : page.count ≡ length endings
+  pub are_shown : AreShown searched endings (min limit (length endings)) page.outcomes.items

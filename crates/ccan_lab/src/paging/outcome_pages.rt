@@ -1,8 +1,9 @@
 //! The outcomes of a script, as a page shows them.
-ghost use Rattle.std.specs.Prelude.{◌≡◌, ◌+◌, ◌<◌, ◌≤◌, IfOk, length, map, min};
+ghost use Rattle.std.specs.Prelude.{◌≡◌, ◌+◌, ◌++◌, ◌<◌, ◌≤◌, IfOk, length, map, min, string_bytes};
 ghost use Rattle.ccan_line.specs.Script.{fields_of};
 ghost use Rattle.ccan_outcomes.specs.Outcomes.{AreFound};
-ghost use Rattle.ccan_lab.specs.Paging.{IsShown, line_of, line_stepped};
+ghost use Rattle.ccan_lab.specs.Paging.{AreShown, IsShown, ShowsOutcomes, line_of, line_stepped};
+ghost use Rattle.ccan_lab.specs.Report.{same_text};
 ghost use Rattle.ccan_lab.specs.Rows.{rows_of};
 
 use crate::lab_error::LabError;
@@ -77,6 +78,7 @@ fn outcome_at(
     place: usize,
 ) -> Result<Outcome, AllocError>
     requires within { place < length outcomes.now.listing.endings.keys }
+    requires rows { all.now ≡ map rows_of outcomes.now.listing.endings.keys }
     requires found { AreFound (fields_of script.now) outcomes.now }
     ensures { IfOk result (λ outcome. IsShown (fields_of script.now)
         outcomes.now.listing.endings.keys place outcome) }
@@ -86,7 +88,7 @@ fn outcome_at(
     let ending = &outcomes.listing.endings.as_slice()[place];
     let Ordered { order, run } = ordered_of(alloc, script, outcomes, place, steps)?;
     Ok(Outcome {
-        number: place.saturating_add(1),
+        number: place + 1,
         lines: different_lines(alloc, all, place)?,
         order,
         opening: opening_of(alloc, steps, ending)?,
@@ -111,9 +113,11 @@ fn outcomes_shown(
     all: &[Rows],
     limit: usize,
 ) -> Result<Vec<Outcome>, AllocError>
-    requires { AreFound (fields_of script.now) outcomes.now }
-    ensures { IfOk result (λ shown. length shown.items
-        ≡ min limit (length outcomes.now.listing.endings.keys)) }
+    requires rows { all.now ≡ map rows_of outcomes.now.listing.endings.keys }
+    requires found { AreFound (fields_of script.now) outcomes.now }
+    ensures { IfOk result (λ shown. AreShown (fields_of script.now)
+        outcomes.now.listing.endings.keys
+        (min limit (length outcomes.now.listing.endings.keys)) shown.items) }
 {
     let mut shown = Vec::new(alloc);
     for place in 0..shown_count(limit, outcomes.listing.endings.len()) {
@@ -133,8 +137,11 @@ fn found_page<'a>(
     requires { AreFound (fields_of script.now) outcomes.now }
     ensures file { IfOk result (λ made. made.file.now ≡ page.entry.file.now) }
     ensures count { IfOk result (λ made. made.count ≡ length outcomes.now.listing.endings.keys) }
-    ensures shown { IfOk result (λ made. length made.outcomes.items
-        ≡ min limit (length outcomes.now.listing.endings.keys)) }
+    ensures same { IfOk result (λ made. string_bytes made.same
+        ≡ string_bytes page.entry.same ++ same_text (map rows_of outcomes.now.listing.endings.keys)) }
+    ensures shown { IfOk result (λ made. AreShown (fields_of script.now)
+        outcomes.now.listing.endings.keys
+        (min limit (length outcomes.now.listing.endings.keys)) made.outcomes.items) }
 {
     let all = all_rows(alloc, outcomes.listing.endings.as_slice())?;
     add_same(&mut page.same, all.as_slice())?;
@@ -153,7 +160,8 @@ pub(crate) fn outcomes_page<'a, P: Progress>(
     page: Page<'a>,
     progress: &P,
 ) -> Result<Page<'a>, LabError>
-    ensures { IfOk result (λ made. made.file.now ≡ page.entry.file.now) }
+    ensures file { IfOk result (λ made. made.file.now ≡ page.entry.file.now) }
+    ensures outcomes { IfOk result (λ made. ShowsOutcomes (fields_of script) limit made) }
 {
     let script = looking_once(alloc, script)?;
     match all_outcomes(alloc, &script, most, progress)? {
