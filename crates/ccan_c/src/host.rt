@@ -173,7 +173,8 @@ pub extern "C" fn ccan_line(host: &mut HostHandle, out: &mut u32) -> u32
     DONE
 }
 
-/// Reads the word of 32 bits at an offset, in bytes from where the chip begins: its lower half, and then its upper one.
+/// Reads the word of 32 bits at an offset, in bytes from where the chip begins: its lower half and then its upper one, or both
+/// at one moment, if they are of one flag or the bit timing.
 #[unsafe(no_mangle)]
 pub extern "C" fn ccan_read32(host: &mut HostHandle, offset: u32, out: &mut u32) -> u32
     ensures call { HostCallDoes (host_call.read32 offset result out.new)
@@ -187,7 +188,8 @@ pub extern "C" fn ccan_read32(host: &mut HostHandle, offset: u32, out: &mut u32)
     read_word_out(&told, out)
 }
 
-/// Writes the word of 32 bits at an offset, in bytes from where the chip begins: its upper half, and then its lower one.
+/// Writes the word of 32 bits at an offset, in bytes from where the chip begins: its upper half and then its lower one, or both
+/// at one moment, if they are the bit timing.
 #[unsafe(no_mangle)]
 pub extern "C" fn ccan_write32(host: &mut HostHandle, offset: u32, value: u32) -> u32
     ensures { HostCallDoes (host_call.write32 offset value result)
