@@ -8,7 +8,7 @@ BASE ?=
 FOLDER ?=
 export SCRIPT PREFIX EARLIER CRATE ONLY BASE FOLDER
 
-.PHONY: help check gate quick docs hook run try examples prove wrong test install dist dist-test bench sweep hostile soak c-test c-wrong every-test python-test page-test qemu schema clean
+.PHONY: help check gate quick docs hook run try examples prove wrong test install dist dist-test bench sweep hostile soak c-test c-wrong every-test python-test page-test qemu systemc schema clean
 
 help:
 	@tools/targets
@@ -101,6 +101,9 @@ python-test:
 
 qemu:
 	tools/check_qemu $${FOLDER:+"$$FOLDER"}
+
+systemc:
+	tools/check_systemc
 
 page-test:
 	@tools/build ccan_lab
