@@ -95,7 +95,7 @@ private:
     void spoil();
     void meet();
 
-    ccan_network network;
+    ccan_network network{};
     std::array<Controller *, CCAN_NETWORK_MEMBERS> controllers{}; /* each at its place */
     BitClock clock;
     sc_core::sc_event wake;

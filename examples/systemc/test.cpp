@@ -118,7 +118,7 @@ public:
         return value;
     }
 
-    template <typename Value> void set(uint32_t address, Value value, sc_time delay = sc_core::SC_ZERO_TIME)
+    template <typename Value> void set(uint32_t address, Value value, const sc_time &delay = sc_core::SC_ZERO_TIME)
     {
         Access access(tlm::TLM_WRITE_COMMAND, address, sizeof value);
         std::memcpy(access.data.data(), &value, sizeof value);
@@ -345,6 +345,13 @@ void test_status_interrupt(Board &board)
 /* BRPE 1 and BRP 1 are a quantum of 64 + 1 + 1 periods, 8.25 us, and a bit of eight quanta, 66 us. */
 sc_time slow_frame() { return 55 * ns(66000); }
 
+void open_slow(Node &node)
+{
+    node.set16(CCAN_OFFSET_CONTROL, INIT | CCE);
+    node.set16(CCAN_OFFSET_BRP_EXTENSION, 1);
+    open(node, IE);
+}
+
 /* The bus goes on with other bits behind a frame. */
 void test_bit_time(Board &board)
 {
@@ -352,17 +359,36 @@ void test_bit_time(Board &board)
     request(board.a, 0x100, 0xbb);
     wait(frame() + bits(10));
     expect_taken(board.b, 0x100, 0xbb);
-    wait(bits(1));
+    wait(bits(2));
     const sc_time requested = sc_time_stamp();
-    for (Node *node : { &board.a, &board.b }) {
-        node->set16(CCAN_OFFSET_CONTROL, INIT | CCE);
-        node->set16(CCAN_OFFSET_BRP_EXTENSION, 1);
-        open(*node, IE);
-    }
+    open_slow(board.a);
+    open_slow(board.b);
     request(board.a, 0x200, 0xaa);
     wait(slow_frame() + bits(1));
     expect("when the receiver's line rose", board.b.rose, requested + slow_frame());
     expect_taken(board.b, 0x200, 0xaa);
+}
+
+/* Controllers with different bits: the bus has those of the first one, and goes on. */
+void test_bit_time_of_the_first(Board &board)
+{
+    open(board.a, IE);
+    open_slow(board.b);
+    request(board.b, 0x100, 0xbb);
+    wait(frame() + bits(1));
+    expect("when the receiver's line rose", board.a.rose, frame());
+}
+
+/* The first controller is not started, so the bus has the bits of the second one. Nobody acknowledges its frame: it sees that
+ * behind the ACK slot, and here when the error frame is over, at most 62 bits behind the start of the frame. */
+void test_bit_time_of_the_second(Board &board)
+{
+    open_slow(board.b);
+    request(board.b, 0x100, 0xbb);
+    wait(slow_frame() - bits(1));
+    expect_register("Status", board.b.get16(CCAN_OFFSET_STATUS), 0);
+    wait(8 * ns(66000));
+    expect_register("Status", board.b.get16(CCAN_OFFSET_STATUS), 3);
 }
 
 /* A frame that is requested within a bit, here at 10.7 of them, begins with the next one. */
@@ -483,8 +509,8 @@ void test_no_acknowledge(Board &board)
     expect_taken(board.b, 0x100, 0xbb);
 }
 
-/* A controller spoils what it sends, and not what it receives. The frame that it spoils is taken as long as it can be: 45 bits to the
- * end of its CRC sequence, and 20 of an error frame. Then it is sent again. */
+/* A controller spoils what it sends, and not what it receives. The frame that it spoils is taken as long as it can be: 45 bits to
+ * the end of its CRC sequence, and 20 of an error frame. Then it is sent again. */
 void test_spoiled(Board &board)
 {
     open_both(board);
@@ -585,6 +611,8 @@ constexpr Case CASES[] = {
     { "frame", CCAN_LAYOUT_C_CAN, test_frame },
     { "frame_of_words", CCAN_LAYOUT_C_CAN_32, test_frame },
     { "bit_time", CCAN_LAYOUT_C_CAN, test_bit_time },
+    { "bit_time_of_the_first", CCAN_LAYOUT_C_CAN, test_bit_time_of_the_first },
+    { "bit_time_of_the_second", CCAN_LAYOUT_C_CAN, test_bit_time_of_the_second },
     { "bit_time_of_words", CCAN_LAYOUT_C_CAN_32, test_bit_time },
     { "status_interrupt", CCAN_LAYOUT_C_CAN, test_status_interrupt },
     { "within_a_bit", CCAN_LAYOUT_C_CAN, test_within_a_bit },
