@@ -126,7 +126,12 @@ fn finds_edges_with_labels(rt: HostRuntime) {
     let found = stairs_below(&rt, rt.alloc(), 3);
     same(&rt, found.graph.states.as_slice(), &[0, 1, 2, 3]);
     same(&rt, found.start, 3);
-    for (edges, want) in found.graph.edges.iter().zip([(0, 0), (1, 0), (3, 1), (3, 3)]) {
+    for (edges, want) in found
+        .graph
+        .edges
+        .iter()
+        .zip([(0, 0), (1, 0), (3, 1), (3, 3)])
+    {
         same(&rt, sums(edges.as_slice()), want);
     }
 }
