@@ -23,7 +23,7 @@ RESET = [
     ("Error Counter", 0x04, 0x0000),
     ("Bit Timing", 0x06, 0x2301),
     ("Interrupt", 0x08, 0x0000),
-    ("Test", 0x0A, 0x0000),
+    ("Test", 0x0A, 0x0080),  # Rx, the level of the bus: recessive
     ("BRP Extension", 0x0C, 0x0000),
     ("Command Request", 0x10, 0x0001),
     ("Command Mask", 0x12, 0x0000),
@@ -108,7 +108,8 @@ def test_words_of_32_bits() -> None:
         chip.if1.write32(0x100, 0x007F0001)
         assert (chip.if1.read32(0x110), chip.if1.read32(0x004), chip.if1.read32(0x004)) == (0x2211, 0x10, 0x07)
         chip.bus.write32(0x000, 0x0003)
-        assert chip.bus.read16(0x000) == 0x0003
+        # A D_CAN reads 5 in bits 10 to 13 of Control (PMD: parity off).
+        assert chip.bus.read16(0x000) == 0x1403
 
 
 def test_interrupts_flags_and_the_line(chip: ccan.Chip) -> None:
