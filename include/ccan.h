@@ -1,8 +1,9 @@
 /* libccan 0.5: a Bosch C_CAN controller (User's Manual 1.2) as a proved library for C11 and C++11.
  *
  * A chip has three handles: two for the hosts at IF1 and IF2, and one for the bus. Each may be used by a thread of its own,
- * without a lock. docs/EMBEDDING.md has a first program, what each call counts in the one history of the chip, and how calls
- * differ from the lines of a script. docs/PROVED.md has what is proved. No proof reads this header; tests hold it to the library.
+ * without a lock. docs/EMBEDDING.md is the guide, with a first program; docs/C_REFERENCE.md has what each call counts in the one
+ * history of the chip, and how calls differ from the lines of a script. docs/PROVED.md has what is proved. No proof reads this
+ * header; tests hold it to the library.
  *
  * C promises the following, which no call of the proved library checks. libccan_checked.a reports what it sees, and aborts.
  *  1. A ccan_chip begins as CCAN_CHIP_CLOSED, or by ccan_chip_init. C neither reads nor writes the insides of a chip or a handle,
@@ -169,7 +170,7 @@ enum ccan_layout {
     CCAN_LAYOUT_C_CAN_32, /* C_CAN: each register at twice that offset, alone in a word of 32 bits */
     CCAN_LAYOUT_D_CAN     /* D_CAN: the halves of its registers of 32 bits, see docs/REGISTERS.md. What differs from a C_CAN is said
                            * at the calls; what a D_CAN has beside that, as parity, auto bus on, power down, DMA, IF3 and a second
-                           * interrupt line, is left out (docs/EMBEDDING.md) */
+                           * interrupt line, is left out (docs/C_REFERENCE.md) */
 };
 
 /* Opens a chip as a part is after its reset, all of it or nothing: Init is 1, so that it takes part only once a write of Control
@@ -217,7 +218,7 @@ CCAN_CODE ccan_forget(ccan_note *note);
 
 /* ---- saving, restoring and resetting */
 
-/* A chip as bytes, which may be kept in a file and read by another program: see docs/FORMATS.md, "A saved chip". Its first bytes
+/* A chip as bytes, which may be kept in a file and read by another program: see docs/REGISTERS.md, "A saved chip". Its first bytes
  * say that it is one, and of which version of the format. */
 typedef struct { uint8_t bytes[1672]; } ccan_saved;
 CCAN_HOLDS(sizeof(ccan_saved) == 1672);
@@ -569,7 +570,7 @@ CCAN_CODE ccan_bus_flags(ccan_bus *bus, uint32_t flag, uint64_t *out);
  * bus of several chips ready-made, over these calls.
  *
  * What is decided follows CAN Specification 2.0 (arbitration, acknowledgement, error signalling and fault confinement); the table
- * with each case stands in docs/EMBEDDING.md. The events of a chip stand in that chip's history, as those of a round do. Of several
+ * with each case stands in docs/C_REFERENCE.md. The events of a chip stand in that chip's history, as those of a round do. Of several
  * chips no common history is promised: what joins them is that each one's events are its part of the same wires. So what one chip
  * has sent, another member has received, and two that have sent have sent the same frame: if C passes on what it was given, and
  * each chip is still as its ccan_stay found it. */

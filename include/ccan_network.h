@@ -183,7 +183,7 @@ static inline CCAN_CODE ccan_network_withdraw(ccan_network *network, uint32_t pl
 
 /* The member at this place finds an error by itself, an enum ccan_fault, in the frame that is under way if it takes part in it,
  * else in the next frame in which it does. CCAN_QUIET takes that back. What the others make of its error flag follows
- * (docs/EMBEDDING.md, "Several chips and a clock"). The end of the frame forgets it. The first of CCAN_PLACE_RANGE, nobody is
+ * (docs/C_REFERENCE.md, "Frames on a bus of several"). The end of the frame forgets it. The first of CCAN_PLACE_RANGE, nobody is
  * there, and CCAN_FAULT_RANGE. */
 static inline CCAN_CODE ccan_network_fault(ccan_network *network, uint32_t place, uint32_t fault)
 {

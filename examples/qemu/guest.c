@@ -11,7 +11,7 @@
  * slow readout may order frames anew. How many were is counted.
  *
  * At most eight frames wait at each: with 16 the driver takes a seventeenth
- * too many. See docs/EMBEDDING.md, "The Linux driver on it".
+ * too many. See docs/C_REFERENCE.md, "The Linux driver on it".
  */
 #include <errno.h>
 #include <fcntl.h>
