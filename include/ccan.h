@@ -33,17 +33,17 @@ extern "C" {
 #endif
 
 /* The version of this header: ten thousand times the first number, a hundred times the second, and the third. ccan_version
- * tells that of the library. */
+ * gives that of the library. */
 #define CCAN_VERSION 500
 
-/* A call answers a code, which a program may not drop without a word. */
+/* Each call returns a code; the compiler warns if a program ignores it. */
 #if defined(__GNUC__)
 #define CCAN_CODE __attribute__((warn_unused_result)) uint32_t
 #else
 #define CCAN_CODE uint32_t
 #endif
 
-/* What holds where this header is compiled for the platform of the library. */
+/* What holds if this header is compiled for the platform of the library. */
 #ifdef __cplusplus
 #define CCAN_HOLDS(fact) static_assert(fact, #fact)
 #else
@@ -83,15 +83,15 @@ static inline void ccan_chip_init(ccan_chip *chip)
 /* The version of the library, as CCAN_VERSION has that of the header. */
 uint32_t ccan_version(void);
 
-/* What a call answers. Where several apply, the call says which comes first. */
+/* What a call answers. If several apply, the call says which comes first. */
 enum ccan_code {
     CCAN_DONE = 0,
     CCAN_CLOSED = 1,         /* the handle is closed, or a handle of the chip is */
     CCAN_BUSY = 2,           /* each try of a change was lost to a change of the same object, or of the controller, by another
-                                port; it never comes where no other port changes it meanwhile */
+                                port; it never comes if no other port changes it meanwhile */
     CCAN_SPENT = 3,          /* the port has made all the changes of objects that it can: 2^47 - 1, some 1.4 * 10^14 */
     CCAN_NO_MEMORY = 4,      /* malloc refused */
-    CCAN_SHARED = 5,         /* C has broken its promises: somebody else holds the memory */
+    CCAN_SHARED = 5,         /* the chip's memory is still in use elsewhere: C has broken its promises */
     CCAN_PROFILE_RANGE = 6,  /* the profile is neither 1 nor 2 */
     CCAN_NODES_RANGE = 7,    /* there are more than 8 other nodes */
     /* 8 was CCAN_QUOTA_RANGE before version 0.2 */
@@ -109,8 +109,8 @@ enum ccan_code {
     CCAN_OFFSET_RANGE = 20,  /* no register of the chip's layout begins at this offset */
     CCAN_OTHER_INTERFACE = 21, /* the register is of IF1 or IF2, and this handle is not that of it */
     CCAN_LAYOUT_RANGE = 22,  /* no layout has this number */
-    CCAN_NO_SAVED_CHIP = 23, /* the bytes are no saved chip, or one of a version that this library doesn't know */
-    CCAN_NO_CHIP = 24,       /* no chip can be as the bytes say */
+    CCAN_NO_SAVED_CHIP = 23, /* the bytes are not a saved chip, or of a version that this library doesn't know */
+    CCAN_NO_CHIP = 24,       /* the saved state is not one that a chip can be in */
     CCAN_UNTOLD = 25,        /* the note is empty */
     CCAN_MEMBERS_RANGE = 26, /* there are more than 32 members */
     CCAN_MEMBER_RANGE = 27,  /* a member's role, fault or frame is out of its range */
@@ -161,7 +161,7 @@ CCAN_HOLDS(sizeof(ccan_final) == 1284 && offsetof(ccan_final, records) == 4);
  * Command Request registers read 1.) Its layout is CCAN_LAYOUT_C_CAN. `profile` is 1 for 32 message objects, 2 for 64; `nodes`
  * how many other nodes are on the bus, 0 to 8; `tries` how often a change of an object may be tried, 1 to 1000. Answers the first
  * of CCAN_PROFILE_RANGE, CCAN_NODES_RANGE and CCAN_TRIES_RANGE that applies; else CCAN_NO_MEMORY or CCAN_DONE. A chip that was
- * open ends, without its records, where it answers CCAN_DONE. */
+ * open ends, without its records, if it answers CCAN_DONE. */
 CCAN_CODE ccan_open(ccan_chip *chip, uint32_t profile, uint32_t nodes, uint32_t tries);
 
 /* How the registers lie, in bytes from where the chip begins. All have the same registers of 16 bits. */
@@ -174,7 +174,7 @@ enum ccan_layout {
 };
 
 /* Opens a chip as a part is after its reset, all of it or nothing: Init is 1, so that it takes part only once a write of Control
- * has cleared it; Bit Timing is 0x2301; all bits of the masks of IF1 and IF2 are 1, but for bit 13 of Mask 2, which is reserved
+ * has cleared it; Bit Timing is 0x2301; all bits of the masks of IF1 and IF2 are 1, except bit 13 of Mask 2, which is reserved
  * and reads 0 (Mask 1 reads 0xffff, Mask 2 0xdfff); Command Request reads 1; in CCAN_LAYOUT_D_CAN Control reads 0x1401 and Status
  * 7; every other register is 0, and so are the records, which a part leaves undefined. `layout` is an enum ccan_layout. Answers
  * the first of CCAN_PROFILE_RANGE, CCAN_NODES_RANGE, CCAN_TRIES_RANGE and CCAN_LAYOUT_RANGE that applies; all else is as with
@@ -185,12 +185,12 @@ CCAN_CODE ccan_open_reset(ccan_chip *chip, uint32_t profile, uint32_t nodes, uin
 bool ccan_is_open(const ccan_chip *chip);
 
 /* Ends a chip, frees its memory, and gives the records that its history leaves. The chip is then closed, and may be opened
- * again. CCAN_CLOSED where it isn't open; CCAN_SHARED closes the chip, and leaves `out` as it was. */
+ * again. CCAN_CLOSED if it isn't open; CCAN_SHARED closes the chip, and leaves `out` as it was. */
 CCAN_CODE ccan_end(ccan_chip *chip, ccan_final *out);
 
 /* Shows each port of the chip what the others have seen, of objects and of the controller: the next call on each handle goes on
  * from all that was done on the three. For who has the whole chip in one thread and reads by one handle what was written by
- * another. It makes no step of the chip. CCAN_CLOSED where the chip isn't open; else CCAN_DONE. */
+ * another. It makes no step of the chip. CCAN_CLOSED if the chip isn't open; else CCAN_DONE. */
 CCAN_CODE ccan_meet(ccan_chip *chip);
 
 /* ---- handing over from one handle to another, in threads of their own */
@@ -203,13 +203,13 @@ CCAN_HOLDS(sizeof(ccan_note) == 16 && offsetof(ccan_note, ccan_private_at) == 8)
 /* Notes all that the handle's port has seen of the chip, its own steps among it. What the note told before is dropped. No step of
  * the chip. For two threads that hand something over by a lock of C's own: the one tells before it unlocks, the other heeds after
  * it has locked.
- * CCAN_CLOSED where the handle isn't open; CCAN_NO_MEMORY where malloc refused: the note stays as it was. */
+ * CCAN_CLOSED if the handle isn't open; CCAN_NO_MEMORY if malloc refused: the note stays as it was. */
 CCAN_CODE ccan_tell(ccan_host *host, ccan_note *note);
 CCAN_CODE ccan_bus_tell(ccan_bus *bus, ccan_note *note);
 
 /* Shows the handle's port what the note tells, and empties the note: each step that the handle makes from now on comes after all
  * that the teller had done and seen before it told. No step of the chip.
- * CCAN_CLOSED where the handle isn't open; CCAN_UNTOLD where the note is empty. Then handle and note stay as they were. */
+ * CCAN_CLOSED if the handle isn't open; CCAN_UNTOLD if the note is empty. Then handle and note stay as they were. */
 CCAN_CODE ccan_heed(ccan_host *host, ccan_note *note);
 CCAN_CODE ccan_bus_heed(ccan_bus *bus, ccan_note *note);
 
@@ -227,7 +227,7 @@ CCAN_HOLDS(sizeof(ccan_saved) == 1672);
  * from bus off, the status interrupts that are pending), the registers of IF1 and IF2, its layout, tries and number of other
  * nodes. Not of the chip, and not saved: the error counters of the other nodes; and that a frame is loaded, since its object stays
  * requested. The three ports meet, so that what is saved is behind all that was done on the three handles; and then the bus's looks
- * once at the controller and once at each object. Nothing is changed. CCAN_CLOSED where the chip isn't open; else CCAN_DONE. */
+ * once at the controller and once at each object. Nothing is changed. CCAN_CLOSED if the chip isn't open; else CCAN_DONE. */
 CCAN_CODE ccan_save(ccan_chip *chip, ccan_saved *out);
 
 /* Opens a chip as the saved one was, all of it or nothing. The other nodes begin anew, error active, and no frame is loaded. The
@@ -237,7 +237,7 @@ CCAN_CODE ccan_save(ccan_chip *chip, ccan_saved *out);
  *  - CCAN_NO_MEMORY: malloc refused.
  *  - CCAN_NO_CHIP: no chip can be as they say. That it never comes of bytes that ccan_save gave is tested, not proved.
  *  - CCAN_BUSY, CCAN_SPENT: nobody can bring them about, since nobody else has the new chip yet; that is not proved.
- * A chip that was open ends, without its records, where it answers CCAN_DONE. */
+ * A chip that was open ends, without its records, if it answers CCAN_DONE. */
 CCAN_CODE ccan_restore(ccan_chip *chip, const ccan_saved *saved);
 
 /* Resets an open chip in its place, without memory, as the reset of a part does: the controller's registers, its error counters
@@ -246,13 +246,13 @@ CCAN_CODE ccan_restore(ccan_chip *chip, const ccan_saved *saved);
  * layout and the tries stay, and the other nodes with their error counters. The three ports meet, the bus's makes a change of the
  * controller and one of each object, and they meet again: so the reset is behind all that was done on the three handles, and
  * before all that comes. For a chip as after power-on: ccan_open_reset.
- * CCAN_CLOSED where the chip isn't open. CCAN_BUSY: another call changed the controller or an object meanwhile, which promise 3
+ * CCAN_CLOSED if the chip isn't open. CCAN_BUSY: another call changed the controller or an object meanwhile, which promise 3
  * rules out; that is not proved. Nothing was reset, or the controller and the objects before that one were; the call may be made
  * again.
  * CCAN_SPENT, of an object, in the same way. Else CCAN_DONE. */
 CCAN_CODE ccan_reset(ccan_chip *chip);
 
-/* ---- registers by their offsets: each call answers CCAN_CLOSED first, where its handle is closed */
+/* ---- registers by their offsets: each call answers CCAN_CLOSED first, if its handle is closed */
 
 /* The registers of CCAN_LAYOUT_C_CAN. In CCAN_LAYOUT_C_CAN_32 each stands at twice this offset. With 32 objects there are no
  * registers 3 and 4 of a flag. */
@@ -311,7 +311,7 @@ enum ccan_offset {
  *  - Status: as it is; and the pending status interrupts are cleared, and in CCAN_LAYOUT_D_CAN also TxOk and RxOk, and LEC becomes
  *    7. That is a change of the controller, so this read alone may answer CCAN_BUSY: then nothing was read and nothing cleared,
  *    and the call may be made again.
- *  - Interrupt: 0x8000 where a status interrupt is shown: SIE is 1 and a transfer or an error was since the last read of Status,
+ *  - Interrupt: 0x8000 if a status interrupt is shown: SIE is 1 and a transfer or an error was since the last read of Status,
  *    or EIE is 1 and BOff or EWarn has changed since. Else the number of the first object with IntPnd, or 0.
  *  - The registers of an interface: what they hold. Command Request has the number of the object that was requested last, and
  *    Busy, bit 15, is 0: the write that starts a transfer returns when it is over.
@@ -325,7 +325,7 @@ CCAN_CODE ccan_read16(ccan_host *host, uint32_t offset, uint16_t *out);
  *    TxRqst of each message object become 0, and what was loaded is dropped. The registers of IF1 and IF2 stay. That is one change
  *    of the controller and then one of each object, which may be refused as those of ccan_reset. SWR without Init is dropped.
  *  - Status: TxOk, RxOk and LEC are set as written, the other bits dropped; in CCAN_LAYOUT_D_CAN all are.
- *  - Bit Timing, BRP Extension: taken only where Init and CCE are 1, else dropped. Test: only where Test of Control is 1.
+ *  - Bit Timing, BRP Extension: taken only if Init and CCE are 1, else dropped. Test: only if Test of Control is 1.
  *  - Command Request: the transfer that Command Mask says, as ccan_request. In CCAN_LAYOUT_D_CAN the number has eight bits, and one
  *    that no object has moves nothing; and a write with TxRqst/NewDat sets NewDat of the object too.
  *  - The other registers of an interface: as ccan_set.
@@ -335,24 +335,24 @@ CCAN_CODE ccan_read16(ccan_host *host, uint32_t offset, uint16_t *out);
  * reset by SWR may be refused at an object: then the controller and the objects before that one were reset. */
 CCAN_CODE ccan_write16(ccan_host *host, uint32_t offset, uint16_t value);
 
-/* Reads the word of 32 bits at an offset of the chip's layout, a multiple of 4. Where both halves are registers of one flag, its 32
- * objects are read at one moment. Where they are Bit Timing and BRP Extension, as in CCAN_LAYOUT_D_CAN, it is one look at the
+/* Reads the word of 32 bits at an offset of the chip's layout, a multiple of 4. If both halves are registers of one flag, its 32
+ * objects are read at one moment. If they are Bit Timing and BRP Extension, as in CCAN_LAYOUT_D_CAN, it is one look at the
  * controller. Else it is as ccan_read16 of its lower half, at the offset, and then, unless that is refused, of
- * its upper half, two bytes on: between these two reads steps of other ports may stand. A half where no register begins reads 0.
- * The first of CCAN_OFFSET_RANGE (also where neither half is a register), CCAN_OTHER_INTERFACE and CCAN_BUSY that applies; else
+ * its upper half, two bytes on: between these two reads steps of other ports may stand. A half at which no register begins reads 0.
+ * The first of CCAN_OFFSET_RANGE (also if neither half is a register), CCAN_OTHER_INTERFACE and CCAN_BUSY that applies; else
  * CCAN_DONE. */
 CCAN_CODE ccan_read32(ccan_host *host, uint32_t offset, uint32_t *out);
 
-/* Writes the word of 32 bits at an offset of the chip's layout, a multiple of 4. Where its halves are Bit Timing and BRP Extension,
- * as in CCAN_LAYOUT_D_CAN, both are set by one change of the controller, where Init and CCE are 1. Else it is as ccan_write16 of
+/* Writes the word of 32 bits at an offset of the chip's layout, a multiple of 4. If its halves are Bit Timing and BRP Extension,
+ * as in CCAN_LAYOUT_D_CAN, both are set by one change of the controller, if Init and CCE are 1. Else it is as ccan_write16 of
  * its upper half, two bytes on, and then, unless that is refused, of its lower half. So the mask of a command of
- * CCAN_LAYOUT_D_CAN is there before its request makes the transfer. What is for a half where no register begins is dropped.
- * CCAN_OFFSET_RANGE (also where neither half is a register) and CCAN_OTHER_INTERFACE: nothing was written. Else CCAN_DONE;
- * CCAN_BUSY and CCAN_SPENT as with ccan_write16, of the half that was refused: where that is the lower one, the upper one is
+ * CCAN_LAYOUT_D_CAN is there before its request makes the transfer. What is for a half at which no register begins is dropped.
+ * CCAN_OFFSET_RANGE (also if neither half is a register) and CCAN_OTHER_INTERFACE: nothing was written. Else CCAN_DONE;
+ * CCAN_BUSY and CCAN_SPENT as with ccan_write16, of the half that was refused: if that is the lower one, the upper one is
  * written, and after CCAN_BUSY the call may be made again. */
 CCAN_CODE ccan_write32(ccan_host *host, uint32_t offset, uint32_t value);
 
-/* Whether the part pulls its interrupt line: 1 where IE is 1 and the Interrupt register is not 0, else 0.
+/* Whether the part pulls its interrupt line: 1 if IE is 1 and the Interrupt register is not 0, else 0.
  *
  * So that a simulator needn't ask after each call, these are the calls that may change the line, by what they do to IE, SIE, EIE,
  * the pending status interrupts and IntPnd (read off their definitions, not proved):
@@ -370,7 +370,7 @@ CCAN_CODE ccan_bus_read32(ccan_bus *bus, uint32_t offset, uint32_t *out);
 CCAN_CODE ccan_bus_write32(ccan_bus *bus, uint32_t offset, uint32_t value);
 CCAN_CODE ccan_bus_line(ccan_bus *bus, uint32_t *out);
 
-/* ---- a host: each call answers CCAN_CLOSED first, where its handle is closed */
+/* ---- a host: each call answers CCAN_CLOSED first, if its handle is closed */
 
 enum ccan_register {
     CCAN_CMASK, CCAN_MASK1, CCAN_MASK2, CCAN_ARB1, CCAN_ARB2, CCAN_CTRL,
@@ -401,7 +401,7 @@ CCAN_CODE ccan_interrupt(ccan_host *host, uint16_t *out);
 /* One look at an object: its record. The interface registers have no part in it, and nothing is changed. CCAN_OBJECT_RANGE. */
 CCAN_CODE ccan_peek(ccan_host *host, uint32_t object, ccan_record *out);
 
-/* Looks at an object until it shows the flag, at most `turns` times: 1 where a look did, else 0. The first of
+/* Looks at an object until it shows the flag, at most `turns` times: 1 if a look did, else 0. The first of
  * CCAN_OBJECT_RANGE, CCAN_FLAG_RANGE and CCAN_TURNS_RANGE that applies. */
 CCAN_CODE ccan_until(ccan_host *host, uint32_t object, uint32_t flag, uint32_t turns, uint32_t *out);
 
@@ -411,11 +411,11 @@ CCAN_CODE ccan_until(ccan_host *host, uint32_t object, uint32_t flag, uint32_t t
  * CCAN_BUSY the call may be made again. */
 CCAN_CODE ccan_clear_objects(ccan_host *host);
 
-/* ---- the bus: each call answers CCAN_CLOSED first, where its handle is closed */
+/* ---- the bus: each call answers CCAN_CLOSED first, if its handle is closed */
 
 /* A frame that was on the bus, or is to be. A switch is 0 for no, and 1 for yes. */
 typedef struct {
-    uint32_t id;      /* of 11 bits, or of 29 where it is extended */
+    uint32_t id;      /* of 11 bits, or of 29 if it is extended */
     uint8_t xtd;      /* switch: an extended identifier */
     uint8_t rtr;      /* switch: a remote frame */
     uint8_t dlc;      /* the data length code, 0 to 15; from 8 on it means eight bytes */
@@ -429,22 +429,22 @@ enum ccan_load_kind { CCAN_LOAD_NOTHING, CCAN_LOAD_LOADED, CCAN_LOAD_HELD, CCAN_
 typedef struct {
     uint32_t kind;    /* an enum ccan_load_kind */
     uint32_t object;  /* the object, 0 with CCAN_LOAD_NOTHING */
-    ccan_record held; /* the record after its start of the object that is loaded; zero where none is */
-    ccan_frame frame; /* the frame that is to be sent of it; zero where nothing is loaded */
+    ccan_record held; /* the record after its start of the object that is loaded; zero if none is */
+    ccan_frame frame; /* the frame that is to be sent of it; zero if nothing is loaded */
 } ccan_loaded;
 CCAN_HOLDS(sizeof(ccan_loaded) == 44 && offsetof(ccan_loaded, object) == 4 && offsetof(ccan_loaded, held) == 8);
 CCAN_HOLDS(offsetof(ccan_loaded, frame) == 28);
 
-/* Looks at the controller. What was loaded is dropped, and stays requested, where Init was 1 since the last load or round, even
- * only for a moment, or the chip was reset or went bus off. Where Init is 1 or it is bus off, it takes no part: CCAN_LOAD_NOTHING.
- * Else it chooses the object to send, and starts it, where it has none. It chooses in one moment: of the objects that are valid
- * and requested then it starts the lowest; where a host has changed that one since, so that it is ready no more, the next one.
+/* Looks at the controller. What was loaded is dropped, and stays requested, if Init was 1 since the last load or round, even
+ * only for a moment, or the chip was reset or went bus off. If Init is 1 or it is bus off, it takes no part: CCAN_LOAD_NOTHING.
+ * Else it chooses the object to send, and starts it, if it has none. It chooses in one moment: of the objects that are valid
+ * and requested then it starts the lowest; if a host has changed that one since, so that it is ready no more, the next one.
  * CCAN_BUSY and CCAN_SPENT go with the kinds of that name: `object` wasn't started; after CCAN_BUSY the call may be made again. */
 CCAN_CODE ccan_load(ccan_bus *bus, ccan_loaded *out);
 
 /* What another node sends. A switch is 0 for no, and each other number is yes. */
 typedef struct {
-    uint32_t id;      /* of 11 bits, or of 29 where it is extended */
+    uint32_t id;      /* of 11 bits, or of 29 if it is extended */
     uint8_t node;     /* 1 to the number of other nodes */
     uint8_t xtd;      /* switch: an extended identifier */
     uint8_t rtr;      /* switch: a remote frame */
@@ -485,15 +485,15 @@ enum { CCAN_NO_NODE = 255 };
 typedef struct {
     uint32_t kind;             /* an enum ccan_round_kind */
     uint32_t object;           /* the object that was sent, or at which a step was given up; else 0 */
-    ccan_record finished;      /* its record after the finish, where it was finished; else zero */
-    uint32_t stored;           /* the object that stored the frame, 0 where none did */
+    ccan_record finished;      /* its record after the finish, if it was finished; else zero */
+    uint32_t stored;           /* the object that stored the frame, 0 if none did */
     ccan_record stored_record; /* its record after the store; else zero */
-    uint32_t loaded;           /* the object that this round loaded itself; 0 where an earlier load did, or none is loaded */
+    uint32_t loaded;           /* the object that this round loaded itself; 0 if an earlier load did, or none is loaded */
     uint32_t refused;          /* an enum ccan_step: CCAN_STEP_EVENT, with any kind; else with CCAN_ROUND_BUSY and
                                   CCAN_ROUND_SPENT the step at an object that was refused */
-    uint32_t winner;           /* the node whose frame was on the bus, 0 the controller. CCAN_NO_NODE where no single frame was:
+    uint32_t winner;           /* the node whose frame was on the bus, 0 the controller. CCAN_NO_NODE if no single frame was:
                                   with CCAN_IDLE, CCAN_COLLISION and CCAN_STEP_LOAD */
-    ccan_frame frame;          /* that frame, as it was on the bus; zero where no single frame was */
+    ccan_frame frame;          /* that frame, as it was on the bus; zero if no single frame was */
 } ccan_outcome;
 CCAN_HOLDS(sizeof(ccan_outcome) == 80 && offsetof(ccan_outcome, object) == 4 && offsetof(ccan_outcome, finished) == 8);
 CCAN_HOLDS(offsetof(ccan_outcome, stored) == 28 && offsetof(ccan_outcome, stored_record) == 32);
@@ -501,16 +501,16 @@ CCAN_HOLDS(offsetof(ccan_outcome, loaded) == 52 && offsetof(ccan_outcome, refuse
 CCAN_HOLDS(offsetof(ccan_outcome, winner) == 60 && offsetof(ccan_outcome, frame) == 64);
 
 /* Plays a round: looks at the controller and loads, as ccan_load does; then the frames of all nodes that are on contend, and
- * `fault` spoils the winner's where it isn't CCAN_QUIET; then the object that was sent is finished, or the frame that was
+ * `fault` spoils the winner's if it isn't CCAN_QUIET; then the object that was sent is finished, or the frame that was
  * received is stored; and last the event is made at the controller: its error counters, TxOk, RxOk and LEC, its status
- * interrupts, and Init where it goes off. A host whose call finds the event finds the object done, unless that step was refused
+ * interrupts, and Init if it goes off. A host whose call finds the event finds the object done, unless that step was refused
  * (CCAN_STEP_FINISH, CCAN_STEP_STORE). The lowest identifier wins, by its first 11 bits and then by the 18 others; with the same
  * first 11 bits a standard frame beats an extended one, and with the same identifier a data frame beats a remote frame. `offers`
  * are `count` frames, not null even for 0. The first of CCAN_FRAMES_RANGE, CCAN_FRAME_RANGE, CCAN_FAULT_RANGE and CCAN_SENDERS
- * that applies; else `out` is written. CCAN_BUSY where `refused` is CCAN_STEP_EVENT; else CCAN_BUSY and CCAN_SPENT go with the
+ * that applies; else `out` is written. CCAN_BUSY if `refused` is CCAN_STEP_EVENT; else CCAN_BUSY and CCAN_SPENT go with the
  * kinds of that name. With both a step was given up, and is not made later; `refused` says which. With CCAN_STEP_LOAD no frame
  * was on the bus. With CCAN_STEP_FINISH and CCAN_STEP_STORE `frame` was: the error counters and the Status register have it, but
- * the object that was sent is not finished, or no object stored the frame. With CCAN_STEP_EVENT `frame` was, and `kind` tells
+ * the object that was sent is not finished, or no object stored the frame. With CCAN_STEP_EVENT `frame` was, and `kind` says
  * what came of it at the objects, but the controller's registers have nothing of it: each try was lost to a write of Control,
  * Status, Bit Timing, BRP Extension or Test, or a read of Status, by a host. A second call plays a second round. */
 CCAN_CODE ccan_round(ccan_bus *bus, const ccan_offer *offers, size_t count, uint32_t fault, ccan_outcome *out);
@@ -535,7 +535,7 @@ CCAN_CODE ccan_counters(ccan_bus *bus, uint32_t node, ccan_counts *out);
  * on. CCAN_BUSY. */
 CCAN_CODE ccan_control(ccan_bus *bus, uint32_t sie, uint32_t eie);
 
-/* Clears Init in one step, and leaves the other bits of Control: from then on the controller takes part, or, where it is bus off,
+/* Clears Init in one step, and leaves the other bits of Control: from then on the controller takes part, or, if it is bus off,
  * groups of recessive bits count for it. CCAN_BUSY. */
 CCAN_CODE ccan_init(ccan_bus *bus);
 
@@ -545,7 +545,7 @@ CCAN_CODE ccan_recessive(ccan_bus *bus, uint32_t groups, uint32_t *out);
 
 /* Sets loop back mode, a switch: on sets Test of Control, and then LBack of Test, with Basic and Silent 0; off clears Test of
  * Control, and LBack stays and doesn't count. CCAN_BUSY: after that of the second step Test of Control is set; the call may be made
- * again. Where another port clears Test between the two steps, LBack is not set. */
+ * again. If another port clears Test between the two steps, LBack is not set. */
 CCAN_CODE ccan_loop_back(ccan_bus *bus, uint32_t on);
 
 /* The Interrupt register, as at CCAN_OFFSET_INTERRUPT. */
@@ -590,7 +590,7 @@ enum ccan_role {
 typedef struct {
     uint32_t role;    /* an enum ccan_role */
     uint32_t fault;   /* an enum ccan_fault: the error that this member finds by itself, CCAN_QUIET for none. An error that it
-                         sees because another member sends an error flag is not said here, nor is a missing acknowledgement. Where
+                         sees because another member sends an error flag is not said here, nor is a missing acknowledgement. If
                          an earlier error ends the frame for all, a later one has no effect on the bus. */
     uint32_t sends;   /* switch: it starts to send `frame` */
     ccan_frame frame; /* does not count if `sends` is 0 */

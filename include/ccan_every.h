@@ -42,19 +42,19 @@ void ccan_on_cpu(int cpu);
 void ccan_irq_off(void);
 void ccan_irq_on(void);
 
-/* One of 0 to count - 1. Each of them is gone through, wherever it is called. 0 where count is 0 or 1. At most 256. */
+/* One of 0 to count - 1. Each of them is gone through, wherever it is called. 0 if count is 0 or 1. At most 256. */
 unsigned ccan_choose(unsigned count);
 
 /* The end of a turn of a loop that waits for something. sched_yield, usleep, sleep, nanosleep and thrd_yield are the same. A turn
  * that changed nothing, and from which the thread goes on as from the turn before, is not made again until something that it looked
- * at has changed. Where such turns are counted by the thread, the count stays (docs/EVERY.md, "Loops that wait"). */
+ * at has changed. If such turns are counted by the thread, the count stays (docs/EVERY.md, "Loops that wait"). */
 void ccan_wait(void);
 
 /* Returns when no other thread can go on: each has ended, waits for what never comes, or looks in vain. Then the caller is alone,
  * and checks what came of it. */
 void ccan_quiet(void);
 
-/* What has to be so. Where it isn't, the schedule is a failure of this text, which is formatted as by printf. */
+/* What has to be so. If it isn't, the schedule is a failure of this text, which is formatted as by printf. */
 #define ccan_require(holds, ...) ((holds) ? (void)0 : ccan_fail(__VA_ARGS__))
 
 /* Ends the schedule as a failure of this text. */

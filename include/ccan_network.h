@@ -114,7 +114,7 @@ static inline uint32_t ccan_network_private_place(const ccan_network *network)
     return place;
 }
 
-/* Adds a chip, at the lowest place that is empty, and tells that. It takes part from the next start on. The handle stays open and
+/* Adds a chip, at the lowest place that is empty, and gives that. It takes part from the next start on. The handle stays open and
  * where it is until the chip is removed. CCAN_MEMBER_RANGE: the chip is a member already; else CCAN_MEMBERS_RANGE: there are 32
  * members. Then nothing is changed, and `place` stays as it was. */
 static inline CCAN_CODE ccan_network_add_chip(ccan_network *network, ccan_bus *chip, uint32_t *place)
@@ -132,7 +132,7 @@ static inline CCAN_CODE ccan_network_add_chip(ccan_network *network, ccan_bus *c
     return CCAN_DONE;
 }
 
-/* Adds a node that has no chip, whose error counters are 0, at the lowest place that is empty, and tells that. It takes part from
+/* Adds a node that has no chip, whose error counters are 0, at the lowest place that is empty, and gives that. It takes part from
  * the next start on, and acknowledges frames. CCAN_MEMBERS_RANGE: there are 32 members; then nothing is changed. */
 static inline CCAN_CODE ccan_network_add_node(ccan_network *network, uint32_t *place)
 {
@@ -331,7 +331,7 @@ static inline bool ccan_network_private_passive(const ccan_network *network)
     return found;
 }
 
-/* How many bits stand between the start of a frame and the intermission, where an error that breaks it is found after so many. */
+/* How many bits stand between the start of a frame and the intermission, if an error that breaks it is found after so many. */
 static inline uint64_t ccan_network_private_length(const ccan_network *network, uint64_t passed)
 {
     const uint64_t bits = network->bits;
