@@ -7,6 +7,8 @@ pub mod Joined
 pub mod Swapped
 pub mod ToFront
 pub mod Undisturbed
+pub mod MostChanges
+pub mod AtOnce
 pub mod Looser
 pub mod LooserSteps
 pub mod LooksOnce

@@ -7,3 +7,5 @@ pub mod MachineLaws
 pub mod Quiet
 pub mod UndisturbedLaws
 pub mod WaitLaws
+pub mod AtOnce
+pub mod AtOnceLaws
