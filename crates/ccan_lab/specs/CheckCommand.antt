@@ -1,6 +1,5 @@
--- What a check of scripts comes to, and its exit statuses. Source: this project's own.
-use Rattle.std.specs.Prelude.{ℕ, ◌==◌, nat_lt, Bool, List, if◌then◌else◌}
-use Rattle.std.specs.List.{fold}
+-- What a check of a script comes to, and its exit statuses. Source: this project's own.
+use Rattle.std.specs.Prelude.{ℕ, ◌==◌, Bool, if◌then◌else◌}
 use Rattle.ccan_lab.specs.declared.check_end.CheckEnd.{CheckEnd}
 use Rattle.ccan_lab.specs.declared.check_end.CheckEnd.TheVariants.{Clean, Warned, Differs, Faulty}
 
@@ -8,21 +7,6 @@ use Rattle.ccan_lab.specs.declared.check_end.CheckEnd.TheVariants.{Clean, Warned
 abbrev pub end_by_counts : ℕ → ℕ → CheckEnd
 end_by_counts faults warnings =
     if faults == 0 then (if warnings == 0 then Clean else Warned) else Faulty
-
--- how bad an end is, from nothing to say to faults
-abbrev pub badness : CheckEnd → ℕ
-badness Clean = 0
-badness Warned = 1
-badness Differs = 2
-badness Faulty = 3
-
--- the worse of two
-abbrev pub worse : CheckEnd → CheckEnd → CheckEnd
-worse one other = if nat_lt (badness one) (badness other) then other else one
-
--- the worst of these, wherever it stands
-abbrev pub worst_of : List CheckEnd → CheckEnd
-worst_of ends = fold worse Clean ends
 
 -- 1 for faults; 8 for a run that is not as expected; 7 for warnings alone, where they are asked for
 abbrev pub check_status : Bool → CheckEnd → ℕ

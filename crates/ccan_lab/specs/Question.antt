@@ -1,5 +1,5 @@
 -- What the words of the command line ask, by what `clap` found of them. Source: this project's own.
-use Rattle.std.specs.Prelude.{ℕ, ◌≡◌, ◌<◌, ◌^◌, List, Option, Some, None, decimal, map, not, position}
+use Rattle.std.specs.Prelude.{ℕ, ◌≡◌, ◌<◌, ◌^◌, List, [], ◌∷◌, Option, Some, None, codes, decimal, map, not, position}
 use Rattle.ccan_line.specs.Script.{ScriptFields}
 use Rattle.ccan_lab.specs.Observed.{is_known, names_in}
 use Rattle.ccan_lab.specs.declared.asked.Asked.{Asked}
@@ -44,6 +44,11 @@ IsObservingAll list (Observed names) = ⊥
 -- a number of states is the one that is given, however large; that it is a number is seen to before
 abbrev pub IsGivenBy : Option (List ℕ) → ℕ → Type 0
 IsGivenBy word most = (n : ℕ) → n < 2 ^ 64 → word ≡ Some (decimal n) → most ≡ n
+
+-- the files that are asked about: those that are named, and standard input if none is
+abbrev pub files_named : Option (List (List ℕ)) → List (List ℕ)
+files_named (Some names) = names
+files_named None = codes "-" ∷ []
 
 -- each name in a list is that of lines or objects of the script
 abbrev pub AreKnownNames : ScriptFields → List ℕ → Type 0

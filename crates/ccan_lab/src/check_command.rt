@@ -1,10 +1,13 @@
 //! The question `ccan-lab check`: its words, and its answer.
 
-ghost use Rattle.std.specs.Prelude.{◌≡◌, vec_len};
+ghost use Rattle.std.specs.Prelude.{◌≡◌, IfOk, codes, map, option_map, vec_len};
+ghost use Rattle.clap.specs.Words.{found_of, matched_of, raw_values};
 ghost use Rattle.ccan_lab.specs.CheckCommand.{end_by_counts};
+ghost use Rattle.ccan_lab.specs.Question.{files_named};
 
-use crate::check_end::{CheckEnd, worst_of};
-use crate::command_words::{command, file, option, switch, with};
+use crate::check_end::CheckEnd;
+use crate::command_words::{command, files_named, option, scripts, switch, with};
+use crate::each_file::{FileAnswer, answer_each};
 use crate::expect::compare_run;
 use crate::explaining::print_text;
 use crate::lab_error::LabError;
@@ -12,11 +15,11 @@ use ccan_check::{Report, check, print_report};
 use ccan_run::{RunError, read_all};
 use ccan_script::read_script;
 use clap::error::ErrorKind;
-use clap::{ArgAction, ArgMatches, Command, Error};
+use clap::{ArgMatches, Command, Error};
 use std::alloc::{AllocError, Global};
-use std::fs;
 use std::fs::Files;
 use std::io::{Input, IsTerminal};
+use std::{fs, io};
 
 /// What is asked about scripts: their faults.
 #[derive(Drop)]
@@ -49,8 +52,7 @@ pub fn check_command<'a>(alloc: Global) -> Result<Command<'a>, AllocError> {
         "The file with what ccan must print of the one script; exit status 8 where it prints another text",
     );
     let checked = with(checked, expected)?;
-    let files = file(alloc, "FILE", "The scripts; left out or -: standard input");
-    with(checked, files.action(ArgAction::Append).num_args(0..))
+    with(checked, scripts(alloc))
 }
 
 /// What is told where a text is expected of several scripts.
@@ -60,15 +62,12 @@ fn one_script_expected(alloc: Global) -> Result<Error, Error> {
 }
 
 /// The question that the words after `check` ask. A text is expected of one script only.
-pub fn check_question<'a>(
-    alloc: Global,
-    words: &ArgMatches<'a>,
-) -> Result<CheckQuestion<'a>, Error> {
-    let mut files = Vec::new(alloc);
-    match words.get_strs("file") {
-        Some(named) => files.extend_from_slice(named)?,
-        None => files.push("-")?,
-    }
+pub fn check_question<'a>(alloc: Global, words: &ArgMatches<'a>) -> Result<CheckQuestion<'a>, Error>
+    ensures { IfOk result (λ question. map (λ file. file.now) question.files.items
+        ≡ files_named (option_map raw_values
+        (matched_of (found_of words.entry.now) (codes "file")))) }
+{
+    let files = files_named(alloc, words)?;
     let expected = words.get_str("expect");
     if expected.is_some() && 1 < files.len() {
         return Err(one_script_expected(alloc)?);
@@ -120,16 +119,11 @@ fn end_of(report: &Report) -> CheckEnd
     }
 }
 
-/// Prints what is said of a script in these bytes of a file.
-fn check_bytes<T: AllocGlobal + Print>(
-    rt: &T,
-    file: &str,
-    bytes: &[u8],
-) -> Result<CheckEnd, LabError> {
-    let report = check(rt.alloc(), bytes)?;
-    let text = print_report(rt.alloc(), file, bytes, &report)?;
-    print_text(rt, text.as_str())?;
-    Ok(end_of(&report))
+/// What is said of a script in these bytes of a file, and how its check ends.
+fn checked(alloc: Global, file: &str, bytes: &[u8]) -> Result<(String, CheckEnd), LabError> {
+    let report = check(alloc, bytes)?;
+    let text = print_report(alloc, file, bytes, &report)?;
+    Ok((text, end_of(&report)))
 }
 
 /// Runs the script that these bytes are, and prints the first line that is not as in the file of what is expected. Says
@@ -153,38 +147,55 @@ fn has_difference<T: AllocGlobal + Files + Print>(
     }
 }
 
-/// Prints what is said of a file, and of its run, where a text is expected of it.
-fn check_file<T: AllocGlobal + Input + Files + Print + Eprint>(
+/// Prints what is said of a file, and of its run, of which this text is expected.
+fn check_expected<T: AllocGlobal + Input + Files + Print + Eprint>(
     rt: &T,
     file: &str,
-    expected: Option<&str>,
+    expected: &str,
 ) -> Result<CheckEnd, LabError>
 where
     T::Reader: IsTerminal,
 {
     let bytes = bytes_of(rt, file)?;
-    let end = check_bytes(rt, file, bytes.as_slice())?;
-    match expected {
-        Some(expected) if end != CheckEnd::Faulty => {
-            let differs = has_difference(rt, bytes.as_slice(), expected)?;
-            Ok(if differs { CheckEnd::Differs } else { end })
-        }
-        _ => Ok(end),
+    let (text, end) = checked(rt.alloc(), file, bytes.as_slice())?;
+    print_text(rt, text.as_str())?;
+    if end == CheckEnd::Faulty {
+        return Ok(end);
     }
+    let differs = has_difference(rt, bytes.as_slice(), expected)?;
+    Ok(if differs { CheckEnd::Differs } else { end })
 }
 
-/// Prints what is said of each file, in turn, and answers the worst that came.
-pub fn answer_check<T: AllocGlobal + Input + Files + Print + Eprint>(
+/// What is said of a file.
+fn check_file<T: AllocGlobal + Input + Files + Eprint>(
     rt: &T,
-    question: &CheckQuestion<'_>,
-) -> Result<CheckEnd, LabError>
+    file: &str,
+    is_strict: bool,
+) -> Result<FileAnswer, LabError>
 where
     T::Reader: IsTerminal,
 {
-    let mut ends = Vec::new(rt.alloc());
-    for file in question.files.as_slice() {
-        let end = check_file(rt, file, question.expected)?;
-        ends.push(end).map_err(AllocError::from)?;
+    let bytes = bytes_of(rt, file)?;
+    let (text, end) = checked(rt.alloc(), file, bytes.as_slice())?;
+    Ok(FileAnswer {
+        text,
+        status: end.status(is_strict),
+    })
+}
+
+/// Prints what is said of each file, in turn, and gives the worst exit status. Each line that is printed names its file.
+pub fn answer_check<T: AllocGlobal + Input + Files + Print + Eprint>(
+    rt: &T,
+    question: &CheckQuestion<'_>,
+) -> Result<u8, LabError>
+where
+    T::Reader: IsTerminal,
+{
+    let is_strict = question.is_strict;
+    match (question.expected, question.files.as_slice()) {
+        (Some(expected), [file]) => { Ok(check_expected(rt, file, expected)?.status(is_strict)) }
+        (_, files) => answer_each(rt, &mut io::writer(rt), files, false, |file| {
+            check_file(rt, file, is_strict)
+        }),
     }
-    Ok(worst_of(ends.as_slice()))
 }

@@ -1,10 +1,7 @@
-ghost use Rattle.std.specs.Prelude.{◌≡◌};
-ghost use Rattle.ccan_lab.specs.CheckCommand.{worst_of};
-
-/// What came of a check of scripts, the worst last.
+/// What came of a check of a script.
 #[derive(Clone, Copy, PartialEq, Eq)]
 pub enum CheckEnd {
-    /// Nothing is said of them.
+    /// Nothing is said of it.
     Clean,
     /// There are warnings and no faults.
     Warned,
@@ -16,30 +13,7 @@ pub enum CheckEnd {
 
 impl CheckEnd {
     ghost use Rattle.std.specs.Prelude.{◌≡◌};
-    ghost use Rattle.ccan_lab.specs.CheckCommand.{badness, check_status, worse};
-
-    /// How bad it is.
-    fn badness(self) -> u8
-        ensures { result ≡ badness self }
-    {
-        match self {
-            CheckEnd::Clean => 0,
-            CheckEnd::Warned => 1,
-            CheckEnd::Differs => 2,
-            CheckEnd::Faulty => 3,
-        }
-    }
-
-    /// The worse of two.
-    fn worse(self, other: CheckEnd) -> CheckEnd
-        ensures { result ≡ worse self other }
-    {
-        if self.badness() < other.badness() {
-            other
-        } else {
-            self
-        }
-    }
+    ghost use Rattle.ccan_lab.specs.CheckCommand.{check_status};
 
     /// The exit status: 8 where a run is not as expected, and 7 for warnings where they are asked for by `--strict`.
     pub fn status(self, is_strict: bool) -> u8
@@ -52,12 +26,4 @@ impl CheckEnd {
             CheckEnd::Warned | CheckEnd::Clean => 0,
         }
     }
-}
-
-/// The worst of these, wherever it stands. Without any, nothing is said.
-pub fn worst_of(ends: &[CheckEnd]) -> CheckEnd
-    ensures { result ≡ worst_of ends.now }
-{
-    ends.iter()
-        .fold(CheckEnd::Clean, |worst, end| worst.worse(*end))
 }

@@ -1,6 +1,10 @@
-//! The words of the command line that commands take. What a command takes is tested and not proved, so none of these functions
-//! promises anything.
-use clap::{Arg, ArgAction, Command, value_parser};
+//! The words of the command line that commands take. What a command takes is tested and not proved, so of these functions only
+//! the last promises anything.
+ghost use Rattle.std.specs.Prelude.{◌≡◌, IfOk, codes, map, option_map};
+ghost use Rattle.clap.specs.Words.{found_of, matched_of, raw_values};
+ghost use Rattle.ccan_lab.specs.Question.{files_named};
+
+use clap::{Arg, ArgAction, ArgMatches, Command, value_parser};
 use std::alloc::{AllocError, Global};
 
 /// A command, and what it is told to be for.
@@ -51,4 +55,25 @@ pub fn file<'a>(alloc: Global, value: &'a str, help: &'a str) -> Arg<'a> {
         .value_name(value)
         .action(ArgAction::Set)
         .help(help)
+}
+
+/// The scripts of a command that takes several.
+pub fn scripts<'a>(alloc: Global) -> Arg<'a> {
+    file(alloc, "FILE", "The scripts; left out or -: standard input")
+        .action(ArgAction::Append)
+        .num_args(0..)
+}
+
+/// The files that the words name, in their order: standard input, `-`, if they name none.
+pub fn files_named<'a>(alloc: Global, words: &ArgMatches<'a>) -> Result<Vec<&'a str>, AllocError>
+    ensures { IfOk result (λ files. map (λ file. file.now) files.items
+        ≡ files_named (option_map raw_values
+        (matched_of (found_of words.entry.now) (codes "file")))) }
+{
+    let mut files = Vec::new(alloc);
+    match words.get_strs("file") {
+        Some(names) => files.extend_from_slice(names)?,
+        None => files.push("-")?,
+    }
+    Ok(files)
 }

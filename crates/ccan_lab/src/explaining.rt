@@ -1,15 +1,21 @@
 //! The questions about one run of a script in its order: what each line came to, and the frames on its bus; and the way back,
 //! from a log of a bus to a script.
-use crate::command_words::{apart_from, command, file, switch, with};
-use crate::input::script_asked;
+ghost use Rattle.std.specs.Prelude.{◌≡◌, IfOk, codes, map, option_map};
+ghost use Rattle.clap.specs.Words.{found_of, matched_of, raw_values};
+ghost use Rattle.ccan_lab.specs.Question.{files_named};
+
+use crate::command_words::{apart_from, command, file, files_named, scripts, switch, with};
+use crate::each_file::{FileAnswer, answer_each};
+use crate::input::{script_asked, tell_terminal};
 use crate::lab_error::LabError;
 use ccan_explain::{FromLog, LogError, json_of, log_of, script_of_log, tell, text_of};
 use ccan_run::RunError;
 use ccan_script::Script;
-use clap::{Arg, ArgMatches, Command};
+use clap::error::ErrorKind as WordsFault;
+use clap::{Arg, ArgMatches, Command, Error};
 use std::alloc::{AllocError, Global};
 use std::fs::Files;
-use std::io::{ErrorKind, Input, Read, Write};
+use std::io::{ErrorKind, Input, IsTerminal, Read, Write};
 use std::{fs, io};
 
 /// The form in which a run is told.
@@ -23,13 +29,13 @@ pub enum Form {
     Candump,
 }
 
-/// What is asked about a run of a script.
-#[derive(Clone, Copy)]
+/// What is asked about runs of scripts.
+#[derive(Drop)]
 pub struct ExplainQuestion<'a> {
-    /// The form in which the run is told.
+    /// The form in which a run is told. Of several scripts it is that for people.
     pub form: Form,
-    /// The file of the script: `None` or `-` means standard input.
-    pub file: Option<&'a str>,
+    /// The files: `-` means standard input.
+    pub files: Vec<&'a str>,
 }
 
 /// The flag that asks for JSON.
@@ -50,11 +56,7 @@ pub fn explain_command<'a>(alloc: Global) -> Result<Command<'a>, AllocError> {
         "candump",
         "The frames on the bus, as a log of can-utils; the time counts rounds",
     );
-    let told = with(told, candump)?;
-    with(
-        told,
-        file(alloc, "FILE", "The script; left out or -: standard input"),
-    )
+    with(with(told, candump)?, scripts(alloc))
 }
 
 /// The command that makes a script of a log.
@@ -81,12 +83,34 @@ fn form_asked(words: &ArgMatches<'_>) -> Form {
     }
 }
 
-/// The question that the words after `explain` ask.
-pub fn explain_question<'a>(words: &ArgMatches<'a>) -> ExplainQuestion<'a> {
-    ExplainQuestion {
-        form: form_asked(words),
-        file: words.get_str("file"),
+/// What is told if this form is asked of several scripts: a fault, if it is not that for people.
+fn one_script_told(alloc: Global, form: Form) -> Result<Option<Error>, Error> {
+    let message = match form {
+        Form::People => return Ok(None),
+        Form::Json => "with '--json' there is one script",
+        Form::Candump => "with '--candump' there is one script",
+    };
+    let told = explain_command(alloc)?.error(WordsFault::TooManyValues, message)?;
+    Ok(Some(told))
+}
+
+/// The question that the words after `explain` ask. Several scripts are told for people only.
+pub fn explain_question<'a>(
+    alloc: Global,
+    words: &ArgMatches<'a>,
+) -> Result<ExplainQuestion<'a>, Error>
+    ensures { IfOk result (λ question. map (λ file. file.now) question.files.items
+        ≡ files_named (option_map raw_values
+        (matched_of (found_of words.entry.now) (codes "file")))) }
+{
+    let form = form_asked(words);
+    let files = files_named(alloc, words)?;
+    if 1 < files.len() {
+        if let Some(fault) = one_script_told(alloc, form)? {
+            return Err(fault);
+        }
     }
+    Ok(ExplainQuestion { form, files })
 }
 
 /// Writes a text to standard output.
@@ -107,14 +131,34 @@ fn explained(alloc: Global, script: &Script, form: Form) -> Result<String, Alloc
     }
 }
 
-/// Runs the script in its order, and prints what is told of it.
-pub fn answer_explain<T: AllocGlobal + Input + Files + Print>(
+/// Runs the script of a file in its order, and tells it in this form.
+fn explain_file<T: AllocGlobal + Input + Files + Eprint>(
+    rt: &T,
+    file: &str,
+    form: Form,
+) -> Result<FileAnswer, LabError>
+where
+    T::Reader: IsTerminal,
+{
+    tell_terminal(rt, "a script", Some(file));
+    let script = script_asked(rt, Some(file))?;
+    let text = explained(rt.alloc(), &script, form)?;
+    Ok(FileAnswer { text, status: 0 })
+}
+
+/// Runs each script in its order, and prints what is told of it, under the name of its file if there are several. Gives the
+/// worst exit status.
+pub fn answer_explain<T: AllocGlobal + Input + Files + Print + Eprint>(
     rt: &T,
     question: &ExplainQuestion<'_>,
-) -> Result<(), LabError> {
-    let script = script_asked(rt, question.file)?;
-    let text = explained(rt.alloc(), &script, question.form)?;
-    print_text(rt, text.as_str())
+) -> Result<u8, LabError>
+where
+    T::Reader: IsTerminal,
+{
+    let files = question.files.as_slice();
+    answer_each(rt, &mut io::writer(rt), files, 1 < files.len(), |file| {
+        explain_file(rt, file, question.form)
+    })
 }
 
 /// Reads a log up to the first read of 0 bytes.

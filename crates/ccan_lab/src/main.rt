@@ -9,6 +9,9 @@
 //! `ccan-lab draw` draws one picture of a run, or of a history of one of the outcomes. `ccan-lab page` writes a page to step
 //! through each outcome, or through a run.
 //!
+//! Outcomes, checks and runs are asked of several scripts as well as of one: each is answered in turn, and the exit status is the
+//! worst.
+//!
 //! The exit status is 0 where it is as asked, and 6 where no outcome has the line of `--can`, or one has that of
 //! `--never`. A check ends with 1 where a script has faults, and else with 7 where there are warnings and `--strict` asks
 //! for that, and with 8 where a run is not as expected. A fault is told on standard error, and the exit status: 1 where the
@@ -25,6 +28,7 @@ pub mod check_command;
 pub mod check_end;
 pub mod command_words;
 pub mod drawing;
+pub mod each_file;
 pub mod expect;
 pub mod explaining;
 mod forms;
@@ -63,27 +67,17 @@ use std::io::{Input, IsTerminal};
 use std::process::ExitCode;
 use std::{env, io};
 
-/// The exit status where it is not as asked.
-pub const NOT_SO: u8 = 6;
-
-/// Says on standard error what a question waits for, where that comes from a terminal. A check says so itself.
+/// Says on standard error what a question about one file waits for, if that comes from a terminal. The others say so themselves.
 fn tell_waiting<T: Input + Eprint>(rt: &T, question: &Question<'_>)
 where
     T::Reader: IsTerminal,
 {
     match question {
-        Question::Outcomes(question) => tell_terminal(rt, "a script", question.file),
-        Question::Explain(question) => tell_terminal(rt, "a script", question.file),
         Question::Draw(question) => tell_terminal(rt, "a script", question.file),
         Question::Page(question) => tell_terminal(rt, "a script", question.file),
         Question::FromCandump(file) => tell_terminal(rt, "a log", *file),
-        Question::Check(_) => {}
+        Question::Outcomes(_) | Question::Check(_) | Question::Explain(_) => {}
     }
-}
-
-/// The exit status of an answer that is as asked, or isn't.
-fn status_of(is_so: bool) -> u8 {
-    if is_so { 0 } else { NOT_SO }
 }
 
 /// The exit status where all is told.
@@ -101,11 +95,9 @@ where
     T::Reader: IsTerminal,
 {
     match question {
-        Question::Outcomes(question) => answer_outcomes(rt, question, progress).map(status_of),
-        Question::Check(question) => answer_check(rt, question).map(|end| end.status(
-            question.is_strict,
-        )),
-        Question::Explain(question) => answer_explain(rt, question).map(status_told),
+        Question::Outcomes(question) => answer_outcomes(rt, question, progress),
+        Question::Check(question) => answer_check(rt, question),
+        Question::Explain(question) => answer_explain(rt, question),
         Question::Draw(question) => answer_draw(rt, question, progress).map(status_told),
         Question::Page(question) => answer_page(rt, question, progress).map(status_told),
         Question::FromCandump(file) => answer_log(rt, *file).map(status_told),

@@ -1,17 +1,21 @@
 //! The question `ccan-lab outcomes`: its words, and its answer.
 
-ghost use Rattle.std.specs.Prelude.{◌≡◌, IfErr, IfOk, codes, option_map, string_bytes};
-ghost use Rattle.clap.specs.Words.{first_value, found_of, one_text};
+ghost use Rattle.std.specs.Prelude.{◌≡◌, IfErr, IfOk, codes, map, option_map, string_bytes};
+ghost use Rattle.clap.specs.Words.{first_value, found_of, matched_of, one_text, raw_values};
 ghost use Rattle.ccan_line.specs.Script.{fields_of};
 ghost use Rattle.ccan_lab.specs.Answer.{IsOfAll};
 ghost use Rattle.ccan_lab.specs.Outcomes.{IsWithout, TellsAll};
 ghost use Rattle.ccan_lab.specs.Question.{AreKnown, AreKnownNames, AsksAllBy, AsksBy, IsGivenBy};
+ghost use Rattle.ccan_lab.specs.Question.{files_named};
 
 use crate::answer::{Answer, answer_of};
 use crate::asked::Asked;
 use crate::beginnings::beginnings_text;
-use crate::command_words::{apart_from, command, file, number, option, switch, with};
-use crate::input::script_asked;
+use crate::command_words::{
+    apart_from, command, files_named, number, option, scripts, switch, with,
+};
+use crate::each_file::{FileAnswer, answer_each};
+use crate::input::{script_asked, tell_terminal};
 use crate::lab_error::LabError;
 use crate::observed::first_unknown;
 use crate::progress_line::ProgressLine;
@@ -24,18 +28,21 @@ use clap::{Arg, ArgMatches, Command};
 use std::alloc::{AllocError, Global};
 use std::fs::Files;
 use std::io;
-use std::io::{Input, Write};
+use std::io::{Input, IsTerminal};
 
 /// How many states are followed at most if the command line doesn't say.
 pub const DEFAULT_MOST: usize = 1_000_000;
 
-/// What is asked about the outcomes of a script.
-#[derive(Clone, Copy)]
+/// The exit status where it is not as asked.
+pub const NOT_SO: u8 = 6;
+
+/// What is asked about the outcomes of scripts.
+#[derive(Drop)]
 pub struct OutcomesQuestion<'a> {
-    /// How many states the search follows at most. If there are more, nothing is answered.
+    /// How many states the search follows at most. If a script has more, nothing is answered of it.
     pub most: usize,
-    /// The file of the script: `None` or `-` means standard input.
-    pub file: Option<&'a str>,
+    /// The files: `-` means standard input.
+    pub files: Vec<&'a str>,
     /// What is asked.
     pub asked: Asked<'a>,
 }
@@ -87,11 +94,7 @@ pub fn outcomes_command<'a>(alloc: Global) -> Result<Command<'a>, AllocError> {
         "Shows what can come of a script whose two hosts and bus run at once; lines are counted from 0, as in jq and \
                  in the faults of ccan";
     let asked = choosing(alloc, command(alloc, "outcomes", about))?;
-    let asked = with(asked, most_option(alloc))?;
-    with(
-        asked,
-        file(alloc, "FILE", "The script; left out or -: standard input"),
-    )
+    with(with(asked, most_option(alloc))?, scripts(alloc))
 }
 
 /// What the words of that command ask of the whole list.
@@ -136,22 +139,29 @@ fn most_of(words: &ArgMatches<'_>) -> usize
 }
 
 /// The question that the words of that command ask.
-pub fn outcomes_question<'a>(words: &ArgMatches<'a>) -> OutcomesQuestion<'a>
-    ensures most { IsGivenBy (one_text (found_of words.entry.now) (codes "most")) result.most }
-    ensures file { option_map (λ path. path.now) result.file
-        ≡ first_value (found_of words.entry.now) (codes "file") }
-    ensures all { one_text (found_of words.entry.now) (codes "all") ≡ Some (codes "true")
-        → AsksAllBy (first_value (found_of words.entry.now) (codes "observe")) result.asked }
-    ensures line { one_text (found_of words.entry.now) (codes "all") ≡ Some (codes "false")
+pub fn outcomes_question<'a>(
+    alloc: Global,
+    words: &ArgMatches<'a>,
+) -> Result<OutcomesQuestion<'a>, AllocError>
+    ensures most { IfOk result (λ question.
+        IsGivenBy (one_text (found_of words.entry.now) (codes "most")) question.most) }
+    ensures files { IfOk result (λ question. map (λ file. file.now) question.files.items
+        ≡ files_named (option_map raw_values
+        (matched_of (found_of words.entry.now) (codes "file")))) }
+    ensures all { IfOk result (λ question.
+        one_text (found_of words.entry.now) (codes "all") ≡ Some (codes "true")
+        → AsksAllBy (first_value (found_of words.entry.now) (codes "observe")) question.asked) }
+    ensures line { IfOk result (λ question.
+        one_text (found_of words.entry.now) (codes "all") ≡ Some (codes "false")
         → AsksBy (first_value (found_of words.entry.now) (codes "can"))
         (first_value (found_of words.entry.now) (codes "never"))
-        (first_value (found_of words.entry.now) (codes "observe")) result.asked }
+        (first_value (found_of words.entry.now) (codes "observe")) question.asked) }
 {
-    OutcomesQuestion {
+    Ok(OutcomesQuestion {
         most: most_of(words),
-        file: words.get_str("file"),
+        files: files_named(alloc, words)?,
         asked: asked_of(words),
-    }
+    })
 }
 
 /// Refuses names of which one is that of no line and no object of the script.
@@ -248,18 +258,44 @@ fn answered_or_told<T: AllocGlobal + Eprint>(
     answered
 }
 
-/// Lists the outcomes of the script, prints what is answered, and says whether it is as asked. A wait is told by its last look:
-/// that changes no outcome. On a terminal it is told how far the search is.
+/// The exit status of an answer that is as asked, or isn't.
+fn status_of(is_so: bool) -> u8 {
+    if is_so { 0 } else { NOT_SO }
+}
+
+/// What is answered to a question about the outcomes of the script of a file. A wait is told by its last look: that changes no
+/// outcome. On a terminal it is told how far the search is.
+fn outcomes_of_file<T: AllocGlobal + Input + Files + Eprint>(
+    rt: &T,
+    file: &str,
+    question: &OutcomesQuestion<'_>,
+    progress: &ProgressLine<'_, T>,
+) -> Result<FileAnswer, LabError>
+where
+    T::Reader: IsTerminal,
+{
+    tell_terminal(rt, "a script", Some(file));
+    let script = looking_once(rt.alloc(), script_asked(rt, Some(file))?)?;
+    refuse_unknown(rt.alloc(), &script, question.asked)?;
+    let answer = answered_or_told(rt, &script, question, progress)?;
+    Ok(FileAnswer {
+        text: answer.text,
+        status: status_of(answer.holds),
+    })
+}
+
+/// Lists the outcomes of each script, and prints what is answered, under the name of its file if there are several. Gives the
+/// worst exit status.
 pub fn answer_outcomes<T: AllocGlobal + Input + Files + Print + Eprint>(
     rt: &T,
     question: &OutcomesQuestion<'_>,
     progress: &ProgressLine<'_, T>,
-) -> Result<bool, LabError> {
-    let script = looking_once(rt.alloc(), script_asked(rt, question.file)?)?;
-    refuse_unknown(rt.alloc(), &script, question.asked)?;
-    let answer = answered_or_told(rt, &script, question, progress)?;
-    match io::writer(rt).write_all(answer.text.as_bytes()) {
-        Ok(()) => Ok(answer.holds),
-        Err(_) => Err(LabError::Write),
-    }
+) -> Result<u8, LabError>
+where
+    T::Reader: IsTerminal,
+{
+    let files = question.files.as_slice();
+    answer_each(rt, &mut io::writer(rt), files, 1 < files.len(), |file| {
+        outcomes_of_file(rt, file, question, progress)
+    })
 }

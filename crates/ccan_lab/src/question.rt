@@ -13,11 +13,11 @@ use std::convert::AsStr;
 /// What the command line asks.
 #[derive(Drop)]
 pub enum Question<'a> {
-    /// About the outcomes of a script.
+    /// About the outcomes of scripts.
     Outcomes(OutcomesQuestion<'a>),
     /// The faults of scripts.
     Check(CheckQuestion<'a>),
-    /// One run of a script in its order.
+    /// Runs of scripts in their orders.
     Explain(ExplainQuestion<'a>),
     /// A picture of a run.
     Draw(DrawQuestion<'a>),
@@ -64,7 +64,7 @@ pub fn question_asked<'a, S: AsStr>(alloc: Global, words: &'a [S]) -> Result<Que
         return Ok(Question::Check(check_question(alloc, words)?));
     }
     if let Some(words) = matches.subcommand_matches("explain") {
-        return Ok(Question::Explain(explain_question(words)));
+        return Ok(Question::Explain(explain_question(alloc, words)?));
     }
     if let Some(words) = matches.subcommand_matches("draw") {
         return Ok(Question::Draw(draw_question(words)));
@@ -79,9 +79,9 @@ pub fn question_asked<'a, S: AsStr>(alloc: Global, words: &'a [S]) -> Result<Que
     let Some(words) = matches.subcommand_matches("outcomes") else {
         return Ok(Question::Outcomes(OutcomesQuestion {
             most: DEFAULT_MOST,
-            file: None,
+            files: Vec::new(alloc),
             asked: Asked::Summary,
         }));
     };
-    Ok(Question::Outcomes(outcomes_question(words)))
+    Ok(Question::Outcomes(outcomes_question(alloc, words)?))
 }

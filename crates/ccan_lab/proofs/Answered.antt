@@ -1,0 +1,49 @@
+-- One file more is asked about.
+use Rattle.std.proofs.Common.{◌≡◌, ◌∙◌, ◌++◌, ℕ, Bool, List, [], ◌∷◌, Option, ap, sym, subst, append-nil, append_assoc, map}
+use Rattle.std.proofs.KnownBytes.{Appends-trans}
+use Rattle.std.proofs.lemmas.List.{map-append}
+use Rattle.std.proofs.lemmas.List.Sums.{fold-append}
+use Rattle.std.specs.Prelude.{Result}
+use Rattle.std.specs.List.{AllZip}
+use Rattle.std.specs.Io.KnownBytes.{Appends}
+use Rattle.ccan_lab.specs.declared.each_file.FileAnswer.{FileAnswer}
+use Rattle.ccan_lab.specs.declared.lab_error.LabError.{LabError}
+use Rattle.ccan_lab.specs.EachFile.{AreAnswered, part, parts, status_of, worse, worst_of}
+
+module _ (Answers : List ℕ → Result FileAnswer LabError → Type 0) (shown : Bool) (name : List ℕ)
+    (answered : Result FileAnswer LabError) where
+  each_more : (names : List (List ℕ)) (answers : List (Result FileAnswer LabError)) → AllZip Answers names answers
+      → Answers name answered → AllZip Answers (names ++ name ∷ []) (answers ++ answered ∷ [])
+  each_more [] [] each one = (one, tt)
+  each_more [] (a ∷ others) each one = absurd each
+  each_more (n ∷ ns) [] each one = absurd each
+  each_more (n ∷ ns) (a ∷ others) each one = (each.0, each_more ns others each.1 one)
+
+  parts_more : (names : List (List ℕ)) (answers : List (Result FileAnswer LabError)) → AllZip Answers names answers
+      → parts shown names answers ++ part shown name answered
+      ≡ parts shown (names ++ name ∷ []) (answers ++ answered ∷ [])
+  parts_more [] [] each = sym (append-nil (part shown name answered))
+  parts_more [] (a ∷ others) each = absurd each
+  parts_more (n ∷ ns) [] each = absurd each
+  parts_more (n ∷ ns) (a ∷ others) each =
+      append_assoc (part shown n a) (parts shown ns others) (part shown name answered)
+      ∙ ap (λ (t : List ℕ). part shown n a ++ t) (parts_more ns others each.1)
+
+  worst_more : (answers : List (Result FileAnswer LabError))
+      → worse (worst_of (map status_of answers)) (status_of answered) ≡ worst_of (map status_of (answers ++ answered ∷ []))
+  worst_more answers =
+      sym (fold-append worse 0 (map status_of answers) (status_of answered ∷ []))
+      ∙ ap worst_of (sym (map-append status_of answers (answered ∷ [])))
+
+  -- it is answered, written and counted behind the others
+  pub answered_more : (names : List (List ℕ)) (old between new : Option (List ℕ)) (worst status : ℕ)
+      → AreAnswered Answers shown names old between worst → Answers name answered
+      → Appends between new (part shown name answered) → status ≡ worse worst (status_of answered)
+      → AreAnswered Answers shown (names ++ name ∷ []) old new status
+  answered_more names old between new worst status before one written is = record {
+    answers = before.answers ++ answered ∷ [];
+    each = each_more names before.answers before.each one;
+    printed = subst (Appends old new) (parts_more names before.answers before.each)
+        (Appends-trans old between new _ _ before.printed written);
+    worst = is ∙ ap (λ (n : ℕ). worse n (status_of answered)) before.worst ∙ worst_more before.answers;
+  }
