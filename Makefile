@@ -8,7 +8,7 @@ BASE ?=
 FOLDER ?=
 export SCRIPT PREFIX EARLIER CRATE ONLY BASE FOLDER
 
-.PHONY: help check gate quick docs hook run try examples prove wrong test install dist dist-test bench sweep hostile soak c-test c-wrong every-test python-test page-test qemu systemc schema clean
+.PHONY: help check gate quick docs hook run try examples prove wrong test install dist dist-test bench sweep hostile soak c-test c-wrong every-test python-test page-test qemu renode systemc schema clean
 
 help:
 	@tools/targets
@@ -101,6 +101,9 @@ python-test:
 
 qemu:
 	tools/check_qemu $${FOLDER:+"$$FOLDER"}
+
+renode:
+	tools/check_renode
 
 systemc:
 	tools/check_systemc
