@@ -36,14 +36,15 @@ module _ (Answers : List ℕ → Result FileAnswer LabError → Type 0) (shown :
       ∙ ap worst_of (sym (map-append status_of answers (answered ∷ [])))
 
   -- it is answered, written and counted behind the others
-  pub answered_more : (names : List (List ℕ)) (old between new : Option (List ℕ)) (worst status : ℕ)
+  pub answered_more : (names : List (List ℕ)) (old between new : Option (List ℕ)) (worst one_status status : ℕ)
       → AreAnswered Answers shown names old between worst → Answers name answered
-      → Appends between new (part shown name answered) → status ≡ worse worst (status_of answered)
+      → Appends between new (part shown name answered) → one_status ≡ status_of answered → status ≡ worse worst one_status
       → AreAnswered Answers shown (names ++ name ∷ []) old new status
-  answered_more names old between new worst status before one written is = record {
+  answered_more names old between new worst one_status status before one written one_is is = record {
     answers = before.answers ++ answered ∷ [];
     each = each_more names before.answers before.each one;
     printed = subst (Appends old new) (parts_more names before.answers before.each)
         (Appends-trans old between new _ _ before.printed written);
-    worst = is ∙ ap (λ (n : ℕ). worse n (status_of answered)) before.worst ∙ worst_more before.answers;
+    worst = is ∙ ap (worse worst) one_is ∙ ap (λ (n : ℕ). worse n (status_of answered)) before.worst
+        ∙ worst_more before.answers;
   }

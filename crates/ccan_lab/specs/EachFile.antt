@@ -1,6 +1,6 @@
--- What is printed, and with which exit status, where a question is asked of several files. Source: this project's own; the
--- heading is that of `head` and `tail`.
-use Rattle.std.specs.Prelude.{ℕ, ◌≡◌, ◌+◌, ◌++◌, ◌&&◌, not, ◌==◌, nat_lt, Bool, List, [], ◌∷◌, Option, Result, Ok, Err}
+-- What is printed if a question is asked of several files, and the exit status. Source: this project's own; the heading is that
+-- of `head` and `tail`.
+use Rattle.std.specs.Prelude.{ℕ, ◌≡◌, ◌+◌, ◌++◌, ◌&&◌, not, nat_lt, Bool, List, [], Option, Result, Ok, Err}
 use Rattle.std.specs.Prelude.{codes, if◌then◌else◌, map, string_bytes}
 use Rattle.std.specs.List.{AllZip, flat_map, fold, zip}
 use Rattle.std.specs.Io.KnownBytes.{Appends}
@@ -12,7 +12,11 @@ use Rattle.ccan_lab.specs.LabError.{exit_status}
 abbrev pub heading : List ℕ → List ℕ
 heading name = codes "==> " ++ (name ++ codes " <==\n")
 
--- it stands there where there is to be one
+-- there are such lines if there are several files, and the lines of an answer don't name its file
+abbrev pub has_headings : Bool → ℕ → Bool
+has_headings named files = not named && nat_lt 1 files
+
+-- the line, if there are such
 abbrev pub heading_if : Bool → List ℕ → List ℕ
 heading_if shown name = if shown then heading name else []
 

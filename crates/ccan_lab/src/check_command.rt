@@ -194,7 +194,7 @@ where
     let is_strict = question.is_strict;
     match (question.expected, question.files.as_slice()) {
         (Some(expected), [file]) => { Ok(check_expected(rt, file, expected)?.status(is_strict)) }
-        (_, files) => answer_each(rt, &mut io::writer(rt), files, false, |file| {
+        (_, files) => answer_each(rt, &mut io::writer(rt), files, true, |file| {
             check_file(rt, file, is_strict)
         }),
     }

@@ -1,9 +1,10 @@
 //! One question about several files: each is answered in turn.
-ghost use Rattle.std.specs.Prelude.{◌≡◌, IfErr, IfOk, OnOk, map};
+ghost use Rattle.std.specs.Prelude.{◌≡◌, IfErr, IfOk, OnOk, length, map};
 ghost use Rattle.std.specs.Fn.{FnReturnsAt};
 ghost use Rattle.std.specs.Io.KnownBytes.{Appends};
 ghost use Rattle.ccan_lab.specs.declared.lab_error.LabError.TheVariants as LabError;
-ghost use Rattle.ccan_lab.specs.EachFile.{AreAnswered, badness, heading, heading_if, part, status_of, worse};
+ghost use Rattle.ccan_lab.specs.EachFile.{AreAnswered, badness, has_headings, heading, heading_if, part};
+ghost use Rattle.ccan_lab.specs.EachFile.{status_of, worse};
 
 use crate::lab_error::LabError;
 use std::io::Write;
@@ -118,11 +119,15 @@ fn worse(one: u8, other: u8) -> u8
     }
 }
 
-/// Asks about each file in turn, and writes the answer before the next is asked about. Gives the worst exit status.
-///
-/// Above each answer stands the name of its file, if that is to be shown. Of a file that is refused nothing is written, and
-/// standard error says why. After a failed write no file is asked about any more.
-pub fn answer_each<T: Eprint, W: Write, F: Fn(&str) -> Result<FileAnswer, LabError>>(
+/// Whether the answers have headings: if there are several files, and the lines of an answer don't name its file.
+fn has_headings(are_named: bool, files: usize) -> bool
+    ensures { result ≡ has_headings are_named files }
+{
+    !are_named && 1 < files
+}
+
+/// Asks about each file in turn, with a heading above each answer if there is to be one, and gives the worst exit status.
+fn answer_in_turn<T: Eprint, W: Write, F: Fn(&str) -> Result<FileAnswer, LabError>>(
     rt: &T,
     writer: &mut W,
     files: &[&str],
@@ -142,4 +147,25 @@ pub fn answer_each<T: Eprint, W: Write, F: Fn(&str) -> Result<FileAnswer, LabErr
         worst = worse(worst, status_of(&answered));
     }
     Ok(worst)
+}
+
+/// Asks about each file in turn, and writes the answer before the next is asked about. Gives the worst exit status.
+///
+/// If there are several files, each answer stands under the name of its file, unless its lines name it. Of a file that is refused
+/// nothing is written, and standard error says why. After a failed write no file is asked about any more.
+pub fn answer_each<T: Eprint, W: Write, F: Fn(&str) -> Result<FileAnswer, LabError>>(
+    rt: &T,
+    writer: &mut W,
+    files: &[&str],
+    are_named: bool,
+    answer: F,
+) -> Result<u8, LabError>
+    requires { F.IsAlwaysCallable answer }
+    ensures answered { IfOk result (λ status. AreAnswered (FnReturnsAt F.Fn answer)
+        (has_headings are_named (length files.now)) (map (λ file. file.now) files.now)
+        (W.contents writer.old) (W.contents writer.new) status) }
+    ensures fault { IfErr result (λ e. e ≡ LabError.Write) }
+{
+    let is_shown = has_headings(are_named, files.len());
+    answer_in_turn(rt, writer, files, is_shown, answer)
 }

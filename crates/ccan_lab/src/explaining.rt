@@ -156,7 +156,7 @@ where
     T::Reader: IsTerminal,
 {
     let files = question.files.as_slice();
-    answer_each(rt, &mut io::writer(rt), files, 1 < files.len(), |file| {
+    answer_each(rt, &mut io::writer(rt), files, false, |file| {
         explain_file(rt, file, question.form)
     })
 }

@@ -295,7 +295,7 @@ where
     T::Reader: IsTerminal,
 {
     let files = question.files.as_slice();
-    answer_each(rt, &mut io::writer(rt), files, 1 < files.len(), |file| {
+    answer_each(rt, &mut io::writer(rt), files, false, |file| {
         outcomes_of_file(rt, file, question, progress)
     })
 }

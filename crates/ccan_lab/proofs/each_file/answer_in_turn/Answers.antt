@@ -1,10 +1,10 @@
-use Rattle.std.proofs.Common.{◌∙◌, Bor, List, ℕ, ap, map, refl, subst, sym}
+use Rattle.std.proofs.Common.{Bor, List, ℕ, refl, subst, sym}
 use Rattle.std.proofs.iter.Next.{says_at}
 use Rattle.std.proofs.lemmas.List.{map_more}
 use Rattle.std.specs.Fn.{FnReturnsAt}
-use Rattle.ccan_lab.specs.EachFile.{AreAnswered, worse}
+use Rattle.ccan_lab.specs.EachFile.{AreAnswered}
 use Rattle.ccan_lab.proofs.Answered.{answered_more}
-use Rattle.ccan_lab.proofs.each_file.answer_each.Goals as goal
+use Rattle.ccan_lab.proofs.each_file.answer_in_turn.Goals as goal
 
 pub loop-file-preserved : goal.loop-file-preserved
 loop-file-preserved g c =
@@ -14,6 +14,6 @@ loop-file-preserved g c =
     let more =
     map_more (λ (file : Bor (List ℕ)). file.now) c.args.files.now c.loop-file.file-index _ c.loop-file-test.true in
     subst (λ files. AreAnswered Answers c.args.is_shown files old new c.worse-worst.result) (sym more)
-    (answered_more Answers c.args.is_shown _ c.answer-answered.result _ old _ new _ _ c.loop-file.invariant
+    (answered_more Answers c.args.is_shown _ c.answer-answered.result _ old _ new _ _ _ c.loop-file.invariant
     (says_at g.F.Fn c.answer-answered.ensures refl) c.in_ok-write_answer.ensures.ok
-    (c.worse-worst.ensures ∙ ap (worse c.loop-file.worst) c.status_of.ensures))
+    c.status_of.ensures c.worse-worst.ensures)

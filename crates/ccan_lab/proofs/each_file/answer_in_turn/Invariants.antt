@@ -1,7 +1,7 @@
 use Rattle.std.proofs.Common.{map, take}
 use Rattle.std.specs.Fn.{FnReturnsAt}
 use Rattle.ccan_lab.specs.EachFile.{AreAnswered}
-use Rattle.ccan_lab.proofs.each_file.answer_each.Given as goal
+use Rattle.ccan_lab.proofs.each_file.answer_in_turn.Given as goal
 
 -- the files so far were asked about
 abbrev pub invariant-loop-file : goal.invariant-loop-file
