@@ -40,8 +40,10 @@
  *  - A chip in loop back mode starts its frame when the others start theirs, and not at any time as a part does. If an error flag
  *    ends the frame for the others, what the chip still sends of it disturbs nothing. With Silent it keeps no time of its own: it
  *    has its event when the frame on the bus ends; if nobody else sends, the others wait until its frame is over.
- *  - Intermission, suspend transmission, and groups of eleven recessive bits are those of CAN Specification 2.0. There are no
- *    overload frames, no errors between frames and no second error in an error frame; and bits don't differ in length.
+ *  - Intermission, suspend transmission, and groups of eleven recessive bits are those of CAN Specification 2.0. Behind a frame of an
+ *    error passive sender that nobody acknowledges, groups count from the CRC delimiter on; on a real bus they count from the last
+ *    dominant bit of the CRC sequence, up to 4 bits earlier. There are no overload frames, no errors between frames and no second
+ *    error in an error frame; and bits don't differ in length.
  *  - All members see a frame end at once: propagation takes no time. */
 #ifndef CCAN_NETWORK_H
 #define CCAN_NETWORK_H

@@ -12,13 +12,17 @@ def bits_of(number, width):
     return [number >> place & 1 for place in reversed(range(width))]
 
 
+def arbitration_bits(identifier, extended, remote):
+    """The start of frame, and the arbitration field behind it."""
+    if extended:
+        return [0, *bits_of(identifier >> 18, 11), 1, 1, *bits_of(identifier % (1 << 18), 18), int(remote)]
+    return [0, *bits_of(identifier, 11), int(remote)]
+
+
 def checked_bits(identifier, extended, remote, code, data):
     """What the CRC sequence is computed of."""
-    if extended:
-        arbitration = [*bits_of(identifier >> 18, 11), 1, 1, *bits_of(identifier % (1 << 18), 18), int(remote)]
-    else:
-        arbitration = [*bits_of(identifier, 11), int(remote)]
-    return [0, *arbitration, 0, 0, *bits_of(code, 4), *(bit for byte in data for bit in bits_of(byte, 8))]
+    arbitration = arbitration_bits(identifier, extended, remote)
+    return [*arbitration, 0, 0, *bits_of(code, 4), *(bit for byte in data for bit in bits_of(byte, 8))]
 
 
 def crc_of(bits):
@@ -41,6 +45,11 @@ def stuffed(bits):
     return sent
 
 
+def stuffed_part(checked):
+    """The bits on the bus up to the end of the CRC sequence, with the stuff bits among them and behind them."""
+    return stuffed([*checked, *bits_of(crc_of(checked), 15)])
+
+
 def main():
     for text in sys.argv[1:]:
         identifier, data = text.split("#")
@@ -48,10 +57,10 @@ def main():
         content = b"" if remote else bytes.fromhex(data)
         code = int(data[1:] or "0", 16) if remote else len(content)
         checked = checked_bits(int(identifier, 16), len(identifier) == 8, remote, code, content)
-        crc = crc_of(checked)
-        print(f"{text}: {len(stuffed([*checked, *bits_of(crc, 15)])) + END} bits, CRC sequence {crc:04x}")
+        print(f"{text}: {len(stuffed_part(checked)) + END} bits, CRC sequence {crc_of(checked):04x}")
 
 
-if len(sys.argv) < 2:
-    sys.exit(__doc__)
-main()
+if __name__ == "__main__":
+    if len(sys.argv) < 2:
+        sys.exit(__doc__)
+    main()
