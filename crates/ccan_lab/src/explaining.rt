@@ -83,15 +83,9 @@ fn form_asked(words: &ArgMatches<'_>) -> Form {
     }
 }
 
-/// What is told if this form is asked of several scripts: a fault, if it is not that for people.
-fn one_script_told(alloc: Global, form: Form) -> Result<Option<Error>, Error> {
-    let message = match form {
-        Form::People => return Ok(None),
-        Form::Json => "with '--json' there is one script",
-        Form::Candump => "with '--candump' there is one script",
-    };
-    let told = explain_command(alloc)?.error(WordsFault::TooManyValues, message)?;
-    Ok(Some(told))
+/// What is told if a form is asked of several scripts that is of one.
+fn one_script_told(alloc: Global, message: &str) -> Result<Error, Error> {
+    Ok(explain_command(alloc)?.error(WordsFault::TooManyValues, message)?)
 }
 
 /// The question that the words after `explain` ask. Several scripts are told for people only.
@@ -106,8 +100,14 @@ pub fn explain_question<'a>(
     let form = form_asked(words);
     let files = files_named(alloc, words)?;
     if 1 < files.len() {
-        if let Some(fault) = one_script_told(alloc, form)? {
-            return Err(fault);
+        match form {
+            Form::People => {}
+            Form::Json => {
+                return Err(one_script_told(alloc, "with '--json' there is one script")?);
+            }
+            Form::Candump => {
+                return Err(one_script_told(alloc, "with '--candump' there is one script")?);
+            }
         }
     }
     Ok(ExplainQuestion { form, files })
