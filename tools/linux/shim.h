@@ -75,6 +75,7 @@ struct ethtool_ops { int nothing; };
 
 /* A frame on its way; `number` is ours. */
 struct sk_buff {
+    struct net_device *dev;
     unsigned char *data;
     struct can_frame frame;
     u32 number;
