@@ -87,7 +87,9 @@ typedef struct {
 typedef struct {
     ccan_network_member at[CCAN_NETWORK_MEMBERS]; /* the members, each at its place */
     ccan_wire wire;       /* what is on the bus, as far as it is decided; else what was on it last */
+    uint32_t places;      /* so many places are looked at, from the first on: behind them nobody is */
     uint32_t under_way;   /* switch: a frame is under way, between ccan_network_start and ccan_network_finish */
+    uint32_t has_lost;    /* switch: a member was removed since that frame began */
     uint32_t bits;        /* how many bits that frame, or the last one, has if nothing disturbs it */
     uint64_t began;       /* when it began */
     uint64_t ended;       /* when it ends; or when the last one has ended */
@@ -116,19 +118,27 @@ static inline uint32_t ccan_network_private_place(const ccan_network *network)
     return place;
 }
 
+/* Puts somebody of this kind at an empty place, and all else of it is zero. */
+static inline void ccan_network_private_take(ccan_network *network, uint32_t place, uint32_t kind)
+{
+    memset(&network->at[place], 0, sizeof network->at[place]);
+    network->at[place].kind = kind;
+    if (place >= network->places)
+        network->places = place + 1;
+}
+
 /* Adds a chip, at the lowest place that is empty, and gives that. It takes part from the next start on. The handle stays open and
  * where it is until the chip is removed. CCAN_MEMBER_RANGE: the chip is a member already; else CCAN_MEMBERS_RANGE: there are 32
  * members. Then nothing is changed, and `place` stays as it was. */
 static inline CCAN_CODE ccan_network_add_chip(ccan_network *network, ccan_bus *chip, uint32_t *place)
 {
     const uint32_t empty = ccan_network_private_place(network);
-    for (uint32_t k = 0; k < CCAN_NETWORK_MEMBERS; k++)
+    for (uint32_t k = 0; k < network->places; k++)
         if (network->at[k].kind == CCAN_NETWORK_CHIP && network->at[k].chip == chip)
             return CCAN_MEMBER_RANGE;
     if (empty == CCAN_NETWORK_MEMBERS)
         return CCAN_MEMBERS_RANGE;
-    memset(&network->at[empty], 0, sizeof network->at[empty]);
-    network->at[empty].kind = CCAN_NETWORK_CHIP;
+    ccan_network_private_take(network, empty, CCAN_NETWORK_CHIP);
     network->at[empty].chip = chip;
     *place = empty;
     return CCAN_DONE;
@@ -141,8 +151,7 @@ static inline CCAN_CODE ccan_network_add_node(ccan_network *network, uint32_t *p
     const uint32_t empty = ccan_network_private_place(network);
     if (empty == CCAN_NETWORK_MEMBERS)
         return CCAN_MEMBERS_RANGE;
-    memset(&network->at[empty], 0, sizeof network->at[empty]);
-    network->at[empty].kind = CCAN_NETWORK_NODE;
+    ccan_network_private_take(network, empty, CCAN_NETWORK_NODE);
     *place = empty;
     return CCAN_DONE;
 }
@@ -154,6 +163,9 @@ static inline CCAN_CODE ccan_network_remove(ccan_network *network, uint32_t plac
     if (place >= CCAN_NETWORK_MEMBERS || network->at[place].kind == CCAN_NETWORK_NOBODY)
         return CCAN_PLACE_RANGE;
     memset(&network->at[place], 0, sizeof network->at[place]);
+    network->has_lost = 1;
+    while (network->places > 0 && network->at[network->places - 1].kind == CCAN_NETWORK_NOBODY)
+        network->places--;
     return CCAN_DONE;
 }
 
@@ -229,7 +241,7 @@ static inline CCAN_CODE ccan_network_pass(ccan_network *network, uint64_t now)
     over = (now - network->group_began) / 11;
     network->group_began += 11 * over;
     groups = over < 10000 ? (uint32_t)over : 10000; /* 128 of them bring each member back */
-    for (uint32_t k = 0; k < CCAN_NETWORK_MEMBERS; k++) {
+    for (uint32_t k = 0; k < network->places; k++) {
         ccan_network_member *at = &network->at[k];
         if (at->kind == CCAN_NETWORK_NOBODY)
             continue;
@@ -258,7 +270,7 @@ static inline uint64_t ccan_network_private_back(const ccan_network *network, co
 static inline uint64_t ccan_network_private_until(const ccan_network *network)
 {
     uint64_t first = CCAN_NETWORK_NEVER;
-    for (uint32_t k = 0; k < CCAN_NETWORK_MEMBERS; k++) {
+    for (uint32_t k = 0; k < network->places; k++) {
         const ccan_network_member *at = &network->at[k];
         const uint64_t back = ccan_network_private_back(network, at);
         if (at->waits && network->free + 8 < first)
@@ -291,7 +303,7 @@ static inline CCAN_CODE ccan_network_private_decide(ccan_network *network, uint6
 {
     ccan_member all[CCAN_NETWORK_MEMBERS];
     uint32_t code, told = CCAN_DONE;
-    for (uint32_t k = 0; k < CCAN_NETWORK_MEMBERS; k++) {
+    for (uint32_t k = 0; k < network->places; k++) {
         ccan_network_member *at = &network->at[k];
         at->code = ccan_network_private_begin(at);
         if (told == CCAN_DONE)
@@ -303,7 +315,7 @@ static inline CCAN_CODE ccan_network_private_decide(ccan_network *network, uint6
         at->started = at->kind == CCAN_NETWORK_NODE && at->member.sends;
         all[k] = at->member;
     }
-    code = ccan_decide(all, CCAN_NETWORK_MEMBERS, &network->wire);
+    code = ccan_decide(all, network->places, &network->wire);
     return code != CCAN_DONE ? code : told;
 }
 
@@ -312,7 +324,7 @@ static inline CCAN_CODE ccan_network_private_decide(ccan_network *network, uint6
 static inline uint32_t ccan_network_private_longest(const ccan_network *network)
 {
     uint32_t longest = 0, bits;
-    for (uint32_t k = 0; k < CCAN_NETWORK_MEMBERS; k++) {
+    for (uint32_t k = 0; k < network->places; k++) {
         const ccan_member *member = &network->at[k].member;
         const bool alone = network->wire.kind == CCAN_WIRE_IDLE && member->role == CCAN_ROLE_ALONE && member->sends;
         const bool looped = member->role == CCAN_ROLE_LOOPED && member->sends;
@@ -328,7 +340,7 @@ static inline uint32_t ccan_network_private_longest(const ccan_network *network)
 static inline bool ccan_network_private_passive(const ccan_network *network)
 {
     bool found = false;
-    for (uint32_t k = 0; k < CCAN_NETWORK_MEMBERS; k++)
+    for (uint32_t k = 0; k < network->places; k++)
         found = found || (network->wire.part[k] == CCAN_PART_SENDER && network->at[k].member.role == CCAN_ROLE_PASSIVE);
     return found;
 }
@@ -386,6 +398,7 @@ static inline CCAN_CODE ccan_network_start(ccan_network *network, uint64_t now, 
         return passed != CCAN_DONE ? passed : code;
     }
     network->under_way = 1;
+    network->has_lost = 0;
     network->bits = bits;
     network->began = now;
     network->ended = now + ccan_network_private_length(network, UINT64_MAX);
@@ -395,24 +408,29 @@ static inline CCAN_CODE ccan_network_start(ccan_network *network, uint64_t now, 
 
 /* ---- its end */
 
-/* Looks who is still there, and decides how the frame ends. */
+/* Looks who is still there, and decides how the frame ends. If all are there and nobody finds an error, it ends as was decided at its
+ * start. */
 static inline CCAN_CODE ccan_network_private_decide_again(ccan_network *network)
 {
     static const ccan_member nobody = { CCAN_ROLE_ABSENT, CCAN_QUIET, 0, { 0, 0, 0, 0, { 0 } } };
     const ccan_wire start = network->wire;
     ccan_member all[CCAN_NETWORK_MEMBERS];
-    for (uint32_t k = 0; k < CCAN_NETWORK_MEMBERS; k++) {
+    bool as_begun = !network->has_lost;
+    for (uint32_t k = 0; k < network->places; k++) {
         ccan_network_member *at = &network->at[k];
         all[k] = at->takes_part ? at->member : nobody;
         if (at->takes_part && at->kind == CCAN_NETWORK_CHIP && ccan_stay(at->chip, &all[k]) != CCAN_DONE)
             all[k] = nobody;
         if (at->takes_part) {
             all[k].fault = at->fault;
+            as_begun = as_begun && all[k].role == at->member.role && at->fault == CCAN_QUIET;
             at->member.role = all[k].role;
             at->member.fault = at->fault;
         }
     }
-    return ccan_decide_again(&start, all, CCAN_NETWORK_MEMBERS, &network->wire);
+    if (as_begun)
+        return CCAN_DONE;
+    return ccan_decide_again(&start, all, network->places, &network->wire);
 }
 
 /* The step at an object that was given up, of an event that was lost at first and made later. */
@@ -451,7 +469,7 @@ static inline CCAN_CODE ccan_network_private_end_node(const ccan_network *networ
 static inline CCAN_CODE ccan_network_private_end(ccan_network *network, bool senders)
 {
     uint32_t told = CCAN_DONE;
-    for (uint32_t k = 0; k < CCAN_NETWORK_MEMBERS; k++) {
+    for (uint32_t k = 0; k < network->places; k++) {
         ccan_network_member *at = &network->at[k];
         if ((network->wire.part[k] == CCAN_PART_SENDER) != senders)
             continue;
