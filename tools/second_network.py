@@ -659,12 +659,20 @@ def made_request(dice):
             "set": {"cmask": cmask, "datab2": f"{dice.randrange(4):04x}"}}
 
 
+def made_offer(dice):
+    """A frame of a node: often one that precedes those of chips."""
+    frame = made_frame(dice, 0)
+    if "xtd" not in frame:
+        frame["id"] = dice.choice((0x0FF, 0x0FF, 0x121, 0x122, 0x123, 0x123, 0x124, 0x523))
+    return frame
+
+
 class Maker:
     """Makes a network, line by line."""
 
     def __init__(self, dice):
         self.dice, self.order = dice, []
-        kinds = [True] + [dice.randrange(4) > 0 for _ in range(dice.choice((1, 1, 2, 2, 3, 4)))]
+        kinds = [True] + [dice.randrange(5) > 1 for _ in range(dice.choice((1, 1, 2, 2, 3, 4)))]
         dice.shuffle(kinds)
         self.members = [made_chip(dice) if is_chip else {} for is_chip in kinds]
         self.chips = [number for number, member in enumerate(self.members) if member]
@@ -690,7 +698,7 @@ class Maker:
 
     def offer(self):
         if self.nodes:
-            self.net("offer", member=self.dice.choice(self.nodes), frame=made_frame(self.dice, 0))
+            self.net("offer", member=self.dice.choice(self.nodes), frame=made_offer(self.dice))
 
     def flaw(self, member=None):
         member = self.dice.randrange(len(self.members)) if member is None else member
@@ -717,9 +725,9 @@ class Maker:
             self.write(member, CONTROL, 0x8001)
         elif kind == 6:
             self.mode(member)
-        elif kind == 7:
+        elif kind in (7, 8):
             self.offer()
-        elif kind == 8 and self.nodes:
+        elif kind == 9 and self.nodes:
             self.net("withdraw", member=self.dice.choice(self.nodes))
 
     def frame(self):
@@ -727,12 +735,12 @@ class Maker:
             self.host(self.dice.choice(self.chips), made_request(self.dice))
         if self.dice.randrange(2):
             self.offer()
-        if self.dice.randrange(4) == 0:
+        if self.dice.randrange(6) == 0:
             self.flaw()
         self.net("start")
         if self.dice.randrange(3) == 0:
             self.meanwhile()
-        for _ in range(self.dice.choice((0, 0, 1, 2))):
+        for _ in range(self.dice.choice((0, 0, 0, 1, 2))):
             self.flaw()
         self.net("finish", after=self.dice.choice((500, 500, self.dice.randrange(1, 130))))
 
@@ -776,7 +784,7 @@ class Maker:
     def sends_and_finds(self, member, flaw):
         """A frame, in which this member is told to find an error."""
         if member in self.nodes:
-            self.net("offer", member=member, frame=made_frame(self.dice, 0))
+            self.net("offer", member=member, frame=made_offer(self.dice))
         self.net("start")
         self.net("fault", member=member, fault=flaw)
         self.net("finish", after=500)
@@ -796,7 +804,7 @@ class Maker:
             self.net("wait", bits=self.dice.choice((1, 2, 8, 11, 50)))
         elif kind == 14:
             self.host(self.dice.choice(self.chips), made_object(self.dice))
-        elif kind == 15 and self.dice.randrange(4) == 0:
+        elif kind == 15 and self.dice.randrange(2):
             self.lonely()
         else:
             self.look()
