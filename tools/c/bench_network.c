@@ -1,8 +1,8 @@
-/* Times frames on a bus of several chips (ccan_network_start and ccan_network_finish), beside rounds in which each chip has the same to
- * do: one round in which the first sends to a node, and one for each other chip in which it stores the frame that a node sends. A host
- * requests each transmission by one transfer, which is not counted. With no word it prints nanoseconds a frame, the median of some
- * runs, for 2, 4 and 8 chips. With words it does one thing and prints nothing, so that its instructions can be counted; `length` asks
- * for the length of the frame alone, which a network needs for its clock and a round doesn't.
+/* Times frames on a bus of several chips (ccan_network_start and ccan_network_finish), beside rounds in which each chip has the same
+ * to do: one round in which the first sends to a node, and one for each other chip in which it stores the frame that a node sends. A
+ * host requests each transmission by one transfer, which is not counted. With no word it prints nanoseconds a frame, the median of
+ * some runs, for 2, 4 and 8 chips. With words it does one thing and prints nothing, so that its instructions can be counted; `length`
+ * asks for the length of the frame alone, which a network needs for its clock and a round doesn't.
  * Usage: bench_network [hosts|rounds|network|length CHIPS FRAMES] */
 #define _POSIX_C_SOURCE 200809L
 #include <ccan_network.h>
@@ -150,8 +150,8 @@ int main(int words, char **word)
     for (uint32_t count = 2; count <= MOST; count *= 2) {
         const double alone = measure(hosts, count), apart = measure(rounds, count) - alone;
         const double together = measure(frames_of_network, count) - alone;
-        printf("from C, a frame between %u chips: %.0f ns; %u rounds: %.0f ns; ratio %.2f\n", (unsigned)count, together, (unsigned)count,
-            apart, together / apart);
+        printf("from C, a frame between %u chips: %.0f ns; %u rounds: %.0f ns; ratio %.2f\n", (unsigned)count, together,
+            (unsigned)count, apart, together / apart);
     }
     return 0;
 }

@@ -1,17 +1,18 @@
 /* Runs the Linux driver c_can, unchanged, on two chips of the library that talk to each other on one bus (ccan_network.h), in five
- * threads: for each chip one that hands frames to the driver, which sends them at IF2, and one that has the interrupt and the polls,
- * at IF1; and one that has the bus's handles of both and its clock. No lock is round a chip. tools/check_linux_driver builds it.
+ * threads: for each chip one that hands frames to the driver, which sends them at IF2, and one that has the interrupt and the
+ * polls, at IF1; and one that has the bus's handles of both and its clock. No lock is round a chip. tools/check_linux_driver builds
+ * it.
  *
  * Seen to:
- *   - Each frame that was handed over at one chip is on the bus once, whole and in order, though each 50th is spoiled. It is then told
- *     as sent once, and received once at the other chip, whole. With a pace of 1 it is received in the order of the bus; with more a
- *     driver may read a later object first.
- *   - Nothing is lost, and neither chip comes near bus off. The drivers' statistics and states say so too.
+ *   - Each frame that was handed over at one chip is on the bus once, whole and in order, though each 50th is spoiled. It is then
+ *     told as sent once, and received once at the other chip, whole. With a pace of 1 it is received in the order of the bus; with
+ *     more a driver may read a later object first.
+ *   - Nothing is lost, and neither chip goes bus off. The drivers' statistics and states say so too.
  *   - No handle is in two calls at once, and IF2 is used by its sender alone.
  * A frame is spoiled by an error that one chip finds, and only while both are error active: an error passive chip may send a frame
  * twice that was received, which CAN has it do.
- * Usage: pair FRAMES LAYOUT LAYOUT PACE [SEED]. FRAMES each way; LAYOUT is an enum ccan_layout, of each chip; PACE how many frames may
- * wait in a chip. */
+ * Usage: pair FRAMES LAYOUT LAYOUT PACE [SEED]. FRAMES each way; LAYOUT is an enum ccan_layout, of each chip; PACE how many frames
+ * may wait in a chip. */
 #include <ccan_network.h>
 #include <pthread.h>
 #include <unistd.h>
@@ -262,7 +263,8 @@ static struct sk_buff *skb_numbered(struct side *side, u32 number)
     return skb;
 }
 
-/* Hands over a frame, unless the queue is stopped meanwhile, and only while a C_CAN's ring has room (README.md, "The 17th frame"). */
+/* Hands over a frame, unless the queue is stopped meanwhile, and only while a C_CAN's ring has room (README.md, "The 17th
+ * frame"). */
 static bool send(struct side *side, struct sk_buff *skb)
 {
     bool taken = false;
@@ -342,9 +344,9 @@ static u32 dice(void)
 /* Objects of a chip in which frames wait. */
 static u32 waiting(struct side *side)
 {
-    const u32 offset = side->layout == CCAN_LAYOUT_C_CAN ? CCAN_OFFSET_NEW_DATA_1 : side->layout == CCAN_LAYOUT_D_CAN ? 0x9c : 0x120;
+    static const u32 offsets[] = { CCAN_OFFSET_NEW_DATA_1, 2 * CCAN_OFFSET_NEW_DATA_1, 0x9c }; /* by the layout */
     u16 new_data;
-    must(ccan_bus_read16(&side->chip.bus, offset, &new_data), "a read of New Data");
+    must(ccan_bus_read16(&side->chip.bus, offsets[side->layout], &new_data), "a read of New Data");
     return hweight32(new_data);
 }
 
@@ -473,9 +475,10 @@ static void check(struct side *side)
     must(ccan_counters(&side->chip.bus, 0, &counts), "ccan_counters");
     if (counts.state != CCAN_ACTIVE || priv->can.state > CAN_STATE_ERROR_WARNING)
         fault(side, "it is not error active", priv->can.state);
-    printf("  chip %u, layout %u: sent %lu, received %u, %u overtaken; told of bus errors %lu times, of states %lu times; %lu interrupts; "
-        "busy: %lu of the sender, %lu of the service\n", index_of(side), side->layout, told->tx_packets, atomic_load(&side->received),
-        side->overtaken, side->told_errors, side->told_states, side->lines, side->busy[SENDS], side->busy[SERVES]);
+    printf("  chip %u, layout %u: sent %lu, received %u, %u overtaken; told of bus errors %lu times, of states %lu times; %lu "
+        "interrupts; busy: %lu of the sender, %lu of the service\n", index_of(side), side->layout, told->tx_packets,
+        atomic_load(&side->received), side->overtaken, side->told_errors, side->told_states, side->lines, side->busy[SENDS],
+        side->busy[SERVES]);
 }
 
 static void take_down(struct side *side)
@@ -509,9 +512,9 @@ int main(int count, char **words)
     watch();
     for (u32 k = 0; k < 2 * SIDES + 1; k++)
         pthread_join(threads[k], NULL);
-    printf("two chips, pace %u: %u frames each way in %.1f s, %lu frames on the bus in %llu bits, %lu spoiled (%lu broken, %lu flagged, "
-        "%lu not acknowledged)\n", pace, frames, seconds() - began, played, (unsigned long long)now, spoiled, kinds[CCAN_WIRE_BROKEN],
-        kinds[CCAN_WIRE_FLAGGED], kinds[CCAN_WIRE_UNHEARD]);
+    printf("two chips, pace %u: %u frames each way in %.1f s, %lu frames on the bus in %llu bits, %lu spoiled (%lu broken, %lu "
+        "flagged, %lu not acknowledged)\n", pace, frames, seconds() - began, played, (unsigned long long)now, spoiled,
+        kinds[CCAN_WIRE_BROKEN], kinds[CCAN_WIRE_FLAGGED], kinds[CCAN_WIRE_UNHEARD]);
     for (u32 k = 0; k < SIDES; k++) {
         must(ccan_meet(&sides[k].chip), "ccan_meet");
         check(&sides[k]);
