@@ -4,8 +4,8 @@ use crate::expect::{holds, same};
 use crate::runs::read;
 use ccan_object::ObjectNo;
 use ccan_outcomes::{
-    Ending, HistoryKind, HistoryStep, Outcomes, Watch, all_outcomes, answer_graph, history_of,
-    kept_ending, observed_history, observed_outcomes, states_along,
+    AnswerGraph, Ending, HistoryKind, HistoryStep, Outcomes, Watch, all_outcomes, answer_graph,
+    history_of, kept_ending, observed_history, observed_outcomes, states_along,
 };
 use ccan_script::Script;
 use ccan_search::Untold;
@@ -14,6 +14,13 @@ use std::process::Abort;
 
 /// Both hosts write object 1.
 const TWO_WRITES: &str = r#"{
+    "if1":[{"op":"transfer","request":"0001","set":{"cmask":"0082","dataa1":"1111"}}],
+    "if2":[{"op":"transfer","request":"0001","set":{"cmask":"0082","dataa1":"2222"}}]
+}"#;
+
+/// They do, and may try it once.
+const ONE_TRY: &str = r#"{
+    "tries":1,
     "if1":[{"op":"transfer","request":"0001","set":{"cmask":"0082","dataa1":"1111"}}],
     "if2":[{"op":"transfer","request":"0001","set":{"cmask":"0082","dataa1":"2222"}}]
 }"#;
@@ -142,14 +149,19 @@ fn tells_apart_what_is_looked_at(rt: HostRuntime) {
     holds(&rt, states < most);
 }
 
+/// The graph of a script's outcomes.
+fn graph(rt: &impl Abort, alloc: Global, text: &str) -> AnswerGraph {
+    let script = read(rt, alloc, text);
+    match answer_graph(alloc, &script, 1000, &Untold) {
+        Ok(Some(found)) => found,
+        Ok(None) | Err(_) => panic!(rt; "not all outcomes"),
+    }
+}
+
 /// How many states the graph of a script's outcomes has from which no edge leads.
 fn ends(rt: &impl Abort, alloc: Global, text: &str) -> usize {
-    let script = read(rt, alloc, text);
-    let Ok(Some(found)) = answer_graph(alloc, &script, 1000, &Untold) else {
-        panic!(rt; "not all outcomes")
-    };
     let mut ends: usize = 0;
-    for edges in &found.graph.edges {
+    for edges in &graph(rt, alloc, text).graph.edges {
         if edges.is_empty() {
             ends = ends.saturating_add(1);
         }
@@ -163,4 +175,20 @@ fn has_no_more_ends_than_states_differ(rt: HostRuntime) {
     same(&rt, ends(&rt, rt.alloc(), TWO_WRITES), 2);
     // Of the three outcomes two have the same second read, whose record stays in IF2's registers, and the same object.
     same(&rt, ends(&rt, rt.alloc(), TWO_READS), 2);
+}
+
+#[test]
+fn makes_each_attempt_at_once(rt: HostRuntime) {
+    // No write is made, either one, or both in either order: no state in which a host has looked and not yet written.
+    same(
+        &rt,
+        graph(&rt, rt.alloc(), TWO_WRITES).graph.states.len(),
+        5,
+    );
+}
+
+#[test]
+fn finds_who_loses_the_only_try(rt: HostRuntime) {
+    // Either host may write last, or look before the other one writes and so be busy.
+    same(&rt, ends(&rt, rt.alloc(), ONE_TRY), 4);
 }
