@@ -1,6 +1,5 @@
 pub mod Histories
 pub mod Going
-pub mod Lines
 pub mod Rounding
 pub mod Framing
 pub mod Changing

@@ -1,4 +1,5 @@
--- The place of a port. A call that works at objects takes the port out of it, and puts it back. Source: this project's own.
+-- The place of a port. A call on the bus that makes steps at objects takes the port out of it, and puts it back. Source: this
+-- project's own.
 use Rattle.std.specs.Prelude.{[], Option, Some, None}
 use Rattle.ccan_object.specs.declared.profile.Profile.TheVariants.{One}
 use Rattle.ccan_ram.specs.declared.port.PortName.TheVariants.{Bus}

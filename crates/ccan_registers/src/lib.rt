@@ -41,6 +41,7 @@ mod port_holder;
 mod registers;
 mod resetting;
 mod rounds;
+mod transferring;
 mod words;
 
 pub use access_error::AccessError;

@@ -1,113 +1,89 @@
-//! Steps of a port at objects, as they stand in the history of the chip. Each call takes the port out of its place, since the
-//! accesses to objects own it while they work, and puts it back.
+//! Steps of a port at objects, as they stand in the history of the chip. Each call works on the port in its place: it makes no
+//! access of the port, which would own it for that time.
 ghost use Rattle.std.specs.Prelude.{◌≡◌};
 ghost use Rattle.ccan_object.specs.Profile.{Holds};
-ghost use Rattle.ccan_ram.specs.Access.{AddsLook, Goes};
 ghost use Rattle.ccan_ram.specs.SharedRam.{passes_of};
-ghost use Rattle.ccan_handler.specs.Moment.{AddsFlagsAtOnce, AddsInterruptAtOnce};
+ghost use Rattle.ccan_handler.specs.Moment.{AddsFlagsAtOnce, AddsInterruptAtOnce, IsFirstSet};
 ghost use Rattle.ccan_handler.specs.Watch.{AddsWatch};
-ghost use Rattle.ccan_line.specs.Host.{HostLineMeans};
-ghost use Rattle.ccan_endless.specs.ChipPort.{AddsNone};
+ghost use Rattle.ccan_endless.specs.ChipPort.{AddsNone, SeesOne};
 ghost use Rattle.ccan_endless.specs.Layout.{same_object};
 ghost use Rattle.ccan_registers.specs.ChipSteps.{ChipGoes};
-ghost use Rattle.ccan_registers.specs.Objects as objects;
 ghost use Rattle.ccan_registers.specs.PortHolder.{port_at};
 ghost use Rattle.ccan_registers.specs.Objects.{ShowsFlags, ShowsInterrupt, ShowsObject, Transfers, WaitsFor};
 
 use crate::port_holder::PortHolder;
-use ccan_chip::{Earlier, Objects};
+use crate::transferring::transferred;
 use ccan_endless::{EndlessRam, Port};
-use ccan_handler::{flags_at_once, interrupt_at_once, until};
-use ccan_line::{HostLine, LineAnswer, RegisterSet, Side};
+use ccan_line::LineAnswer;
 use ccan_object::{Iface, ObjectNo, Record};
-use ccan_ram::{Access, Flag, Tries};
-use std::marker::Brand;
+use ccan_ram::{Flag, SharedRam, Tries};
 
-// ---- the generic functions on the objects of a chip
+/// The interrupt value of the status interrupt (User's Manual, section 3.4.1).
+const STATUS_INTERRUPT: u16 = 0x8000;
 
-fn transferred<E: Earlier>(
-    registers: &mut Iface,
-    ram: &EndlessRam,
-    port: Port,
-    request: u16,
-    tries: Tries,
-) -> (LineAnswer, Port)
-    requires memory { port.pass.memory ≡ ram.now.words }
-    requires none { AddsNone E.earlier port }
-    ensures none { AddsNone E.earlier result.1 }
-    ensures goes { Goes (passes_of same_object port.pass) (passes_of same_object result.1.pass)
-        (λ terms seen added. HostLineMeans terms tries (objects.transfer request) registers.old
-        seen added result.0 registers.new) }
-{
-    let line = HostLine::Transfer {
-        request,
-        set: RegisterSet::new(),
-    };
-    let mut objects = Objects::<E>::new(ram, port);
-    let answer = registers.run_line(&mut objects, &line, tries);
-    (answer, objects.into_port())
-}
+// ---- in the history of the objects
 
-fn waited<E: Earlier>(
-    ram: &EndlessRam,
-    port: Port,
-    object: ObjectNo,
-    flag: Flag,
-    turns: u32,
-) -> (bool, Port)
-    requires memory { port.pass.memory ≡ ram.now.words }
+/// Looks at an object until it shows the flag, at most so many times. Whether it did.
+#[inline(always)]
+fn watched(ram: &EndlessRam, port: &mut Port, object: ObjectNo, flag: Flag, turns: u32) -> bool
+    requires memory { port.old.pass.memory ≡ ram.now.words }
     requires held { Holds ram.now.words.profile object }
-    requires none { AddsNone E.earlier port }
-    ensures none { AddsNone E.earlier result.1 }
-    ensures goes { AddsWatch (passes_of same_object port.pass)
-        (passes_of same_object result.1.pass) object flag turns result.0 }
+    requires one { SeesOne port.old }
+    ensures none { AddsNone port.old port.new }
+    ensures goes { AddsWatch (passes_of same_object port.old.pass)
+        (passes_of same_object port.new.pass) object flag turns result }
 {
-    let mut objects = Objects::<E>::new(ram, port);
-    let shown = until(&mut objects, object, flag, turns);
-    (shown, objects.into_port())
+    for turn in 0..turns {
+        let shown = ram.look(port, object);
+        if flag.of(&shown) {
+            return true;
+        }
+    }
+    false
 }
 
-fn flags_shown<E: Earlier>(ram: &EndlessRam, port: Port, flag: Flag) -> (u64, Port)
-    requires memory { port.pass.memory ≡ ram.now.words }
-    requires none { AddsNone E.earlier port }
-    ensures none { AddsNone E.earlier result.1 }
-    ensures goes { AddsFlagsAtOnce (passes_of same_object port.pass)
-        (passes_of same_object result.1.pass) flag result.0 }
+/// A flag of all objects in one moment.
+#[inline(always)]
+fn flags_shown(ram: &EndlessRam, port: &mut Port, flag: Flag) -> u64
+    requires memory { port.old.pass.memory ≡ ram.now.words }
+    ensures none { AddsNone port.old port.new }
+    ensures goes { AddsFlagsAtOnce (passes_of same_object port.old.pass)
+        (passes_of same_object port.new.pass) flag result }
 {
-    let mut objects = Objects::<E>::new(ram, port);
-    let word = flags_at_once(&mut objects, flag);
-    (word, objects.into_port())
+    ram.look_all(port).of(flag)
 }
 
-fn interrupt_shown<E: Earlier>(ram: &EndlessRam, port: Port, pending: bool) -> (u16, Port)
-    requires memory { port.pass.memory ≡ ram.now.words }
-    requires none { AddsNone E.earlier port }
-    ensures none { AddsNone E.earlier result.1 }
-    ensures goes { AddsInterruptAtOnce (passes_of same_object port.pass)
-        (passes_of same_object result.1.pass) pending result.0 }
+/// The number of the lowest bit that is set, from 1 on; 0 where none is.
+fn first_set(word: u64) -> u16
+    ensures { IsFirstSet word result }
 {
-    let mut objects = Objects::<E>::new(ram, port);
-    let value = interrupt_at_once(&mut objects, pending);
-    (value, objects.into_port())
+    if word == 0 {
+        0
+    } else {
+        word.trailing_zeros() as u16 + 1
+    }
 }
 
-fn looked<E: Earlier>(ram: &EndlessRam, port: Port, object: ObjectNo) -> (Record, Port)
-    requires memory { port.pass.memory ≡ ram.now.words }
-    requires held { Holds ram.now.words.profile object }
-    requires none { AddsNone E.earlier port }
-    ensures none { AddsNone E.earlier result.1 }
-    ensures goes { AddsLook (passes_of same_object port.pass)
-        (passes_of same_object result.1.pass) object result.0 }
+/// The interrupt value of one moment.
+#[inline(always)]
+fn interrupt_shown(ram: &EndlessRam, port: &mut Port, pending: bool) -> u16
+    requires memory { port.old.pass.memory ≡ ram.now.words }
+    requires one { SeesOne port.old }
+    ensures none { AddsNone port.old port.new }
+    ensures goes { AddsInterruptAtOnce (passes_of same_object port.old.pass)
+        (passes_of same_object port.new.pass) pending result }
 {
-    let mut objects = Objects::<E>::new(ram, port);
-    let found = objects.look(object);
-    (found, objects.into_port())
+    if pending {
+        return STATUS_INTERRUPT;
+    }
+    first_set(ram.look_all(port).intpnd)
 }
 
-// ---- the same, in the history of the chip
+// ---- in the history of the chip
 
 /// The transfer that the Command Mask register says, between these interface registers and the object that the Command Request
 /// names.
+#[inline(always)]
 pub fn transfer(
     registers: &mut Iface,
     ram: &EndlessRam,
@@ -119,16 +95,15 @@ pub fn transfer(
     ensures { ChipGoes (port_at holder.old) (port_at holder.new) (λ terms seen added.
         Transfers terms tries request registers.old seen added result registers.new) }
 {
-    let Some(port) = holder.port.take() else {
+    let Some(port) = &mut holder.port else {
         unreachable!();
     };
-    port.sees_one_history();
-    let (answer, port) = transferred::<Brand>(registers, ram, port, request, tries);
-    holder.port = Some(port);
-    answer
+    let object = ObjectNo::from_request(ram.profile(), request);
+    transferred(registers, ram, port, object, tries)
 }
 
 /// Looks at an object until it shows the flag, at most so many times. Whether it did.
+#[inline(always)]
 pub fn wait(
     ram: &EndlessRam,
     holder: &mut PortHolder,
@@ -141,13 +116,11 @@ pub fn wait(
     ensures { ChipGoes (port_at holder.old) (port_at holder.new) (λ terms seen added.
         WaitsFor terms object flag turns seen added result) }
 {
-    let Some(port) = holder.port.take() else {
+    let Some(port) = &mut holder.port else {
         unreachable!();
     };
     port.sees_one_history();
-    let (shown, port) = waited::<Brand>(ram, port, object, flag, turns);
-    holder.port = Some(port);
-    shown
+    watched(ram, port, object, flag, turns)
 }
 
 /// A flag of all objects in one moment: that of object k in bit k - 1.
@@ -157,13 +130,10 @@ pub fn flags(ram: &EndlessRam, holder: &mut PortHolder, flag: Flag) -> u64
     ensures { ChipGoes (port_at holder.old) (port_at holder.new) (λ terms seen added.
         ShowsFlags terms flag seen added result) }
 {
-    let Some(port) = holder.port.take() else {
+    let Some(port) = &mut holder.port else {
         unreachable!();
     };
-    port.sees_one_history();
-    let (word, port) = flags_shown::<Brand>(ram, port, flag);
-    holder.port = Some(port);
-    word
+    flags_shown(ram, port, flag)
 }
 
 /// The interrupt value of one moment: 0x8000 where the status interrupt is pending; else the number of the first object with
@@ -174,27 +144,23 @@ pub fn interrupt(ram: &EndlessRam, holder: &mut PortHolder, pending: bool) -> u1
     ensures { ChipGoes (port_at holder.old) (port_at holder.new) (λ terms seen added.
         ShowsInterrupt terms pending seen added result) }
 {
-    let Some(port) = holder.port.take() else {
+    let Some(port) = &mut holder.port else {
         unreachable!();
     };
     port.sees_one_history();
-    let (value, port) = interrupt_shown::<Brand>(ram, port, pending);
-    holder.port = Some(port);
-    value
+    interrupt_shown(ram, port, pending)
 }
 
 /// One look at an object.
+#[inline(always)]
 pub fn peek(ram: &EndlessRam, holder: &mut PortHolder, object: ObjectNo) -> Record
     requires memory { (port_at holder.old).pass.memory ≡ ram.now.words }
     requires held { Holds ram.now.words.profile object }
     ensures { ChipGoes (port_at holder.old) (port_at holder.new) (λ terms seen added.
         ShowsObject terms object seen added result) }
 {
-    let Some(port) = holder.port.take() else {
+    let Some(port) = &mut holder.port else {
         unreachable!();
     };
-    port.sees_one_history();
-    let (found, port) = looked::<Brand>(ram, port, object);
-    holder.port = Some(port);
-    found
+    ram.look(port, object)
 }

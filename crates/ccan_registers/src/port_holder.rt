@@ -3,8 +3,8 @@ ghost use Rattle.std.specs.Prelude.{◌≡◌, true, is_some};
 use ccan_endless::Port;
 use ccan_ram::PortName;
 
-/// The place of a port, by which it is lent to the calls here. A call that works at objects takes it out, and puts it back
-/// before it returns; each other call works on it where it is.
+/// The place of a port, by which it is lent to the calls here. A call on the bus that makes steps at objects takes it out, and
+/// puts it back before it returns; each other call works on it where it is.
 #[derive(Drop)]
 pub struct PortHolder {
     pub port: Option<Port>,
