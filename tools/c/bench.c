@@ -1,12 +1,14 @@
 /* Times calls of the library from C: a wait that one look ends, a read that clears nothing, a write of a whole object, a flag
  * of 32 objects in one moment, and the same writes while the other host writes to an object of its own in a thread of its
  * own, and while the bus stores frames in a third; and registers by their offsets, beside the calls that they stand for, with
- * Status beside rounds. Prints nanoseconds a call, the median of the chips that it opens. */
+ * Status beside rounds. Prints nanoseconds a call, the median of the chips that it opens. With a word as look=1000 it makes so
+ * many calls of that kind and prints nothing: of look, read, write, flags or line. */
 #define _POSIX_C_SOURCE 200809L
 #include <ccan.h>
 #include <pthread.h>
 #include <stdio.h>
 #include <stdlib.h>
+#include <string.h>
 #include <time.h>
 
 enum { CALLS = 4096, CHIPS = 101 };
@@ -244,8 +246,59 @@ static void measure(const char *name, double (*run)(void))
     printf("from C, %s: %.1f ns\n", name, took[CHIPS / 2]);
 }
 
-int main(void)
+/* ---- so many calls of a kind */
+
+static void look_once(void)
 {
+    uint32_t shown = 0;
+    must(ccan_until(&chip.if1, 1, CCAN_MSGVAL, 1, &shown));
+}
+
+static void transfer_once(void) { must(ccan_request(&chip.if1, 1)); }
+
+static void flags_once(void)
+{
+    uint64_t shown = 0;
+    must(ccan_flags(&chip.if1, CCAN_MSGVAL, &shown));
+}
+
+static void line_once(void)
+{
+    uint32_t pulled = 0;
+    must(ccan_line(&chip.if1, &pulled));
+}
+
+static const struct {
+    const char *name;
+    uint16_t command; /* of a transfer */
+    void (*once)(void);
+} kinds[] = {
+    { "look", 0, look_once },          { "read", 0x0073, transfer_once }, { "write", 0x00f3, transfer_once },
+    { "flags", 0, flags_once },        { "line", 0, line_once },
+};
+
+/* Makes the calls that a word as look=1000 names. */
+static int make_calls(const char *word)
+{
+    size_t length = strcspn(word, "=");
+    long calls = word[length] == '=' ? atol(word + length + 1) : 0;
+    must(ccan_open(&chip, 1, 1, 1000));
+    make_valid();
+    for (size_t kind = 0; kind < sizeof kinds / sizeof kinds[0]; kind++)
+        if (strlen(kinds[kind].name) == length && memcmp(kinds[kind].name, word, length) == 0) {
+            must(ccan_set(&chip.if1, CCAN_CMASK, kinds[kind].command));
+            for (long i = 0; i < calls; i++)
+                kinds[kind].once();
+            return 0;
+        }
+    fprintf(stderr, "no such calls: %s\n", word);
+    return 2;
+}
+
+int main(int count, char **words)
+{
+    if (count > 1)
+        return make_calls(words[1]);
     measure("a wait of one look", waits);
     measure("a read into the registers", reads);
     measure("a full write", writes);

@@ -1,13 +1,17 @@
 //! The memory without an end in plain Rust, to tell what the proved one costs beside it: the same words, the same steps,
 //! nothing proved. A write here replaces the whole record, where the proved one merges the groups of a command mask and
 //! counts its tries. Prints medians in nanoseconds, of a look, a flag word of 32 objects in one moment, 32 looks of a flag, and
-//! full writes, alone and by three threads at objects apart and at one.
+//! full writes, alone and by three threads at objects apart and at one. With a word as `look=1000` it makes so many calls of that
+//! kind and prints nothing: of `look`, `read`, `write`, `flags` or `line`.
 use std::hint::black_box;
 use std::sync::atomic::{AtomicU64, Ordering::SeqCst};
 use std::sync::Barrier;
 use std::time::Instant;
 
 const OBJECTS: usize = 32;
+/// Places of flags among the marks.
+const MSGVAL: u32 = 13;
+const INTPND: u32 = 10;
 const CALLS: u64 = 4096;
 const RUNS: usize = 101;
 
@@ -147,8 +151,8 @@ impl Memory {
         made
     }
 
-    /// MsgVal of all objects in one moment.
-    fn flags(&self) -> u64 {
+    /// A flag of all objects in one moment, by its place among the marks.
+    fn flags(&self, flag: u32) -> u64 {
         loop {
             let mut values = [0u64; OBJECTS];
             for (object, value) in values.iter_mut().enumerate() {
@@ -156,9 +160,43 @@ impl Memory {
             }
             let _posed = self.head(0).load(SeqCst);
             if values.iter().enumerate().all(|(object, value)| self.head(object).load(SeqCst) == *value) {
-                return values.iter().enumerate().map(|(object, value)| (value >> 13 & 1) << object).sum();
+                return values.iter().enumerate().map(|(object, value)| (value >> flag & 1) << object).sum();
             }
         }
+    }
+}
+
+/// Makes so many calls, each of which has to succeed.
+fn repeat(calls: u64, mut call: impl FnMut() -> bool) {
+    for _ in 0..calls {
+        assert!(call());
+    }
+}
+
+/// Makes so many calls of one kind. A read copies the record into registers; the interrupt line is pulled where IE, bit 1 of the
+/// controller's word, is 1 and an object asks for an interrupt.
+fn make_calls(name: &str, calls: u64) {
+    let memory = Memory::new();
+    let mut port = Port { port: 0, used: 0 };
+    let mut registers = message();
+    let controller = AtomicU64::new(0);
+    for object in 0..OBJECTS {
+        assert!(memory.write(&mut port, object, &message()));
+    }
+    match name {
+        "look" => repeat(calls, || memory.read(black_box(0)).1.valid),
+        "read" => repeat(calls, || {
+            registers = memory.read(black_box(0)).1;
+            black_box(&registers).valid
+        }),
+        "write" => repeat(calls, || memory.write(&mut port, 0, black_box(&message()))),
+        "flags" => repeat(calls, || memory.flags(black_box(MSGVAL)) == 0xffff_ffff),
+        "line" => repeat(calls, || {
+            let asks = bit(controller.load(SeqCst), 1);
+            let first = memory.flags(INTPND).trailing_zeros();
+            !(asks && first < 64)
+        }),
+        _ => panic!("there is no such call"),
     }
 }
 
@@ -229,6 +267,10 @@ fn writers(objects: [usize; 3]) -> f64 {
 }
 
 fn main() {
+    if let Some(word) = std::env::args().nth(1) {
+        let (name, calls) = word.split_once('=').expect("a word as look=1000");
+        return make_calls(name, calls.parse().expect("a number of calls"));
+    }
     println!("the same memory without an end in plain Rust");
     let look = timed(100_000, |memory, _| {
         black_box(memory.read(black_box(0)).1);
@@ -239,7 +281,7 @@ fn main() {
         assert_eq!(black_box(word), 0xffff_ffff);
     });
     println!("{:<22} {singles:.1} ns", "32 looks of a flag");
-    let moment = timed(CALLS, |memory, _| assert_eq!(black_box(memory.flags()), 0xffff_ffff));
+    let moment = timed(CALLS, |memory, _| assert_eq!(black_box(memory.flags(MSGVAL)), 0xffff_ffff));
     println!("{:<22} {moment:.1} ns", "32 flags of a moment");
     let write = timed(CALLS, |memory, port| assert!(memory.write(port, 0, black_box(&message()))));
     println!("{:<22} {write:.1} ns", "full write");

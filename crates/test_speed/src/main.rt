@@ -1,14 +1,16 @@
 //! Times the memories that three threads share without a lock.
 //!
 //! With the word `measure` it prints medians of several runs; with the word `open` whether the memories could be opened; without
-//! a word nothing.
+//! a word nothing. A word as `look=1000` makes so many calls of that kind: of `look`, `read`, `write`, `flags` or `line`.
 #![tactic(auto)]
 
+mod counting;
 mod memories;
 mod opening;
 mod rivals;
 mod timing;
 
+use crate::counting::make_calls;
 use crate::memories::measure_memory;
 use crate::opening::open_memories;
 use anyhow::Result;
@@ -25,7 +27,11 @@ fn main(rt: HostRuntime) -> Result<()> {
                 measure_memory::<EndlessRam>(&rt, rt.alloc(), "no end")?;
             }
             "open" => open_memories(&rt, rt.alloc())?,
-            _ => (),
+            other => {
+                if let Some((call, calls)) = other.split_once('=') {
+                    make_calls(rt.alloc(), call, calls.parse()?)?;
+                }
+            }
         }
     }
     Ok(())

@@ -28,7 +28,7 @@ pub fn quota_of<R: SharedRam>() -> u64 {
 }
 
 /// The record that is written: a message with eight bytes.
-fn message() -> Record {
+pub fn message() -> Record {
     let mut registers = Iface::new();
     registers.set(Reg::Arb2, 0xa48c);
     registers.set(Reg::Ctrl, 0x0088);
@@ -179,7 +179,7 @@ fn changes<R: SharedRam + Drop>(clock: &impl Clock, alloc: Global, change: &Chan
 }
 
 /// Writes the message into each of 32 objects.
-fn fill<A: Access>(access: &mut A) -> Result<()> {
+pub fn fill<A: Access>(access: &mut A) -> Result<()> {
     let Some(once) = Tries::new(1) else {
         bail!("one try is allowed")
     };
