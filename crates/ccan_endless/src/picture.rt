@@ -7,7 +7,7 @@
 //! others make at most twice the quota of changes.
 //!
 //! No record is read: all flags of an object stand in its word.
-ghost use Rattle.std.specs.Prelude.{◌≡◌, ◌+◌, ◌<◌, true, false};
+ghost use Rattle.std.specs.Prelude.{◌≡◌, ◌+◌, ◌<◌, ◌≤◌, true, false};
 ghost use Rattle.ccan_object.specs.Profile.{objects_in};
 ghost use Rattle.ccan_ram.specs.HandlerRegisters.{AreBelow};
 ghost use Rattle.ccan_endless.specs.declared.view.PortView.{PortView};
@@ -52,7 +52,7 @@ pub fn picture(words: &Words, seat: &mut Seat, port: PortName) -> HandlerRegiste
 
 /// Looks at all objects, and the values of their words where these looks stand. False: another port made a change
 /// meanwhile, and the values say nothing.
-#[inline(always)]
+#[inline(never)]
 fn pose_once(
     words: &Words,
     seat: &mut Seat,
@@ -71,7 +71,8 @@ fn pose_once(
     still(words, seat, values)
 }
 
-/// Sets the values to those of the objects' words, one load after another.
+/// Sets the values to those of the objects' words, one load after another. Each profile has a loop of its own, whose length the
+/// compiler knows.
 #[inline(always)]
 fn collect(words: &Words, seat: &mut Seat, values: &mut [u64; MOST_OBJECTS])
     requires table { numbers_of seat.old.table_id ≡ words.now.name }
@@ -80,7 +81,23 @@ fn collect(words: &Words, seat: &mut Seat, values: &mut [u64; MOST_OBJECTS])
         seat.old.me seat.new.me }
     ensures onward { GoOn (chip_me seat.old) (chip_me seat.new) }
 {
-    for i in 0..usize::from(words.key().profile.objects()) {
+    match words.key().profile {
+        Profile::One => collect_all(words, seat, values, 32),
+        Profile::Two => collect_all(words, seat, values, 64),
+    }
+}
+
+/// Sets so many values, as many as there are objects.
+#[inline(always)]
+fn collect_all(words: &Words, seat: &mut Seat, values: &mut [u64; MOST_OBJECTS], count: usize)
+    requires table { numbers_of seat.old.table_id ≡ words.now.name }
+    requires count { count ≡ objects_in words.now.profile }
+    requires most { count ≤ 64 }
+    ensures same { seat.new.table_id ≡ seat.old.table_id }
+    ensures told { CollectedIn words.now.profile count values.new seat.old.me seat.new.me }
+    ensures onward { GoOn (chip_me seat.old) (chip_me seat.new) }
+{
+    for i in 0..count {
         values[i] = watch(words, seat, i + 1);
     }
 }
@@ -95,7 +112,25 @@ fn still(words: &Words, seat: &mut Seat, values: &[u64; MOST_OBJECTS]) -> bool
     ensures onward { GoOn (chip_me seat.old) (chip_me seat.new) }
     ensures no { result ≡ false → MovedIn words.now.profile values.now seat.old.me seat.new.me }
 {
-    for i in 0..usize::from(words.key().profile.objects()) {
+    match words.key().profile {
+        Profile::One => all_still(words, seat, values, 32),
+        Profile::Two => all_still(words, seat, values, 64),
+    }
+}
+
+/// Whether so many, as many as there are objects, have the numbers of these values still.
+#[inline(always)]
+fn all_still(words: &Words, seat: &mut Seat, values: &[u64; MOST_OBJECTS], count: usize) -> bool
+    requires table { numbers_of seat.old.table_id ≡ words.now.name }
+    requires count { count ≡ objects_in words.now.profile }
+    requires most { count ≤ 64 }
+    ensures same { seat.new.table_id ≡ seat.old.table_id }
+    ensures yes { result ≡ true → StayedIn words.now.profile count values.now
+        seat.old.me seat.new.me }
+    ensures onward { GoOn (chip_me seat.old) (chip_me seat.new) }
+    ensures no { result ≡ false → MovedIn words.now.profile values.now seat.old.me seat.new.me }
+{
+    for i in 0..count {
         let now = watch(words, seat, i + 1);
         if number_in(now) != number_in(values[i]) {
             return false;
@@ -110,8 +145,22 @@ fn registers(profile: Profile, values: &[u64; MOST_OBJECTS]) -> HandlerRegisters
     ensures shown { ShowsAll profile values.now result }
     ensures within { AreBelow (objects_in profile) result }
 {
+    match profile {
+        Profile::One => registers_of(profile, values, 32),
+        Profile::Two => registers_of(profile, values, 64),
+    }
+}
+
+/// The registers that the marks in so many values show, as many as there are objects.
+#[inline(always)]
+fn registers_of(profile: Profile, values: &[u64; MOST_OBJECTS], count: u8) -> HandlerRegisters
+    requires count { count ≡ objects_in profile }
+    requires most { count ≤ 64 }
+    ensures shown { ShowsAll profile values.now result }
+    ensures within { AreBelow count result }
+{
     let mut registers = HandlerRegisters::zero();
-    for place in 0..profile.objects() {
+    for place in 0..count {
         registers = with_marks(registers, place, marks_in(values[usize::from(place)]));
     }
     registers

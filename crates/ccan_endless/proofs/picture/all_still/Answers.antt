@@ -1,17 +1,15 @@
-use Rattle.std.proofs.Common.{refl, sym, ap, ◌∙◌, arith}
-use Rattle.ccan_object.specs.Profile.{objects_in}
+use Rattle.std.proofs.Common.{refl, sym, ◌∙◌, arith}
 use Rattle.ccan_endless.specs.Picture.{HasNumber}
 use Rattle.ccan_endless.proofs.Picturing.{swept_none, swept_more, swept_moved}
 use Rattle.ccan_endless.proofs.Onward.{on_again, on_through}
-use Rattle.ccan_endless.proofs.picture.still.Goals as goal
+use Rattle.ccan_endless.proofs.picture.all_still.Goals as goal
 
 pub loop-i-init : goal.loop-i-init
 loop-i-init c = record { table = refl; onward = on_again _; told = λ p x view sound. swept_none HasNumber p x _ _ view sound }
 
 pub returns-then-number_in-clause-no : goal.returns-then-number_in-clause-no
 returns-then-number_in-clause-no c e p x view sound =
-    let number = c.objects.ensures.number in
-    let same = ap objects_in c.key.ensures.profile in
+    let count = c.requires.count in
     let test = c.loop-i-test.true in
     swept_moved HasNumber (c.loop-i.invariant.told p x view sound) c.watch-now.ensures.told (omega arith)
     (λ equal. c.if-number_in.true (c.number_in.ensures ∙ (equal ∙ sym c.number_in-in-loop-i.ensures)))

@@ -1,7 +1,7 @@
 use Rattle.std.proofs.Common.{◌≡◌, length}
 use Rattle.ccan_endless.specs.Picture.{CollectedIn}
 use Rattle.ccan_endless.specs.Seat.{GoOn, chip_me}
-use Rattle.ccan_endless.proofs.picture.collect.Given as goal
+use Rattle.ccan_endless.proofs.picture.collect_all.Given as goal
 
 -- the values so far were those of the first objects' words
 abbrev pub invariant-loop-i : goal.invariant-loop-i

@@ -1,7 +1,7 @@
 use Rattle.std.proofs.Common.{◌≡◌}
 use Rattle.ccan_endless.specs.Picture.{StayedIn}
 use Rattle.ccan_endless.specs.Seat.{GoOn, chip_me}
-use Rattle.ccan_endless.proofs.picture.still.Given as goal
+use Rattle.ccan_endless.proofs.picture.all_still.Given as goal
 
 -- the first objects' words still had their numbers
 abbrev pub invariant-loop-i : goal.invariant-loop-i

@@ -4,7 +4,7 @@ use Rattle.ccan_ram.specs.HandlerRegisters.{AreBelow, first_records, registers_o
 use Rattle.ccan_ram.specs.History.{History}
 use Rattle.ccan_ram.specs.Sound.{AreRecords}
 use Rattle.ccan_endless.specs.Rule.{IsHead}
-use Rattle.ccan_endless.proofs.picture.registers.Given as goal
+use Rattle.ccan_endless.proofs.picture.registers_of.Given as goal
 
 -- the registers so far are those of the first objects
 abbrev pub invariant-loop-place : goal.invariant-loop-place

@@ -3,7 +3,7 @@ use Rattle.std.proofs.lemmas.List.{get_or-set_same, get_or-set_other}
 use Rattle.ccan_endless.specs.Rule.{IsHead}
 use Rattle.ccan_endless.proofs.Picturing.{swept_none, swept_more}
 use Rattle.ccan_endless.proofs.Onward.{on_again, on_through}
-use Rattle.ccan_endless.proofs.picture.collect.Goals as goal
+use Rattle.ccan_endless.proofs.picture.collect_all.Goals as goal
 
 pub loop-i-init : goal.loop-i-init
 loop-i-init c = record {
@@ -16,7 +16,7 @@ loop-i-init c = record {
 pub loop-i-preserved : goal.loop-i-preserved
 loop-i-preserved c =
     let i = c.loop-i.invariant in
-    let most = c.objects.ensures.most in
+    let most = c.requires.most in
     let test = c.loop-i-test.true in
     let t = c.watch.ensures.told in
     record {
