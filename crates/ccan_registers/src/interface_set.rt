@@ -44,6 +44,7 @@ impl InterfaceSet {
 
     /// Writes the Command Request register: the transfer that the Command Mask register says, with the object that the request
     /// names (User's Manual, section 3.3.1). Where its change is refused, the message buffer stays as it was.
+    #[inline(always)]
     pub fn request(
         &mut self,
         ram: &EndlessRam,

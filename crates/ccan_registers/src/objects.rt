@@ -42,7 +42,7 @@ fn watched(ram: &EndlessRam, port: &mut Port, object: ObjectNo, flag: Flag, turn
     false
 }
 
-/// A flag of all objects in one moment.
+/// A flag of all objects in one moment. Each flag has a look of its own, from which the compiler gathers no other.
 #[inline(always)]
 fn flags_shown(ram: &EndlessRam, port: &mut Port, flag: Flag) -> u64
     requires memory { port.old.pass.memory ≡ ram.now.words }
@@ -50,7 +50,13 @@ fn flags_shown(ram: &EndlessRam, port: &mut Port, flag: Flag) -> u64
     ensures goes { AddsFlagsAtOnce (passes_of same_object port.old.pass)
         (passes_of same_object port.new.pass) flag result }
 {
-    ram.look_all(port).of(flag)
+    match flag {
+        Flag::NewDat => ram.look_all(port).newdat,
+        Flag::MsgLst => ram.look_all(port).msglst,
+        Flag::IntPnd => ram.look_all(port).intpnd,
+        Flag::TxRqst => ram.look_all(port).txrqst,
+        Flag::MsgVal => ram.look_all(port).msgval,
+    }
 }
 
 /// The number of the lowest bit that is set, from 1 on; 0 where none is.
