@@ -52,7 +52,7 @@ pub fn picture(words: &Words, seat: &mut Seat, port: PortName) -> HandlerRegiste
 
 /// Looks at all objects, and the values of their words where these looks stand. False: another port made a change
 /// meanwhile, and the values say nothing.
-#[inline(never)]
+#[inline(always)]
 fn pose_once(
     words: &Words,
     seat: &mut Seat,
