@@ -56,7 +56,9 @@ impl InterfaceSet {
         ensures { ChipGoes (port_at holder.old) (port_at holder.new) (λ terms seen added.
             Transferred terms tries request self.old seen added result self.new) }
     {
-        self.asked = u16::from(ObjectNo::from_request(ram.profile(), request).get());
-        transfer(&mut self.registers, ram, holder, request, tries)
+        let object = ObjectNo::from_request(ram.profile(), request);
+        let answer = transfer(&mut self.registers, ram, holder, request, tries);
+        self.asked = u16::from(object.get());
+        answer
     }
 }
