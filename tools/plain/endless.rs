@@ -1,6 +1,6 @@
 //! The memory without an end in plain Rust, to tell what the proved one costs beside it: the same words, the same steps,
-//! nothing proved. A write here replaces the whole record, where the proved one merges the groups of a command mask and
-//! counts its tries. Prints medians in nanoseconds, of a look, a flag word of 32 objects in one moment, 32 looks of a flag, and
+//! nothing proved. A read and a write here take the whole record, where the proved ones merge the groups of a command mask, and
+//! a write counts its tries. Prints medians in nanoseconds, of a look, a flag word of 32 objects in one moment, 32 looks of a flag, and
 //! full writes, alone and by three threads at objects apart and at one. With a word as `look=1000` it makes so many calls of that
 //! kind and prints nothing: of `look`, `read`, `write`, `flags` or `line`.
 use std::hint::black_box;

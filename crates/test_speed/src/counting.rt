@@ -26,7 +26,9 @@ fn look<A: Access>(access: &mut A, calls: u32) -> u32 {
 fn read<A: Access>(access: &mut A, calls: u32) -> u32 {
     let object = ObjectNo::from_request(access.profile(), 1);
     let mut registers = Iface::new();
-    registers.set(Reg::CMask, 0x0073);
+    // 0x0073, of the message's eight bytes, so that the compiler does not know the command.
+    let length = access.look(object).dlc.get();
+    registers.set(Reg::CMask, u16::from(length) * 14 + 3);
     let mut made = 0u32;
     for _ in 0..calls {
         let command = registers.command();
