@@ -2,12 +2,13 @@
 //! the program that prints them.
 use crate::expect::{holds, same};
 use crate::runs::read;
-use ccan_object::ObjectNo;
+use ccan_object::{ObjectNo, Record};
 use ccan_outcomes::{
-    AnswerGraph, Ending, HistoryKind, HistoryStep, Outcomes, Watch, all_outcomes, answer_graph,
-    history_of, kept_ending, observed_history, observed_outcomes, states_along,
+    AnswerGraph, Ending, HistoryKind, HistoryStep, OutcomeWords, Outcomes, Watch, all_outcomes,
+    answer_graph, history_of, kept_ending, observed_history, observed_outcomes, outcome_words,
+    states_along,
 };
-use ccan_script::Script;
+use ccan_script::{LineAnswer, Script};
 use ccan_search::Untold;
 use std::alloc::Global;
 use std::process::Abort;
@@ -30,6 +31,12 @@ const TWO_READS: &str = r#"{
     "if1":[{"op":"transfer","request":"0001","set":{"cmask":"0082","dataa1":"1111"}}],
     "if2":[{"op":"transfer","request":"0001","set":{"cmask":"0002"}},
            {"op":"transfer","request":"0001","set":{"cmask":"0002"}}]
+}"#;
+
+/// A write, while the bus clears Init before its first step.
+const WRITE_AND_INIT: &str = r#"{
+    "if1":[{"op":"transfer","request":"0001","set":{"cmask":"0082","dataa1":"1111"}}],
+    "bus":[{"op":"init"}]
 }"#;
 
 /// Holds a history to four steps, each of line 1 at object 1, of which the last writes.
@@ -191,4 +198,83 @@ fn makes_each_attempt_at_once(rt: HostRuntime) {
 fn finds_who_loses_the_only_try(rt: HostRuntime) {
     // Either host may write last, or look before the other one writes and so be busy.
     same(&rt, ends(&rt, rt.alloc(), ONE_TRY), 4);
+}
+
+/// The outcomes of a script as words.
+fn words(rt: &impl Abort, alloc: Global, text: &str) -> OutcomeWords {
+    let script = read(rt, alloc, text);
+    match outcome_words(alloc, &script, 1000, &Untold) {
+        Ok(Some(words)) => words,
+        Ok(None) | Err(_) => panic!(rt; "not all outcomes"),
+    }
+}
+
+/// The outcome with this number.
+fn numbered(rt: &impl Abort, alloc: Global, words: &OutcomeWords, number: u64) -> Ending {
+    match words.ending(alloc, number) {
+        Ok(Some(ending)) => ending,
+        Ok(None) | Err(_) => panic!(rt; "no such outcome"),
+    }
+}
+
+/// The first data byte of a record.
+fn first_byte(record: &Record) -> u8 {
+    record.bytes[0]
+}
+
+/// What the two reads of IF2 show, and what the first object holds at the end, by the first data byte.
+fn read_and_left(rt: &impl Abort, ending: &Ending) -> (u8, u8, u8) {
+    match (ending.if2.as_slice(), ending.records.as_slice().first()) {
+        ([LineAnswer::Read(_, first), LineAnswer::Read(_, second)], Some(left)) => {
+            (first_byte(first), first_byte(second), first_byte(left))
+        }
+        _ => panic!(rt; "not two reads"),
+    }
+}
+
+/// Whether one of the three outcomes shows this.
+fn is_shown(rt: &impl Abort, alloc: Global, words: &OutcomeWords, wanted: (u8, u8, u8)) -> bool {
+    for number in 0..3 {
+        if read_and_left(rt, &numbered(rt, alloc, words, number)) == wanted {
+            return true;
+        }
+    }
+    false
+}
+
+#[test]
+fn says_each_outcome_by_its_number(rt: HostRuntime) {
+    // The two reads show what stood before the write, what it left, or one of each; the object holds what it left.
+    let words = words(&rt, rt.alloc(), TWO_READS);
+    same(&rt, words.count(), 3);
+    holds(&rt, is_shown(&rt, rt.alloc(), &words, (0, 0, 0x11)));
+    holds(&rt, is_shown(&rt, rt.alloc(), &words, (0, 0x11, 0x11)));
+    holds(&rt, is_shown(&rt, rt.alloc(), &words, (0x11, 0x11, 0x11)));
+    holds(&rt, matches!(words.ending(rt.alloc(), 3), Ok(None)));
+}
+
+/// What the first object holds at the end of this outcome, by the first data byte.
+fn left(rt: &impl Abort, alloc: Global, words: &OutcomeWords, number: u64) -> u8 {
+    let ending = numbered(rt, alloc, words, number);
+    match ending.records.as_slice().first() {
+        Some(record) => first_byte(record),
+        None => panic!(rt; "no object"),
+    }
+}
+
+#[test]
+fn says_the_memory_and_what_is_answered_at_once(rt: HostRuntime) {
+    // Either host may write last, and each write answers the same in both outcomes: the object tells them apart.
+    let races = words(&rt, rt.alloc(), TWO_WRITES);
+    same(&rt, races.count(), 2);
+    let first = left(&rt, rt.alloc(), &races, 0);
+    let second = left(&rt, rt.alloc(), &races, 1);
+    holds(
+        &rt,
+        (first, second) == (0x11, 0x22) || (first, second) == (0x22, 0x11),
+    );
+    let alone = words(&rt, rt.alloc(), WRITE_AND_INIT);
+    same(&rt, alone.count(), 1);
+    let ending = numbered(&rt, rt.alloc(), &alone, 0);
+    holds(&rt, ending.bus.as_slice() == [LineAnswer::Init].as_slice());
 }
