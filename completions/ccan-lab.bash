@@ -3,7 +3,7 @@ _ccan_lab() {
     local word=${COMP_WORDS[COMP_CWORD]} before=${COMP_WORDS[COMP_CWORD - 1]} words=
     COMPREPLY=()
     if [ "$COMP_CWORD" = 1 ]; then
-        words="outcomes check explain draw page from-candump -h --help -V --version"
+        words="outcomes count check explain draw page from-candump -h --help -V --version"
     elif [[ "$before" =~ ^--(can|never|observe|most|outcome|limit)$ ]]; then
         # A value that isn't the name of a file.
         compopt +o default 2> /dev/null
@@ -11,6 +11,7 @@ _ccan_lab() {
     elif [[ "$word" == -* ]]; then
         case ${COMP_WORDS[1]} in
             outcomes) words="--all --observe --can --never --most -h --help" ;;
+            count) words="--most -h --help" ;;
             check) words="--strict --expect -h --help" ;;
             explain) words="--json --candump -h --help" ;;
             draw) words="--outcome --most -h --help" ;;

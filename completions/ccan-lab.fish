@@ -3,6 +3,7 @@ complete -c ccan-lab -s h -l help -d 'Print help'
 complete -c ccan-lab -n __fish_use_subcommand -s V -l version -d 'Print the version'
 
 complete -c ccan-lab -n __fish_use_subcommand -f -a outcomes -d 'What can come of a script whose two hosts and bus run at once'
+complete -c ccan-lab -n __fish_use_subcommand -f -a count -d 'How many outcomes scripts have, counted and not listed'
 complete -c ccan-lab -n __fish_use_subcommand -f -a check -d 'The faults of scripts, each with its file, line and column'
 complete -c ccan-lab -n __fish_use_subcommand -f -a explain -d 'A run in order, told line by line'
 complete -c ccan-lab -n __fish_use_subcommand -f -a draw -d 'A picture of a run in order, as SVG'
@@ -14,6 +15,8 @@ complete -c ccan-lab -n '__fish_seen_subcommand_from outcomes' -l observe -x -d 
 complete -c ccan-lab -n '__fish_seen_subcommand_from outcomes' -l can -x -d 'Ask whether an outcome has a line that begins so'
 complete -c ccan-lab -n '__fish_seen_subcommand_from outcomes' -l never -x -d 'Ask whether no outcome has a line that begins so'
 complete -c ccan-lab -n '__fish_seen_subcommand_from outcomes' -l most -x -d 'How many states to follow at most'
+
+complete -c ccan-lab -n '__fish_seen_subcommand_from count' -l most -x -d 'How many states to follow at most'
 
 complete -c ccan-lab -n '__fish_seen_subcommand_from check' -l strict -d 'Status 7 where there are warnings and no faults'
 complete -c ccan-lab -n '__fish_seen_subcommand_from check' -l expect -r -F -d 'Compare what ccan prints of the one script with this text'

@@ -1,6 +1,7 @@
 pub mod Beginnings
 pub mod BusForms
 pub mod CheckCommand
+pub mod Counting
 pub mod EachFile
 pub mod Expect
 pub mod Forms

@@ -3,7 +3,7 @@
 //! `ccan-lab outcomes` goes through every outcome that a script can have when its two hosts and its bus run at once. It
 //! shows what each line may be; with `--all` each outcome and a history that leads to it, and with `--observe NAMES` only
 //! those that can be told apart by some lines and objects; with `--can LINE` and `--never LINE` whether an outcome has a line
-//! that begins so. `ccan-lab check` tells the faults of scripts, of each line the first, each with its file, line and column,
+//! that begins so. `ccan-lab count` counts the outcomes and lists none. `ccan-lab check` tells the faults of scripts, of each line the first, each with its file, line and column,
 //! and with `--expect TEXT` the first line of a run that is not as expected. `ccan-lab explain` runs
 //! a script in its order and tells each line decoded, and `ccan-lab from-candump` makes a script of a log of a bus.
 //! `ccan-lab draw` draws one picture of a run, or of a history of one of the outcomes. `ccan-lab page` writes a page to step
@@ -27,6 +27,7 @@ mod bus_forms;
 pub mod check_command;
 pub mod check_end;
 pub mod command_words;
+pub mod counting;
 pub mod drawing;
 pub mod each_file;
 pub mod expect;
@@ -51,6 +52,7 @@ pub mod summary;
 pub mod wording;
 
 use crate::check_command::answer_check;
+use crate::counting::answer_count;
 use crate::drawing::answer_draw;
 use crate::explaining::{answer_explain, answer_log};
 use crate::input::tell_terminal;
@@ -76,7 +78,10 @@ where
         Question::Draw(question) => tell_terminal(rt, "a script", question.file),
         Question::Page(question) => tell_terminal(rt, "a script", question.file),
         Question::FromCandump(file) => tell_terminal(rt, "a log", *file),
-        Question::Outcomes(_) | Question::Check(_) | Question::Explain(_) => {}
+        Question::Outcomes(_)
+        | Question::Count(_)
+        | Question::Check(_)
+        | Question::Explain(_) => {}
     }
 }
 
@@ -96,6 +101,7 @@ where
 {
     match question {
         Question::Outcomes(question) => answer_outcomes(rt, question, progress),
+        Question::Count(question) => answer_count(rt, question, progress),
         Question::Check(question) => answer_check(rt, question),
         Question::Explain(question) => answer_explain(rt, question),
         Question::Draw(question) => answer_draw(rt, question, progress).map(status_told),

@@ -48,7 +48,7 @@ pub struct OutcomesQuestion<'a> {
 }
 
 /// The option that a number of states is given by.
-fn most_option<'a>(alloc: Global) -> Arg<'a> {
+pub fn most_option<'a>(alloc: Global) -> Arg<'a> {
     number(alloc, "most", "How many states to follow at most").default_value("1000000")
 }
 
@@ -132,7 +132,7 @@ fn asked_of<'a>(words: &ArgMatches<'a>) -> Asked<'a>
 }
 
 /// How many states are followed at most: as it is given, or the default.
-fn most_of(words: &ArgMatches<'_>) -> usize
+pub fn most_of(words: &ArgMatches<'_>) -> usize
     ensures { IsGivenBy (one_text (found_of words.now) (codes "most")) result }
 {
     words.get_one::<usize>("most").unwrap_or(DEFAULT_MOST)

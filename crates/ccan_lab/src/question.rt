@@ -2,6 +2,7 @@ use crate::asked::Asked;
 use crate::check_command::{CheckQuestion, check_command, check_question};
 use crate::command_words as words;
 use crate::command_words::over;
+use crate::counting::{CountQuestion, count_command, count_question};
 use crate::drawing::{DrawQuestion, draw_command, draw_question};
 use crate::explaining::{ExplainQuestion, explain_command, explain_question, from_candump_command};
 use crate::outcomes::{DEFAULT_MOST, OutcomesQuestion, outcomes_command, outcomes_question};
@@ -15,6 +16,8 @@ use std::convert::AsStr;
 pub enum Question<'a> {
     /// About the outcomes of scripts.
     Outcomes(OutcomesQuestion<'a>),
+    /// How many outcomes scripts have.
+    Count(CountQuestion<'a>),
     /// The faults of scripts.
     Check(CheckQuestion<'a>),
     /// Runs of scripts in their orders.
@@ -50,6 +53,7 @@ fn asking<'a>(command: Command<'a>) -> Command<'a> {
 /// The command line.
 fn command<'a>(alloc: Global) -> Result<Command<'a>, AllocError> {
     let asked = over(asking(program(alloc)), outcomes_command(alloc)?)?;
+    let asked = over(asked, count_command(alloc)?)?;
     let asked = over(asked, check_command(alloc)?)?;
     let asked = over(asked, explain_command(alloc)?)?;
     let asked = over(asked, draw_command(alloc)?)?;
@@ -60,6 +64,9 @@ fn command<'a>(alloc: Global) -> Result<Command<'a>, AllocError> {
 /// The question that the words of the command line ask. The first of them is the program's name.
 pub fn question_asked<'a, S: AsStr>(alloc: Global, words: &'a [S]) -> Result<Question<'a>, Error> {
     let matches = command(alloc)?.try_get_matches_from(words)?;
+    if let Some(words) = matches.subcommand_matches("count") {
+        return Ok(Question::Count(count_question(alloc, words)?));
+    }
     if let Some(words) = matches.subcommand_matches("check") {
         return Ok(Question::Check(check_question(alloc, words)?));
     }

@@ -1,0 +1,31 @@
+-- How many outcomes a script has, counted and not listed. Source: this project's own.
+use Rattle.std.specs.Prelude.{ℕ, ◌≡◌, ◌-◌, ◌^◌, ◌++◌, ◌==◌, Bool, List, codes, length, min, if◌then◌else◌}
+use Rattle.std.specs.List.{IsDistinct}
+use Rattle.ccan_line.specs.Script.{ScriptFields}
+use Rattle.ccan_outcomes.specs.declared.ending.Ending.{Ending}
+use Rattle.ccan_outcomes.specs.Ending.{AreOutcomes}
+use Rattle.ccan_lab.specs.declared.lab_error.LabError.{LabError}
+use Rattle.ccan_lab.specs.declared.lab_error.LabError.TheVariants as fault
+use Rattle.ccan_lab.specs.Report.{counted_text}
+
+-- the greatest number that is counted to
+abbrev pub greatest : ℕ
+greatest = 2 ^ 64 - 1
+
+-- the line with a number of outcomes, which may be more than are counted
+abbrev pub count_text : ℕ → List ℕ
+count_text number =
+    (if number == greatest then codes "at least " else codes "") ++ (counted_text number (codes "outcome") ++ codes "\n")
+
+-- the text counts a list that has each outcome that the promise allows, once, and no other
+pub record TellsCount (script : ScriptFields) (eq : Ending → Ending → Bool) (text : List ℕ) : Type 0 where
+  pub outcomes : List Ending
+  pub are : AreOutcomes script outcomes
+  pub once : IsDistinct eq outcomes
+  pub text_is : text ≡ count_text (min (length outcomes) greatest)
+
+-- why there is no number: the search or the words need more than so many, or memory ran out
+abbrev pub IsUncounted : ℕ → LabError → Type 0
+IsUncounted most (fault.More told) = told ≡ most
+IsUncounted most fault.Memory = Unit {0}
+IsUncounted most _ = ⊥

@@ -1,0 +1,124 @@
+//! The question `ccan-lab count`: its words, and its answer.
+
+ghost use Rattle.std.specs.Prelude.{◌≡◌, IfErr, IfOk, codes, map, option_map, string_bytes};
+ghost use Rattle.clap.specs.Words.{found_of, matched_of, one_text, raw_values};
+ghost use Rattle.ccan_line.specs.Script.{fields_of};
+ghost use Rattle.ccan_lab.specs.Counting.{IsUncounted, TellsCount, count_text};
+ghost use Rattle.ccan_lab.specs.Question.{IsGivenBy, files_named};
+
+use crate::command_words::{command, files_named, scripts, with};
+use crate::each_file::{FileAnswer, answer_each};
+use crate::input::{script_asked, tell_terminal};
+use crate::lab_error::LabError;
+use crate::outcomes::{most_of, most_option};
+use crate::progress_line::ProgressLine;
+use crate::wording::add_counted;
+use ccan_outcomes::{Ending, looking_once, outcome_words};
+use ccan_script::Script;
+use ccan_search::Progress;
+use clap::{ArgMatches, Command};
+use std::alloc::{AllocError, Global};
+use std::fs::Files;
+use std::io;
+use std::io::{Input, IsTerminal};
+
+/// Of which scripts the outcomes are counted.
+#[derive(Drop)]
+pub struct CountQuestion<'a> {
+    /// How many states the search follows at most, and how many nodes the words of the outcomes have. If a script needs more, it is
+    /// not counted.
+    pub most: usize,
+    /// The files: `-` means standard input.
+    pub files: Vec<&'a str>,
+}
+
+/// The command that counts outcomes.
+pub fn count_command<'a>(alloc: Global) -> Result<Command<'a>, AllocError> {
+    let about = "Counts the outcomes of scripts and lists none, so far faster";
+    let counted = with(command(alloc, "count", about)?, most_option(alloc))?;
+    with(counted, scripts(alloc))
+}
+
+/// The question that the words after `count` ask.
+pub fn count_question<'a>(
+    alloc: Global,
+    words: &ArgMatches<'a>,
+) -> Result<CountQuestion<'a>, AllocError>
+    ensures most { IfOk result (λ question.
+        IsGivenBy (one_text (found_of words.entry.now) (codes "most")) question.most) }
+    ensures files { IfOk result (λ question. map (λ file. file.now) question.files.items
+        ≡ files_named (option_map raw_values
+        (matched_of (found_of words.entry.now) (codes "file")))) }
+{
+    Ok(CountQuestion {
+        most: most_of(words),
+        files: files_named(alloc, words)?,
+    })
+}
+
+/// The line with a number of outcomes.
+fn count_text(alloc: Global, number: u64) -> Result<String, AllocError>
+    ensures { IfOk result (λ text. string_bytes text ≡ count_text number) }
+{
+    let mut text = String::new(alloc);
+    if number == u64::MAX {
+        text.push_str("at least ")?;
+    }
+    add_counted(&mut text, number as usize, "outcome")?;
+    text.push_str("\n")?;
+    Ok(text)
+}
+
+/// The line with the number of outcomes of a script.
+fn counted<P: Progress>(
+    alloc: Global,
+    script: &Script,
+    most: usize,
+    progress: &P,
+) -> Result<String, LabError>
+    ensures counted { IfOk result (λ text. TellsCount (fields_of script.now)
+        ⟦<Ending as PartialEq>⟧.eq (string_bytes text)) }
+    ensures without { IfErr result (IsUncounted most) }
+{
+    let Some(words) = outcome_words(alloc, script, most, progress)? else {
+        return Err(LabError::More(most));
+    };
+    Ok(count_text(alloc, words.count())?)
+}
+
+/// Counts the outcomes of the script of a file. A wait is counted by its last look: that changes no outcome. On a terminal it is
+/// told how far the search is.
+fn count_file<T: AllocGlobal + Input + Files + Eprint>(
+    rt: &T,
+    file: &str,
+    most: usize,
+    progress: &ProgressLine<'_, T>,
+) -> Result<FileAnswer, LabError>
+where
+    T::Reader: IsTerminal,
+{
+    tell_terminal(rt, "a script", Some(file));
+    let script = looking_once(rt.alloc(), script_asked(rt, Some(file))?)?;
+    let answered = counted(rt.alloc(), &script, most, progress);
+    progress.clear();
+    Ok(FileAnswer {
+        text: answered?,
+        status: 0,
+    })
+}
+
+/// Counts the outcomes of each script, and prints the number, under the name of its file if there are several. Gives the worst
+/// exit status.
+pub fn answer_count<T: AllocGlobal + Input + Files + Print + Eprint>(
+    rt: &T,
+    question: &CountQuestion<'_>,
+    progress: &ProgressLine<'_, T>,
+) -> Result<u8, LabError>
+where
+    T::Reader: IsTerminal,
+{
+    let files = question.files.as_slice();
+    answer_each(rt, &mut io::writer(rt), files, false, |file| {
+        count_file(rt, file, question.most, progress)
+    })
+}
