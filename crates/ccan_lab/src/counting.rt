@@ -35,7 +35,7 @@ pub struct CountQuestion<'a> {
 /// The command that counts outcomes.
 pub fn count_command<'a>(alloc: Global) -> Result<Command<'a>, AllocError> {
     let about = "Counts the outcomes of scripts and lists none, so far faster";
-    let counted = with(command(alloc, "count", about)?, most_option(alloc))?;
+    let counted = with(command(alloc, "count", about), most_option(alloc))?;
     with(counted, scripts(alloc))
 }
 

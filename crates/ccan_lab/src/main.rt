@@ -78,10 +78,7 @@ where
         Question::Draw(question) => tell_terminal(rt, "a script", question.file),
         Question::Page(question) => tell_terminal(rt, "a script", question.file),
         Question::FromCandump(file) => tell_terminal(rt, "a log", *file),
-        Question::Outcomes(_)
-        | Question::Count(_)
-        | Question::Check(_)
-        | Question::Explain(_) => {}
+        Question::Outcomes(_) | Question::Count(_) | Question::Check(_) | Question::Explain(_) => {}
     }
 }
 
