@@ -17,12 +17,16 @@ abbrev pub count_text : ℕ → List ℕ
 count_text number =
     (if number == greatest then codes "at least " else codes "") ++ (counted_text number (codes "outcome") ++ codes "\n")
 
--- the text counts a list that has each outcome that the promise allows, once, and no other
-pub record TellsCount (script : ScriptFields) (eq : Ending → Ending → Bool) (text : List ℕ) : Type 0 where
+-- the number is that of a list that has each outcome that the promise allows, once, and no other
+pub record IsCount (script : ScriptFields) (eq : Ending → Ending → Bool) (number : ℕ) : Type 0 where
   pub outcomes : List Ending
   pub are : AreOutcomes script outcomes
   pub once : IsDistinct eq outcomes
-  pub text_is : text ≡ count_text (min (length outcomes) greatest)
+  pub number_is : number ≡ min (length outcomes) greatest
+
+-- the text is the line with that number
+abbrev pub TellsCount : ScriptFields → (Ending → Ending → Bool) → List ℕ → Type 0
+TellsCount script eq text = (number : ℕ) × IsCount script eq number × (text ≡ count_text number)
 
 -- why there is no number: the search or the words need more than so many, or memory ran out
 abbrev pub IsUncounted : ℕ → LabError → Type 0

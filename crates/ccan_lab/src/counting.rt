@@ -1,9 +1,9 @@
 //! The question `ccan-lab count`: its words, and its answer.
 
-ghost use Rattle.std.specs.Prelude.{◌≡◌, IfErr, IfOk, codes, map, option_map, string_bytes};
+ghost use Rattle.std.specs.Prelude.{◌≡◌, IfErr, IfOk, IfSome, codes, map, option_map, string_bytes};
 ghost use Rattle.clap.specs.Words.{found_of, matched_of, one_text, raw_values};
 ghost use Rattle.ccan_line.specs.Script.{fields_of};
-ghost use Rattle.ccan_lab.specs.Counting.{IsUncounted, TellsCount, count_text};
+ghost use Rattle.ccan_lab.specs.Counting.{IsCount, IsUncounted, TellsCount, count_text};
 ghost use Rattle.ccan_lab.specs.Question.{IsGivenBy, files_named};
 
 use crate::command_words::{command, files_named, scripts, with};
@@ -69,6 +69,22 @@ fn count_text(alloc: Global, number: u64) -> Result<String, AllocError>
     Ok(text)
 }
 
+/// How many outcomes a script has, or none if they can't be counted.
+fn outcome_count<P: Progress>(
+    alloc: Global,
+    script: &Script,
+    most: usize,
+    progress: &P,
+) -> Result<Option<u64>, AllocError>
+    ensures { IfOk result (λ found. IfSome found
+        (IsCount (fields_of script.now) ⟦<Ending as PartialEq>⟧.eq)) }
+{
+    match outcome_words(alloc, script, most, progress)? {
+        Some(words) => Ok(Some(words.count())),
+        None => Ok(None),
+    }
+}
+
 /// The line with the number of outcomes of a script.
 fn counted<P: Progress>(
     alloc: Global,
@@ -80,10 +96,10 @@ fn counted<P: Progress>(
         ⟦<Ending as PartialEq>⟧.eq (string_bytes text)) }
     ensures without { IfErr result (IsUncounted most) }
 {
-    let Some(words) = outcome_words(alloc, script, most, progress)? else {
+    let Some(number) = outcome_count(alloc, script, most, progress)? else {
         return Err(LabError::More(most));
     };
-    Ok(count_text(alloc, words.count())?)
+    Ok(count_text(alloc, number)?)
 }
 
 /// Counts the outcomes of the script of a file. A wait is counted by its last look: that changes no outcome. On a terminal it is
