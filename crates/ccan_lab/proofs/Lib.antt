@@ -5,4 +5,7 @@ pub mod Formed
 pub mod Most
 pub mod Taken
 pub mod Texts
+pub mod Ordered
+pub mod Chosen
+pub mod Added
 pub mod Told

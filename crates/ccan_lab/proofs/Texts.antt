@@ -5,8 +5,6 @@ use Rattle.std.proofs.lemmas.List.Concat.{flat_map-append}
 use Rattle.std.proofs.lemmas.List.FromFn.{get_or-enumerate_from, length-enumerate_from}
 use Rattle.std.specs.List.{enumerate_from, flat_map}
 use Rattle.ccan_lab.specs.Report.{each}
-use Rattle.ccan_lab.specs.Rows.{place_count, rows_at}
-use Rattle.ccan_lab.specs.Summary.{choices_text}
 
 -- the parts so far, and one more
 pub part_more : (old new start parts part : List ℕ) → old ≡ start ++ parts → new ≡ old ++ part → new ≡ start ++ (parts ++ part)
@@ -66,12 +64,3 @@ numbered_at xs i x within at = get_or-enumerate_from 1 xs i (0, x) within
 pub numbered_all : {X : Type 0} (xs : List X) → take (length xs) (enumerate_from 1 xs) ≡ enumerate_from 1 xs
 numbered_all xs = take_all (length xs) (enumerate_from 1 xs) (subst (λ count. count ≤ length xs)
     (sym (length-enumerate_from 1 xs)) (le_refl (length xs)))
-
-pub no_item : {X : Type 0} (xs : List X) → length xs ≡ 0 → xs ≡ []
-no_item [] none = refl
-no_item (x ∷ xs) none = let some : 0 < length (x ∷ xs) = omega arith in absurd (omega arith)
-
--- without an outcome there is no place
-pub no_choices : (all : List (List (List ℕ))) (head : ℕ → List ℕ) → all ≡ [] → choices_text all head ≡ []
-unfolding each place_count rows_at
-no_choices all head none = ap (λ (rows : List (List (List ℕ))). choices_text rows head) none

@@ -15,7 +15,6 @@ use Rattle.ccan_lab.specs.declared.lab_error.LabError.TheVariants as fault
 use Rattle.ccan_lab.specs.Observed.{IsObservedListing, names_in}
 use Rattle.ccan_lab.specs.Report.{IsListing, IsOutcomeText, different_lines, heading_text}
 use Rattle.ccan_lab.specs.Rows.{has_line, rows_of}
-use Rattle.ccan_lab.specs.Summary.{summary_text}
 
 -- the first outcome that has a line that begins so, by its number from 0
 abbrev pub first_with : List ℕ → List Ending → Option ℕ
@@ -47,9 +46,9 @@ abbrev pub IsSearchText : ScriptFields → List Ending → ℕ → List ℕ → 
 IsSearchText script endings states begin None text = text ≡ none_text (length endings) begin
 IsSearchText script endings states begin (Some number) text = IsFoundText script endings states number text
 
--- what is asked is asked of the list of all outcomes
+-- what is asked is asked of the list of all outcomes: for what each line may be, the list isn't made
 abbrev pub IsOfAll : Asked → Type 0
-IsOfAll Summary = Unit {0}
+IsOfAll Summary = ⊥
 IsOfAll All = Unit {0}
 IsOfAll (Can begin) = Unit {0}
 IsOfAll (Never begin) = Unit {0}
@@ -58,7 +57,7 @@ IsOfAll (Observed names) = ⊥
 
 -- the text answers what is asked of the list of all outcomes
 abbrev pub Answers : ScriptFields → List Ending → ℕ → Asked → List ℕ → Type 0
-Answers script endings states Summary text = text ≡ summary_text endings states
+Answers script endings states Summary text = ⊥
 Answers script endings states All text = IsListing script endings states text
 Answers script endings states (Can begin) text =
     IsSearchText script endings states begin.now (first_with begin.now endings) text

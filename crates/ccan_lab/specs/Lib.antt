@@ -16,5 +16,7 @@ pub mod Report
 pub mod Rows
 pub mod Seen
 pub mod Summary
+pub mod Sorted
+pub mod Choices
 pub mod Answer
 pub mod Question

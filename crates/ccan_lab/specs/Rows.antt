@@ -44,10 +44,6 @@ place_count all = length (rows_at all 0)
 unfoldable pub is_in_all : List (List (List ℕ)) → ℕ → List ℕ → Bool
 is_in_all all place line = list_all (λ rows. bytes_eq (line_at rows place) line) all
 
--- this line stands in this place in an outcome before that of this number
-unfoldable pub is_before : List (List (List ℕ)) → ℕ → ℕ → List ℕ → Bool
-is_before all number place line = list_any (λ rows. bytes_eq (line_at rows place) line) (take number all)
-
 -- the line is printed, and begins so
 abbrev pub begins_so : List ℕ → List ℕ → Bool
 begins_so begin line = nat_lt 0 (length line) && starts_with nat_eq line begin

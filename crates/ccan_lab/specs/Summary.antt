@@ -1,45 +1,89 @@
--- The summary of all outcomes: what each line may be. Source: this project's own.
-use Rattle.std.specs.Prelude.{ℕ, ◌++◌, ◌∷◌, nat_lt, List, [], codes, length, map, slice_get, Option, Some, None, if◌then◌else◌}
+-- The short list of outcomes: what each line may be. Source: this project's own.
+use Rattle.std.specs.Prelude.{ℕ, ◌≡◌, ◌++◌, ◌∷◌, nat_lt, Bool, List, [], Some, codes, length, min, slice_get, unwrap_or, if◌then◌else◌}
+use Rattle.std.specs.Cmp.Lexicographic.{slice_cmp}
+use Rattle.std.specs.List.{Contains, IsDistinct, flat_map}
+use Rattle.std.specs.List.Sorted.{IsStrictlySortedBy}
+use Rattle.std.specs.Ordering.{nat_cmp}
+use Rattle.ccan_line.specs.Script.{ScriptFields}
 use Rattle.ccan_outcomes.specs.declared.ending.Ending.{Ending}
+use Rattle.ccan_outcomes.specs.Ending.{AreOutcomes}
+use Rattle.ccan_lab.specs.Counting.{count_text, greatest}
+use Rattle.ccan_lab.specs.Observed.{places_of}
 use Rattle.ccan_lab.specs.Place.{place_name}
-use Rattle.ccan_lab.specs.Report.{each, heading_text, same_text}
-use Rattle.ccan_lab.specs.Rows.{is_before, is_in_all, line_at, place_count, rows_at, rows_of}
+use Rattle.ccan_lab.specs.Report.{each, labelled}
+use Rattle.ccan_lab.specs.Rows.{line_at, rows_of}
 
 -- ---- what may stand in a place
 
--- a line that may stand there; the empty line is that of an object that is all zero
+-- these are the lines that the outcomes have in a place, and no others
+pub record AreLinesAt (endings : List Ending) (place : ℕ) (lines : List (List ℕ)) : Type 0 where
+  pub right : (line : List ℕ) → Contains lines line
+      → (ending : Ending) × Contains endings ending × (line_at (rows_of ending) place ≡ line)
+  pub complete : (ending : Ending) → Contains endings ending → Contains lines (line_at (rows_of ending) place)
+
+-- these are the same lines as those, each once, in the order of their bytes
+pub record AreInOrder (all lines : List (List ℕ)) : Type 0 where
+  pub right : (line : List ℕ) → Contains lines line → Contains all line
+  pub complete : (line : List ℕ) → Contains all line → Contains lines line
+  pub ordered : IsStrictlySortedBy (slice_cmp nat_cmp) lines
+
+-- the lines that the outcomes have in a place, each once, in the order of their bytes
+pub record AreChoices (endings : List Ending) (place : ℕ) (lines : List (List ℕ)) : Type 0 where
+  pub are : AreLinesAt endings place lines
+  pub ordered : IsStrictlySortedBy (slice_cmp nat_cmp) lines
+
+-- ---- what is printed of a place
+
+-- the one line that may stand there, if it is one alone
+unfoldable pub same_part : List (List ℕ) → List ℕ
+same_part [] = []
+same_part (line ∷ []) = labelled (codes "same in all: ") line
+same_part (line ∷ other ∷ more) = []
+
+-- a line of several that may stand there; the empty line is that of an object that is all zero
 unfoldable pub choice_text : List ℕ → List ℕ
 choice_text [] = codes "  may be: all zero\n"
 choice_text (byte ∷ rest) = codes "  may be: " ++ byte ∷ rest
 
--- the line of the outcome of this number, if no outcome before has it there
-unfoldable pub choice_line : List (List (List ℕ)) → ℕ → ℕ → List ℕ
-choice_line all place number =
-    if is_before all number place (line_at (rows_at all number) place) then []
-    else choice_text (line_at (rows_at all number) place)
+-- each of them, below the place's name, if they are several
+unfoldable pub choice_part : List ℕ → List (List ℕ) → List ℕ
+choice_part name [] = []
+choice_part name (line ∷ []) = []
+choice_part name (line ∷ other ∷ more) = name ++ (codes "\n" ++ flat_map choice_text (line ∷ other ∷ more))
 
--- each line that may stand in a place, once, below the place's name; nothing where the line is the same in all
-unfoldable pub place_choices : List (List (List ℕ)) → List ℕ → ℕ → List ℕ
-place_choices all name place =
-    if is_in_all all place (line_at (rows_at all 0) place) then []
-    else name ++ (codes "\n" ++ each (length all) (choice_line all place))
+-- ---- the whole short list
 
-abbrev pub choices_text : List (List (List ℕ)) → (ℕ → List ℕ) → List ℕ
-choices_text all name = each (place_count all) (λ place. place_choices all (name place) place)
-
--- ---- the whole summary
-
--- what the last line says, where there is more than one outcome
+-- what the last line says, if there is more than one outcome
 abbrev pub closing_text : ℕ → List ℕ
 closing_text outcomes = if nat_lt 1 outcomes then codes "each outcome, with a history: --all\n" else []
 
--- the names of the places, by the first outcome
-abbrev pub names_of : Option Ending → ℕ → List ℕ
-names_of None = λ place. []
-names_of (Some ending) = place_name (length ending.if1) (length ending.if2) (length ending.bus)
+-- the choices of a place, by those of all places
+abbrev pub choices_at : List (List (List ℕ)) → ℕ → List (List ℕ)
+choices_at all place = unwrap_or (slice_get all place) []
 
--- the first line, what is the same in all, what may stand in each other place, and the last line
-abbrev pub summary_text : List Ending → ℕ → List ℕ
-summary_text endings states =
-    heading_text (length endings) states ++ (same_text (map rows_of endings)
-    ++ (choices_text (map rows_of endings) (names_of (slice_get endings 0)) ++ closing_text (length endings)))
+-- what is the same in all, place by place
+abbrev pub same_parts : List (List (List ℕ)) → List ℕ
+same_parts all = flat_map same_part all
+
+-- what may stand in each other place, each below its name
+abbrev pub choice_parts : List (List (List ℕ)) → (ℕ → List ℕ) → List ℕ
+choice_parts all name = each (length all) (λ place. choice_part (name place) (choices_at all place))
+
+-- the name of a place, by the lines of the script
+abbrev pub name_in : ScriptFields → ℕ → List ℕ
+name_in script = place_name (length script.if1) (length script.if2) (length script.bus)
+
+-- the number of outcomes, what is the same in all, what may stand in each other place, and the last line
+pub record IsSummary (script : ScriptFields) (endings : List Ending) (text : List ℕ) : Type 0 where
+  pub choices : List (List (List ℕ))
+  pub as_many : length choices ≡ places_of script
+  pub are : (place : ℕ) (lines : List (List ℕ)) → slice_get choices place ≡ Some lines → AreChoices endings place lines
+  pub text_is : text ≡ count_text (min (length endings) greatest) ++ (same_parts choices
+      ++ (choice_parts choices (name_in script) ++ closing_text (min (length endings) greatest)))
+
+-- the text is the short list of a list that has each outcome that the promise allows, once, and no other
+pub record TellsSummary (script : ScriptFields) (eq : Ending → Ending → Bool) (text : List ℕ) : Type 0 where
+  pub outcomes : List Ending
+  pub are : AreOutcomes script outcomes
+  pub once : IsDistinct eq outcomes
+  pub text_is : IsSummary script outcomes text

@@ -11,7 +11,6 @@ use crate::lab_error::LabError;
 use crate::observed::observed_listing;
 use crate::report::{add_heading, add_outcome, different_lines, listing};
 use crate::rows::{Rows, all_rows};
-use crate::summary::summary;
 use crate::wording::add_number;
 use ccan_outcomes::Outcomes;
 use ccan_script::Script;
@@ -87,12 +86,11 @@ fn text_of(
         (string_bytes text)) }
 {
     match asked {
-        Asked::Summary => summary(alloc, outcomes, all),
         Asked::All => listing(alloc, script, outcomes, all),
         Asked::Can(begin) => search_text(alloc, script, outcomes, all, begin),
         Asked::Never(begin) => search_text(alloc, script, outcomes, all, begin),
         Asked::AllObserved(names) => observed_listing(alloc, script, outcomes, all, names),
-        Asked::Observed(_) => unreachable!(),
+        Asked::Summary | Asked::Observed(_) => unreachable!(),
     }
 }
 

@@ -57,7 +57,7 @@ pub fn count_question<'a>(
 }
 
 /// The line with a number of outcomes.
-fn count_text(alloc: Global, number: u64) -> Result<String, AllocError>
+pub fn count_text(alloc: Global, number: u64) -> Result<String, AllocError>
     ensures { IfOk result (λ text. string_bytes text ≡ count_text number) }
 {
     let mut text = String::new(alloc);

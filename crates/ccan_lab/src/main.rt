@@ -3,9 +3,10 @@
 //! `ccan-lab outcomes` goes through every outcome that a script can have when its two hosts and its bus run at once. It
 //! shows what each line may be; with `--all` each outcome and a history that leads to it, and with `--observe NAMES` only
 //! those that can be told apart by some lines and objects; with `--can LINE` and `--never LINE` whether an outcome has a line
-//! that begins so. `ccan-lab count` counts the outcomes and lists none. `ccan-lab check` tells the faults of scripts, of each line the first, each with its file, line and column,
-//! and with `--expect TEXT` the first line of a run that is not as expected. `ccan-lab explain` runs
-//! a script in its order and tells each line decoded, and `ccan-lab from-candump` makes a script of a log of a bus.
+//! that begins so. `ccan-lab count` counts the outcomes and lists none. `ccan-lab check` reports the faults of scripts, of each
+//! line the first, each with its file, line and column, and with `--expect TEXT` the first line of a run that is not as expected.
+//! `ccan-lab explain` runs a script in its order and tells each line decoded, and `ccan-lab from-candump` makes a script of a log
+//! of a bus.
 //! `ccan-lab draw` draws one picture of a run, or of a history of one of the outcomes. `ccan-lab page` writes a page to step
 //! through each outcome, or through a run.
 //!
@@ -26,6 +27,7 @@ pub mod beginnings;
 mod bus_forms;
 pub mod check_command;
 pub mod check_end;
+pub mod choices;
 pub mod command_words;
 pub mod counting;
 pub mod drawing;

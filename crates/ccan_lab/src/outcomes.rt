@@ -1,12 +1,14 @@
 //! The question `ccan-lab outcomes`: its words, and its answer.
 
-ghost use Rattle.std.specs.Prelude.{◌≡◌, IfErr, IfOk, codes, map, option_map, string_bytes};
+ghost use Rattle.std.specs.Prelude.{◌≡◌, IfErr, IfOk, codes, map, option_map, string_bytes, true};
 ghost use Rattle.clap.specs.Words.{first_value, found_of, matched_of, one_text, raw_values};
 ghost use Rattle.ccan_line.specs.Script.{fields_of};
 ghost use Rattle.ccan_lab.specs.Answer.{IsOfAll};
+ghost use Rattle.ccan_lab.specs.Counting.{IsUncounted};
 ghost use Rattle.ccan_lab.specs.Outcomes.{IsWithout, TellsAll};
 ghost use Rattle.ccan_lab.specs.Question.{AreKnown, AreKnownNames, AsksAllBy, AsksBy, IsGivenBy};
 ghost use Rattle.ccan_lab.specs.Question.{files_named};
+ghost use Rattle.ccan_lab.specs.Summary.{TellsSummary};
 
 use crate::answer::{Answer, answer_of};
 use crate::asked::Asked;
@@ -20,8 +22,9 @@ use crate::lab_error::LabError;
 use crate::observed::first_unknown;
 use crate::progress_line::ProgressLine;
 use crate::seen::seen_text;
+use crate::summary::summary;
 use ccan_outcomes::all_ports::AllPorts;
-use ccan_outcomes::{all_outcomes, looking_once};
+use ccan_outcomes::{Ending, all_outcomes, looking_once, outcome_words};
 use ccan_script::Script;
 use ccan_search::Progress;
 use clap::{Arg, ArgMatches, Command};
@@ -205,6 +208,25 @@ fn answer_of_all<P: Progress>(
     answer_of(alloc, script, &outcomes, asked)
 }
 
+/// What each line may be in the outcomes of a script. No outcome is listed for it.
+fn answer_of_summary<P: Progress>(
+    alloc: Global,
+    script: &Script,
+    most: usize,
+    progress: &P,
+) -> Result<Answer, LabError>
+    ensures told { IfOk result (λ answer. TellsSummary (fields_of script.now)
+        ⟦<Ending as PartialEq>⟧.eq (string_bytes answer.text)) }
+    ensures holds { IfOk result (λ answer. answer.holds ≡ true) }
+    ensures without { IfErr result (IsUncounted most) }
+{
+    let Some(words) = outcome_words(alloc, script, most, progress)? else {
+        return Err(LabError::More(most));
+    };
+    let text = summary(alloc, script, &words)?;
+    Ok(Answer { text, holds: true })
+}
+
 /// What is answered to the question what of the outcomes of a script can be told apart by the lines and objects of these
 /// names.
 fn answer_of_observed<P: Progress>(
@@ -228,6 +250,7 @@ fn answer_of_script<P: Progress>(
     progress: &P,
 ) -> Result<Answer, LabError> {
     match question.asked {
+        Asked::Summary => answer_of_summary(alloc, script, question.most, progress),
         Asked::Observed(names) => {
             answer_of_observed(alloc, script, names, question.most, progress)
         }

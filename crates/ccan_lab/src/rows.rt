@@ -3,7 +3,9 @@ ghost use Rattle.ccan_object.specs.Profile.{objects_in};
 ghost use Rattle.ccan_object.specs.declared.profile.Profile.TheVariants.{Two};
 ghost use Rattle.std.specs.List.{enumerate_from, list_any};
 ghost use Rattle.ccan_script.specs.Print.{line_text};
-ghost use Rattle.ccan_lab.specs.Rows.{begins_so, final_row, final_rows, has_line, is_before, is_in_all, line_at, place_count, rows_at, rows_of};
+ghost use Rattle.ccan_lab.specs.Sorted.{texts_of};
+ghost use Rattle.ccan_lab.specs.Summary.{AreInOrder};
+ghost use Rattle.ccan_lab.specs.Rows.{begins_so, final_row, final_rows, has_line, is_in_all, line_at, place_count, rows_at, rows_of};
 
 use ccan_object::{ObjectNo, Record};
 use ccan_outcomes::Ending;
@@ -15,9 +17,8 @@ use std::marker::Model;
 /// The most objects that a profile has.
 const MAX_OBJECTS: usize = 64;
 
-/// The lines of an outcome, each in its place: the answers of IF1, those of IF2, those of the bus, and a line for each
-/// object, which is empty where the object is all zero. In the outcomes of one script the same thing stands in the same
-/// place.
+/// Printed lines. Those of an outcome stand each in its place: the answers of IF1, those of IF2, those of the bus, and a line for
+/// each object, which is empty if the object is all zero. In the outcomes of one script the same thing stands in the same place.
 ///
 /// Contracts see the list of the lines' texts.
 #[derive(Drop)]
@@ -35,7 +36,7 @@ impl Model for Rows {
 
 impl Rows {
     /// No line yet.
-    fn new(alloc: Global) -> Rows
+    pub fn new(alloc: Global) -> Rows
         ensures { result ≡ [] }
     {
         Rows {
@@ -44,7 +45,7 @@ impl Rows {
     }
 
     /// Adds a line.
-    fn push(&mut self, line: PrintedLine) -> Result<(), AllocError>
+    pub fn push(&mut self, line: PrintedLine) -> Result<(), AllocError>
         ensures { OnOk result (self.new ≡ self.old ++ line.bytes ∷ []) }
     {
         self.lines.push(line)?;
@@ -67,6 +68,16 @@ impl Rows {
             Some(line) => line.as_str(),
             None => "",
         }
+    }
+
+    /// The lines, each once, in the order of their bytes.
+    pub fn in_order<'a>(&'a self, alloc: Global) -> Result<Vec<&'a str>, AllocError>
+        ensures { IfOk result (λ lines. AreInOrder self.now (texts_of lines.items)) }
+    {
+        let mut lines: Vec<&str> = self.lines.iter().map(|line| line.as_str()).collect(alloc)?;
+        lines.sort()?;
+        lines.dedup();
+        Ok(lines)
     }
 
     /// Whether a printed line begins so.
@@ -92,7 +103,7 @@ fn any_begins_so(lines: &[PrintedLine], begin: &str) -> bool
 }
 
 /// The line of an object, which is empty where the object is all zero.
-fn final_row(object: ObjectNo, left: &Record) -> PrintedLine
+pub fn final_row(object: ObjectNo, left: &Record) -> PrintedLine
     ensures { result.bytes ≡ final_row object left.now }
 {
     match print_final(object, left) {
@@ -102,7 +113,7 @@ fn final_row(object: ObjectNo, left: &Record) -> PrintedLine
 }
 
 /// Adds a line for each answer of a port.
-fn add_answers(rows: &mut Rows, port: PortName, answers: &[LineAnswer]) -> Result<(), AllocError>
+pub fn add_answers(rows: &mut Rows, port: PortName, answers: &[LineAnswer]) -> Result<(), AllocError>
     ensures { OnOk result (rows.new ≡ rows.old ++ map (line_text port) answers.now) }
 {
     for answer in answers {
@@ -188,13 +199,4 @@ pub fn is_in_all(all: &[Rows], place: usize, line: &str) -> bool
     ensures { result ≡ is_in_all all.now place line.now }
 {
     all.iter().all(|rows| rows.line(place) == line)
-}
-
-/// Whether this line stands in this place in an outcome before that of this number.
-#[tactic(auto, unfolding(crate::specs::Rows::is_before))]
-pub fn is_before(all: &[Rows], number: usize, place: usize, line: &str) -> bool
-    requires { number ≤ length all.now }
-    ensures { result ≡ is_before all.now number place line.now }
-{
-    all[..number].iter().any(|rows| rows.line(place) == line)
 }

@@ -1,17 +1,34 @@
-ghost use Rattle.std.specs.Prelude.{◌≡◌, ◌+◌, ◌^◌, ◌<◌, ◌≤◌, ◌++◌, Some, IfOk, OnOk, length, map, slice_get, string_bytes};
-ghost use Rattle.ccan_lab.specs.Report.{each};
-ghost use Rattle.ccan_lab.specs.Rows.{rows_of};
-ghost use Rattle.ccan_lab.specs.Summary.{choice_line, choice_text, choices_text, closing_text};
-ghost use Rattle.ccan_lab.specs.Summary.{names_of, place_choices, summary_text};
+//! The short list of outcomes: what each line may be.
+ghost use Rattle.std.specs.Prelude.{◌≡◌, ◌+◌, ◌-◌, ◌^◌, ◌<◌, ◌≤◌, ◌++◌, List, ℕ, Some, IfOk, OnOk, length, map, min, slice_get, string_bytes};
+ghost use Rattle.std.specs.List.{flat_map};
+ghost use Rattle.ccan_line.specs.Script.{fields_of};
+ghost use Rattle.ccan_outcomes.specs.OutcomeWords.{AreOfLines, HaveEachAnswer, endings_in};
 ghost use Rattle.ccan_lab.specs.Place.{place_name};
+ghost use Rattle.ccan_lab.specs.Summary.{AreInOrder, IsSummary, choice_part, choice_parts};
+ghost use Rattle.ccan_lab.specs.Summary.{choice_text, closing_text, same_part, same_parts};
+ghost use Rattle.ccan_lab.specs.Sorted.{AreAllInOrder, all_texts, texts_of};
 
+use crate::choices::all_choices;
+use crate::counting::count_text;
 use crate::place::{LineCounts, add_place_name};
-use crate::report::{add_heading, add_same};
-use crate::rows::{Rows, is_before, is_in_all, line_in, place_count};
-use ccan_outcomes::{Ending, Outcomes};
+use crate::rows::Rows;
+use ccan_outcomes::OutcomeWords;
+use ccan_script::Script;
 use std::alloc::{AllocError, Global};
 
-/// Adds a line that may stand in a place.
+/// Adds the line that stands in a place, if it is one alone.
+fn add_same(text: &mut String, lines: &[&str]) -> Result<(), AllocError>
+    ensures { OnOk result
+        (string_bytes text.new ≡ string_bytes text.old ++ same_part (texts_of lines.now)) }
+{
+    if lines.len() == 1 && !lines[0].is_empty() {
+        text.push_str("same in all: ")?;
+        text.push_str(lines[0])?;
+    }
+    Ok(())
+}
+
+/// Adds one of several lines that may stand in a place.
 #[tactic(auto, unfolding(crate::specs::Summary::choice_text))]
 fn add_choice(text: &mut String, line: &str) -> Result<(), AllocError>
     ensures { OnOk result
@@ -25,96 +42,64 @@ fn add_choice(text: &mut String, line: &str) -> Result<(), AllocError>
     }
 }
 
-/// Adds the line of an outcome in a place, if no outcome before has it there.
-#[tactic(auto, unfolding(crate::specs::Summary::choice_line))]
-fn add_choice_line(
-    text: &mut String,
-    all: &[Rows],
-    place: usize,
-    number: usize,
-) -> Result<(), AllocError>
-    requires { number ≤ length all.now }
-    ensures { OnOk result
-        (string_bytes text.new ≡ string_bytes text.old ++ choice_line all.now place number) }
+/// Adds each line that may stand in a place.
+fn add_choice_lines(text: &mut String, lines: &[&str]) -> Result<(), AllocError>
+    ensures { OnOk result (string_bytes text.new
+        ≡ string_bytes text.old ++ flat_map choice_text (texts_of lines.now)) }
 {
-    let line = line_in(all, number, place);
-    if !is_before(all, number, place, line) {
+    for line in lines {
         add_choice(text, line)?;
     }
     Ok(())
 }
 
-/// Adds each line that may stand in a place, once.
-#[tactic(auto, using(crate::proofs::Texts::each_begins, crate::proofs::Texts::each_goes_on))]
-fn add_choice_lines(text: &mut String, all: &[Rows], place: usize) -> Result<(), AllocError>
-    ensures { OnOk result (string_bytes text.new
-        ≡ string_bytes text.old ++ each (length all.now) (choice_line all.now place)) }
-{
-    for number in 0..all.len() {
-        add_choice_line(text, all, place, number)?;
-    }
-    Ok(())
-}
-
-/// Adds what may stand in a place below its name, where it is not the same in all outcomes.
-#[tactic(auto, unfolding(crate::specs::Summary::place_choices))]
-fn add_place(
+/// Adds the lines that may stand in a place below its name, if they are several.
+fn add_choices(
     text: &mut String,
-    all: &[Rows],
     counts: &LineCounts,
     place: usize,
+    lines: &[&str],
 ) -> Result<(), AllocError>
     requires { place + 1 < 2 ^ 64 }
-    ensures { OnOk result (string_bytes text.new ≡ string_bytes text.old ++ place_choices all.now
-        (place_name counts.now.if1 counts.now.if2 counts.now.bus place) place) }
+    ensures { OnOk result (string_bytes text.new ≡ string_bytes text.old ++ choice_part
+        (place_name counts.now.if1 counts.now.if2 counts.now.bus place) (texts_of lines.now)) }
 {
-    if !is_in_all(all, place, line_in(all, 0, place)) {
+    if lines.len() > 1 {
         add_place_name(text, counts, place)?;
         text.push_str("\n")?;
-        add_choice_lines(text, all, place)?;
+        add_choice_lines(text, lines)?;
     }
     Ok(())
 }
 
-/// Adds what may stand in each place.
-#[tactic(auto, using(crate::proofs::Texts::each_begins, crate::proofs::Texts::each_goes_on))]
-fn add_places(text: &mut String, all: &[Rows], counts: &LineCounts) -> Result<(), AllocError>
-    ensures { OnOk result (string_bytes text.new ≡ string_bytes text.old ++ choices_text all.now
-        (place_name counts.now.if1 counts.now.if2 counts.now.bus)) }
+/// Adds what is the same in all outcomes, place by place.
+fn add_same_parts(text: &mut String, all: &[Vec<&str>]) -> Result<(), AllocError>
+    ensures { OnOk result
+        (string_bytes text.new ≡ string_bytes text.old ++ same_parts (all_texts all.now)) }
 {
-    for place in 0..place_count(all) {
-        add_place(text, all, counts, place)?;
+    for lines in all {
+        add_same(text, lines.as_slice())?;
     }
     Ok(())
 }
 
-/// How many lines the ports of an outcome have.
-fn counts_of(ending: &Ending) -> LineCounts
-    ensures if1 { result.if1 ≡ length ending.now.if1 }
-    ensures if2 { result.if2 ≡ length ending.now.if2 }
-    ensures bus { result.bus ≡ length ending.now.bus }
+/// Adds what may stand in each other place.
+fn add_choice_parts(
+    text: &mut String,
+    counts: &LineCounts,
+    all: &[Vec<&str>],
+) -> Result<(), AllocError>
+    ensures { OnOk result (string_bytes text.new ≡ string_bytes text.old ++ choice_parts
+        (all_texts all.now) (place_name counts.now.if1 counts.now.if2 counts.now.bus)) }
 {
-    LineCounts {
-        if1: ending.if1.len(),
-        if2: ending.if2.len(),
-        bus: ending.bus.len(),
+    for place in 0..all.len() {
+        add_choices(text, counts, place, all[place].as_slice())?;
     }
+    Ok(())
 }
 
-/// Adds what may stand in each place.
-fn add_choices(text: &mut String, all: &[Rows], endings: &[Ending]) -> Result<(), AllocError>
-    requires { all.now ≡ map rows_of endings.now }
-    ensures { OnOk result (string_bytes text.new ≡ string_bytes text.old
-        ++ choices_text all.now (names_of (slice_get endings.now 0))) }
-{
-    match endings.first() {
-        Some(first) => add_places(text, all, &counts_of(first)),
-        None => Ok(()),
-    }
-}
-
-/// Adds the last line, which tells of the whole list.
-fn add_closing(text: &mut String, outcomes: usize) -> Result<(), AllocError>
+/// Adds the last line, which says how to see the whole list.
+fn add_closing(text: &mut String, outcomes: u64) -> Result<(), AllocError>
     ensures { OnOk result
         (string_bytes text.new ≡ string_bytes text.old ++ closing_text outcomes) }
 {
@@ -124,18 +109,43 @@ fn add_closing(text: &mut String, outcomes: usize) -> Result<(), AllocError>
     Ok(())
 }
 
-/// What each line may be in the outcomes of a script.
-pub fn summary(alloc: Global, outcomes: &Outcomes, all: &[Rows]) -> Result<String, AllocError>
-    requires { all.now ≡ map rows_of outcomes.now.listing.endings.keys }
-    ensures { IfOk result (λ text. string_bytes text
-        ≡ summary_text outcomes.now.listing.endings.keys
-        (length outcomes.now.reached.states.keys)) }
+/// The lines of each place, each once, in the order of their bytes.
+fn all_in_order<'a>(alloc: Global, all: &'a [Rows]) -> Result<Vec<Vec<&'a str>>, AllocError>
+    ensures { IfOk result (λ sorted. AreAllInOrder all.now (all_texts sorted.items)) }
 {
-    let endings = outcomes.listing.endings.as_slice();
-    let mut text = String::new(alloc);
-    add_heading(&mut text, endings.len(), outcomes.reached.states.len())?;
-    add_same(&mut text, all)?;
-    add_choices(&mut text, all, endings)?;
-    add_closing(&mut text, endings.len())?;
+    let mut sorted = Vec::new(alloc);
+    for rows in all {
+        sorted.push(rows.in_order(alloc)?)?;
+    }
+    Ok(sorted)
+}
+
+/// How many lines the ports of a script have.
+fn counts_of(script: &Script) -> LineCounts
+    ensures if1 { result.if1 ≡ length script.now.if1.items }
+    ensures if2 { result.if2 ≡ length script.now.if2.items }
+    ensures bus { result.bus ≡ length script.now.bus.items }
+{
+    LineCounts {
+        if1: script.if1.len(),
+        if2: script.if2.len(),
+        bus: script.bus.len(),
+    }
+}
+
+/// What each line may be in the outcomes of a script.
+pub fn summary(alloc: Global, script: &Script, words: &OutcomeWords) -> Result<String, AllocError>
+    requires letters { AreOfLines words.now }
+    requires answers { HaveEachAnswer (fields_of script.now) (endings_in words.now) }
+    ensures { IfOk result (λ text.
+        IsSummary (fields_of script.now) (endings_in words.now) (string_bytes text)) }
+{
+    let number = words.count();
+    let choices = all_choices(alloc, script, words)?;
+    let sorted = all_in_order(alloc, choices.as_slice())?;
+    let mut text = count_text(alloc, number)?;
+    add_same_parts(&mut text, sorted.as_slice())?;
+    add_choice_parts(&mut text, &counts_of(script), sorted.as_slice())?;
+    add_closing(&mut text, number)?;
     Ok(text)
 }

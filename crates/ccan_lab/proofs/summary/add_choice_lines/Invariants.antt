@@ -1,9 +1,10 @@
-use Rattle.std.proofs.Common.{◌≡◌, ◌++◌, string_bytes}
-use Rattle.ccan_lab.specs.Report.{each}
-use Rattle.ccan_lab.specs.Summary.{choice_line}
+use Rattle.std.proofs.Common.{◌≡◌, ◌++◌, string_bytes, take}
+use Rattle.std.specs.List.{flat_map}
+use Rattle.ccan_lab.specs.Sorted.{texts_of}
+use Rattle.ccan_lab.specs.Summary.{choice_text}
 use Rattle.ccan_lab.proofs.summary.add_choice_lines.Given as goal
 
--- the lines of the outcomes so far
-abbrev pub invariant-loop-number : goal.invariant-loop-number
-invariant-loop-number l =
-    string_bytes l.text ≡ string_bytes l.initial.text ++ each l.number (choice_line l.all l.place)
+-- the lines so far
+abbrev pub invariant-loop-line : goal.invariant-loop-line
+invariant-loop-line l =
+    string_bytes l.text ≡ string_bytes l.initial.text ++ flat_map choice_text (take l.line-index (texts_of l.lines))

@@ -1,0 +1,36 @@
+-- The lines that the outcomes of a script have in each place, port by port and object by object. Source: this project's own.
+use Rattle.std.specs.Prelude.{ℕ, ◌≡◌, ◌+◌, ◌-◌, ◌++◌, List, Some, length, map, slice_get}
+use Rattle.std.specs.List.{Contains}
+use Rattle.std.specs.Global.{Vec}
+use Rattle.ccan_line.specs.declared.line_answer.LineAnswer.{LineAnswer}
+use Rattle.ccan_object.specs.declared.record.Record.{Record}
+use Rattle.ccan_ram.specs.declared.port.PortName.{PortName}
+use Rattle.ccan_script.specs.Print.{line_text}
+use Rattle.ccan_outcomes.specs.declared.ending.Ending.{Ending}
+use Rattle.ccan_outcomes.specs.OutcomeWords.{IsAnswered}
+use Rattle.ccan_lab.specs.Rows.{final_rows, line_at}
+
+-- the printed lines of what a line of a port, counted from 0, answers in the outcomes
+pub record AreLinesOf (endings : List Ending) (port : PortName) (line : ℕ) (texts : List (List ℕ)) : Type 0 where
+  pub right : (text : List ℕ) → Contains texts text
+      → (answer : LineAnswer) × IsAnswered endings port line answer × (line_text port answer ≡ text)
+  pub complete : (answer : LineAnswer) → IsAnswered endings port line answer → Contains texts (line_text port answer)
+
+-- behind what was there stand those of each of the first so many lines of a port
+pub record HasPort (endings : List Ending) (port : PortName) (count : ℕ) (old new : List (List (List ℕ))) : Type 0 where
+  pub more : List (List (List ℕ))
+  pub new_is : new ≡ old ++ more
+  pub as_many : length more ≡ count
+  pub are : (line : ℕ) (texts : List (List ℕ)) → slice_get more line ≡ Some texts → AreLinesOf endings port line texts
+
+-- the line of an object, counted from 1, in a memory
+abbrev pub final_of : ℕ → List Record → List ℕ
+final_of object records = line_at (final_rows records) (object - 1)
+
+-- behind what was there stand those of each of the first so many objects
+pub record HasObjects (memories : List (List Record)) (count : ℕ) (old new : List (List (List ℕ))) : Type 0 where
+  pub more : List (List (List ℕ))
+  pub new_is : new ≡ old ++ more
+  pub as_many : length more ≡ count
+  pub are : (index : ℕ) (texts : List (List ℕ)) → slice_get more index ≡ Some texts
+      → texts ≡ map (final_of (index + 1)) memories
