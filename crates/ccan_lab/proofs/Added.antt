@@ -17,15 +17,15 @@ each_more {A} P xs x count long each last k y at =
       | inr (j, is, there) ↦ by j is there
     ]
   where
+    unwrap : Option A → A
+    unwrap (Some z) = z
+    unwrap None = x
+
     by : (j : ℕ) → k ≡ length xs + j → slice_get (x ∷ []) j ≡ Some y → P k y
     by zero is there =
         let here : count ≡ k = omega (arith, is, long) in
         subst (λ (n : ℕ). P n y) here (subst (P count) (ap unwrap there) last)
     by (suc j) is there = absurd cc
-
-    unwrap : Option A → A
-    unwrap (Some z) = z
-    unwrap None = x
 
 pub port_more : (endings : List Ending) (port : PortName) (count : ℕ) (old new after : List (List (List ℕ)))
     (texts : List (List ℕ)) → HasPort endings port count old new → AreLinesOf endings port count texts

@@ -1,8 +1,10 @@
 -- The lines of ports and of objects are those that stand in their places.
-use Rattle.std.proofs.Common.{◌≡◌, ◌<◌, ◌≤◌, ◌+◌, ◌-◌, ◌++◌, ◌↔◌, ◌⊎◌, inl, inr, ℕ, zero, suc, List, [], ◌∷◌, Some, Option, Contains, length, length-append, map, slice_get, unwrap_or, option_map, refl, sym, ap, subst, ◌∙◌, arith}
+use Rattle.std.proofs.Common.{◌≡◌, ◌<◌, ◌≤◌, ◌+◌, ◌-◌, ◌++◌, ◌↔◌, ◌⊎◌, inl, inr, ℕ, zero, suc, List, [], ◌∷◌, Some, None, Option, Contains, length, length-append, map, slice_get, take, unwrap_or, option_map, refl, sym, ap, subst, ◌∙◌, arith}
 use Rattle.std.proofs.lemmas.Bool.{cases_lt}
 use Rattle.std.proofs.lemmas.List.{length-map}
-use Rattle.std.proofs.lemmas.Option.{slice_get-map, slice_get_within}
+use Rattle.std.proofs.lemmas.List.FromFn.{length-enumerate_from}
+use Rattle.std.proofs.lemmas.Option.{get_or_from_slice_get, slice_get-get_or, slice_get-map, slice_get_past, slice_get_within}
+use Rattle.std.specs.List.{enumerate_from}
 use Rattle.ccan_line.specs.declared.line_answer.LineAnswer.{LineAnswer}
 use Rattle.ccan_line.specs.Script.{ScriptFields}
 use Rattle.ccan_object.specs.declared.record.Record.{Record}
@@ -14,8 +16,9 @@ use Rattle.ccan_outcomes.specs.declared.ending.Ending.{Ending}
 use Rattle.ccan_outcomes.specs.OutcomeWords.{HaveEachAnswer, IsAnswered, IsLeft}
 use Rattle.ccan_lab.specs.Choices.{AreLinesOf, HasObjects, HasPort, final_of}
 use Rattle.ccan_lab.specs.Observed.{places_of}
-use Rattle.ccan_lab.specs.Rows.{final_rows, line_at, rows_of}
+use Rattle.ccan_lab.specs.Rows.{final_row, final_rows, line_at, rows_of}
 use Rattle.ccan_lab.specs.Summary.{AreLinesAt}
+use Rattle.ccan_lab.proofs.Texts.{numbered_at, numbered_length}
 
 -- ---- lists
 
@@ -65,6 +68,65 @@ image_in f (y ∷ xs) x (suc k, low, at) =
     let on = image_in f xs x (k, omega (arith, low), at) in
     let less = on.1 in
     (suc on.0, omega (arith, less), on.2)
+
+-- ---- the line of an object
+
+length-take-le-list : {A : Type 0} (n : ℕ) (xs : List A) → length (take n xs) ≤ length xs
+length-take-le-list zero xs = omega arith
+length-take-le-list (suc n) [] = omega arith
+length-take-le-list (suc n) (x ∷ xs) = let later = length-take-le-list n xs in omega (arith, later)
+
+taken : {A : Type 0} (n : ℕ) (xs : List A) (k : ℕ) → k < n → slice_get (take n xs) k ≡ slice_get xs k
+taken zero xs k low = absurd (omega (arith, low))
+taken (suc n) [] k low = refl
+taken (suc n) (x ∷ xs) zero low = refl
+taken (suc n) (x ∷ xs) (suc k) low = taken n xs k (omega (arith, low))
+
+abbrev final_text : ℕ × Record → List ℕ
+final_text object = final_row object.0 object.1
+
+pub final_some : (records : List Record) (index : ℕ) (left : Record) → index < 64 → slice_get records index ≡ Some left
+    → line_at (final_rows records) index ≡ final_row (index + 1) left
+unfolding line_at final_rows
+final_some records index left low at =
+    let xs = take 64 records in
+    let there : slice_get xs index ≡ Some left = taken 64 records index low ∙ at in
+    let within = slice_get_within xs index left there in
+    let read = sym (get_or_from_slice_get xs index left left there) in
+    let numbered : slice_get (enumerate_from 1 xs) index ≡ Some (index + 1, left) =
+    slice_get-get_or (enumerate_from 1 xs) index (0, left) (numbered_length 1 xs index within)
+    ∙ ap (λ (o : ℕ × Record). Some o) (numbered_at xs index left within read) in
+    ap (λ (o : Option (List ℕ)). unwrap_or o [])
+    (slice_get-map final_text (enumerate_from 1 xs) index ∙ ap (option_map final_text) numbered)
+
+past : (records : List Record) (index : ℕ) → slice_get records index ≡ None → length records ≤ index
+past [] index at = omega arith
+past (r ∷ rs) zero at = absurd cc
+past (r ∷ rs) (suc index) at = let later = past rs index at in omega (arith, later)
+
+pub final_none : (records : List Record) (index : ℕ) → slice_get records index ≡ None
+    → line_at (final_rows records) index ≡ []
+unfolding line_at final_rows
+final_none records index at =
+    let xs = take 64 records in
+    let high = past records index at in
+    let less = length-take-le-list 64 records in
+    let many = length-map (enumerate_from 1 xs) final_text in
+    let numbered = length-enumerate_from 1 xs in
+    ap (λ (o : Option (List ℕ)). unwrap_or o [])
+    (slice_get_past (map final_text (enumerate_from 1 xs)) index (omega (arith, high, less, many, numbered)))
+
+-- ---- what a line answers, as it is printed
+
+pub lines_printed : (endings : List Ending) (port : PortName) (line : ℕ) (answers : List LineAnswer)
+    → ((answer : LineAnswer) → Contains answers answer ↔ IsAnswered endings port line answer)
+    → AreLinesOf endings port line (map (line_text port) answers)
+lines_printed endings port line answers are = record {
+  right = λ text inside.
+      let of = image_of (line_text port) answers text inside in
+      (of.0, (are of.0).0 of.1, of.2);
+  complete = λ answer is. image_in (line_text port) answers answer ((are answer).1 is);
+}
 
 -- ---- the rows of an outcome
 

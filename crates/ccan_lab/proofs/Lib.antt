@@ -8,4 +8,5 @@ pub mod Texts
 pub mod Ordered
 pub mod Chosen
 pub mod Added
+pub mod Parts
 pub mod Told

@@ -1,7 +1,7 @@
 -- Lines of places in the order of their bytes. Source: this project's own.
 use Rattle.std.specs.Prelude.{ℕ, ◌≡◌, List, Some, length, map, slice_get}
 use Rattle.std.specs.Global.{Vec}
-use Rattle.std.specs.Prelude.{Bor}
+use Rattle.std.specs.Borrow.{Bor}
 use Rattle.ccan_lab.specs.Summary.{AreInOrder}
 
 -- the texts of borrowed lines

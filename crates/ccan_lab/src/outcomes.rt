@@ -1,6 +1,6 @@
 //! The question `ccan-lab outcomes`: its words, and its answer.
 
-ghost use Rattle.std.specs.Prelude.{◌≡◌, IfErr, IfOk, codes, map, option_map, string_bytes, true};
+ghost use Rattle.std.specs.Prelude.{◌≡◌, IfErr, IfOk, IfSome, codes, map, option_map, string_bytes, true};
 ghost use Rattle.clap.specs.Words.{first_value, found_of, matched_of, one_text, raw_values};
 ghost use Rattle.ccan_line.specs.Script.{fields_of};
 ghost use Rattle.ccan_lab.specs.Answer.{IsOfAll};
@@ -208,7 +208,23 @@ fn answer_of_all<P: Progress>(
     answer_of(alloc, script, &outcomes, asked)
 }
 
-/// What each line may be in the outcomes of a script. No outcome is listed for it.
+/// The short list of the outcomes of a script, or none if they can't be had as words. No outcome is listed for it.
+fn short_list<P: Progress>(
+    alloc: Global,
+    script: &Script,
+    most: usize,
+    progress: &P,
+) -> Result<Option<String>, AllocError>
+    ensures { IfOk result (λ found. IfSome found (λ text. TellsSummary (fields_of script.now)
+        ⟦<Ending as PartialEq>⟧.eq (string_bytes text))) }
+{
+    match outcome_words(alloc, script, most, progress)? {
+        Some(words) => Ok(Some(summary(alloc, script, &words)?)),
+        None => Ok(None),
+    }
+}
+
+/// What each line may be in the outcomes of a script.
 fn answer_of_summary<P: Progress>(
     alloc: Global,
     script: &Script,
@@ -220,10 +236,9 @@ fn answer_of_summary<P: Progress>(
     ensures holds { IfOk result (λ answer. answer.holds ≡ true) }
     ensures without { IfErr result (IsUncounted most) }
 {
-    let Some(words) = outcome_words(alloc, script, most, progress)? else {
+    let Some(text) = short_list(alloc, script, most, progress)? else {
         return Err(LabError::More(most));
     };
-    let text = summary(alloc, script, &words)?;
     Ok(Answer { text, holds: true })
 }
 

@@ -74,7 +74,7 @@ impl Rows {
     pub fn in_order<'a>(&'a self, alloc: Global) -> Result<Vec<&'a str>, AllocError>
         ensures { IfOk result (λ lines. AreInOrder self.now (texts_of lines.items)) }
     {
-        let mut lines: Vec<&str> = self.lines.iter().map(|line| line.as_str()).collect(alloc)?;
+        let mut lines = texts(alloc, &self.lines)?;
         lines.sort()?;
         lines.dedup();
         Ok(lines)
@@ -93,6 +93,17 @@ fn begins_so(line: &str, begin: &str) -> bool
     ensures { result ≡ begins_so begin.now line.now }
 {
     !line.is_empty() && line.as_bytes().starts_with(begin.as_bytes())
+}
+
+/// The texts of these lines.
+fn texts<'a>(alloc: Global, lines: &'a [PrintedLine]) -> Result<Vec<&'a str>, AllocError>
+    ensures { IfOk result (λ all. texts_of all.items ≡ map (λ line. line.bytes) lines.now) }
+{
+    let mut all = Vec::new(alloc);
+    for line in lines {
+        all.push(line.as_str())?;
+    }
+    Ok(all)
 }
 
 /// Whether one of these lines is printed, and begins so.

@@ -1,9 +1,10 @@
 //! The short list of outcomes: what each line may be.
-ghost use Rattle.std.specs.Prelude.{◌≡◌, ◌+◌, ◌-◌, ◌^◌, ◌<◌, ◌≤◌, ◌++◌, List, ℕ, Some, IfOk, OnOk, length, map, min, slice_get, string_bytes};
+ghost use Rattle.std.specs.Prelude.{◌≡◌, ◌+◌, ◌-◌, ◌^◌, ◌<◌, ◌≤◌, ◌++◌, List, ℕ, Some, IfOk, OnOk, codes, length, map, min, slice_get, string_bytes};
 ghost use Rattle.std.specs.List.{flat_map};
 ghost use Rattle.ccan_line.specs.Script.{fields_of};
 ghost use Rattle.ccan_outcomes.specs.OutcomeWords.{AreOfLines, HaveEachAnswer, endings_in};
 ghost use Rattle.ccan_lab.specs.Place.{place_name};
+ghost use Rattle.ccan_lab.specs.Report.{labelled};
 ghost use Rattle.ccan_lab.specs.Summary.{AreInOrder, IsSummary, choice_part, choice_parts};
 ghost use Rattle.ccan_lab.specs.Summary.{choice_text, closing_text, same_part, same_parts};
 ghost use Rattle.ccan_lab.specs.Sorted.{AreAllInOrder, all_texts, texts_of};
@@ -16,16 +17,29 @@ use ccan_outcomes::OutcomeWords;
 use ccan_script::Script;
 use std::alloc::{AllocError, Global};
 
+/// Adds a line that is the same in all outcomes.
+#[tactic(auto, unfolding(crate::specs::Report::labelled))]
+fn add_same_line(text: &mut String, line: &str) -> Result<(), AllocError>
+    ensures { OnOk result (string_bytes text.new
+        ≡ string_bytes text.old ++ labelled (codes "same in all: ") line.now) }
+{
+    if !line.is_empty() {
+        text.push_str("same in all: ")?;
+        text.push_str(line)?;
+    }
+    Ok(())
+}
+
 /// Adds the line that stands in a place, if it is one alone.
 fn add_same(text: &mut String, lines: &[&str]) -> Result<(), AllocError>
     ensures { OnOk result
         (string_bytes text.new ≡ string_bytes text.old ++ same_part (texts_of lines.now)) }
 {
-    if lines.len() == 1 && !lines[0].is_empty() {
-        text.push_str("same in all: ")?;
-        text.push_str(lines[0])?;
+    if lines.len() == 1 {
+        add_same_line(text, lines[0])
+    } else {
+        Ok(())
     }
-    Ok(())
 }
 
 /// Adds one of several lines that may stand in a place.

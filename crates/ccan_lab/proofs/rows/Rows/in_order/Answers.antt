@@ -1,15 +1,12 @@
-use Rattle.std.proofs.Common.{◌≡◌, ℕ, Bool, true, false, cond, List, [], ◌∷◌, Contains, Bor, bytes_eq, map, refl, sym, subst, rules}
+use Rattle.std.proofs.Common.{◌≡◌, ℕ, Bool, true, false, cond, List, [], ◌∷◌, Contains, Bor, bytes_eq, ◌∙◌, map, refl, sym, subst, rules}
 use Rattle.std.specs.Cmp.Lexicographic.{nat_list_eq_equiv, on_texts, texts_ties, same_text, slice_cmp}
 use Rattle.std.specs.List.{dedup, dedup_from}
 use Rattle.std.specs.List.Sorted.{IsStrictlySortedBy}
 use Rattle.std.specs.Ordering.{nat_cmp}
-use Rattle.std.proofs.lemmas.Iterator.{YieldsList-from_map_by, YieldsList-from_slice}
-use Rattle.std.proofs.lemmas.Iterator.Consumers.{map_from_collect}
 use Rattle.std.proofs.lemmas.List.Elements.{All-contains_itself, All-weaker}
 use Rattle.std.proofs.lemmas.List.Filters.{All-dedup, dedup_is}
 use Rattle.std.proofs.lemmas.List.Kept.{Contains-dedup, IsStrictlySortedBy-dedup}
 use Rattle.std.proofs.lemmas.List.Sorted.{All-permutation, Contains-permutation, IsPermutation-map}
-use Rattle.std.proofs.lemmas.Result.{IfOk-at_ok}
 use Rattle.ccan_lab.specs.Sorted.{texts_of}
 use Rattle.ccan_lab.proofs.Ordered.{All-at, sorted_texts, texts_of-dedup, Line, same_line}
 use Rattle.ccan_lab.proofs.rows.Rows.in_order.Goals as goal
@@ -19,7 +16,8 @@ pub returns : goal.returns
 returns c =
     let all = c.args.self.now in
     let sorted = c.sort.new.self.items in
-    let collected : texts_of c.in_ok-lines.lines.items ≡ all = IfOk-at_ok _ c.in_ok-lines.was (map_from_collect _ c.collect.ensures.ran (YieldsList-from_map_by _ _ _ (YieldsList-from_slice c.args.self.now cc) c.map.ensures.closure (λ x r q k. search rules))) in
+    let collected : texts_of c.in_ok-lines.lines.items ≡ all =
+    c.in_ok-lines.ensures ∙ search rules ∙ c.self.view_is in
     let moved = rw collected at (IsPermutation-map (λ (line : Line). line.now) _ sorted c.sort.ensures.permutation) in
     let kept = dedup_is same_line sorted _ c.dedup.ensures.filtered in
     let keeps = Contains-dedup nat_list_eq_equiv (λ x y e. same_text x y (sym e)) (texts_of sorted) in

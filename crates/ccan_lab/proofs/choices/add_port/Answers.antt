@@ -1,0 +1,13 @@
+use Rattle.std.proofs.Common.{◌≡◌, ◌+◌, List, ℕ}
+use Rattle.ccan_outcomes.specs.OutcomeWords.{endings_in}
+use Rattle.ccan_lab.proofs.Added.{port_more, port_none}
+use Rattle.ccan_lab.proofs.choices.add_port.Goals as goal
+
+pub loop-line-init : goal.loop-line-init
+loop-line-init c = port_none (endings_in c.args.words.now) c.args.port c.args.all.now.items
+
+pub loop-line-preserved : goal.loop-line-preserved
+loop-line-preserved c =
+    port_more (endings_in c.args.words.now) c.args.port c.loop-line.line c.args.all.now.items c.loop-line.all.items
+    c.push.new.self.items c.in_ok-answer_rows.field-0 c.loop-line.invariant c.in_ok-answer_rows.ensures
+    c.in_ok-push.ensures.items
