@@ -12,3 +12,6 @@ pub mod Said
 pub mod Same
 pub mod Union
 pub mod With
+pub mod Needed
+pub mod Added
+pub mod SaidParts

@@ -1,5 +1,6 @@
 pub mod Answers
 pub mod Count
 pub mod Memo
+pub mod Parts
 pub mod States
 pub mod Words
