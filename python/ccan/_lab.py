@@ -57,7 +57,7 @@ class LabStreamError(LabError):
 
 
 class TooManyStatesError(LabError):
-    """Status 5: the search comes to more states than it may keep."""
+    """Status 5: the search comes to more states than it may keep, or the outcomes to more nodes."""
 
 
 class NotAsAskedError(LabError, AssertionError):

@@ -13,7 +13,7 @@ use Rattle.ccan_ram.specs.declared.port.PortName.{PortName}
 use Rattle.ccan_ram.specs.declared.port.PortName.TheVariants.{If1, If2, Bus}
 use Rattle.ccan_script.specs.Print.{line_text}
 use Rattle.ccan_outcomes.specs.declared.ending.Ending.{Ending}
-use Rattle.ccan_outcomes.specs.OutcomeWords.{HaveEachAnswer, IsAnswered, IsLeft}
+use Rattle.ccan_outcomes.specs.OutcomeWords.{AreComplete, IsAnswered, IsLeft}
 use Rattle.ccan_lab.specs.Choices.{AreLinesOf, HasObjects, HasPort, final_of}
 use Rattle.ccan_lab.specs.Observed.{places_of}
 use Rattle.ccan_lab.specs.Rows.{final_row, final_rows, line_at, rows_of}
@@ -71,7 +71,7 @@ image_in f (y ∷ xs) x (suc k, low, at) =
 
 -- ---- the line of an object
 
-length-take-le-list : {A : Type 0} (n : ℕ) (xs : List A) → length (take n xs) ≤ length xs
+pub length-take-le-list : {A : Type 0} (n : ℕ) (xs : List A) → length (take n xs) ≤ length xs
 length-take-le-list zero xs = omega arith
 length-take-le-list (suc n) [] = omega arith
 length-take-le-list (suc n) (x ∷ xs) = let later = length-take-le-list n xs in omega (arith, later)
@@ -186,7 +186,7 @@ module _ (ending : Ending) where
 
 -- ---- the lines that stand in a place
 
-module _ (script : ScriptFields) (endings : List Ending) (have : HaveEachAnswer script endings) where
+module _ (script : ScriptFields) (endings : List Ending) (have : AreComplete script endings) where
   at_if1 : (line : ℕ) (texts : List (List ℕ)) → line < length script.if1 → AreLinesOf endings If1 line texts
       → AreLinesAt endings line texts
   at_if1 line texts low are = record {

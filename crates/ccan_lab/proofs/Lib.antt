@@ -9,4 +9,5 @@ pub mod Ordered
 pub mod Chosen
 pub mod Added
 pub mod Parts
+pub mod NoLine
 pub mod Told

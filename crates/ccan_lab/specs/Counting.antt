@@ -4,8 +4,6 @@ use Rattle.std.specs.List.{IsDistinct}
 use Rattle.ccan_line.specs.Script.{ScriptFields}
 use Rattle.ccan_outcomes.specs.declared.ending.Ending.{Ending}
 use Rattle.ccan_outcomes.specs.Ending.{AreOutcomes}
-use Rattle.ccan_lab.specs.declared.lab_error.LabError.{LabError}
-use Rattle.ccan_lab.specs.declared.lab_error.LabError.TheVariants as fault
 use Rattle.ccan_lab.specs.Report.{counted_text}
 
 -- the greatest number that is counted to
@@ -27,9 +25,3 @@ pub record IsCount (script : ScriptFields) (eq : Ending → Ending → Bool) (nu
 -- the text is the line with that number
 abbrev pub TellsCount : ScriptFields → (Ending → Ending → Bool) → List ℕ → Type 0
 TellsCount script eq text = (number : ℕ) × IsCount script eq number × (text ≡ count_text number)
-
--- why there is no number: the search or the words need more than so many, or memory ran out
-abbrev pub IsUncounted : ℕ → LabError → Type 0
-IsUncounted most (fault.More told) = told ≡ most
-IsUncounted most fault.Memory = Unit {0}
-IsUncounted most _ = ⊥

@@ -20,3 +20,4 @@ pub mod Sorted
 pub mod Choices
 pub mod Answer
 pub mod Question
+pub mod Words

@@ -33,7 +33,7 @@ fn first_with(all: &[Rows], begin: &str) -> Option<usize>
 }
 
 /// That no outcome has a line that begins so.
-fn none_found(alloc: Global, outcomes: usize, begin: &str) -> Result<String, AllocError>
+pub fn none_found(alloc: Global, outcomes: usize, begin: &str) -> Result<String, AllocError>
     ensures { IfOk result (λ text. string_bytes text ≡ none_text outcomes begin.now) }
 {
     let mut text = String::new(alloc);

@@ -1,19 +1,22 @@
 //! The question `ccan-lab count`: its words, and its answer.
 
-ghost use Rattle.std.specs.Prelude.{◌≡◌, IfErr, IfOk, IfSome, codes, map, option_map, string_bytes};
+ghost use Rattle.std.specs.Prelude.{◌≡◌, IfErr, IfOk, codes, map, option_map, string_bytes};
 ghost use Rattle.clap.specs.Words.{found_of, matched_of, one_text, raw_values};
 ghost use Rattle.ccan_line.specs.Script.{fields_of};
-ghost use Rattle.ccan_lab.specs.Counting.{IsCount, IsUncounted, TellsCount, count_text};
+ghost use Rattle.ccan_lab.specs.Counting.{IsCount, TellsCount, count_text};
 ghost use Rattle.ccan_lab.specs.Question.{IsGivenBy, files_named};
+ghost use Rattle.ccan_lab.specs.Words.{HasNoWords};
 
 use crate::command_words::{command, files_named, scripts, with};
 use crate::each_file::{FileAnswer, answer_each};
 use crate::input::{script_asked, tell_terminal};
 use crate::lab_error::LabError;
+use crate::outcome_words::words_of;
 use crate::outcomes::{most_of, most_option};
 use crate::progress_line::ProgressLine;
 use crate::wording::add_counted;
-use ccan_outcomes::{Ending, looking_once, outcome_words};
+use ccan_outcomes::all_ports::AllPorts;
+use ccan_outcomes::{Ending, looking_once};
 use ccan_script::Script;
 use ccan_search::Progress;
 use clap::{ArgMatches, Command};
@@ -69,20 +72,20 @@ pub fn count_text(alloc: Global, number: u64) -> Result<String, AllocError>
     Ok(text)
 }
 
-/// How many outcomes a script has, or none if they can't be counted.
+/// How many outcomes a script has.
 fn outcome_count<P: Progress>(
     alloc: Global,
     script: &Script,
     most: usize,
     progress: &P,
-) -> Result<Option<u64>, AllocError>
-    ensures { IfOk result (λ found. IfSome found
-        (IsCount (fields_of script.now) ⟦<Ending as PartialEq>⟧.eq)) }
+) -> Result<u64, LabError>
+    ensures count { IfOk result
+        (IsCount (fields_of script.now) ⟦<Ending as PartialEq>⟧.eq) }
+    ensures without { IfErr result
+        (HasNoWords (fields_of script.now) ⟦<AllPorts as PartialEq>⟧.eq most) }
 {
-    match outcome_words(alloc, script, most, progress)? {
-        Some(words) => Ok(Some(words.count())),
-        None => Ok(None),
-    }
+    let words = words_of(alloc, script, most, progress)?;
+    Ok(words.count())
 }
 
 /// The line with the number of outcomes of a script.
@@ -94,11 +97,10 @@ fn counted<P: Progress>(
 ) -> Result<String, LabError>
     ensures counted { IfOk result (λ text. TellsCount (fields_of script.now)
         ⟦<Ending as PartialEq>⟧.eq (string_bytes text)) }
-    ensures without { IfErr result (IsUncounted most) }
+    ensures without { IfErr result
+        (HasNoWords (fields_of script.now) ⟦<AllPorts as PartialEq>⟧.eq most) }
 {
-    let Some(number) = outcome_count(alloc, script, most, progress)? else {
-        return Err(LabError::More(most));
-    };
+    let number = outcome_count(alloc, script, most, progress)?;
     Ok(count_text(alloc, number)?)
 }
 

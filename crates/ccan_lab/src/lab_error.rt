@@ -17,6 +17,9 @@ pub enum LabError {
     /// The ports can come to more states than this.
     #[error("ccan-lab: outcomes: more than {0} states")]
     More(usize),
+    /// The outcomes need more nodes than this to be put together.
+    #[error("ccan-lab: outcomes: more than {0} nodes")]
+    Nodes(usize),
     /// The name of this number, from 1, of those that are to be observed is that of no line and no object.
     #[error("ccan-lab: outcomes: --observe: name {0} is no line or object of the script")]
     NoPlace(usize),
@@ -54,7 +57,7 @@ impl LabError {
             LabError::Words | LabError::NoPlace(_) | LabError::NoLine => 2,
             LabError::Memory => 3,
             LabError::Open | LabError::Write => 4,
-            LabError::More(_) => 5,
+            LabError::More(_) | LabError::Nodes(_) => 5,
             LabError::NoOutcome(_, _) => 9,
         }
     }

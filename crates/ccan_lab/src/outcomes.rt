@@ -1,14 +1,14 @@
 //! The question `ccan-lab outcomes`: its words, and its answer.
 
-ghost use Rattle.std.specs.Prelude.{◌≡◌, IfErr, IfOk, IfSome, codes, map, option_map, string_bytes, true};
+ghost use Rattle.std.specs.Prelude.{◌≡◌, IfErr, IfOk, codes, map, option_map, string_bytes, true};
 ghost use Rattle.clap.specs.Words.{first_value, found_of, matched_of, one_text, raw_values};
 ghost use Rattle.ccan_line.specs.Script.{fields_of};
 ghost use Rattle.ccan_lab.specs.Answer.{IsOfAll};
-ghost use Rattle.ccan_lab.specs.Counting.{IsUncounted};
 ghost use Rattle.ccan_lab.specs.Outcomes.{IsWithout, TellsAll};
 ghost use Rattle.ccan_lab.specs.Question.{AreKnown, AreKnownNames, AsksAllBy, AsksBy, IsGivenBy};
 ghost use Rattle.ccan_lab.specs.Question.{files_named};
 ghost use Rattle.ccan_lab.specs.Summary.{TellsSummary};
+ghost use Rattle.ccan_lab.specs.Words.{AsksFor, HasNoWords, IsUnanswered, TellsLine};
 
 use crate::answer::{Answer, answer_of};
 use crate::asked::Asked;
@@ -19,12 +19,14 @@ use crate::command_words::{
 use crate::each_file::{FileAnswer, answer_each};
 use crate::input::{script_asked, tell_terminal};
 use crate::lab_error::LabError;
+use crate::line_search::{LineSearch, search_line};
 use crate::observed::first_unknown;
+use crate::outcome_words::words_of;
 use crate::progress_line::ProgressLine;
 use crate::seen::seen_text;
-use crate::summary::summary;
+use crate::summary::short_list;
 use ccan_outcomes::all_ports::AllPorts;
-use ccan_outcomes::{Ending, all_outcomes, looking_once, outcome_words};
+use ccan_outcomes::{Ending, all_outcomes, looking_once};
 use ccan_script::Script;
 use ccan_search::Progress;
 use clap::{Arg, ArgMatches, Command};
@@ -208,23 +210,7 @@ fn answer_of_all<P: Progress>(
     answer_of(alloc, script, &outcomes, asked)
 }
 
-/// The short list of the outcomes of a script, or none if they can't be had as words. No outcome is listed for it.
-fn short_list<P: Progress>(
-    alloc: Global,
-    script: &Script,
-    most: usize,
-    progress: &P,
-) -> Result<Option<String>, AllocError>
-    ensures { IfOk result (λ found. IfSome found (λ text. TellsSummary (fields_of script.now)
-        ⟦<Ending as PartialEq>⟧.eq (string_bytes text))) }
-{
-    match outcome_words(alloc, script, most, progress)? {
-        Some(words) => Ok(Some(summary(alloc, script, &words)?)),
-        None => Ok(None),
-    }
-}
-
-/// What each line may be in the outcomes of a script.
+/// What each line may be in the outcomes of a script. No outcome is listed for it.
 fn answer_of_summary<P: Progress>(
     alloc: Global,
     script: &Script,
@@ -234,12 +220,37 @@ fn answer_of_summary<P: Progress>(
     ensures told { IfOk result (λ answer. TellsSummary (fields_of script.now)
         ⟦<Ending as PartialEq>⟧.eq (string_bytes answer.text)) }
     ensures holds { IfOk result (λ answer. answer.holds ≡ true) }
-    ensures without { IfErr result (IsUncounted most) }
+    ensures without { IfErr result
+        (HasNoWords (fields_of script.now) ⟦<AllPorts as PartialEq>⟧.eq most) }
 {
-    let Some(text) = short_list(alloc, script, most, progress)? else {
-        return Err(LabError::More(most));
-    };
+    let words = words_of(alloc, script, most, progress)?;
+    let text = short_list(alloc, script, words)?;
     Ok(Answer { text, holds: true })
+}
+
+/// What is answered to the question whether an outcome of a script has a line that begins so, or whether `never` none has. An
+/// outcome is listed only if one has.
+fn answer_of_line<P: Progress>(
+    alloc: Global,
+    script: &Script,
+    asked: Asked<'_>,
+    begin: &str,
+    never: bool,
+    most: usize,
+    progress: &P,
+) -> Result<Answer, LabError>
+    requires { AsksFor asked begin.now never }
+    ensures told { IfOk result (λ answer. TellsLine (fields_of script.now)
+        ⟦<Ending as PartialEq>⟧.eq asked.entry begin.now never
+        (string_bytes answer.text) answer.holds) }
+    ensures without { IfErr result (IsUnanswered (fields_of script.now) asked.entry begin.now
+        ⟦<AllPorts as PartialEq>⟧.eq most) }
+{
+    match search_line(alloc, script, begin, most, progress)? {
+        LineSearch::Found => answer_of_all(alloc, script, asked, most, progress),
+        LineSearch::NotFound(text) => Ok(Answer { text, holds: never }),
+        LineSearch::Refused => Err(LabError::NoLine),
+    }
 }
 
 /// What is answered to the question what of the outcomes of a script can be told apart by the lines and objects of these
@@ -266,10 +277,34 @@ fn answer_of_script<P: Progress>(
 ) -> Result<Answer, LabError> {
     match question.asked {
         Asked::Summary => answer_of_summary(alloc, script, question.most, progress),
+        Asked::Can(begin) => {
+            answer_of_line(
+                alloc,
+                script,
+                question.asked,
+                begin,
+                false,
+                question.most,
+                progress,
+            )
+        }
+        Asked::Never(begin) => {
+            answer_of_line(
+                alloc,
+                script,
+                question.asked,
+                begin,
+                true,
+                question.most,
+                progress,
+            )
+        }
         Asked::Observed(names) => {
             answer_of_observed(alloc, script, names, question.most, progress)
         }
-        asked => answer_of_all(alloc, script, asked, question.most, progress),
+        Asked::All | Asked::AllObserved(_) => {
+            answer_of_all(alloc, script, question.asked, question.most, progress)
+        }
     }
 }
 

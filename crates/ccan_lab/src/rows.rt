@@ -124,7 +124,11 @@ pub fn final_row(object: ObjectNo, left: &Record) -> PrintedLine
 }
 
 /// Adds a line for each answer of a port.
-pub fn add_answers(rows: &mut Rows, port: PortName, answers: &[LineAnswer]) -> Result<(), AllocError>
+pub fn add_answers(
+    rows: &mut Rows,
+    port: PortName,
+    answers: &[LineAnswer],
+) -> Result<(), AllocError>
     ensures { OnOk result (rows.new ≡ rows.old ++ map (line_text port) answers.now) }
 {
     for answer in answers {

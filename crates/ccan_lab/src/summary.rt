@@ -2,7 +2,7 @@
 ghost use Rattle.std.specs.Prelude.{◌≡◌, ◌+◌, ◌-◌, ◌^◌, ◌<◌, ◌≤◌, ◌++◌, List, ℕ, Some, IfOk, OnOk, codes, length, map, min, slice_get, string_bytes};
 ghost use Rattle.std.specs.List.{flat_map};
 ghost use Rattle.ccan_line.specs.Script.{fields_of};
-ghost use Rattle.ccan_outcomes.specs.OutcomeWords.{AreOfLines, HaveEachAnswer, endings_in};
+ghost use Rattle.ccan_outcomes.specs.OutcomeWords.{AreComplete, AreOfLines, endings_in};
 ghost use Rattle.ccan_lab.specs.Place.{place_name};
 ghost use Rattle.ccan_lab.specs.Report.{labelled};
 ghost use Rattle.ccan_lab.specs.Summary.{AreInOrder, IsSummary, choice_part, choice_parts};
@@ -148,9 +148,9 @@ fn counts_of(script: &Script) -> LineCounts
 }
 
 /// What each line may be in the outcomes of a script.
-pub fn summary(alloc: Global, script: &Script, words: &OutcomeWords) -> Result<String, AllocError>
+fn summary(alloc: Global, script: &Script, words: &OutcomeWords) -> Result<String, AllocError>
     requires letters { AreOfLines words.now }
-    requires answers { HaveEachAnswer (fields_of script.now) (endings_in words.now) }
+    requires complete { AreComplete (fields_of script.now) (endings_in words.now) }
     ensures { IfOk result (λ text.
         IsSummary (fields_of script.now) (endings_in words.now) (string_bytes text)) }
 {
@@ -162,4 +162,14 @@ pub fn summary(alloc: Global, script: &Script, words: &OutcomeWords) -> Result<S
     add_choice_parts(&mut text, &counts_of(script), sorted.as_slice())?;
     add_closing(&mut text, number)?;
     Ok(text)
+}
+
+/// What each line may be in the outcomes of a script, which are dropped.
+pub fn short_list(alloc: Global, script: &Script, words: OutcomeWords) -> Result<String, AllocError>
+    requires letters { AreOfLines words }
+    requires complete { AreComplete (fields_of script.now) (endings_in words) }
+    ensures { IfOk result (λ text.
+        IsSummary (fields_of script.now) (endings_in words) (string_bytes text)) }
+{
+    summary(alloc, script, &words)
 }

@@ -1,13 +1,16 @@
 //! The outcomes of scripts in which two hosts race, worked by hand. Lists of outcomes are held to what can come of a script with
 //! the program that prints them.
+ghost use Rattle.ccan_outcomes.specs.OutcomeWords.{AreOfLines};
+
 use crate::expect::{holds, same};
 use crate::runs::read;
 use ccan_object::{ObjectNo, Record};
 use ccan_outcomes::{
     AnswerGraph, Ending, HistoryKind, HistoryStep, OutcomeWords, Outcomes, Watch, all_outcomes,
-    answer_graph, history_of, kept_ending, observed_history, observed_outcomes, outcome_words,
-    states_along,
+    answer_graph, history_of, kept_ending, observed_history, observed_outcomes, states_along,
+    words_of_graph,
 };
+use ccan_ram::PortName;
 use ccan_script::{LineAnswer, Script};
 use ccan_search::Untold;
 use std::alloc::Global;
@@ -201,10 +204,15 @@ fn finds_who_loses_the_only_try(rt: HostRuntime) {
 }
 
 /// The outcomes of a script as words.
-fn words(rt: &impl Abort, alloc: Global, text: &str) -> OutcomeWords {
+fn words(rt: &impl Abort, alloc: Global, text: &str) -> OutcomeWords
+    ensures { AreOfLines result }
+{
     let script = read(rt, alloc, text);
-    match outcome_words(alloc, &script, 1000, &Untold) {
-        Ok(Some(words)) => words,
+    match answer_graph(alloc, &script, 1000, &Untold) {
+        Ok(Some(graph)) => match words_of_graph(alloc, &script, &graph, 1000) {
+            Ok(Some(words)) => words,
+            Ok(None) | Err(_) => panic!(rt; "not all words"),
+        },
         Ok(None) | Err(_) => panic!(rt; "not all outcomes"),
     }
 }
@@ -251,6 +259,38 @@ fn says_each_outcome_by_its_number(rt: HostRuntime) {
     holds(&rt, is_shown(&rt, rt.alloc(), &words, (0, 0x11, 0x11)));
     holds(&rt, is_shown(&rt, rt.alloc(), &words, (0x11, 0x11, 0x11)));
     holds(&rt, matches!(words.ending(rt.alloc(), 3), Ok(None)));
+}
+
+/// How many answers a line of a port has in the outcomes.
+fn answers(
+    rt: &impl Abort,
+    words: &OutcomeWords,
+    alloc: Global,
+    port: PortName,
+    line: usize,
+) -> usize
+    requires { AreOfLines words.now }
+{
+    match words.answers_at(alloc, port, line) {
+        Ok(answers) => answers.len(),
+        Err(_) => panic!(rt; "memory"),
+    }
+}
+
+#[test]
+fn says_what_each_line_may_answer(rt: HostRuntime) {
+    // IF1 writes once. Each read of IF2 shows what stood before the write, or what it left, and so ends each outcome.
+    let words = words(&rt, rt.alloc(), TWO_READS);
+    same(&rt, answers(&rt, &words, rt.alloc(), PortName::If1, 0), 1);
+    same(&rt, answers(&rt, &words, rt.alloc(), PortName::If2, 0), 2);
+    same(&rt, answers(&rt, &words, rt.alloc(), PortName::If2, 1), 2);
+    // There are no such lines.
+    same(&rt, answers(&rt, &words, rt.alloc(), PortName::If2, 2), 0);
+    same(&rt, answers(&rt, &words, rt.alloc(), PortName::Bus, 0), 0);
+    holds(
+        &rt,
+        matches!(words.memories(rt.alloc()), Ok(memories) if memories.len() == 1),
+    );
 }
 
 /// What the first object holds at the end of this outcome, by the first data byte.
