@@ -277,6 +277,16 @@ fn answers(
     }
 }
 
+/// How many memories the outcomes end with.
+fn memories(rt: &impl Abort, words: &OutcomeWords, alloc: Global) -> usize
+    requires { AreOfLines words.now }
+{
+    match words.memories(alloc) {
+        Ok(memories) => memories.len(),
+        Err(_) => panic!(rt; "memory"),
+    }
+}
+
 #[test]
 fn says_what_each_line_may_answer(rt: HostRuntime) {
     // IF1 writes once. Each read of IF2 shows what stood before the write, or what it left, and so ends each outcome.
@@ -287,10 +297,7 @@ fn says_what_each_line_may_answer(rt: HostRuntime) {
     // There are no such lines.
     same(&rt, answers(&rt, &words, rt.alloc(), PortName::If2, 2), 0);
     same(&rt, answers(&rt, &words, rt.alloc(), PortName::Bus, 0), 0);
-    holds(
-        &rt,
-        matches!(words.memories(rt.alloc()), Ok(memories) if memories.len() == 1),
-    );
+    same(&rt, memories(&rt, &words, rt.alloc()), 1);
 }
 
 /// What the first object holds at the end of this outcome, by the first data byte.
