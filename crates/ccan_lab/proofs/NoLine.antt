@@ -1,10 +1,10 @@
--- A line that may stand in no place is one that no outcome has.
-use Rattle.std.proofs.Common.{◌≡◌, ◌<◌, ◌≤◌, ◌+◌, ◌++◌, ◌||◌, ◌&&◌, ◌==◌, ◌⊎◌, inl, inr, not, cond, nat_lt, ℕ, zero, suc, Bool, true, false, List, [], ◌∷◌, Some, None, Option, Contains, length, length-append, map, take, slice_get, unwrap_or, get_or, position, refl, sym, ap, subst, ◌∙◌, arith}
+-- A line that may stand in no place is one that no outcome has, and one that may stand in a place is one that an outcome has.
+use Rattle.std.proofs.Common.{◌≡◌, ◌<◌, ◌≤◌, ◌+◌, ◌++◌, ◌||◌, ◌&&◌, ◌==◌, ◌⊎◌, inl, inr, not, cond, nat_lt, ℕ, zero, suc, Bool, true, false, List, [], ◌∷◌, Some, None, Option, Contains, length, length-append, map, take, slice_get, unwrap_or, position, refl, sym, ap, subst, ◌∙◌, arith}
 use Rattle.std.specs.List.{enumerate_from, list_any, position_or_len, prefix_len}
-use Rattle.std.proofs.lemmas.Bool.{false≢true, true≢false}
+use Rattle.std.proofs.lemmas.Bool.{false≢true, lt-ltb, true≢false}
 use Rattle.std.proofs.lemmas.List.{length-map}
 use Rattle.std.proofs.lemmas.List.FromFn.{length-enumerate_from}
-use Rattle.std.proofs.lemmas.Option.{slice_get_within}
+use Rattle.std.proofs.lemmas.Option.{get_or_from_slice_get, slice_get_within}
 use Rattle.ccan_language.proofs.Order.{bool_cases}
 use Rattle.ccan_line.specs.Script.{ScriptFields}
 use Rattle.ccan_object.specs.declared.record.Record.{Record}
@@ -13,12 +13,13 @@ use Rattle.ccan_ram.specs.declared.port.PortName.TheVariants.{If1, If2, Bus}
 use Rattle.ccan_script.specs.Print.{line_text}
 use Rattle.ccan_outcomes.specs.declared.ending.Ending.{Ending}
 use Rattle.ccan_outcomes.specs.OutcomeWords.{AreComplete}
-use Rattle.ccan_lab.specs.Answer.{first_with, is_none_so, is_refused}
+use Rattle.ccan_lab.specs.Answer.{first_with, is_none_so, is_refused, is_so}
 use Rattle.ccan_lab.specs.Beginnings.{can_begin}
 use Rattle.ccan_lab.specs.Observed.{places_of}
 use Rattle.ccan_lab.specs.Rows.{begins_so, final_row, final_rows, has_line, line_at, rows_of}
 use Rattle.ccan_lab.specs.Summary.{AreLinesAt}
 use Rattle.ccan_lab.proofs.Chosen.{image_of, item, length-take-le-list}
+use Rattle.ccan_lab.proofs.Taken.{found_within}
 
 -- an item that passes, and where it stands
 abbrev HasOne : {X : Type 0} → (X → Bool) → List X → Type 0
@@ -33,6 +34,9 @@ any_at {X} p (x ∷ xs) is =
           let on = any_at p xs (sym (ap (λ (b : Bool). b || list_any p xs) here) ∙ is) in
           (suc on.0, on.1, on.2, on.3)
     ]
+
+contains_at : {X : Type 0} (xs : List X) (k : ℕ) (x : X) → slice_get xs k ≡ Some x → Contains xs x
+contains_at xs k x at = (k, slice_get_within xs k x at, get_or_from_slice_get xs k x x at)
 
 pub any_of : {X : Type 0} (p : X → Bool) (xs : List X) (x : X) → Contains xs x → p x ≡ true → list_any p xs ≡ true
 any_of p [] x (k, low, at) passes = absurd (omega (arith, low))
@@ -97,17 +101,9 @@ module _ (script : ScriptFields) (endings : List Ending) (complete : AreComplete
       let lines = item choices found.0 (omega (arith, within, most, many)) in
       let row : line_at (rows_of ending) found.0 ≡ found.1 = ap (λ (o : Option (List ℕ)). unwrap_or o []) found.2 in
       let there = subst (Contains lines.0) row ((are found.0 lines.0 lines.1).complete ending inside) in
-      let so = any_of (has_line begin) choices lines.0 (
-        found.0,
-        slice_get_within choices found.0 lines.0 lines.1,
-        at_place choices found.0 lines.0 lines.1,
-      ) (any_of (begins_so begin) lines.0 found.1 there found.3) in
+      let so = any_of (has_line begin) choices lines.0 (contains_at choices found.0 lines.0 lines.1)
+      (any_of (begins_so begin) lines.0 found.1 there found.3) in
       true≢false (sym so ∙ none)
-    where
-      at_place : (xs : List (List (List ℕ))) (k : ℕ) (x : List (List ℕ)) → slice_get xs k ≡ Some x → get_or xs k x ≡ x
-      at_place [] k x at = absurd cc
-      at_place (y ∷ ys) zero x at = ap (λ (o : Option (List (List ℕ))). unwrap_or o x) at
-      at_place (y ∷ ys) (suc k) x at = at_place ys k x at
 
   pub no_outcome : first_with begin endings ≡ None
   no_outcome = none_found (has_line begin) (map rows_of endings) (λ rows inside. without rows inside)
@@ -120,6 +116,41 @@ module _ (script : ScriptFields) (endings : List Ending) (complete : AreComplete
             | inl has ↦ absurd (not_in of.0 of.1 has)
             | inr hasnt ↦ hasnt
           ])
+
+-- ---- a line that may stand in a place
+
+-- the line in a place begins so, and then it is printed
+row_at : (begin : List ℕ) (rows : List (List ℕ)) (place : ℕ) (line : List ℕ) → line_at rows place ≡ line
+    → begins_so begin line ≡ true → has_line begin rows ≡ true
+unfolding has_line line_at
+row_at begin rows place line is so = by (slice_get rows place) refl
+  where
+    by : (found : Option (List ℕ)) → slice_get rows place ≡ found → list_any (begins_so begin) rows ≡ true
+    by (Some row) at =
+        let same : row ≡ line = sym (ap (λ (o : Option (List ℕ)). unwrap_or o []) at) ∙ is in
+        any_of (begins_so begin) rows row (contains_at rows place row at) (ap (begins_so begin) same ∙ so)
+    by None at =
+        let same : [] ≡ line = sym (ap (λ (o : Option (List ℕ)). unwrap_or o []) at) ∙ is in
+        absurd (false≢true (ap (begins_so begin) same ∙ so))
+
+-- an outcome has it
+pub some_outcome : (endings : List Ending) (choices : List (List (List ℕ)))
+    → ((place : ℕ) (lines : List (List ℕ)) → slice_get choices place ≡ Some lines → AreLinesAt endings place lines)
+    → (begin : List ℕ) → list_any (has_line begin) choices ≡ true → is_so (first_with begin endings) ≡ true
+unfolding has_line
+some_outcome endings choices are begin some =
+    let place = any_at (has_line begin) choices some in
+    let line = any_at (begins_so begin) place.1 place.3 in
+    let of = (are place.0 place.1 place.2).right line.1 (contains_at place.1 line.0 line.1 line.2) in
+    let inside = of.1 in
+    let has = row_at begin (rows_of of.0) place.0 line.1 of.2 line.3 in
+    let first = position_or_len (has_line begin) (map rows_of endings) in
+    let within = found_within rows_of (has_line begin) endings inside.0 of.0 inside.1 inside.2 has in
+    let found : first_with begin endings ≡ Some first =
+    ap (λ (b : Bool). cond b (Some first) None) (lt-ltb first (length (map rows_of endings)) within) in
+    ap is_so found
+
+-- ---- a line that is refused
 
 -- a line that no outcome has is refused exactly if it is empty or no printed line can begin so
 pub refused : (script : ScriptFields) (endings : List Ending) (begin : List ℕ) → first_with begin endings ≡ None

@@ -13,7 +13,7 @@ use Rattle.ccan_lab.specs.Beginnings.{can_begin}
 use Rattle.ccan_lab.specs.Rows.{has_line, rows_of}
 
 -- an element that passes is found before the end
-found_within : {X Y : Type 0} (f : X → Y) (p : Y → Bool) (xs : List X) (k : ℕ) (x : X) → k < length xs → get_or xs k x ≡ x
+pub found_within : {X Y : Type 0} (f : X → Y) (p : Y → Bool) (xs : List X) (k : ℕ) (x : X) → k < length xs → get_or xs k x ≡ x
     → p (f x) ≡ true → position_or_len p (map f xs) < length (map f xs)
 found_within f p [] k x within at passes = absurd (omega arith)
 found_within f p (y ∷ ys) zero x within at passes = by (p (f y)) (ap (λ it. p (f it)) at ∙ passes)

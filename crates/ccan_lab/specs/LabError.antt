@@ -6,7 +6,8 @@ use Rattle.ccan_lab.specs.declared.lab_error.LabError.TheVariants.{Words, Open, 
 use Rattle.ccan_lab.specs.declared.lab_error.LabError.TheVariants.{NoOutcome, Memory, Write}
 
 -- 1 for a script or a log that is refused, 2 for the words, among them a name of no line or object and the beginning of no
--- printed line, 3 if memory ran out, 4 for streams and files, 5 for too many states or nodes, 9 for an outcome that is not in the list
+-- printed line, 3 if memory ran out, 4 for streams and files, 5 for too many states or nodes, 9 for an outcome that is not in
+-- the list
 abbrev pub exit_status : LabError → ℕ
 exit_status (Input fault) = run.exit_status fault
 exit_status Log = 1

@@ -13,7 +13,7 @@ use Rattle.ccan_lab.specs.declared.lab_error.LabError.{LabError}
 use Rattle.ccan_lab.specs.declared.lab_error.LabError.TheVariants as fault
 use Rattle.ccan_lab.specs.declared.line_search.LineSearch.{LineSearch}
 use Rattle.ccan_lab.specs.declared.line_search.LineSearch.TheVariants.{Found, NotFound, Refused}
-use Rattle.ccan_lab.specs.Answer.{first_with, is_refused, none_text}
+use Rattle.ccan_lab.specs.Answer.{first_with, is_refused, is_so, none_text}
 use Rattle.ccan_lab.specs.Counting.{greatest}
 use Rattle.ccan_lab.specs.Outcomes.{IsWithout, TellsAll}
 
@@ -30,9 +30,10 @@ pub record SaysNone (endings : List Ending) (begin text : List ℕ) : Type 0 whe
   pub none : first_with begin endings ≡ None
   pub text_is : text ≡ none_text (min (length endings) greatest) begin
 
--- what came of a search among the outcomes: a line that isn't refused, and that none of them has; or one that is refused
+-- what came of a search among the outcomes: a line that one of them has; one that isn't refused, and that none of them has; or one
+-- that is refused
 abbrev pub IsSearched : ScriptFields → List Ending → List ℕ → LineSearch → Type 0
-IsSearched script endings begin Found = Unit {0}
+IsSearched script endings begin Found = is_so (first_with begin endings) ≡ true
 IsSearched script endings begin (NotFound text) =
     SaysNone endings begin (string_bytes text) × (is_refused script endings begin ≡ false)
 IsSearched script endings begin Refused = is_refused script endings begin ≡ true
@@ -50,9 +51,14 @@ abbrev pub RefusesLine : ScriptFields → List ℕ → Type 0
 RefusesLine script begin =
     (endings : List Ending) × AreOutcomes script endings × (is_refused script endings begin ≡ true)
 
--- what came of a search among all outcomes of a script
+-- in such a list an outcome has a line that begins so
+abbrev pub HasLineAmong : ScriptFields → List ℕ → Type 0
+HasLineAmong script begin =
+    (endings : List Ending) × AreOutcomes script endings × (is_so (first_with begin endings) ≡ true)
+
+-- what came of a search among all outcomes of a script: one of them has the line, none has, or it is refused
 abbrev pub HasSearched : ScriptFields → (Ending → Ending → Bool) → List ℕ → LineSearch → Type 0
-HasSearched script eq begin Found = Unit {0}
+HasSearched script eq begin Found = HasLineAmong script begin
 HasSearched script eq begin (NotFound text) = TellsNone script eq begin (string_bytes text)
 HasSearched script eq begin Refused = RefusesLine script begin
 

@@ -17,8 +17,8 @@
 //! `--never`. A check ends with 1 where a script has faults, and else with 7 where there are warnings and `--strict` asks
 //! for that, and with 8 where a run is not as expected. A fault is told on standard error, and the exit status: 1 where the
 //! script or the log is refused, 2 where the words of the command line ask no question or search for a line that no printed
-//! line can begin with, 3 where memory ran out, 4 where a stream or a file failed, 5 where the ports can come to more states
-//! than were allowed, 9 where there is no outcome of the number that is to be drawn.
+//! line can begin with, 3 where memory ran out, 4 where a stream or a file failed, 5 where the ports can come to more states, or
+//! the outcomes need more nodes, than were allowed, 9 where there is no outcome of the number that is to be drawn.
 #![tactic(auto)]
 
 pub mod answer;

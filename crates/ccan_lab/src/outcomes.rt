@@ -228,8 +228,8 @@ fn answer_of_summary<P: Progress>(
     Ok(Answer { text, holds: true })
 }
 
-/// What is answered to the question whether an outcome of a script has a line that begins so, or whether `never` none has. An
-/// outcome is listed only if one has.
+/// What is answered to the question whether an outcome of a script has a line that begins so, or, if `never` is set, whether none
+/// has. Outcomes are listed only if one has it.
 fn answer_of_line<P: Progress>(
     alloc: Global,
     script: &Script,

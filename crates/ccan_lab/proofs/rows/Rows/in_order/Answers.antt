@@ -22,7 +22,9 @@ returns c =
     let kept = dedup_is same_line sorted _ c.dedup.ensures.filtered in
     let keeps = Contains-dedup nat_list_eq_equiv (λ x y e. same_text x y (sym e)) (texts_of sorted) in
     record {
-      right = All-at _ _ (rw (kept, texts_of-dedup sorted) (All-dedup bytes_eq (Contains all) _ (All-permutation (Contains all) all _ moved (All-contains_itself all))));
+      right = All-at _ _ (rw (kept, texts_of-dedup sorted)
+          (All-dedup bytes_eq (Contains all) _ (All-permutation (Contains all) all _ moved (All-contains_itself all))));
       complete = λ line inside. rw (kept, texts_of-dedup sorted) (keeps line (Contains-permutation all _ line moved inside));
-      ordered = rw kept (sorted_texts _ (IsStrictlySortedBy-dedup (on_texts (λ (line : Line). line.now)) (λ x y. texts_ties x.now y.now) sorted c.in_ok-sort.ensures.sorted));
+      ordered = rw kept (sorted_texts _ (IsStrictlySortedBy-dedup (on_texts (λ (line : Line). line.now))
+          (λ x y. texts_ties x.now y.now) sorted c.in_ok-sort.ensures.sorted));
     }
