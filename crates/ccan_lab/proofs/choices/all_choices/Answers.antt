@@ -26,7 +26,7 @@ returns-clause-places c =
     let four : HasObjects memories (objects_in script.profile) c.add_port-3.new.all.items c.add_objects.new.all.items =
     subst (λ (m : List (List Record)). HasObjects m (objects_in script.profile) c.add_port-3.new.all.items
     c.add_objects.new.all.items) c.as_slice.ensures.value c.in_ok-add_objects.ensures in
-    as_many_places script endings c.requires.complete memories c.in_ok-memories.ensures c.add_port.new.all.items
+    as_many_places script endings c.requires.complete memories c.in_ok-memories.ensures.memories c.add_port.new.all.items
     c.add_port-2.new.all.items c.add_port-3.new.all.items c.add_objects.new.all.items one two three four
 
 pub returns-clause-lines : goal.returns-clause-lines
@@ -47,5 +47,5 @@ returns-clause-lines c =
     let four : HasObjects memories (objects_in script.profile) c.add_port-3.new.all.items c.add_objects.new.all.items =
     subst (λ (m : List (List Record)). HasObjects m (objects_in script.profile) c.add_port-3.new.all.items
     c.add_objects.new.all.items) c.as_slice.ensures.value c.in_ok-add_objects.ensures in
-    in_four script endings c.requires.complete memories c.in_ok-memories.ensures c.add_port.new.all.items
+    in_four script endings c.requires.complete memories c.in_ok-memories.ensures.memories c.add_port.new.all.items
     c.add_port-2.new.all.items c.add_port-3.new.all.items c.add_objects.new.all.items one two three four

@@ -11,4 +11,4 @@ returns c =
     let answers = c.in_ok-answers.answers.items in
     let is : c.add_answers.new.rows ≡ map (line_text c.args.port) answers = search rules in
     subst (AreLinesOf endings c.args.port c.args.line) (sym is)
-    (lines_printed endings c.args.port c.args.line answers c.in_ok-answers.ensures)
+    (lines_printed endings c.args.port c.args.line answers c.in_ok-answers.ensures.answers)
