@@ -16,6 +16,8 @@ mod faulty;
 #[cfg(test)]
 mod ladder;
 #[cfg(test)]
+mod landing;
+#[cfg(test)]
 mod languages;
 #[cfg(test)]
 mod laws;

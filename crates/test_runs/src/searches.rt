@@ -3,8 +3,9 @@
 //! to 4; from 1 to the ground, and from 4 by 3 and 2 to 1 again.
 use crate::expect::{holds, same};
 use crate::ladder::Ladder;
+use crate::landing::Landing;
 use crate::stairs::Stairs;
-use ccan_search::{Edge, GraphFrom, Progress, Untold, graph_of, reachable, tale, way};
+use ccan_search::{Edge, GraphFrom, Labelled, Progress, Untold, graph_of, reachable, tale, way};
 use std::alloc::Global;
 use std::cell::Cell;
 use std::collections::VecDeque;
@@ -101,9 +102,18 @@ fn tells_of_passed_rungs(rt: HostRuntime) {
     tells(&rt, rt.alloc(), 2, 4, &[6, 5, 4]);
 }
 
-/// The graph of the stairs below this one.
-fn stairs_below(rt: &impl Abort, alloc: Global, stair: u64) -> GraphFrom<u64, u64> {
-    let Ok(Some(found)) = graph_of(&Stairs, alloc, stair, 100, &Untold) else {
+/// The graph of stairs from this one down, where the search looks so many moves ahead.
+fn graph_from<M>(
+    rt: &impl Abort,
+    alloc: Global,
+    stairs: &M,
+    stair: u64,
+    ahead: usize,
+) -> GraphFrom<u64, u64>
+where
+    M: Labelled<State = u64, Label = u64>,
+{
+    let Ok(Some(found)) = graph_of(stairs, alloc, stair, ahead, 100, &Untold) else {
         panic!(rt; "not all stairs")
     };
     found
@@ -120,26 +130,57 @@ fn sums(edges: &[Edge<u64>]) -> (u64, usize) {
     (down, to)
 }
 
-/// Each stair stands behind those to which one goes down from it: so those below stair 3 stand in their order.
+/// Holds a graph to these stairs, of which the last is the start, and to the sums of the edges of each.
+fn is_graph(rt: &impl Abort, found: &GraphFrom<u64, u64>, stairs: &[u64], edges: &[(u64, usize)]) {
+    same(rt, found.graph.states.as_slice(), stairs);
+    same(rt, found.start.saturating_add(1), stairs.len());
+    for (own, want) in found.graph.edges.iter().zip(edges) {
+        same(rt, sums(own.as_slice()), *want);
+    }
+}
+
+/// Each stair stands behind those to which one goes down from it: so those below stair 3 stand in their order. One move alone
+/// follows stair 1, but these stairs don't let it be passed.
 #[test]
 fn finds_edges_with_labels(rt: HostRuntime) {
-    let found = stairs_below(&rt, rt.alloc(), 3);
-    same(&rt, found.graph.states.as_slice(), &[0, 1, 2, 3]);
-    same(&rt, found.start, 3);
-    for (edges, want) in found
-        .graph
-        .edges
-        .iter()
-        .zip([(0, 0), (1, 0), (3, 1), (3, 3)])
-    {
-        same(&rt, sums(edges.as_slice()), want);
-    }
+    let found = graph_from(&rt, rt.alloc(), &Stairs, 3, 10);
+    is_graph(
+        &rt,
+        &found,
+        &[0, 1, 2, 3],
+        &[(0, 0), (1, 0), (3, 1), (3, 3)],
+    );
+}
+
+/// From stair 5 one goes down by stair 4 to the landing, stair 3, and from there in two ways to the ground: by stairs 2 and 1, or
+/// by stair 1. No other stair is kept where the search passes as many as it can.
+#[test]
+fn passes_stairs_that_one_move_follows(rt: HostRuntime) {
+    let stairs = Landing { at: 3 };
+    let found = graph_from(&rt, rt.alloc(), &stairs, 5, 10);
+    is_graph(&rt, &found, &[0, 3, 5], &[(0, 0), (6, 0), (2, 1)]);
+    // One at a time: stair 4 before the landing, stair 2 before stair 1, and stair 1 before the ground. So stair 1 is kept too.
+    let found = graph_from(&rt, rt.alloc(), &stairs, 5, 1);
+    is_graph(
+        &rt,
+        &found,
+        &[0, 1, 3, 5],
+        &[(0, 0), (1, 0), (5, 1), (2, 2)],
+    );
+    // None at all.
+    let found = graph_from(&rt, rt.alloc(), &stairs, 5, 0);
+    is_graph(
+        &rt,
+        &found,
+        &[0, 1, 2, 3, 4, 5],
+        &[(0, 0), (1, 0), (1, 1), (3, 3), (1, 3), (1, 4)],
+    );
 }
 
 #[test]
 fn finds_no_graph_where_stairs_are_many(rt: HostRuntime) {
     holds(
         &rt,
-        matches!(graph_of(&Stairs, rt.alloc(), 3, 3, &Untold), Ok(None)),
+        matches!(graph_of(&Stairs, rt.alloc(), 3, 10, 3, &Untold), Ok(None)),
     );
 }

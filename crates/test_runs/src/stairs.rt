@@ -44,6 +44,17 @@ impl Labelled for Stairs {
         Ok(moves)
     }
 
+    fn join(&self, _alloc: Global, first: u64, second: u64) -> Result<u64, AllocError> {
+        match first.checked_add(second) {
+            Some(both) => Ok(both),
+            None => Err(AllocError),
+        }
+    }
+
+    fn may_pass(&self, _state: &u64) -> bool {
+        false
+    }
+
     fn copy(&self, _alloc: Global, state: &u64) -> Result<u64, AllocError> {
         Ok(*state)
     }

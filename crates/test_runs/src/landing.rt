@@ -1,0 +1,67 @@
+//! A machine with states that one move alone follows.
+use ccan_search::{Labelled, Move};
+use std::alloc::{AllocError, Global};
+
+/// Stairs with a landing. From there one goes down one stair or two, from any other stair one. The label of a move says how many.
+#[derive(Drop)]
+pub struct Landing {
+    /// The stair that is the landing.
+    pub at: u64,
+}
+
+impl Labelled for Landing {
+    ghost use Rattle.std.specs.Prelude.{ℕ, ◌≡◌, ◌+◌, ◌<◌, ◌⊎◌};
+    ghost use Rattle.std.proofs.lemmas.Bool.{eqb-true};
+
+    /// The stair, and 0 for the ground.
+    type State = u64;
+
+    /// How many stairs a move goes down.
+    type Label = u64;
+
+    ghost Abstract = { ℕ };
+
+    ghost Past = { ℕ };
+
+    ghost after = { λ _ past label. past + label };
+
+    ghost leads = { λ _ from to. (from ≡ to + 1) ⊎ (from ≡ to + 2) };
+
+    ghost stands_for = { λ _ state past there. state ≡ there };
+
+    ghost to_follow = { λ stairs _ from to. (from ≡ to + 1) ⊎ (from ≡ stairs.at) × (from ≡ to + 2) };
+
+    fn moves(&self, alloc: Global, from: &u64) -> Result<Vec<Move<u64, u64>>, AllocError> {
+        let mut moves = Vec::new(alloc);
+        if *from > 0 {
+            moves.push(Move {
+                to: *from - 1,
+                label: 1,
+            })?;
+        }
+        if *from > 1 && *from == self.at {
+            moves.push(Move {
+                to: *from - 2,
+                label: 2,
+            })?;
+        }
+        Ok(moves)
+    }
+
+    fn join(&self, _alloc: Global, first: u64, second: u64) -> Result<u64, AllocError> {
+        match first.checked_add(second) {
+            Some(both) => Ok(both),
+            None => Err(AllocError),
+        }
+    }
+
+    fn may_pass(&self, _state: &u64) -> bool {
+        true
+    }
+
+    fn copy(&self, _alloc: Global, state: &u64) -> Result<u64, AllocError> {
+        Ok(*state)
+    }
+
+    ghost same = { eqb-true };
+}
