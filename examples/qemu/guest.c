@@ -1,11 +1,18 @@
 /*
- * The first process of a guest that has two C_CANs on one bus, as Linux's
- * driver c_can_pci runs them: loads the modules, starts can0 and can1 at
- * 500 kbit/s, sends numbered frames both ways at once, and sees that each
- * comes once. Then it switches the machine off. How many frames each sends is
- * the word frames=N of the kernel's command line. With the word off=1 it does
- * something else: can0 sends frames one by one until it was bus off, and was
- * restarted by the driver, and then as many as frames=N says.
+ * The first process of a guest whose C_CANs are on one bus, as Linux's driver
+ * c_can_pci runs them: loads the modules, starts each card at 500 kbit/s,
+ * makes one test, and switches the machine off. The words test=NAME and
+ * frames=N of the kernel's command line say which test:
+ *
+ *   exchange  each of two or three cards sends N numbered frames, all at once,
+ *             and each comes once to each other card; if no test is named
+ *   kinds     frames of all kinds, each way at once
+ *   loop      the same of the first card in loop back mode: it hears them
+ *             itself, and so does the second one if it is there
+ *   listen    the same between the first two of three cards; the third one is
+ *             in listen-only mode, hears all, and acknowledges none
+ *   off       the first card sends frames one by one until it was bus off, and
+ *             was restarted by the driver, and then N frames
  *
  * A frame may be overtaken by later ones: the driver says of itself that a
  * slow readout may order frames anew. How many were is counted.
@@ -14,321 +21,402 @@
  * too many. See docs/C_REFERENCE.md, "The Linux driver on it".
  */
 #include <errno.h>
-#include <fcntl.h>
-#include <linux/can.h>
 #include <linux/can/error.h>
 #include <linux/can/netlink.h>
 #include <linux/can/raw.h>
-#include <linux/rtnetlink.h>
-#include <net/if.h>
 #include <poll.h>
-#include <stdbool.h>
-#include <stdint.h>
 #include <stdio.h>
 #include <stdlib.h>
 #include <string.h>
 #include <sys/mount.h>
-#include <sys/reboot.h>
 #include <sys/socket.h>
 #include <sys/stat.h>
-#include <sys/syscall.h>
-#include <time.h>
 #include <unistd.h>
+#include "guest.h"
 
-enum { BITRATE = 500000, WAITING = 8, SECONDS = 20, MOST = 1000000,
-       RESTART_MS = 50 };
+enum { WAITING = 8, SECONDS = 20, MOST = 1000000, SOON_MS = 20 };
 
-static uint32_t frames = 2000; /* that each interface sends */
+static uint32_t cards;
+static uint32_t frames = 2000; /* that each card sends */
 
-/* What one interface has sent and received. */
-struct end {
-    const char *name;
-    int socket;
-    canid_t id;         /* of the frames that it sends */
-    canid_t other;      /* of those that it receives */
-    uint32_t handed;    /* to the driver */
-    uint32_t sent;      /* as the driver says */
+/* ---- one frame */
+
+static void send_frame(int file, const struct can_frame *frame)
+{
+    must(write(file, frame, sizeof(*frame)) == sizeof(*frame), "write");
+}
+
+/* Whether a frame comes within so many milliseconds. */
+static bool comes_within(int file, int ms, struct can_frame *frame)
+{
+    struct pollfd polled = { .fd = file, .events = POLLIN };
+
+    if (poll(&polled, 1, ms) <= 0)
+        return false;
+    must(read(file, frame, sizeof(*frame)) == sizeof(*frame), "read");
+    return true;
+}
+
+static bool is_same(const struct can_frame *one, const struct can_frame *other)
+{
+    return one->can_id == other->can_id && one->can_dlc == other->can_dlc
+           && memcmp(one->data, other->data, sizeof(one->data)) == 0;
+}
+
+/* The next frame that comes has to be this one. */
+static void expect(int file, const struct can_frame *wanted)
+{
+    struct can_frame frame;
+
+    errno = ETIMEDOUT;
+    must(comes_within(file, SECONDS * 1000, &frame), "waiting for a frame");
+    errno = 0;
+    must(is_same(&frame, wanted), "another frame came");
+}
+
+/* No frame comes for some time, in which dozens could. */
+static void expect_none(int file)
+{
+    struct can_frame frame;
+
+    errno = 0;
+    must(!comes_within(file, SOON_MS, &frame), "a frame came");
+}
+
+/* ---- frames of all kinds */
+
+/* Of two kinds at the same distance from both ends the identifiers differ. */
+static const canid_t ids[] = {
+    0, 0x001, 0x2aa, 0x555, 0x7ef,
+    CAN_EFF_FLAG, CAN_EFF_FLAG | 0x0aaaaaaa, CAN_EFF_FLAG | 0x15555555,
+    CAN_EFF_FLAG | 0x1fbfffff, CAN_EFF_FLAG | 0x00000001,
+};
+
+enum { KINDS = sizeof(ids) / sizeof(ids[0]) * 2 * (CAN_MAX_DLEN + 1) };
+
+/* A data and a remote frame of each length with each identifier. */
+static struct can_frame kind(uint32_t number)
+{
+    struct can_frame frame = {
+        .can_id = ids[number / 2 / (CAN_MAX_DLEN + 1)],
+        .can_dlc = number / 2 % (CAN_MAX_DLEN + 1),
+    };
+
+    if (number % 2) {
+        frame.can_id |= CAN_RTR_FLAG;
+    } else {
+        for (int k = 0; k < frame.can_dlc; k++)
+            frame.data[k] = (uint8_t)(number * 37 + k * 85);
+    }
+    return frame;
+}
+
+/* Two cards send one at once, and each has the other's. */
+static void cross(const int files[], uint32_t number)
+{
+    struct can_frame one = kind(number);
+    struct can_frame other = kind(KINDS - 1 - number);
+
+    send_frame(files[0], &one);
+    send_frame(files[1], &other);
+    expect(files[0], &other);
+    expect(files[1], &one);
+}
+
+/* The two sockets of the first two cards. */
+static void open_both(int files[2])
+{
+    files[0] = open_socket(0, false);
+    files[1] = open_socket(1, false);
+}
+
+static void close_both(const int files[2])
+{
+    close(files[0]);
+    close(files[1]);
+}
+
+static void cross_kinds(void)
+{
+    int files[2];
+
+    open_both(files);
+    for (uint32_t number = 0; number < KINDS; number++)
+        cross(files, number);
+    close_both(files);
+}
+
+static void try_kinds(void)
+{
+    cross_kinds();
+    printf("guest: came to: %u kinds of frames each way\n", (unsigned)KINDS);
+}
+
+/* ---- loop back */
+
+/* A socket of the card that is open meanwhile reports that once. */
+static void restart_card(uint32_t card, uint32_t modes)
+{
+    stop_card(card);
+    start_card(card, modes);
+}
+
+/* The first card sends each kind; so many of these hear it. */
+static void loop_kinds(const int files[], uint32_t count)
+{
+    for (uint32_t number = 0; number < KINDS; number++) {
+        struct can_frame frame = kind(number);
+
+        send_frame(files[0], &frame);
+        for (uint32_t k = 0; k < count; k++)
+            expect(files[k], &frame);
+    }
+    expect_none(files[0]);
+}
+
+static void try_loop_back(void)
+{
+    int files[2];
+
+    restart_card(0, CAN_CTRLMODE_LOOPBACK);
+    open_both(files);
+    loop_kinds(files, 2);
+    stop_card(1);
+    loop_kinds(files, 1);
+    close_both(files);
+    restart_card(0, 0);
+    start_card(1, 0);
+    cross_kinds();
+    printf("guest: came to: %u kinds of frames to itself and the other,"
+           " to itself alone, and each way again\n", (unsigned)KINDS);
+}
+
+/* ---- listen-only */
+
+/* The third card hears both frames, in the order in which they were sent. */
+static void overhear(const int files[], uint32_t number)
+{
+    struct can_frame one = kind(number), other = kind(KINDS - 1 - number);
+    struct can_frame first, second;
+
+    cross(files, number);
+    errno = ETIMEDOUT;
+    must(comes_within(files[2], SECONDS * 1000, &first), "a first frame");
+    must(comes_within(files[2], SECONDS * 1000, &second), "a second frame");
+    errno = 0;
+    must((is_same(&first, &one) && is_same(&second, &other))
+         || (is_same(&first, &other) && is_same(&second, &one)),
+         "another frame was heard");
+}
+
+/* A frame is sent only when another than the listener is there. */
+static void send_alone(void)
+{
+    struct can_frame frame = kind(0);
+    int sender = open_socket(0, true), receiver = open_socket(1, false);
+    int error;
+    socklen_t length = sizeof(error);
+
+    stop_card(1);
+    /* This takes back that the card is down. */
+    must(getsockopt(receiver, SOL_SOCKET, SO_ERROR, &error, &length) == 0,
+         "SO_ERROR");
+    send_frame(sender, &frame);
+    expect_none(sender);
+    start_card(1, 0);
+    expect(sender, &frame);
+    expect(receiver, &frame);
+}
+
+static void try_listen_only(void)
+{
+    int files[3];
+
+    restart_card(2, CAN_CTRLMODE_LISTENONLY);
+    open_both(files);
+    files[2] = open_socket(2, false);
+    for (uint32_t number = 0; number < KINDS; number++)
+        overhear(files, number);
+    send_alone();
+    printf("guest: came to: %u kinds of frames each way, overheard by a card"
+           " that acknowledges none\n", (unsigned)KINDS);
+}
+
+/* ---- numbered frames */
+
+/* What came from one card to another. */
+struct stream {
     uint32_t received;
     uint32_t overtaken; /* that came behind a later one */
     uint32_t next;      /* the number behind the highest that came */
     bool came[MOST];
 };
 
-static struct end ends[] = {
-    { .name = "can0", .id = 0x200, .other = 0x100 },
-    { .name = "can1", .id = 0x100, .other = 0x200 },
+/* What one card has sent and received. */
+struct end {
+    int socket;
+    uint32_t handed; /* to the driver */
+    uint32_t sent;   /* as the driver says */
 };
 
-static void switch_off(void)
+static struct end ends[CARDS];
+static struct stream streams[CARDS][CARDS]; /* to a card, from a card */
+
+/* The identifier of a card's frames: the last card's is the lowest. */
+static canid_t id_of(uint32_t card)
 {
-    sync();
-    reboot(RB_POWER_OFF);
-    for (;;)
-        pause();
+    return (cards - card) * 0x100;
 }
 
-static void fail(const char *what)
+static struct can_frame numbered(uint32_t card, uint32_t number)
 {
-    printf("guest: FAILED: %s: %s\n", what, strerror(errno));
-    switch_off();
-}
-
-static void must(bool done, const char *what)
-{
-    if (!done)
-        fail(what);
-}
-
-/* ---- the start */
-
-static void load_module(const char *path)
-{
-    int file = open(path, O_RDONLY | O_CLOEXEC);
-
-    must(file >= 0, path);
-    must(syscall(SYS_finit_module, file, "", 0) == 0, path);
-    close(file);
-}
-
-static void load_modules(void)
-{
-    load_module("/can-dev.ko");
-    load_module("/can.ko");
-    load_module("/can-raw.ko");
-    load_module("/c_can.ko");
-    load_module("/c_can_pci.ko");
-}
-
-struct request {
-    struct nlmsghdr head;
-    struct ifinfomsg link;
-    char attributes[256];
-};
-
-/* Adds an attribute, and says where it is. */
-static struct rtattr *add(struct request *request, unsigned short type,
-                          const void *data, size_t length)
-{
-    size_t at = NLMSG_ALIGN(request->head.nlmsg_len);
-    struct rtattr *attribute = (struct rtattr *)((char *)request + at);
-
-    must(at + RTA_SPACE(length) <= sizeof(*request), "an attribute");
-    attribute->rta_type = type;
-    attribute->rta_len = RTA_LENGTH(length);
-    if (length)
-        memcpy(RTA_DATA(attribute), data, length);
-    request->head.nlmsg_len = at + RTA_ALIGN(attribute->rta_len);
-    return attribute;
-}
-
-/* What was added since this attribute is inside of it. */
-static void close_nest(struct request *request, struct rtattr *nest)
-{
-    nest->rta_len = (char *)request + request->head.nlmsg_len - (char *)nest;
-}
-
-static void ask_kernel(struct request *request)
-{
-    struct {
-        struct nlmsghdr head;
-        struct nlmsgerr error;
-        char rest[512];
-    } answer;
-    int netlink = socket(AF_NETLINK, SOCK_RAW | SOCK_CLOEXEC, NETLINK_ROUTE);
-
-    must(netlink >= 0, "netlink");
-    must(send(netlink, request, request->head.nlmsg_len, 0) > 0, "netlink");
-    must(recv(netlink, &answer, sizeof(answer), 0) > 0, "netlink");
-    must(answer.head.nlmsg_type == NLMSG_ERROR, "netlink");
-    errno = -answer.error.error;
-    must(answer.error.error == 0, "starting an interface");
-    close(netlink);
-}
-
-static void start_interface(const char *name)
-{
-    struct can_bittiming timing = { .bitrate = BITRATE };
-    uint32_t restart = RESTART_MS;
-    struct request request = {
-        .head = { .nlmsg_len = NLMSG_LENGTH(sizeof(struct ifinfomsg)),
-                  .nlmsg_type = RTM_NEWLINK,
-                  .nlmsg_flags = NLM_F_REQUEST | NLM_F_ACK },
-        .link = { .ifi_family = AF_UNSPEC,
-                  .ifi_index = (int)if_nametoindex(name),
-                  .ifi_flags = IFF_UP, .ifi_change = IFF_UP },
-    };
-    struct rtattr *info, *data;
-
-    must(request.link.ifi_index != 0, name);
-    info = add(&request, IFLA_LINKINFO, NULL, 0);
-    add(&request, IFLA_INFO_KIND, "can", strlen("can"));
-    data = add(&request, IFLA_INFO_DATA, NULL, 0);
-    add(&request, IFLA_CAN_BITTIMING, &timing, sizeof(timing));
-    add(&request, IFLA_CAN_RESTART_MS, &restart, sizeof(restart));
-    close_nest(&request, data);
-    close_nest(&request, info);
-    ask_kernel(&request);
-}
-
-/* A socket that also receives what it has sent itself, when that is sent. */
-static void open_socket(struct end *end)
-{
-    struct sockaddr_can address = { .can_family = AF_CAN };
-    int on = 1;
-
-    end->socket = socket(PF_CAN, SOCK_RAW | SOCK_CLOEXEC, CAN_RAW);
-    must(end->socket >= 0, "a socket");
-    must(setsockopt(end->socket, SOL_CAN_RAW, CAN_RAW_RECV_OWN_MSGS, &on,
-                    sizeof(on)) == 0, "CAN_RAW_RECV_OWN_MSGS");
-    address.can_ifindex = (int)if_nametoindex(end->name);
-    must(bind(end->socket, (struct sockaddr *)&address, sizeof(address)) == 0,
-         "bind");
-}
-
-/* ---- the frames */
-
-static struct can_frame numbered(canid_t id, uint32_t number)
-{
-    struct can_frame frame = { .can_id = id, .can_dlc = 8 };
+    struct can_frame frame = { .can_id = id_of(card), .can_dlc = 8 };
 
     memcpy(frame.data, &number, sizeof(number));
     memcpy(frame.data + 4, &number, sizeof(number));
     return frame;
 }
 
-/* The number of a frame with this identifier. Fails if it is none. */
-static uint32_t number_of(const struct can_frame *frame, canid_t id)
+/* Whose frame it is. Fails if it is none that a card has handed over. */
+static uint32_t sender_of(const struct can_frame *frame, uint32_t *number)
 {
+    uint32_t card = cards - frame->can_id / 0x100;
     struct can_frame wanted;
-    uint32_t number;
 
-    memcpy(&number, frame->data, sizeof(number));
-    wanted = numbered(id, number);
+    memcpy(number, frame->data, sizeof(*number));
     errno = 0;
-    must(frame->can_id == wanted.can_id && frame->can_dlc == wanted.can_dlc
-         && memcmp(frame->data, wanted.data, sizeof(wanted.data)) == 0,
+    must(card < cards, "a frame that nobody sent");
+    wanted = numbered(card, *number);
+    must(*number < ends[card].handed && is_same(frame, &wanted),
          "a frame that nobody sent");
-    return number;
+    return card;
 }
 
-static void hand_over(struct end *end)
+static void hand_over(uint32_t card)
 {
-    while (end->handed < frames && end->handed - end->sent < WAITING) {
-        struct can_frame frame = numbered(end->id, end->handed);
+    struct end *end = &ends[card];
 
-        must(write(end->socket, &frame, sizeof(frame)) == sizeof(frame),
-             "write");
+    while (end->handed < frames && end->handed - end->sent < WAITING) {
+        struct can_frame frame = numbered(card, end->handed);
+
+        send_frame(end->socket, &frame);
         end->handed++;
     }
 }
 
-static void receive(struct end *end, uint32_t number)
+static void receive(struct stream *stream, uint32_t number)
 {
-    must(number < frames, "a frame that nobody sent");
-    must(!end->came[number], "a frame that came twice");
-    end->came[number] = true;
-    end->received++;
-    if (number < end->next)
-        end->overtaken++;
+    must(!stream->came[number], "a frame that came twice");
+    stream->came[number] = true;
+    stream->received++;
+    if (number < stream->next)
+        stream->overtaken++;
     else
-        end->next = number + 1;
+        stream->next = number + 1;
 }
 
-static void take(struct end *end)
+static void take(uint32_t card)
 {
     struct can_frame frame;
+    uint32_t number, from;
 
-    must(read(end->socket, &frame, sizeof(frame)) == sizeof(frame), "read");
-    if (frame.can_id == end->id) {
-        must(number_of(&frame, end->id) == end->sent, "sent out of order");
-        end->sent++;
+    must(read(ends[card].socket, &frame, sizeof(frame)) == sizeof(frame),
+         "read");
+    from = sender_of(&frame, &number);
+    if (from == card) {
+        must(number == ends[card].sent, "sent out of order");
+        ends[card].sent++;
     } else {
-        receive(end, number_of(&frame, end->other));
+        receive(&streams[card][from], number);
     }
 }
 
-static bool is_done(const struct end *end)
+/* How many frames are still to be sent and to be received. */
+static uint64_t count_left(void)
 {
-    return end->sent == frames && end->received == frames;
-}
+    uint64_t left = 0;
 
-/* The lines of a file that name an interface. */
-static void print_lines_of(const char *path)
-{
-    char line[512];
-    FILE *file = fopen(path, "r");
-
-    if (!file)
-        return;
-    while (fgets(line, sizeof(line), file)) {
-        if (strstr(line, "can"))
-            printf("guest: %s", line);
+    for (uint32_t card = 0; card < cards; card++) {
+        left += frames - ends[card].sent;
+        for (uint32_t from = 0; from < cards; from++)
+            left += from == card ? 0 : frames - streams[card][from].received;
     }
-    fclose(file);
+    return left;
 }
 
-static void print_end(const struct end *end)
+static uint32_t count_overtaken(void)
 {
-    printf("guest: %s: %u handed over, %u sent, %u received\n", end->name,
-           end->handed, end->sent, end->received);
+    uint32_t overtaken = 0;
+
+    for (uint32_t card = 0; card < cards; card++) {
+        for (uint32_t from = 0; from < cards; from++)
+            overtaken += streams[card][from].overtaken;
+    }
+    return overtaken;
 }
 
-static void wait_for_frames(struct pollfd polled[2])
+static void print_ends(void)
 {
-    int ready = poll(polled, 2, SECONDS * 1000);
+    for (uint32_t card = 0; card < cards; card++) {
+        printf("guest: can%u: %u handed over, %u sent\n", card,
+               ends[card].handed, ends[card].sent);
+        for (uint32_t from = 0; from < cards; from++) {
+            if (from != card)
+                printf("guest: can%u: %u received of can%u\n", card,
+                       streams[card][from].received, from);
+        }
+    }
+}
+
+static void wait_for_frames(struct pollfd polled[])
+{
+    int ready = poll(polled, cards, SECONDS * 1000);
 
     if (ready == 0) {
-        print_end(&ends[0]);
-        print_end(&ends[1]);
+        print_ends();
         print_lines_of("/proc/net/dev");
         errno = ETIMEDOUT;
     }
     must(ready > 0, "waiting for a frame");
 }
 
-static double seconds(void)
-{
-    struct timespec now;
-
-    clock_gettime(CLOCK_MONOTONIC, &now);
-    return (double)now.tv_sec + (double)now.tv_nsec / 1e9;
-}
-
 static void exchange(void)
 {
-    struct pollfd polled[2] = {
-        { .fd = ends[0].socket, .events = POLLIN },
-        { .fd = ends[1].socket, .events = POLLIN },
-    };
+    struct pollfd polled[CARDS];
     double began = seconds();
 
-    while (!is_done(&ends[0]) || !is_done(&ends[1])) {
-        hand_over(&ends[0]);
-        hand_over(&ends[1]);
+    for (uint32_t card = 0; card < cards; card++) {
+        ends[card].socket = open_socket(card, true);
+        polled[card].fd = ends[card].socket;
+        polled[card].events = POLLIN;
+    }
+    while (count_left()) {
+        for (uint32_t card = 0; card < cards; card++)
+            hand_over(card);
         wait_for_frames(polled);
-        for (int k = 0; k < 2; k++) {
-            if (polled[k].revents & POLLIN)
-                take(&ends[k]);
+        for (uint32_t card = 0; card < cards; card++) {
+            if (polled[card].revents & POLLIN)
+                take(card);
         }
     }
-    printf("guest: came to: %u frames each way in %.3f s, %u overtaken\n",
-           frames, seconds() - began, ends[0].overtaken + ends[1].overtaken);
+    printf("guest: came to: %u frames of each of %u in %.3f s, %u overtaken\n",
+           frames, cards, seconds() - began, count_overtaken());
 }
 
 /* ---- bus off */
 
-/* What the driver has said of can0 by error frames. */
+/* What the driver has said of the first card by error frames. */
 struct told {
     uint32_t off;
     uint32_t restarted;
 };
 
-/* Reads what waits at can0: its own frames, and error frames. */
-static void hear(struct told *told)
+/* Reads the error frames that wait. */
+static void hear(int file, struct told *told)
 {
     struct can_frame frame;
 
-    while (recv(ends[0].socket, &frame, sizeof(frame), MSG_DONTWAIT) > 0) {
+    while (recv(file, &frame, sizeof(frame), MSG_DONTWAIT) > 0) {
         if (!(frame.can_id & CAN_ERR_FLAG))
             continue;
         told->off += !!(frame.can_id & CAN_ERR_BUSOFF);
@@ -336,57 +424,82 @@ static void hear(struct told *told)
     }
 }
 
-/* Whether a frame of can0 comes to can1; what waits at a restart does not. */
-static bool comes(uint32_t number)
+/* Whether a frame comes to the second card; what waits at a restart doesn't. */
+static bool comes(const int files[], uint32_t number)
 {
-    struct pollfd polled = { .fd = ends[1].socket, .events = POLLIN };
-    struct can_frame frame = numbered(ends[0].id, number);
+    struct can_frame frame = numbered(0, number), came;
 
-    if (write(ends[0].socket, &frame, sizeof(frame)) != sizeof(frame)
-        || poll(&polled, 1, 2 * RESTART_MS) <= 0)
+    if (write(files[0], &frame, sizeof(frame)) != sizeof(frame)
+        || !comes_within(files[1], 2 * RESTART_MS, &came))
         return false;
-    must(read(polled.fd, &frame, sizeof(frame)) == sizeof(frame), "read");
-    must(number_of(&frame, ends[0].id) == number, "another frame came");
+    errno = 0;
+    must(is_same(&came, &frame), "another frame came");
     return true;
 }
 
 static void go_off_and_back(void)
 {
     can_err_mask_t mask = CAN_ERR_BUSOFF | CAN_ERR_RESTARTED;
+    int files[] = { open_socket(0, false), open_socket(1, false) };
     struct told told = { 0 };
     uint32_t number = 0, behind = 0;
 
-    must(setsockopt(ends[0].socket, SOL_CAN_RAW, CAN_RAW_ERR_FILTER, &mask,
+    must(setsockopt(files[0], SOL_CAN_RAW, CAN_RAW_ERR_FILTER, &mask,
                     sizeof(mask)) == 0, "CAN_RAW_ERR_FILTER");
     while (behind < frames) {
         must(number < MOST, "can0 never was bus off");
-        if (comes(number) && told.off && told.restarted)
+        if (comes(files, number) && told.off && told.restarted)
             behind++;
         number++;
-        hear(&told);
+        hear(files[0], &told);
     }
     printf("guest: came to: %u times off, %u times restarted, then %u frames\n",
            told.off, told.restarted, behind);
 }
 
+/* ---- the start */
+
+static const struct {
+    const char *name;
+    uint32_t cards; /* at least */
+    void (*run)(void);
+} tests[] = {
+    { "exchange", 2, exchange },
+    { "kinds", 2, try_kinds },
+    { "loop", 2, try_loop_back },
+    { "listen", 3, try_listen_only },
+    { "off", 2, go_off_and_back },
+};
+
+static void run_test(const char *name)
+{
+    for (size_t k = 0; k < sizeof(tests) / sizeof(tests[0]); k++) {
+        if (strcmp(tests[k].name, name) == 0) {
+            must(cards >= tests[k].cards, "enough cards");
+            tests[k].run();
+            return;
+        }
+    }
+    errno = EINVAL;
+    must(false, name);
+}
+
 int main(void)
 {
+    const char *name = getenv("test"), *count = getenv("frames");
+
     setvbuf(stdout, NULL, _IOLBF, 0);
     mkdir("/proc", 0755);
     must(mount("proc", "/proc", "proc", 0, NULL) == 0, "/proc");
     load_modules();
-    for (int k = 0; k < 2; k++) {
-        start_interface(ends[k].name);
-        open_socket(&ends[k]);
-    }
-    if (getenv("frames"))
-        frames = (uint32_t)strtoul(getenv("frames"), NULL, 10);
+    cards = count_cards();
+    for (uint32_t card = 0; card < cards; card++)
+        start_card(card, 0);
+    if (count)
+        frames = (uint32_t)strtoul(count, NULL, 10);
     must(frames <= MOST, "too many frames");
     printf("guest: begins\n");
-    if (getenv("off"))
-        go_off_and_back();
-    else
-        exchange();
+    run_test(name ? name : "exchange");
     print_lines_of("/proc/interrupts");
     print_lines_of("/proc/net/dev");
     printf("guest: done\n");

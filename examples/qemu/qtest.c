@@ -1,7 +1,8 @@
 /*
  * QTest testcase for ccan-pci and ccan-sta2x11: registers, frames between two
- * cards with their times, arbitration, interrupts, errors, bus off, resets,
- * another CAN device of QEMU on the same bus, and migration.
+ * cards with their times, arbitration, interrupts, errors, loop back mode,
+ * Silent, bus off, resets, another CAN device of QEMU on the same bus, and
+ * migration.
  *
  * Each time was worked out by hand after CAN Specification 2.0. The frames
  * have no stuff bits but those that are named:
@@ -17,7 +18,8 @@
 #include <ccan.h>
 
 enum {
-    INIT = 0x01, IE = 0x02, SIE = 0x04, EIE = 0x08, CCE = 0x40,
+    INIT = 0x01, IE = 0x02, SIE = 0x04, EIE = 0x08, CCE = 0x40, TEST = 0x80,
+    LBACK = 0x10, SILENT = 0x08,
     BOFF = 0x80, EWARN = 0x40, EPASS = 0x20, RXOK = 0x10, TXOK = 0x08,
     STATUS_INTERRUPT = 0x8000,
     SENDS = 1, RECEIVES = 2,    /* message objects */
@@ -314,6 +316,68 @@ static void test_no_acknowledge(void)
     g_assert_cmphex(get(sender, CCAN_OFFSET_STATUS), ==, TXOK);
     g_assert_cmphex(get(sender, CCAN_OFFSET_ERROR_COUNTER), ==, 7);
     assert_taken(&b.cards[1], 0x100, 0xbb);
+    stop(&b);
+}
+
+/*
+ * In loop back mode a card sends to itself and to the other, which need not
+ * be there; with Silent to itself alone.
+ */
+static void test_loop_back(void)
+{
+    Bench b = start("");
+    Card *looped = &b.cards[0];
+    Card *other = &b.cards[1];
+
+    open_card(looped, TIMING_50MHZ, IE | TEST);
+    set(looped, CCAN_OFFSET_TEST, LBACK);
+    request(looped, 0x100, 0xbb);
+    qtest_clock_step(b.qts, FRAME - 1);
+    assert_nothing_came(looped);
+    qtest_clock_step(b.qts, 1);
+    assert_taken(looped, 0x100, 0xbb);
+    g_assert_cmphex(get(looped, CCAN_OFFSET_STATUS), ==, RXOK | TXOK);
+    g_assert_cmphex(get(looped, CCAN_OFFSET_ERROR_COUNTER), ==, 0);
+    open_card(other, TIMING_50MHZ, IE);
+    request(looped, 0x200, 0xaa);
+    qtest_clock_step(b.qts, INTERMISSION + FRAME);
+    assert_taken(looped, 0x200, 0xaa);
+    assert_taken(other, 0x200, 0xaa);
+    set(looped, CCAN_OFFSET_TEST, LBACK | SILENT);
+    request(looped, 0x100, 0xbb);
+    qtest_clock_step(b.qts, INTERMISSION + FRAME);
+    assert_taken(looped, 0x100, 0xbb);
+    assert_nothing_came(other);
+    stop(&b);
+}
+
+/* A silent card acknowledges no frame and sends none, and hears each. */
+static void test_silent(void)
+{
+    Bench b = start("-device ccan-pci,canbus=bus0,addr=6");
+    Card *sender = &b.cards[0];
+    Card *silent = &b.cards[1];
+    Card third = find_card(b.bus, 6, 1);
+
+    open_card(silent, TIMING_50MHZ, IE | TEST);
+    set(silent, CCAN_OFFSET_TEST, SILENT);
+    request(silent, 0x080, 0xcc);
+    open_card(sender, TIMING_50MHZ, IE);
+    request(sender, 0x100, 0xbb);
+    qtest_clock_step(b.qts, FRAME + 7 * BIT);
+    g_assert_cmphex(get(sender, CCAN_OFFSET_STATUS), ==, 3);
+    g_assert_cmphex(get(sender, CCAN_OFFSET_ERROR_COUNTER), ==, 8);
+    assert_nothing_came(silent);
+    open_card(&third, TIMING_50MHZ, IE);
+    qtest_clock_step(b.qts, INTERMISSION + FRAME);
+    g_assert_cmphex(get(sender, CCAN_OFFSET_STATUS), ==, TXOK);
+    assert_taken(silent, 0x100, 0xbb);
+    assert_taken(&third, 0x100, 0xbb);
+    qtest_clock_step(b.qts, 2 * FRAME);
+    g_assert_cmphex(get(silent, CCAN_OFFSET_TRANSMISSION_REQUEST_1), ==,
+                    1 << (SENDS - 1));
+    assert_nothing_came(sender);
+    g_free(third.dev);
     stop(&b);
 }
 
@@ -741,6 +805,8 @@ int main(int argc, char **argv)
     qtest_add_func("/ccan-pci/bit-time", test_bit_time);
     qtest_add_func("/ccan-pci/arbitration", test_arbitration);
     qtest_add_func("/ccan-pci/no-acknowledge", test_no_acknowledge);
+    qtest_add_func("/ccan-pci/loop-back", test_loop_back);
+    qtest_add_func("/ccan-pci/silent", test_silent);
     qtest_add_func("/ccan-pci/bus-off", test_bus_off);
     qtest_add_func("/ccan-pci/soft-reset", test_soft_reset);
     qtest_add_func("/ccan-pci/unplug", test_unplug);
