@@ -1,5 +1,5 @@
 -- A page, by its constant parts and its data. Source: the HTML Living Standard, "Restrictions for contents of script elements":
--- without a `<` nothing in the data ends its element, or is the begin of a comment; RFC 8259, section 7.
+-- without a `<` nothing in the data ends its element, or begins a comment; RFC 8259, section 7.
 use Rattle.std.specs.Prelude.{ℕ, ◌==◌, ◌++◌, ◌∷◌, List, [], Bool, not, codes, if◌then◌else◌}
 use Rattle.std.specs.List.{flat_map}
 

@@ -6,7 +6,7 @@ pub(crate) const BODY: &str = "<body>
 <h1 id='title'>Steps of a script</h1>
 <p id='count'></p>
 <p class='quiet'>Keys: <kbd>&larr;</kbd> <kbd>&rarr;</kbd> a step, <kbd>Page Up</kbd> <kbd>Page Down</kbd> to a step that
-something comes of, <kbd>Home</kbd> <kbd>End</kbd> the begin and the end<span id='outcome-keys'>, <kbd>Shift</kbd> with
+something comes of, <kbd>Home</kbd> <kbd>End</kbd> the start and the end<span id='outcome-keys'>, <kbd>Shift</kbd> with
 <kbd>&larr;</kbd> <kbd>&rarr;</kbd> an outcome</span>. What a step changed stands beside what it was before.</p>
 <noscript><p><strong>This page shows its steps by JavaScript.</strong> <code>ccan-lab outcomes --all</code> and
 <code>ccan-lab explain</code> print them as text.</p></noscript>
@@ -19,7 +19,7 @@ something comes of, <kbd>Home</kbd> <kbd>End</kbd> the begin and the end<span id
 </nav>
 <main>
 <section class='bar' aria-label='Go through the steps'>
-<button type='button' id='first'>Begin</button>
+<button type='button' id='first'>Start</button>
 <button type='button' id='before'>Previous event</button>
 <button type='button' id='back'>Back</button>
 <button type='button' id='forward'>Forward</button>
