@@ -10,7 +10,7 @@ pub struct Landing {
 }
 
 impl Labelled for Landing {
-    ghost use Rattle.std.specs.Prelude.{ℕ, ◌≡◌, ◌+◌, ◌<◌, ◌⊎◌};
+    ghost use Rattle.std.specs.Prelude.{ℕ, ◌≡◌, ◌+◌, ◌⊎◌};
     ghost use Rattle.std.proofs.lemmas.Bool.{eqb-true};
 
     /// The stair, and 0 for the ground.

@@ -5,7 +5,7 @@ use crate::expect::{holds, same};
 use crate::ladder::Ladder;
 use crate::landing::Landing;
 use crate::stairs::Stairs;
-use ccan_search::{Edge, GraphFrom, Labelled, Progress, Untold, graph_of, reachable, tale, way};
+use ccan_search::{Edge, GraphFrom, Progress, Untold, graph_of, reachable, tale, way};
 use std::alloc::Global;
 use std::cell::Cell;
 use std::collections::VecDeque;
@@ -102,18 +102,22 @@ fn tells_of_passed_rungs(rt: HostRuntime) {
     tells(&rt, rt.alloc(), 2, 4, &[6, 5, 4]);
 }
 
-/// The graph of stairs from this one down, where the search looks so many moves ahead.
-fn graph_from<M>(
+/// The graph of the stairs below this one.
+fn stairs_below(rt: &impl Abort, alloc: Global, stair: u64) -> GraphFrom<u64, u64> {
+    let Ok(Some(found)) = graph_of(&Stairs, alloc, stair, 10, 100, &Untold) else {
+        panic!(rt; "not all stairs")
+    };
+    found
+}
+
+/// The graph of the stairs below this one, with stair 3 as the landing, where the search passes so many at most at a time.
+fn below_with_landing(
     rt: &impl Abort,
     alloc: Global,
-    stairs: &M,
     stair: u64,
     ahead: usize,
-) -> GraphFrom<u64, u64>
-where
-    M: Labelled<State = u64, Label = u64>,
-{
-    let Ok(Some(found)) = graph_of(stairs, alloc, stair, ahead, 100, &Untold) else {
+) -> GraphFrom<u64, u64> {
+    let Ok(Some(found)) = graph_of(&Landing { at: 3 }, alloc, stair, ahead, 100, &Untold) else {
         panic!(rt; "not all stairs")
     };
     found
@@ -143,7 +147,7 @@ fn is_graph(rt: &impl Abort, found: &GraphFrom<u64, u64>, stairs: &[u64], edges:
 /// follows stair 1, but these stairs don't let it be passed.
 #[test]
 fn finds_edges_with_labels(rt: HostRuntime) {
-    let found = graph_from(&rt, rt.alloc(), &Stairs, 3, 10);
+    let found = stairs_below(&rt, rt.alloc(), 3);
     is_graph(
         &rt,
         &found,
@@ -156,11 +160,10 @@ fn finds_edges_with_labels(rt: HostRuntime) {
 /// by stair 1. No other stair is kept where the search passes as many as it can.
 #[test]
 fn passes_stairs_that_one_move_follows(rt: HostRuntime) {
-    let stairs = Landing { at: 3 };
-    let found = graph_from(&rt, rt.alloc(), &stairs, 5, 10);
+    let found = below_with_landing(&rt, rt.alloc(), 5, 10);
     is_graph(&rt, &found, &[0, 3, 5], &[(0, 0), (6, 0), (2, 1)]);
     // One at a time: stair 4 before the landing, stair 2 before stair 1, and stair 1 before the ground. So stair 1 is kept too.
-    let found = graph_from(&rt, rt.alloc(), &stairs, 5, 1);
+    let found = below_with_landing(&rt, rt.alloc(), 5, 1);
     is_graph(
         &rt,
         &found,
@@ -168,7 +171,7 @@ fn passes_stairs_that_one_move_follows(rt: HostRuntime) {
         &[(0, 0), (1, 0), (5, 1), (2, 2)],
     );
     // None at all.
-    let found = graph_from(&rt, rt.alloc(), &stairs, 5, 0);
+    let found = below_with_landing(&rt, rt.alloc(), 5, 0);
     is_graph(
         &rt,
         &found,
