@@ -81,6 +81,8 @@ typedef struct {
     uint32_t was_sender; /* switch: it sent the frame before */
     ccan_member member;  /* what it is to the frame that is under way, else what it was to the bus when that was asked last */
     ccan_finished ended; /* what the last frame was to it; of a node `event` alone, and all else is zero */
+    uint64_t auto_bus_on; /* of a chip: how many bits after it has gone bus off its Init is cleared; see ccan_network_auto_bus_on */
+    uint64_t comes_on;    /* when that will be, CCAN_NETWORK_NEVER if it will not */
 } ccan_network_member;
 
 /* A network. C reads what it likes of it, and writes none of it but what is said here. */
@@ -123,6 +125,8 @@ static inline void ccan_network_private_take(ccan_network *network, uint32_t pla
 {
     memset(&network->at[place], 0, sizeof network->at[place]);
     network->at[place].kind = kind;
+    network->at[place].auto_bus_on = CCAN_NETWORK_NEVER;
+    network->at[place].comes_on = CCAN_NETWORK_NEVER;
     if (place >= network->places)
         network->places = place + 1;
 }
@@ -209,7 +213,31 @@ static inline CCAN_CODE ccan_network_fault(ccan_network *network, uint32_t place
     return CCAN_DONE;
 }
 
+/* Lets a chip that goes bus off clear its Init by itself, so many bits later, as a D_CAN does while bit 9 (ABO) of its CAN Control
+ * register is 1: `bits` is the number in its Auto Bus On Time register, which is in clock cycles, divided by those of a bit
+ * (ccan_bit_time). CCAN_NETWORK_NEVER, as it is at first: a host has to clear Init. Seen when the next frame ends. The chip itself
+ * keeps neither the bit nor the register: the device does. CCAN_PLACE_RANGE: no chip is at this place; then nothing is changed. */
+static inline CCAN_CODE ccan_network_auto_bus_on(ccan_network *network, uint32_t place, uint64_t bits)
+{
+    if (place >= CCAN_NETWORK_MEMBERS || network->at[place].kind != CCAN_NETWORK_CHIP)
+        return CCAN_PLACE_RANGE;
+    network->at[place].auto_bus_on = bits;
+    return CCAN_DONE;
+}
+
 /* ---- time */
+
+/* Whether a chip is bus off, and whether its Init is 1. */
+static inline bool ccan_network_private_off(ccan_bus *chip, bool *init)
+{
+    ccan_counts counts;
+    uint16_t control;
+    if (ccan_counters(chip, 0, &counts) != CCAN_DONE || counts.state != CCAN_OFF
+        || ccan_bus_read16(chip, CCAN_OFFSET_CONTROL, &control) != CCAN_DONE)
+        return false;
+    *init = (control & 1) != 0;
+    return true;
+}
 
 /* Lets groups of recessive bits pass at a chip that is bus off, 1 to 10000. To another they are nothing. */
 static inline CCAN_CODE ccan_network_private_hear(ccan_bus *chip, uint32_t groups)
@@ -224,15 +252,8 @@ static inline CCAN_CODE ccan_network_private_hear(ccan_bus *chip, uint32_t group
     return code;
 }
 
-/* Lets time pass until `now` on a bus that is recessive: gives each member that is bus off the groups of eleven recessive bits that
- * are over by then, and are not given yet. The 8 recessive bits at the end of a frame or of an error frame count. Nothing passes
- * while a frame is on the bus, or if `now` is a time before.
- *
- * ccan_network_start does it itself. It counts for a chip as its registers are when this is called: so a simulator calls it before
- * each access by which a host may clear Init. Else groups from before that access count too.
- *
- * CCAN_CLOSED, CCAN_BUSY: the code of the first member with another one than CCAN_DONE; that one has missed these groups. */
-static inline CCAN_CODE ccan_network_pass(ccan_network *network, uint64_t now)
+/* Gives each member that is bus off the groups of eleven recessive bits that are over at this time, and are not given yet. */
+static inline CCAN_CODE ccan_network_private_groups(ccan_network *network, uint64_t now)
 {
     uint32_t told = CCAN_DONE, groups;
     uint64_t over;
@@ -253,17 +274,70 @@ static inline CCAN_CODE ccan_network_pass(ccan_network *network, uint64_t now)
     return told;
 }
 
-/* When a group of recessive bits is over that may bring this member back: CCAN_NETWORK_NEVER if it isn't bus off, or Init is 1. */
+/* The chip whose Init is to be cleared first by itself, if that is until `now`; NULL if there is none. */
+static inline ccan_network_member *ccan_network_private_comes_on(ccan_network *network, uint64_t now)
+{
+    ccan_network_member *first = NULL;
+    for (uint32_t k = 0; k < network->places; k++) {
+        ccan_network_member *at = &network->at[k];
+        if (at->kind == CCAN_NETWORK_CHIP && at->comes_on != CCAN_NETWORK_NEVER && at->comes_on <= now
+            && (!first || at->comes_on < first->comes_on))
+            first = at;
+    }
+    return first;
+}
+
+/* Clears Init of a chip if it is still bus off and Init is 1. */
+static inline CCAN_CODE ccan_network_private_come_on(ccan_network_member *at)
+{
+    bool init = false;
+    uint32_t code = CCAN_DONE;
+    at->comes_on = CCAN_NETWORK_NEVER;
+    if (ccan_network_private_off(at->chip, &init) && init) {
+        code = ccan_init(at->chip);
+        for (uint32_t i = 0; i < CCAN_NETWORK_TRIES && code == CCAN_BUSY; i++)
+            code = ccan_init(at->chip);
+    }
+    at->code = code;
+    return code;
+}
+
+/* Lets time pass until `now` on a bus that is recessive: gives each member that is bus off the groups of eleven recessive bits that
+ * are over by then, and are not given yet. The 8 recessive bits at the end of a frame or of an error frame count. No group passes
+ * while a frame is on the bus, or if `now` is a time before. Init of a chip is cleared at its time (ccan_network_auto_bus_on).
+ *
+ * ccan_network_start does it itself. It counts for a chip as its registers are when this is called: so a simulator calls it before
+ * each access by which a host may clear Init. Else groups from before that access count too.
+ *
+ * CCAN_CLOSED, CCAN_BUSY: the code of the first member with another one than CCAN_DONE; that one has missed these groups, or its
+ * Init is still 1. */
+static inline CCAN_CODE ccan_network_pass(ccan_network *network, uint64_t now)
+{
+    ccan_network_member *first = ccan_network_private_comes_on(network, now);
+    uint32_t told = CCAN_DONE, code;
+    while (first) {
+        code = ccan_network_private_groups(network, first->comes_on);
+        if (told == CCAN_DONE)
+            told = code;
+        code = ccan_network_private_come_on(first);
+        if (told == CCAN_DONE)
+            told = code;
+        first = ccan_network_private_comes_on(network, now);
+    }
+    code = ccan_network_private_groups(network, now);
+    return told != CCAN_DONE ? told : code;
+}
+
+/* When a group of recessive bits is over that may bring this member back, or when its Init is cleared: CCAN_NETWORK_NEVER if it isn't
+ * bus off, or a host has to clear Init. */
 static inline uint64_t ccan_network_private_back(const ccan_network *network, const ccan_network_member *at)
 {
-    ccan_counts counts;
-    uint16_t control;
+    bool init = false;
     if (at->kind == CCAN_NETWORK_NODE && at->node.tec > 255)
         return network->group_began + 11 * (uint64_t)(128 - at->node.groups);
-    if (at->kind != CCAN_NETWORK_CHIP || ccan_counters(at->chip, 0, &counts) != CCAN_DONE || counts.state != CCAN_OFF
-        || ccan_bus_read16(at->chip, CCAN_OFFSET_CONTROL, &control) != CCAN_DONE || (control & 1) != 0)
+    if (at->kind != CCAN_NETWORK_CHIP || !ccan_network_private_off(at->chip, &init))
         return CCAN_NETWORK_NEVER;
-    return network->group_began + 11;
+    return init ? at->comes_on : network->group_began + 11;
 }
 
 /* When to ask an idle bus again: the first time at which a member may send that may not yet. */
@@ -368,7 +442,8 @@ static inline uint64_t ccan_network_private_length(const ccan_network *network, 
  * and each member's `member` say what is on the bus, and `until` is when the frame ends if nothing disturbs it: call
  * ccan_network_finish then. Else `under_way` is 0, and `until` is when to call it again: during the intermission of 3 bits its end;
  * for a member that may not start yet, since it is error passive and sent the frame before, 8 bits later; for one that is on its
- * way back from bus off the end of the next group of recessive bits; and CCAN_NETWORK_NEVER if nothing happens by itself. A host's
+ * way back from bus off the end of the next group of recessive bits, or when its Init is cleared; and CCAN_NETWORK_NEVER if nothing
+ * happens by itself. A host's
  * request and ccan_network_offer are seen by the next call, so call it behind these too.
  *
  * While a frame is under way nothing is done but to tell its end. Time passes as by ccan_network_pass. A chip in loop back mode
@@ -486,6 +561,18 @@ static inline CCAN_CODE ccan_network_private_end(ccan_network *network, bool sen
     return told;
 }
 
+/* Notes when each chip that went bus off by the frame that has ended clears its Init by itself. */
+static inline void ccan_network_private_note_off(ccan_network *network)
+{
+    for (uint32_t k = 0; k < network->places; k++) {
+        ccan_network_member *at = &network->at[k];
+        bool init = false;
+        if (at->kind == CCAN_NETWORK_CHIP && at->takes_part && at->auto_bus_on != CCAN_NETWORK_NEVER
+            && at->ended.event == CCAN_EVENT_ERROR && ccan_network_private_off(at->chip, &init))
+            at->comes_on = network->ended + at->auto_bus_on;
+    }
+}
+
 /* The end of the frame that is under way. `wire` of the network then is what was on the bus, and each member's `ended` and `code`
  * what it was to that member. Those who listen come first, so that a frame is stored before its sender's TxOk. `until` is when the
  * bus is free again: 3 bits behind the end of the frame, or of the error frame. An event that a chip's registers don't take,
@@ -526,6 +613,7 @@ static inline CCAN_CODE ccan_network_finish(ccan_network *network, uint64_t now,
     else if (network->wire.kind != CCAN_WIRE_IDLE)
         network->group_began = network->ended - 8;
     network->under_way = 0;
+    ccan_network_private_note_off(network);
     *until = network->free;
     return code != CCAN_DONE ? code : listeners != CCAN_DONE ? listeners : senders;
 }

@@ -484,6 +484,89 @@ static void a_chip_comes_back(void)
     end_all();
 }
 
+/* A chip that may clear its Init by itself after 1000 bits goes bus off by a frame that has ended at 40. */
+static uint32_t goes_off(void)
+{
+    ccan_network_init(&network, 0);
+    open_all();
+    const uint32_t a = add_chip(&chips[0]), b = add_node();
+    EXPECT(ccan_network_auto_bus_on(&network, b, 1000) == CCAN_PLACE_RANGE);
+    EXPECT(ccan_network_auto_bus_on(&network, CCAN_NETWORK_MEMBERS, 1000) == CCAN_PLACE_RANGE);
+    EXPECT(ccan_network_auto_bus_on(&network, a, 1000) == CCAN_DONE);
+    makes_errors(&chips[0], 31);
+    asks_to_send(&chips[0], 0x123, 1);
+    starts(0);
+    EXPECT(network.under_way && ccan_network_fault(&network, a, CCAN_BIT1) == CCAN_DONE);
+    finishes(20);
+    EXPECT(network.ended == 40 && counts_of(&chips[0]).state == CCAN_OFF);
+    return a;
+}
+
+static bool has_init(ccan_chip *chip)
+{
+    uint16_t control = 0;
+    EXPECT(ccan_bus_read16(&chip->bus, CCAN_OFFSET_CONTROL, &control) == CCAN_DONE);
+    return (control & INIT) != 0;
+}
+
+/* The groups behind that frame began at 32, so 91 are over at 1040, and the chip counts those from 1033 on. */
+static void a_chip_comes_on_by_itself(void)
+{
+    const uint32_t a = goes_off();
+    starts(43);
+    EXPECT(!network.under_way && until == 1040);
+    starts(1039);
+    EXPECT(until == 1040 && has_init(&chips[0]));
+    starts(1040);
+    EXPECT(until == 1044 && !has_init(&chips[0]));
+    starts(2440);
+    EXPECT(!network.under_way && until == 2441 && counts_of(&chips[0]).state == CCAN_OFF);
+    starts(2441);
+    EXPECT(network.under_way && counts_of(&chips[0]).state == CCAN_ACTIVE && network.wire.kind == CCAN_WIRE_CARRIED);
+    finishes(until);
+    EXPECT(network.at[a].ended.event == CCAN_EVENT_SENT);
+    end_all();
+}
+
+/* So it does if one call goes past that time. */
+static void a_call_goes_past_the_time(void)
+{
+    goes_off();
+    starts(2440);
+    EXPECT(!network.under_way && until == 2441 && !has_init(&chips[0]) && counts_of(&chips[0]).state == CCAN_OFF);
+    starts(2441);
+    EXPECT(network.under_way && counts_of(&chips[0]).state == CCAN_ACTIVE);
+    finishes(until);
+    end_all();
+}
+
+/* One whose host has been faster, or that may not, is left as it is. */
+static void a_host_is_faster(void)
+{
+    ccan_network_init(&network, 0);
+    open_all();
+    const uint32_t a = add_chip(&chips[0]), b = add_chip(&chips[1]);
+    add_node();
+    EXPECT(ccan_network_auto_bus_on(&network, a, 300) == CCAN_DONE);
+    makes_errors(&chips[0], 31);
+    makes_errors(&chips[1], 31);
+    asks_to_send(&chips[0], 0x123, 1);
+    asks_to_send(&chips[1], 0x123, 1);
+    starts(0);
+    EXPECT(ccan_network_fault(&network, a, CCAN_BIT1) == CCAN_DONE && ccan_network_fault(&network, b, CCAN_BIT1) == CCAN_DONE);
+    finishes(20);
+    EXPECT(counts_of(&chips[0]).state == CCAN_OFF && counts_of(&chips[1]).state == CCAN_OFF);
+    EXPECT(ccan_network_pass(&network, 100) == CCAN_DONE);
+    write_register(&chips[0], CCAN_OFFSET_CONTROL, 0);
+    /* The groups from 98 on count: 128 of them are over at 1506, and the time at 340 has changed nothing. */
+    starts(1505);
+    EXPECT(!network.under_way && counts_of(&chips[0]).state == CCAN_OFF);
+    starts(1506);
+    EXPECT(network.under_way && counts_of(&chips[0]).state == CCAN_ACTIVE);
+    EXPECT(has_init(&chips[1]) && counts_of(&chips[1]).state == CCAN_OFF);
+    end_all();
+}
+
 /* A chip in loop back mode with Silent has its event also if the bus is idle, and beside others' frames, which it doesn't hear. */
 static void a_chip_in_hot_self_test(void)
 {
@@ -822,7 +905,8 @@ static const struct { const char *name; void (*run)(void); } tests[] = {
     RUN(members_come_and_go), RUN(a_frame_has_its_time), RUN(a_new_offer_stays), RUN(a_passive_sender_waits),
     RUN(an_active_sender_is_not_heard),
     RUN(spoiled_frames_have_their_length), RUN(who_is_removed_is_absent), RUN(groups_pass),
-    RUN(groups_pass_behind_an_unheard_frame), RUN(a_chip_comes_back), RUN(a_chip_in_hot_self_test),
+    RUN(groups_pass_behind_an_unheard_frame), RUN(a_chip_comes_back), RUN(a_chip_comes_on_by_itself),
+    RUN(a_call_goes_past_the_time), RUN(a_host_is_faster), RUN(a_chip_in_hot_self_test),
     RUN(a_chip_in_loop_back_mode),
     RUN(a_host_sets_init_in_mid_frame), RUN(a_chip_is_removed_in_mid_frame), RUN(lost_events_are_made) };
 
