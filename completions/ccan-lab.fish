@@ -14,9 +14,9 @@ complete -c ccan-lab -n '__fish_seen_subcommand_from outcomes' -l all -d 'Show e
 complete -c ccan-lab -n '__fish_seen_subcommand_from outcomes' -l observe -x -d 'Tell apart only what these lines and objects are'
 complete -c ccan-lab -n '__fish_seen_subcommand_from outcomes' -l can -x -d 'Ask whether an outcome has a line that begins so'
 complete -c ccan-lab -n '__fish_seen_subcommand_from outcomes' -l never -x -d 'Ask whether no outcome has a line that begins so'
-complete -c ccan-lab -n '__fish_seen_subcommand_from outcomes' -l most -x -d 'How many states to follow at most'
+complete -c ccan-lab -n '__fish_seen_subcommand_from outcomes' -l most -x -d 'How many states and nodes to keep at most'
 
-complete -c ccan-lab -n '__fish_seen_subcommand_from count' -l most -x -d 'How many states to follow at most'
+complete -c ccan-lab -n '__fish_seen_subcommand_from count' -l most -x -d 'How many states and nodes to keep at most'
 
 complete -c ccan-lab -n '__fish_seen_subcommand_from check' -l strict -d 'Status 7 where there are warnings and no faults'
 complete -c ccan-lab -n '__fish_seen_subcommand_from check' -l expect -r -F -d 'Compare what ccan prints of the one script with this text'
@@ -25,9 +25,9 @@ complete -c ccan-lab -n '__fish_seen_subcommand_from explain' -l json -d 'A JSON
 complete -c ccan-lab -n '__fish_seen_subcommand_from explain' -l candump -d 'The received frames, as candump -L writes them'
 
 complete -c ccan-lab -n '__fish_seen_subcommand_from draw' -l outcome -x -d 'Draw a history of this outcome of outcomes --all'
-complete -c ccan-lab -n '__fish_seen_subcommand_from draw' -l most -x -d 'How many states to follow at most'
+complete -c ccan-lab -n '__fish_seen_subcommand_from draw' -l most -x -d 'How many states and nodes to keep at most'
 
 complete -c ccan-lab -n '__fish_seen_subcommand_from page' -l run -d 'Show the run in order'
 complete -c ccan-lab -n '__fish_seen_subcommand_from page' -l outcomes -d 'Show the outcomes, also of a script with an order'
 complete -c ccan-lab -n '__fish_seen_subcommand_from page' -l limit -x -d 'How many outcomes to show at most'
-complete -c ccan-lab -n '__fish_seen_subcommand_from page' -l most -x -d 'How many states to follow at most'
+complete -c ccan-lab -n '__fish_seen_subcommand_from page' -l most -x -d 'How many states and nodes to keep at most'

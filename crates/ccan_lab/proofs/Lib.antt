@@ -11,3 +11,5 @@ pub mod Added
 pub mod Parts
 pub mod NoLine
 pub mod Told
+pub mod Listed
+pub mod Unanswered

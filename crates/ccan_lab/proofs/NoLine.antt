@@ -1,5 +1,5 @@
 -- A line that may stand in no place is one that no outcome has, and one that may stand in a place is one that an outcome has.
-use Rattle.std.proofs.Common.{◌≡◌, ◌<◌, ◌≤◌, ◌+◌, ◌++◌, ◌||◌, ◌&&◌, ◌==◌, ◌⊎◌, inl, inr, not, cond, nat_lt, ℕ, zero, suc, Bool, true, false, List, [], ◌∷◌, Some, None, Option, Contains, length, length-append, map, take, slice_get, unwrap_or, position, refl, sym, ap, subst, ◌∙◌, arith}
+use Rattle.std.proofs.Common.{◌≡◌, ◌≤◌, ◌+◌, ◌++◌, ◌||◌, ◌&&◌, ◌==◌, inl, inr, not, cond, nat_lt, ℕ, zero, suc, Bool, true, false, List, [], ◌∷◌, Some, None, Option, Contains, length, length-append, map, take, slice_get, unwrap_or, position, refl, sym, ap, subst, ◌∙◌, arith}
 use Rattle.std.specs.List.{enumerate_from, list_any, position_or_len, prefix_len}
 use Rattle.std.proofs.lemmas.Bool.{false≢true, lt-ltb, true≢false}
 use Rattle.std.proofs.lemmas.List.{length-map}
@@ -35,7 +35,7 @@ any_at {X} p (x ∷ xs) is =
           (suc on.0, on.1, on.2, on.3)
     ]
 
-contains_at : {X : Type 0} (xs : List X) (k : ℕ) (x : X) → slice_get xs k ≡ Some x → Contains xs x
+pub contains_at : {X : Type 0} (xs : List X) (k : ℕ) (x : X) → slice_get xs k ≡ Some x → Contains xs x
 contains_at xs k x at = (k, slice_get_within xs k x at, get_or_from_slice_get xs k x x at)
 
 pub any_of : {X : Type 0} (p : X → Bool) (xs : List X) (x : X) → Contains xs x → p x ≡ true → list_any p xs ≡ true

@@ -1,7 +1,6 @@
 -- The lines that the outcomes of a script have in each place, port by port and object by object. Source: this project's own.
 use Rattle.std.specs.Prelude.{ℕ, ◌≡◌, ◌+◌, ◌-◌, ◌++◌, List, Some, length, map, slice_get}
 use Rattle.std.specs.List.{Contains}
-use Rattle.std.specs.Global.{Vec}
 use Rattle.ccan_line.specs.declared.line_answer.LineAnswer.{LineAnswer}
 use Rattle.ccan_object.specs.declared.record.Record.{Record}
 use Rattle.ccan_ram.specs.declared.port.PortName.{PortName}

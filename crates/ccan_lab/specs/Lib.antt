@@ -20,4 +20,6 @@ pub mod Sorted
 pub mod Choices
 pub mod Answer
 pub mod Question
+pub mod Listing
+pub mod Telling
 pub mod Words

@@ -61,11 +61,10 @@ is_repeat texts number = list_any (λ text. bytes_eq text (text_at texts number)
 unfoldable pub first_count : List (List ℕ) → ℕ → ℕ
 first_count texts number = length (filter not (map (is_repeat texts) (range_with_len 0 number)))
 
--- the first line: how many outcomes there are, in how many states, and how many can be told apart by what they show
-abbrev pub observed_heading : ℕ → ℕ → ℕ → List ℕ
-observed_heading outcomes states apart =
-    counted_text outcomes (codes "outcome") ++ (codes " in " ++ (counted_text states (codes "state") ++ (codes ", "
-    ++ (decimal apart ++ codes " as observed\n"))))
+-- the first line: how many outcomes there are, and how many can be told apart by what they show
+abbrev pub observed_heading : ℕ → ℕ → List ℕ
+observed_heading outcomes apart =
+    counted_text outcomes (codes "outcome") ++ (codes ", " ++ (decimal apart ++ codes " as observed\n"))
 
 -- nothing for an outcome that shows what one before it does, else its text with what is looked at
 abbrev pub IsFirstText : (List ℕ → ℕ → List ℕ → Type 0) → Bool → List ℕ → ℕ → List ℕ → Type 0
@@ -80,13 +79,12 @@ AreFirstTexts IsText texts (suc number) text =
     × IsFirstText IsText (is_repeat texts number) (text_at texts number) number last
 
 -- the first line, and of each kind of outcome that can be told apart the first, with a history
-pub record IsObservedListing (names : List (List ℕ)) (script : ScriptFields) (endings : List Ending) (states : ℕ)
-    (text : List ℕ)
+pub record IsObservedListing (names : List (List ℕ)) (script : ScriptFields) (endings : List Ending) (text : List ℕ)
     : Type 0 where
   pub outcomes : List ℕ
   pub are : AreFirstTexts (IsOutcomeText script endings) (observed_texts (marks_of names script) endings) (length endings)
       outcomes
-  pub text_is : text ≡ observed_heading (length endings) states (first_count (observed_texts (marks_of names script) endings)
+  pub text_is : text ≡ observed_heading (length endings) (first_count (observed_texts (marks_of names script) endings)
       (length endings)) ++ outcomes
 
 -- ---- names of nothing

@@ -13,8 +13,10 @@ use Rattle.ccan_outcomes.specs.Waits.{HaveSameOutcomes}
 use Rattle.ccan_page.specs.declared.page.Outcome.{Outcome}
 use Rattle.ccan_page.specs.declared.page.Page.{Page}
 use Rattle.ccan_page.specs.declared.page.Step as shown
-use Rattle.ccan_lab.specs.Report.{different_lines}
-use Rattle.ccan_lab.specs.Rows.{rows_of}
+use Rattle.ccan_lab.specs.Counting.{greatest}
+use Rattle.ccan_lab.specs.Listing.{HasChoices, different_lines}
+use Rattle.ccan_lab.specs.Rows.{rows_at, rows_of}
+use Rattle.ccan_lab.specs.Summary.{same_parts}
 
 -- the name that a page has for the script's file: none for standard input
 abbrev pub page_name : Option (List ℕ) → List ℕ
@@ -35,25 +37,33 @@ line_stepped step = (step.port, step.line - 1)
 
 -- the outcome has the number of the ending in this place, which is counted from 0, the lines of it that are not the same in
 -- all, and a step for each step of a history of it
-pub record IsShown (script : ScriptFields) (endings : List Ending) (place : ℕ) (outcome : Outcome) : Type 0 where
+pub record IsShown (script : ScriptFields) (endings : List Ending) (choices : List (List (List ℕ))) (place : ℕ)
+    (outcome : Outcome) : Type 0 where
   pub number_is : outcome.number ≡ place + 1
-  pub lines_are : string_bytes outcome.lines ≡ different_lines (map rows_of endings) place
+  pub lines_are : string_bytes outcome.lines ≡ different_lines choices (rows_at (map rows_of endings) place)
   pub steps : List HistoryStep
   pub lead_to_it : (ending : Ending) → slice_get endings place ≡ Some ending → IsHistoryOf script ending steps
   pub are_shown : map line_of outcome.history.items ≡ map line_stepped steps
 
 -- the outcomes are the endings before this place, in turn
-abbrev pub AreShown : ScriptFields → List Ending → ℕ → List Outcome → Type 0
-AreShown script endings zero outcomes = outcomes ≡ []
-AreShown script endings (suc place) outcomes =
+abbrev pub AreShown : ScriptFields → List Ending → List (List (List ℕ)) → ℕ → List Outcome → Type 0
+AreShown script endings choices zero outcomes = outcomes ≡ []
+AreShown script endings choices (suc place) outcomes =
     (before : List Outcome) × (last : Outcome) × (outcomes ≡ before ++ (last ∷ []))
-    × AreShown script endings place before × IsShown script endings place last
+    × AreShown script endings choices place before × IsShown script endings choices place last
 
--- the page says how many outcomes there are, of a script that has the same, and has the first of them, at most so many
+-- the page says how many outcomes there are, and what is the same in all, and has the first of them, at most so many
+pub record ShowsEndings (script : ScriptFields) (endings : List Ending) (limit : ℕ) (page : Page) : Type 0 where
+  pub count_is : page.count ≡ min (length endings) greatest
+  pub choices : List (List (List ℕ))
+  pub has_choices : HasChoices script endings choices
+  pub same_is : string_bytes page.same ≡ same_parts choices
+  pub are_shown : AreShown script endings choices (min limit (length endings)) page.outcomes.items
+
+-- it does so of all outcomes of a script that has the same
 pub record ShowsOutcomes (script : ScriptFields) (limit : ℕ) (page : Page) : Type 0 where
   pub searched : ScriptFields
   pub same_outcomes : HaveSameOutcomes script searched
   pub endings : List Ending
   pub complete : AreOutcomes searched endings
-  pub count_is : page.count ≡ length endings
-  pub are_shown : AreShown searched endings (min limit (length endings)) page.outcomes.items
+  pub shows : ShowsEndings searched endings limit page

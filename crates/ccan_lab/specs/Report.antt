@@ -1,6 +1,6 @@
 -- What is printed of the outcomes of a script. Source: this project's own.
 use Rattle.std.specs.Prelude.{ℕ, zero, suc, ◌≡◌, ◌+◌, ◌++◌, ◌==◌, ◌∷◌, List, [], Option, Some, None, IfSome}
-use Rattle.std.specs.Prelude.{codes, decimal, length, map, slice_get, if◌then◌else◌}
+use Rattle.std.specs.Prelude.{codes, decimal, slice_get, if◌then◌else◌}
 use Rattle.std.specs.List.{enumerate_from, flat_map}
 use Rattle.ccan_ram.specs.declared.port.PortName.{PortName}
 use Rattle.ccan_ram.specs.Port.{port_text}
@@ -10,7 +10,6 @@ use Rattle.ccan_outcomes.specs.declared.history_step.HistoryStep.{HistoryStep}
 use Rattle.ccan_outcomes.specs.History.{IsHistoryOf}
 use Rattle.ccan_lab.specs.History.{step_text}
 use Rattle.ccan_lab.specs.Replay.{Replays}
-use Rattle.ccan_lab.specs.Rows.{is_in_all, line_at, place_count, rows_at, rows_of}
 
 -- ---- parts
 
@@ -24,11 +23,6 @@ abbrev pub counted_text : ℕ → List ℕ → List ℕ
 counted_text count name =
     if count == 1 then decimal count ++ (codes " " ++ name) else decimal count ++ (codes " " ++ (name ++ codes "s"))
 
--- the first line
-abbrev pub heading_text : ℕ → ℕ → List ℕ
-heading_text outcomes states =
-    counted_text outcomes (codes "outcome") ++ (codes " in " ++ (counted_text states (codes "state") ++ codes "\n"))
-
 -- ---- what is the same in all
 
 -- a label before a line, nothing where the line is empty
@@ -36,25 +30,7 @@ unfoldable pub labelled : List ℕ → List ℕ → List ℕ
 labelled label [] = []
 labelled label (byte ∷ rest) = label ++ byte ∷ rest
 
--- the line in a place, where it is the same in all
-unfoldable pub same_line : List (List (List ℕ)) → ℕ → List ℕ
-same_line all place =
-    if is_in_all all place (line_at (rows_at all 0) place)
-    then labelled (codes "same in all: ") (line_at (rows_at all 0) place) else []
-
-abbrev pub same_text : List (List (List ℕ)) → List ℕ
-same_text all = each (place_count all) (same_line all)
-
 -- ---- an outcome with a history
-
--- its line in a place, where it is not the same in all
-unfoldable pub different_line : List (List (List ℕ)) → ℕ → ℕ → List ℕ
-different_line all number place =
-    if is_in_all all place (line_at (rows_at all number) place) then [] else line_at (rows_at all number) place
-
--- its lines that are not the same in all
-abbrev pub different_lines : List (List (List ℕ)) → ℕ → List ℕ
-different_lines all number = each (place_count all) (different_line all number)
 
 -- a line for each step, counted from 1
 unfoldable pub history_text : List HistoryStep → List ℕ
@@ -98,19 +74,3 @@ IsTextWith IsHistory LeadsTo endings place lines number text =
 abbrev pub IsOutcomeText : ScriptFields → List Ending → List ℕ → ℕ → List ℕ → Type 0
 IsOutcomeText script endings lines number text =
     IsTextWith (IsHistoryOf script) (Replays script) endings number lines number text
-
--- the text is that of the outcomes before this number, in turn
-abbrev pub AreOutcomeTexts : ScriptFields → List Ending → ℕ → List ℕ → Type 0
-AreOutcomeTexts script endings zero text = text ≡ []
-AreOutcomeTexts script endings (suc number) text =
-    (before : List ℕ) × (last : List ℕ) × (text ≡ before ++ last)
-    × AreOutcomeTexts script endings number before
-    × IsOutcomeText script endings (different_lines (map rows_of endings) number) number last
-
--- ---- the whole list
-
--- the first line, what is the same in all, and each outcome with a history
-pub record IsListing (script : ScriptFields) (endings : List Ending) (states : ℕ) (text : List ℕ) : Type 0 where
-  pub outcomes : List ℕ
-  pub are : AreOutcomeTexts script endings (length endings) outcomes
-  pub text_is : text ≡ heading_text (length endings) states ++ (same_text (map rows_of endings) ++ outcomes)

@@ -1,21 +1,20 @@
 -- What is answered of the words of all outcomes, without a list of them. Source: this project's own.
-use Rattle.std.specs.Prelude.{ℕ, ◌≡◌, ◌⊎◌, Bool, true, false, List, None, length, min, string_bytes}
+use Rattle.std.specs.Prelude.{ℕ, ◌≡◌, ◌⊎◌, Bool, true, false, not, List, None, length, min, string_bytes}
 use Rattle.std.specs.List.{IsDistinct}
 use Rattle.ccan_line.specs.Script.{ScriptFields}
 use Rattle.ccan_outcomes.specs.declared.all_ports.AllPorts.{AllPorts}
 use Rattle.ccan_outcomes.specs.declared.ending.Ending.{Ending}
+use Rattle.ccan_outcomes.specs.AllPortsReached.{HasMoreAtOnce}
 use Rattle.ccan_outcomes.specs.AnswerGraph.{HasLargeGraph}
 use Rattle.ccan_outcomes.specs.Ending.{AreOutcomes}
 use Rattle.ccan_outcomes.specs.WordStates.{TellsManyWords}
-use Rattle.ccan_lab.specs.declared.asked.Asked.{Asked}
-use Rattle.ccan_lab.specs.declared.asked.Asked.TheVariants.{Summary, All, Can, Never, Observed, AllObserved}
 use Rattle.ccan_lab.specs.declared.lab_error.LabError.{LabError}
 use Rattle.ccan_lab.specs.declared.lab_error.LabError.TheVariants as fault
 use Rattle.ccan_lab.specs.declared.line_search.LineSearch.{LineSearch}
 use Rattle.ccan_lab.specs.declared.line_search.LineSearch.TheVariants.{Found, NotFound, Refused}
 use Rattle.ccan_lab.specs.Answer.{first_with, is_refused, is_so, none_text}
 use Rattle.ccan_lab.specs.Counting.{greatest}
-use Rattle.ccan_lab.specs.Outcomes.{IsWithout, TellsAll}
+use Rattle.ccan_lab.specs.Listing.{IsFoundText}
 
 -- why there are no words: so many states can be reached, or so many steps made one after the other, or the words need so many
 -- nodes, or memory ran out
@@ -24,6 +23,16 @@ HasNoWords script eq most (fault.More told) = (told ≡ most) × HasLargeGraph s
 HasNoWords script eq most (fault.Nodes told) = (told ≡ most) × TellsManyWords script most
 HasNoWords script eq most fault.Memory = Unit {0}
 HasNoWords script eq most _ = ⊥
+
+-- why there is no history: a search through all states comes to more of them, or memory ran out
+abbrev pub HasNoHistory : ScriptFields → (AllPorts → AllPorts → Bool) → ℕ → LabError → Type 0
+HasNoHistory script eq most (fault.More told) = (told ≡ most) × HasMoreAtOnce script eq most
+HasNoHistory script eq most fault.Memory = Unit {0}
+HasNoHistory script eq most _ = ⊥
+
+-- why there is no list: there are no words, or there is an outcome without a history
+abbrev pub IsWithout : ScriptFields → (AllPorts → AllPorts → Bool) → ℕ → LabError → Type 0
+IsWithout script eq most why = HasNoWords script eq most why ⊎ HasNoHistory script eq most why
 
 -- none of the outcomes has a line that begins so, and the text says so
 pub record SaysNone (endings : List Ending) (begin text : List ℕ) : Type 0 where
@@ -51,33 +60,19 @@ abbrev pub RefusesLine : ScriptFields → List ℕ → Type 0
 RefusesLine script begin =
     (endings : List Ending) × AreOutcomes script endings × (is_refused script endings begin ≡ true)
 
--- in such a list an outcome has a line that begins so
-abbrev pub HasLineAmong : ScriptFields → List ℕ → Type 0
-HasLineAmong script begin =
-    (endings : List Ending) × AreOutcomes script endings × (is_so (first_with begin endings) ≡ true)
+-- the text shows an outcome that has the line, of a list that has each outcome that the promise allows, once, and no other
+pub record TellsFound (script : ScriptFields) (eq : Ending → Ending → Bool) (begin text : List ℕ) : Type 0 where
+  pub outcomes : List Ending
+  pub are : AreOutcomes script outcomes
+  pub once : IsDistinct eq outcomes
+  pub says : IsFoundText script outcomes begin text
 
--- what came of a search among all outcomes of a script: one of them has the line, none has, or it is refused
-abbrev pub HasSearched : ScriptFields → (Ending → Ending → Bool) → List ℕ → LineSearch → Type 0
-HasSearched script eq begin Found = HasLineAmong script begin
-HasSearched script eq begin (NotFound text) = TellsNone script eq begin (string_bytes text)
-HasSearched script eq begin Refused = RefusesLine script begin
+-- the text answers whether an outcome has the line, or, if it is asked so, whether none has
+abbrev pub TellsLine : ScriptFields → (Ending → Ending → Bool) → List ℕ → Bool → List ℕ → Bool → Type 0
+TellsLine script eq begin never text holds =
+    (TellsNone script eq begin text × (holds ≡ never)) ⊎ (TellsFound script eq begin text × (holds ≡ not never))
 
--- a line is asked for: whether an outcome can have it, or whether none has
-abbrev pub AsksFor : Asked → List ℕ → Bool → Type 0
-AsksFor (Can line) begin never = (line.now ≡ begin) × (never ≡ false)
-AsksFor (Never line) begin never = (line.now ≡ begin) × (never ≡ true)
-AsksFor Summary begin never = ⊥
-AsksFor All begin never = ⊥
-AsksFor (Observed names) begin never = ⊥
-AsksFor (AllObserved names) begin never = ⊥
-
--- the text answers whether an outcome has the line: it says that none has, or answers by the list of all
-abbrev pub TellsLine : ScriptFields → (Ending → Ending → Bool) → Asked → List ℕ → Bool → List ℕ → Bool → Type 0
-TellsLine script eq asked begin never text holds =
-    (TellsNone script eq begin text × (holds ≡ never)) ⊎ TellsAll script asked text holds
-
--- why there is no answer: the line is refused, or there are no words, or no list
-abbrev pub IsUnanswered : ScriptFields → Asked → List ℕ → (AllPorts → AllPorts → Bool) → ℕ → LabError → Type 0
-IsUnanswered script asked begin eq most fault.NoLine =
-    RefusesLine script begin ⊎ IsWithout script asked eq most fault.NoLine
-IsUnanswered script asked begin eq most why = HasNoWords script eq most why ⊎ IsWithout script asked eq most why
+-- why there is no answer: the line is refused, or there are no words, or there is an outcome without a history
+abbrev pub IsUnanswered : ScriptFields → List ℕ → (AllPorts → AllPorts → Bool) → ℕ → LabError → Type 0
+IsUnanswered script begin eq most fault.NoLine = RefusesLine script begin
+IsUnanswered script begin eq most why = IsWithout script eq most why

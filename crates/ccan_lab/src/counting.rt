@@ -28,7 +28,7 @@ use std::io::{Input, IsTerminal};
 /// Of which scripts the outcomes are counted.
 #[derive(Drop)]
 pub struct CountQuestion<'a> {
-    /// How many states the search follows at most, and how many nodes the words of the outcomes have. If a script needs more, it is
+    /// How many states the search keeps at most, and how many nodes the words of the outcomes have. If a script needs more, it is
     /// not counted.
     pub most: usize,
     /// The files: `-` means standard input.

@@ -1,18 +1,19 @@
 //! The question `ccan-lab draw`: its words, and the picture.
-ghost use Rattle.std.specs.Prelude.{◌<◌, length};
 ghost use Rattle.ccan_line.specs.Script.{fields_of};
-ghost use Rattle.ccan_outcomes.specs.Outcomes.{AreFound};
+ghost use Rattle.ccan_lab.specs.Telling.{CanBeTold};
 
 use crate::command_words::{command, file, number, with};
 use crate::explaining::print_text;
 use crate::input::script_asked;
 use crate::lab_error::LabError;
-use crate::outcome_rows::picture_of_outcome;
+use crate::outcome_rows::picture_of_history;
+use crate::outcome_words::{OutcomeList, list_of};
 use crate::outcomes::DEFAULT_MOST;
 use crate::progress_line::ProgressLine;
+use crate::telling::{Telling, history_to};
 use ccan_draw::{Picture, picture_of_run, svg_of};
 use ccan_explain::tell;
-use ccan_outcomes::{Outcomes, all_outcomes, looking_once};
+use ccan_outcomes::{Histories, looking_once};
 use ccan_script::Script;
 use ccan_search::Progress;
 use clap::{Arg, ArgMatches, Command};
@@ -25,7 +26,8 @@ use std::io::Input;
 pub struct DrawQuestion<'a> {
     /// The number of the outcome, from 1. None: the run in the script's order.
     pub outcome: Option<usize>,
-    /// How many states the search follows at most, if an outcome is asked. If there are more, nothing is drawn.
+    /// How many states the search keeps at most, and how many nodes the words of the outcomes have, if one is asked. If the script
+    /// needs more, nothing is drawn.
     pub most: usize,
     /// The file of the script: `None` or `-` means standard input.
     pub file: Option<&'a str>,
@@ -39,7 +41,7 @@ fn outcome_option<'a>(alloc: Global) -> Arg<'a> {
 
 /// The option that a number of states is given by, where an outcome is asked.
 fn most_option<'a>(alloc: Global) -> Result<Arg<'a>, AllocError> {
-    let help = "How many states to follow at most [default: 1000000]";
+    let help = "How many states and nodes to keep at most [default: 1000000]";
     number(alloc, "most", help).requires_arg("outcome")
 }
 
@@ -67,20 +69,45 @@ pub fn draw_question<'a>(words: &ArgMatches<'a>) -> DrawQuestion<'a> {
     }
 }
 
-/// The picture of a history of the outcome of this number, from 1, of those that were found.
-fn listed_drawn(
+/// The picture of a history of the outcome of this number, from 1.
+fn numbered_drawn<P: Progress>(
     alloc: Global,
-    script: &Script,
-    outcomes: &Outcomes,
+    telling: &Telling<'_, P>,
     number: usize,
 ) -> Result<Picture, LabError>
-    requires { AreFound (fields_of script.now) outcomes.now }
+    requires { CanBeTold (fields_of telling.now.script.now) telling.now.list.now }
 {
-    let listed = outcomes.listing.endings.len();
-    if number == 0 || number > listed {
-        return Err(LabError::NoOutcome(number, listed));
-    }
-    Ok(picture_of_outcome(alloc, script, outcomes, number - 1)?)
+    let words = &telling.list.words;
+    let none = LabError::NoOutcome(number, words.count() as usize);
+    let Some(place) = number.checked_sub(1) else {
+        return Err(none);
+    };
+    let Some(ending) = words.ending(alloc, place as u64)? else {
+        return Err(none);
+    };
+    let mut histories = Histories::new(alloc);
+    let steps = history_to(alloc, telling, &mut histories, place, &ending)?;
+    Ok(picture_of_history(alloc, telling.script, steps.as_slice(), &ending)?)
+}
+
+/// The picture of a history of the outcome of this number, from 1, of these, which are dropped.
+fn listed_drawn<P: Progress>(
+    alloc: Global,
+    script: &Script,
+    list: OutcomeList,
+    number: usize,
+    most: usize,
+    progress: &P,
+) -> Result<Picture, LabError>
+    requires { CanBeTold (fields_of script.now) list }
+{
+    let telling = Telling {
+        script,
+        list: &list,
+        most,
+        progress,
+    };
+    numbered_drawn(alloc, &telling, number)
 }
 
 /// The picture of a history of the outcome of this number, from 1, as `ccan-lab outcomes --all` lists it.
@@ -91,10 +118,8 @@ fn outcome_drawn<P: Progress>(
     most: usize,
     progress: &P,
 ) -> Result<Picture, LabError> {
-    match all_outcomes(alloc, script, most, progress)? {
-        Some(outcomes) => listed_drawn(alloc, script, &outcomes, number),
-        None => Err(LabError::More(most)),
-    }
+    let list = list_of(alloc, script, most, progress)?;
+    listed_drawn(alloc, script, list, number, most, progress)
 }
 
 /// The picture of the run in the script's order.

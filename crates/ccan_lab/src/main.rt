@@ -53,6 +53,7 @@ pub mod report;
 pub mod rows;
 pub mod seen;
 pub mod summary;
+mod telling;
 pub mod wording;
 
 use crate::check_command::answer_check;

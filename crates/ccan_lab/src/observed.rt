@@ -1,22 +1,28 @@
 //! A list of the outcomes that can be told apart by some of their lines.
-ghost use Rattle.std.specs.Prelude.{◌≡◌, ◌+◌, ◌^◌, ◌<◌, ◌++◌, List, ℕ, IfOk, OnOk, length, map, not, option_map, position};
+ghost use Rattle.std.specs.Prelude.{◌≡◌, ◌+◌, ◌^◌, ◌<◌, ◌++◌, List, ℕ, Some, IfErr, IfOk, OnOk, length, map, not, option_map, position, slice_get};
 ghost use Rattle.std.specs.Prelude.{string_bytes};
 ghost use Rattle.std.specs.List.{list_any, range_with_len};
 ghost use Rattle.std.specs.Str.{bytes_eq};
 ghost use Rattle.ccan_line.specs.Script.{fields_of};
-ghost use Rattle.ccan_outcomes.specs.Outcomes.{AreFound};
+ghost use Rattle.ccan_outcomes.specs.OutcomeWords.{endings_in};
 ghost use Rattle.ccan_lab.specs.Observed.{AreFirstTexts, IsFirstText, IsObservedListing, first_count, is_kind, is_known};
 ghost use Rattle.ccan_lab.specs.Report.{IsOutcomeText};
 ghost use Rattle.ccan_lab.specs.Observed.{is_observed, is_place, is_repeat, marks_of, names_in, text_at};
 ghost use Rattle.ccan_lab.specs.Observed.{observed_heading, observed_line, observed_lines, places_of};
-ghost use Rattle.ccan_lab.specs.Rows.{rows_of};
+ghost use Rattle.ccan_lab.specs.Words.{HasNoHistory};
+ghost use Rattle.ccan_lab.specs.Telling.{CanBeTold};
 
+use crate::lab_error::LabError;
+use crate::outcome_words::all_endings;
 use crate::place::{LineCounts, add_place_name, place_kind};
 use crate::report::add_outcome;
-use crate::rows::Rows;
+use crate::rows::{Rows, all_rows};
+use crate::telling::Telling;
 use crate::wording::{add_counted, add_number};
-use ccan_outcomes::Outcomes;
+use ccan_outcomes::all_ports::AllPorts;
+use ccan_outcomes::{Ending, Histories};
 use ccan_script::Script;
+use ccan_search::Progress;
 use std::alloc::{AllocError, Global};
 
 /// The names in a list with commas between them.
@@ -175,78 +181,74 @@ pub fn is_repeat(texts: &[String], number: usize) -> bool
 }
 
 /// Adds an outcome, unless one before it shows the same, and says whether it did.
-fn add_if_first(
+fn add_if_first<P: Progress>(
     alloc: Global,
     text: &mut String,
-    script: &Script,
-    outcomes: &Outcomes,
+    telling: &Telling<'_, P>,
+    histories: &mut Histories,
     texts: &[String],
+    ending: &Ending,
     number: usize,
-) -> Result<bool, AllocError>
-    requires as_many { length texts.now ≡ length outcomes.now.listing.endings.keys }
-    requires within { number < length outcomes.now.listing.endings.keys }
-    requires found { AreFound (fields_of script.now) outcomes.now }
+) -> Result<bool, LabError>
+    requires can { CanBeTold (fields_of telling.now.script.now) telling.now.list.now }
+    requires within { number < length texts.now }
+    requires at { slice_get (endings_in telling.now.list.now.words) number ≡ Some ending.now }
+    requires few { number + 1 < 2 ^ 64 }
     ensures first { IfOk result (λ added. added
         ≡ not (is_repeat (map string_bytes texts.now) number)) }
     ensures text { OnOk result ((added : List ℕ)
         × (string_bytes text.new ≡ string_bytes text.old ++ added)
-        × IsFirstText (IsOutcomeText (fields_of script.now) outcomes.now.listing.endings.keys)
-        (is_repeat (map string_bytes texts.now) number)
+        × IsFirstText (IsOutcomeText (fields_of telling.now.script.now)
+        (endings_in telling.now.list.now.words)) (is_repeat (map string_bytes texts.now) number)
         (text_at (map string_bytes texts.now) number) number added) }
+    ensures without { IfErr result (HasNoHistory (fields_of telling.now.script.now)
+        ⟦<AllPorts as PartialEq>⟧.eq telling.now.most) }
 {
     if is_repeat(texts, number) {
         return Ok(false);
     }
-    add_outcome(
-        alloc,
-        text,
-        script,
-        outcomes,
-        texts[number].as_str(),
-        number,
-    )?;
+    let lines = texts[number].as_str();
+    add_outcome(alloc, text, telling, histories, ending, lines, number)?;
     Ok(true)
 }
 
 /// Adds each outcome that shows what none before it does, and says how many these are.
-fn add_firsts(
+fn add_firsts<P: Progress>(
     alloc: Global,
     text: &mut String,
-    script: &Script,
-    outcomes: &Outcomes,
+    telling: &Telling<'_, P>,
     texts: &[String],
-) -> Result<usize, AllocError>
-    requires as_many { length texts.now ≡ length outcomes.now.listing.endings.keys }
-    requires found { AreFound (fields_of script.now) outcomes.now }
+    endings: &[Ending],
+) -> Result<usize, LabError>
+    requires can { CanBeTold (fields_of telling.now.script.now) telling.now.list.now }
+    requires endings { endings.now ≡ endings_in telling.now.list.now.words }
+    requires as_many { length texts.now ≡ length endings.now }
     ensures count { IfOk result (λ count. count
-        ≡ first_count (map string_bytes texts.now) (length outcomes.now.listing.endings.keys)) }
+        ≡ first_count (map string_bytes texts.now) (length endings.now)) }
     ensures text { OnOk result ((added : List ℕ)
         × (string_bytes text.new ≡ string_bytes text.old ++ added)
-        × AreFirstTexts (IsOutcomeText (fields_of script.now) outcomes.now.listing.endings.keys)
-        (map string_bytes texts.now) (length outcomes.now.listing.endings.keys) added) }
+        × AreFirstTexts (IsOutcomeText (fields_of telling.now.script.now) endings.now)
+        (map string_bytes texts.now) (length endings.now) added) }
+    ensures without { IfErr result (HasNoHistory (fields_of telling.now.script.now)
+        ⟦<AllPorts as PartialEq>⟧.eq telling.now.most) }
 {
+    let mut histories = Histories::new(alloc);
     let mut count = 0;
-    for number in 0..outcomes.listing.endings.len() {
-        if add_if_first(alloc, text, script, outcomes, texts, number)? {
+    for number in 0..endings.len() {
+        let ending = &endings[number];
+        if add_if_first(alloc, text, telling, &mut histories, texts, ending, number)? {
             count += 1;
         }
     }
     Ok(count)
 }
 
-/// Adds the first line: how many outcomes there are, in how many states, and how many can be told apart by what they show.
-fn add_observed_heading(
-    text: &mut String,
-    outcomes: usize,
-    states: usize,
-    apart: usize,
-) -> Result<(), AllocError>
+/// Adds the first line: how many outcomes there are, and how many can be told apart by what they show.
+fn add_observed_heading(text: &mut String, outcomes: usize, apart: usize) -> Result<(), AllocError>
     ensures { OnOk result (string_bytes text.new
-        ≡ string_bytes text.old ++ observed_heading outcomes states apart) }
+        ≡ string_bytes text.old ++ observed_heading outcomes apart) }
 {
     add_counted(text, outcomes, "outcome")?;
-    text.push_str(" in ")?;
-    add_counted(text, states, "state")?;
     text.push_str(", ")?;
     add_number(text, apart)?;
     text.push_str(" as observed\n")
@@ -270,15 +272,14 @@ fn named_texts(
 fn below_heading(
     alloc: Global,
     outcomes: usize,
-    states: usize,
     apart: usize,
     told: &str,
 ) -> Result<String, AllocError>
     ensures { IfOk result (λ text. string_bytes text
-        ≡ observed_heading outcomes states apart ++ told.now) }
+        ≡ observed_heading outcomes apart ++ told.now) }
 {
     let mut text = String::new(alloc);
-    add_observed_heading(&mut text, outcomes, states, apart)?;
+    add_observed_heading(&mut text, outcomes, apart)?;
     text.push_str(told)?;
     Ok(text)
 }
@@ -288,25 +289,30 @@ fn below_heading(
 ///
 /// A name is that of a line, as `if1[1]`, of an object at the end, as `final 01`, or a port's or `final` for all of them; names
 /// have commas between them. An outcome has the number that it has in the list of all.
-pub fn observed_listing(
+pub fn observed_listing<P: Progress>(
     alloc: Global,
-    script: &Script,
-    outcomes: &Outcomes,
-    all: &[Rows],
+    telling: &Telling<'_, P>,
     list: &str,
-) -> Result<String, AllocError>
-    requires rows { all.now ≡ map rows_of outcomes.now.listing.endings.keys }
-    requires found { AreFound (fields_of script.now) outcomes.now }
-    ensures { IfOk result (λ text. IsObservedListing (names_in list.now) (fields_of script.now)
-        outcomes.now.listing.endings.keys (length outcomes.now.reached.states.keys)
+) -> Result<String, LabError>
+    requires can { CanBeTold (fields_of telling.now.script.now) telling.now.list.now }
+    ensures text { IfOk result (λ text. IsObservedListing (names_in list.now)
+        (fields_of telling.now.script.now) (endings_in telling.now.list.now.words)
         (string_bytes text)) }
+    ensures without { IfErr result (HasNoHistory (fields_of telling.now.script.now)
+        ⟦<AllPorts as PartialEq>⟧.eq telling.now.most) }
 {
-    let texts = named_texts(alloc, script, all, list)?;
+    let endings = all_endings(alloc, &telling.list.words)?;
+    let rows = all_rows(alloc, endings.as_slice())?;
+    let texts = named_texts(alloc, telling.script, rows.as_slice(), list)?;
     let mut firsts = String::new(alloc);
-    let apart = add_firsts(alloc, &mut firsts, script, outcomes, texts.as_slice())?;
-    let endings = outcomes.listing.endings.len();
-    let states = outcomes.reached.states.len();
-    below_heading(alloc, endings, states, apart, firsts.as_str())
+    let apart = add_firsts(
+        alloc,
+        &mut firsts,
+        telling,
+        texts.as_slice(),
+        endings.as_slice(),
+    )?;
+    Ok(below_heading(alloc, endings.len(), apart, firsts.as_str())?)
 }
 
 /// Whether a word stands for all lines of a port, or for all objects.

@@ -1,7 +1,4 @@
 //! The picture of a history that leads to an outcome.
-ghost use Rattle.std.specs.Prelude.{◌<◌, length};
-ghost use Rattle.ccan_line.specs.Script.{fields_of};
-ghost use Rattle.ccan_outcomes.specs.Outcomes.{AreFound};
 
 mod columns;
 
@@ -10,7 +7,7 @@ use crate::outcome_rows::columns::columns_of;
 use ccan_draw::layout::WORDS_GLYPHS;
 use ccan_draw::wrapping::wrapped;
 use ccan_draw::{Picture, Row};
-use ccan_outcomes::{Ending, HistoryKind, HistoryStep, Outcomes, history_of, states_along};
+use ccan_outcomes::{Ending, HistoryKind, HistoryStep, states_along};
 use ccan_ram::PortName;
 use ccan_script::{LineAnswer, Script, print_line};
 use std::alloc::{AllocError, Global};
@@ -230,23 +227,18 @@ fn ends_of(alloc: Global, openings: usize, runs: &[Run]) -> Result<Vec<usize>, A
     Ok(ends)
 }
 
-/// The picture of a history that leads to the outcome of this place in the list, from 0.
-pub fn picture_of_outcome(
+/// The picture of a history that leads to this outcome.
+pub fn picture_of_history(
     alloc: Global,
     script: &Script,
-    outcomes: &Outcomes,
-    place: usize,
-) -> Result<Picture, AllocError>
-    requires within { place < length outcomes.now.listing.endings.keys }
-    requires found { AreFound (fields_of script.now) outcomes.now }
-{
-    let steps = history_of(alloc, script, outcomes, place)?;
-    let states = states_along(alloc, script, steps.as_slice())?;
-    let ending = &outcomes.listing.endings.as_slice()[place];
-    let runs = runs_of(alloc, steps.as_slice())?;
-    let mut rows = opening_rows(alloc, steps.as_slice(), ending)?;
+    steps: &[HistoryStep],
+    ending: &Ending,
+) -> Result<Picture, AllocError> {
+    let states = states_along(alloc, script, steps)?;
+    let runs = runs_of(alloc, steps)?;
+    let mut rows = opening_rows(alloc, steps, ending)?;
     let ends = ends_of(alloc, rows.len(), runs.as_slice())?;
-    add_rows(alloc, &mut rows, runs.as_slice(), steps.as_slice(), ending)?;
+    add_rows(alloc, &mut rows, runs.as_slice(), steps, ending)?;
     Ok(Picture {
         rows,
         columns: columns_of(alloc, states.as_slice(), runs.as_slice(), ends.as_slice())?,

@@ -1,19 +1,53 @@
-//! The outcomes of a script as words, for what is answered without a list of them.
-ghost use Rattle.std.specs.Prelude.{IfErr, IfOk};
+//! The outcomes of a script as words.
+ghost use Rattle.std.specs.Prelude.{◌≡◌, IfErr, IfOk};
 ghost use Rattle.std.specs.List.{IsDistinct};
 ghost use Rattle.ccan_line.specs.Script.{fields_of};
 ghost use Rattle.ccan_outcomes.specs.Ending.{AreOutcomes};
 ghost use Rattle.ccan_outcomes.specs.OutcomeWords.{AreComplete, AreOfLines, endings_in};
+ghost use Rattle.ccan_lab.specs.Telling.{CanBeTold};
 ghost use Rattle.ccan_lab.specs.Words.{HasNoWords};
 
 use crate::lab_error::LabError;
 use ccan_outcomes::all_ports::AllPorts;
-use ccan_outcomes::{Ending, OutcomeWords, answer_graph, words_of_graph};
+use ccan_outcomes::{AnswerGraph, Ending, OutcomeWords, answer_graph, words_of_graph};
 use ccan_script::Script;
 use ccan_search::Progress;
-use std::alloc::Global;
+use std::alloc::{AllocError, Global};
 
-/// The outcomes of a script as words, if their search comes to no more states than `most`, and they need no more nodes.
+/// All outcomes of a script, and the graph along which a history of each is found.
+#[derive(Drop)]
+pub struct OutcomeList {
+    /// The outcomes.
+    pub words: OutcomeWords,
+    /// The graph that tells them.
+    pub graph: AnswerGraph,
+}
+
+/// All outcomes of a script, if their search comes to no more states than `most`, and they need no more nodes.
+pub fn list_of<P: Progress>(
+    alloc: Global,
+    script: &Script,
+    most: usize,
+    progress: &P,
+) -> Result<OutcomeList, LabError>
+    ensures all { IfOk result (λ list.
+        AreOutcomes (fields_of script.now) (endings_in list.words)) }
+    ensures distinct { IfOk result (λ list.
+        IsDistinct ⟦<Ending as PartialEq>⟧.eq (endings_in list.words)) }
+    ensures told { IfOk result (CanBeTold (fields_of script.now)) }
+    ensures without { IfErr result
+        (HasNoWords (fields_of script.now) ⟦<AllPorts as PartialEq>⟧.eq most) }
+{
+    let Some(graph) = answer_graph(alloc, script, most, progress)? else {
+        return Err(LabError::More(most));
+    };
+    match words_of_graph(alloc, script, &graph, most)? {
+        Some(words) => Ok(OutcomeList { words, graph }),
+        None => Err(LabError::Nodes(most)),
+    }
+}
+
+/// The outcomes of a script as words, for what is answered without a history.
 pub fn words_of<P: Progress>(
     alloc: Global,
     script: &Script,
@@ -29,11 +63,21 @@ pub fn words_of<P: Progress>(
     ensures without { IfErr result
         (HasNoWords (fields_of script.now) ⟦<AllPorts as PartialEq>⟧.eq most) }
 {
-    let Some(graph) = answer_graph(alloc, script, most, progress)? else {
-        return Err(LabError::More(most));
-    };
-    match words_of_graph(alloc, script, &graph, most)? {
-        Some(words) => Ok(words),
-        None => Err(LabError::Nodes(most)),
+    let OutcomeList { words, graph: _ } = list_of(alloc, script, most, progress)?;
+    Ok(words)
+}
+
+/// All these outcomes, one after the other.
+pub fn all_endings(alloc: Global, words: &OutcomeWords) -> Result<Vec<Ending>, AllocError>
+    ensures { IfOk result (λ endings. endings.items ≡ endings_in words.now) }
+{
+    let mut endings = Vec::new(alloc);
+    for number in 0..usize::MAX {
+        let Some(ending) = words.ending(alloc, number as u64)? else {
+            return Ok(endings);
+        };
+        endings.push(ending)?;
     }
+    // The loop has a bound, so that it ends. A list that comes to it answers as if memory was refused.
+    Err(AllocError)
 }

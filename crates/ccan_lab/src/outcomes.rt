@@ -2,15 +2,18 @@
 
 ghost use Rattle.std.specs.Prelude.{◌≡◌, IfErr, IfOk, codes, map, option_map, string_bytes, true};
 ghost use Rattle.clap.specs.Words.{first_value, found_of, matched_of, one_text, raw_values};
+ghost use Rattle.std.specs.List.{IsDistinct};
 ghost use Rattle.ccan_line.specs.Script.{fields_of};
-ghost use Rattle.ccan_lab.specs.Answer.{IsOfAll};
-ghost use Rattle.ccan_lab.specs.Outcomes.{IsWithout, TellsAll};
+ghost use Rattle.ccan_outcomes.specs.Ending.{AreOutcomes};
+ghost use Rattle.ccan_outcomes.specs.OutcomeWords.{endings_in};
+ghost use Rattle.ccan_lab.specs.Outcomes.{Answers, IsOfAll, TellsAll};
+ghost use Rattle.ccan_lab.specs.Telling.{CanBeTold};
 ghost use Rattle.ccan_lab.specs.Question.{AreKnown, AreKnownNames, AsksAllBy, AsksBy, IsGivenBy};
 ghost use Rattle.ccan_lab.specs.Question.{files_named};
 ghost use Rattle.ccan_lab.specs.Summary.{TellsSummary};
-ghost use Rattle.ccan_lab.specs.Words.{AsksFor, HasNoWords, IsUnanswered, TellsLine};
+ghost use Rattle.ccan_lab.specs.Words.{HasNoHistory, HasNoWords, IsUnanswered, IsWithout, TellsLine};
 
-use crate::answer::{Answer, answer_of};
+use crate::answer::{Answer, found_text, text_of};
 use crate::asked::Asked;
 use crate::beginnings::beginnings_text;
 use crate::command_words::{
@@ -19,14 +22,15 @@ use crate::command_words::{
 use crate::each_file::{FileAnswer, answer_each};
 use crate::input::{script_asked, tell_terminal};
 use crate::lab_error::LabError;
-use crate::line_search::{LineSearch, search_line};
+use crate::line_search::{LineSearch, search_among};
 use crate::observed::first_unknown;
-use crate::outcome_words::words_of;
+use crate::outcome_words::{OutcomeList, list_of, words_of};
 use crate::progress_line::ProgressLine;
 use crate::seen::seen_text;
 use crate::summary::short_list;
+use crate::telling::Telling;
 use ccan_outcomes::all_ports::AllPorts;
-use ccan_outcomes::{Ending, all_outcomes, looking_once};
+use ccan_outcomes::{Ending, looking_once};
 use ccan_script::Script;
 use ccan_search::Progress;
 use clap::{Arg, ArgMatches, Command};
@@ -35,7 +39,7 @@ use std::fs::Files;
 use std::io;
 use std::io::{Input, IsTerminal};
 
-/// How many states are followed at most if the command line doesn't say.
+/// How many states are kept at most, and how many nodes the words of outcomes have, if the command line doesn't say.
 pub const DEFAULT_MOST: usize = 1_000_000;
 
 /// The exit status where it is not as asked.
@@ -44,7 +48,8 @@ pub const NOT_SO: u8 = 6;
 /// What is asked about the outcomes of scripts.
 #[derive(Drop)]
 pub struct OutcomesQuestion<'a> {
-    /// How many states the search follows at most. If a script has more, nothing is answered of it.
+    /// How many states the search keeps at most, and how many nodes the words of the outcomes have. If a script needs more, nothing
+    /// is answered of it.
     pub most: usize,
     /// The files: `-` means standard input.
     pub files: Vec<&'a str>,
@@ -54,7 +59,7 @@ pub struct OutcomesQuestion<'a> {
 
 /// The option that a number of states is given by.
 pub fn most_option<'a>(alloc: Global) -> Arg<'a> {
-    number(alloc, "most", "How many states to follow at most").default_value("1000000")
+    number(alloc, "most", "How many states and nodes to keep at most").default_value("1000000")
 }
 
 /// The flag that asks for the whole list.
@@ -136,7 +141,7 @@ fn asked_of<'a>(words: &ArgMatches<'a>) -> Asked<'a>
     }
 }
 
-/// How many states are followed at most: as it is given, or the default.
+/// How many states are kept at most, and nodes: as it is given, or the default.
 pub fn most_of(words: &ArgMatches<'_>) -> usize
     ensures { IsGivenBy (one_text (found_of words.now) (codes "most")) result }
 {
@@ -190,6 +195,31 @@ fn refuse_unknown(alloc: Global, script: &Script, asked: Asked<'_>) -> Result<()
     }
 }
 
+/// What is answered to a question about the list of these outcomes, which are dropped.
+fn text_of_list<P: Progress>(
+    alloc: Global,
+    script: &Script,
+    list: OutcomeList,
+    asked: Asked<'_>,
+    most: usize,
+    progress: &P,
+) -> Result<String, LabError>
+    requires of_all { IsOfAll asked }
+    requires can { CanBeTold (fields_of script.now) list }
+    ensures text { IfOk result (λ text.
+        Answers (fields_of script.now) (endings_in list.words) asked.entry (string_bytes text)) }
+    ensures without { IfErr result
+        (HasNoHistory (fields_of script.now) ⟦<AllPorts as PartialEq>⟧.eq most) }
+{
+    let telling = Telling {
+        script,
+        list: &list,
+        most,
+        progress,
+    };
+    text_of(alloc, &telling, asked)
+}
+
 /// What is answered to a question about the list of all outcomes of a script.
 fn answer_of_all<P: Progress>(
     alloc: Global,
@@ -199,15 +229,15 @@ fn answer_of_all<P: Progress>(
     progress: &P,
 ) -> Result<Answer, LabError>
     requires { IsOfAll asked }
-    ensures told { IfOk result (λ answer. TellsAll (fields_of script.now) asked.entry
-        (string_bytes answer.text) answer.holds) }
-    ensures without { IfErr result (IsWithout (fields_of script.now) asked.entry
-        ⟦<AllPorts as PartialEq>⟧.eq most) }
+    ensures told { IfOk result (λ answer. TellsAll (fields_of script.now)
+        ⟦<Ending as PartialEq>⟧.eq asked.entry (string_bytes answer.text)) }
+    ensures holds { IfOk result (λ answer. answer.holds ≡ true) }
+    ensures without { IfErr result
+        (IsWithout (fields_of script.now) ⟦<AllPorts as PartialEq>⟧.eq most) }
 {
-    let Some(outcomes) = all_outcomes(alloc, script, most, progress)? else {
-        return Err(LabError::More(most));
-    };
-    answer_of(alloc, script, &outcomes, asked)
+    let list = list_of(alloc, script, most, progress)?;
+    let text = text_of_list(alloc, script, list, asked, most, progress)?;
+    Ok(Answer { text, holds: true })
 }
 
 /// What each line may be in the outcomes of a script. No outcome is listed for it.
@@ -228,29 +258,81 @@ fn answer_of_summary<P: Progress>(
     Ok(Answer { text, holds: true })
 }
 
-/// What is answered to the question whether an outcome of a script has a line that begins so, or, if `never` is set, whether none
-/// has. Outcomes are listed only if one has it.
-fn answer_of_line<P: Progress>(
+/// What is answered to the question whether one of these outcomes has a line that begins so, or, if `never` is set, whether none
+/// has.
+fn answer_by_line<P: Progress>(
+    alloc: Global,
+    telling: &Telling<'_, P>,
+    begin: &str,
+    never: bool,
+) -> Result<Answer, LabError>
+    requires can { CanBeTold (fields_of telling.now.script.now) telling.now.list.now }
+    requires all { AreOutcomes (fields_of telling.now.script.now)
+        (endings_in telling.now.list.now.words) }
+    requires distinct { IsDistinct ⟦<Ending as PartialEq>⟧.eq
+        (endings_in telling.now.list.now.words) }
+    ensures told { IfOk result (λ answer. TellsLine (fields_of telling.now.script.now)
+        ⟦<Ending as PartialEq>⟧.eq begin.now never (string_bytes answer.text) answer.holds) }
+    ensures without { IfErr result (IsUnanswered (fields_of telling.now.script.now) begin.now
+        ⟦<AllPorts as PartialEq>⟧.eq telling.now.most) }
+{
+    match search_among(alloc, telling.script, &telling.list.words, begin)? {
+        LineSearch::Found => {
+            let text = found_text(alloc, telling, begin)?;
+            Ok(Answer {
+                text,
+                holds: !never,
+            })
+        }
+        LineSearch::NotFound(text) => Ok(Answer { text, holds: never }),
+        LineSearch::Refused => Err(LabError::NoLine),
+    }
+}
+
+/// What is answered to that question about these outcomes, which are dropped.
+fn answer_of_list<P: Progress>(
     alloc: Global,
     script: &Script,
-    asked: Asked<'_>,
+    list: OutcomeList,
     begin: &str,
     never: bool,
     most: usize,
     progress: &P,
 ) -> Result<Answer, LabError>
-    requires { AsksFor asked begin.now never }
+    requires can { CanBeTold (fields_of script.now) list }
+    requires all { AreOutcomes (fields_of script.now) (endings_in list.words) }
+    requires distinct { IsDistinct ⟦<Ending as PartialEq>⟧.eq (endings_in list.words) }
     ensures told { IfOk result (λ answer. TellsLine (fields_of script.now)
-        ⟦<Ending as PartialEq>⟧.eq asked.entry begin.now never
-        (string_bytes answer.text) answer.holds) }
-    ensures without { IfErr result (IsUnanswered (fields_of script.now) asked.entry begin.now
+        ⟦<Ending as PartialEq>⟧.eq begin.now never (string_bytes answer.text) answer.holds) }
+    ensures without { IfErr result (IsUnanswered (fields_of script.now) begin.now
         ⟦<AllPorts as PartialEq>⟧.eq most) }
 {
-    match search_line(alloc, script, begin, most, progress)? {
-        LineSearch::Found => answer_of_all(alloc, script, asked, most, progress),
-        LineSearch::NotFound(text) => Ok(Answer { text, holds: never }),
-        LineSearch::Refused => Err(LabError::NoLine),
-    }
+    let telling = Telling {
+        script,
+        list: &list,
+        most,
+        progress,
+    };
+    answer_by_line(alloc, &telling, begin, never)
+}
+
+/// What is answered to the question whether an outcome of a script has a line that begins so, or, if `never` is set, whether none
+/// has.
+fn answer_of_line<P: Progress>(
+    alloc: Global,
+    script: &Script,
+    begin: &str,
+    never: bool,
+    most: usize,
+    progress: &P,
+) -> Result<Answer, LabError>
+    ensures told { IfOk result (λ answer. TellsLine (fields_of script.now)
+        ⟦<Ending as PartialEq>⟧.eq begin.now never (string_bytes answer.text) answer.holds) }
+    ensures without { IfErr result (IsUnanswered (fields_of script.now) begin.now
+        ⟦<AllPorts as PartialEq>⟧.eq most) }
+{
+    let list = list_of(alloc, script, most, progress)?;
+    answer_of_list(alloc, script, list, begin, never, most, progress)
 }
 
 /// What is answered to the question what of the outcomes of a script can be told apart by the lines and objects of these
@@ -278,26 +360,10 @@ fn answer_of_script<P: Progress>(
     match question.asked {
         Asked::Summary => answer_of_summary(alloc, script, question.most, progress),
         Asked::Can(begin) => {
-            answer_of_line(
-                alloc,
-                script,
-                question.asked,
-                begin,
-                false,
-                question.most,
-                progress,
-            )
+            answer_of_line(alloc, script, begin, false, question.most, progress)
         }
         Asked::Never(begin) => {
-            answer_of_line(
-                alloc,
-                script,
-                question.asked,
-                begin,
-                true,
-                question.most,
-                progress,
-            )
+            answer_of_line(alloc, script, begin, true, question.most, progress)
         }
         Asked::Observed(names) => {
             answer_of_observed(alloc, script, names, question.most, progress)

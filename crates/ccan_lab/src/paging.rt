@@ -76,7 +76,7 @@ pub fn page_command<'a>(alloc: Global) -> Result<Command<'a>, AllocError> {
     let paged = with(paged, outcomes_flag(alloc))?;
     let limit = number(alloc, "limit", "How many outcomes to show at most, from 1");
     let paged = with(paged, limit.default_value("100"))?;
-    let most = number(alloc, "most", "How many states to follow at most");
+    let most = number(alloc, "most", "How many states and nodes to keep at most");
     let paged = with(paged, most.default_value("1000000"))?;
     with(
         paged,

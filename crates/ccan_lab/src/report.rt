@@ -1,96 +1,72 @@
-ghost use Rattle.std.specs.Prelude.{◌≡◌, ◌+◌, ◌^◌, ◌<◌, ◌++◌, List, ℕ, IfOk, OnOk, length, map, string_bytes};
+ghost use Rattle.std.specs.Prelude.{◌≡◌, ◌+◌, ◌^◌, ◌<◌, ◌≤◌, ◌++◌, List, ℕ, Some, IfErr, IfOk, OnOk, length, slice_get, string_bytes};
 ghost use Rattle.std.specs.Option.{option_map};
 ghost use Rattle.ccan_line.specs.Script.{fields_of};
-ghost use Rattle.ccan_outcomes.specs.Outcomes.{AreFound};
-ghost use Rattle.ccan_lab.specs.Report.{IsListing, IsOutcomeText, AreOutcomeTexts, each, different_line, different_lines};
-ghost use Rattle.ccan_lab.specs.Report.{heading_text, outcome_text};
+ghost use Rattle.ccan_outcomes.specs.OutcomeWords.{endings_in};
+ghost use Rattle.ccan_lab.specs.Listing.{AreOutcomeTexts, HasChoices, IsListing, different_line, different_lines};
+ghost use Rattle.ccan_lab.specs.Report.{IsOutcomeText, each, outcome_text};
 ghost use Rattle.ccan_lab.specs.Report.{later_names, names_text, order_text, quoted};
-ghost use Rattle.ccan_lab.specs.Report.{same_line, same_text};
-ghost use Rattle.ccan_lab.specs.Rows.{place_count, rows_of};
+ghost use Rattle.ccan_lab.specs.Rows.{rows_of};
+ghost use Rattle.ccan_lab.specs.Sorted.{all_texts};
+ghost use Rattle.ccan_lab.specs.Words.{HasNoHistory};
+ghost use Rattle.ccan_lab.specs.Telling.{CanBeTold};
 
+use crate::choices::all_choices;
+use crate::counting::count_text;
 use crate::history::{add_steps, port_word};
+use crate::lab_error::LabError;
 use crate::replay::order_to;
-use crate::rows::{Rows, is_in_all, line_in, place_count};
-use crate::wording::{add_counted, add_number};
-use ccan_outcomes::{HistoryStep, Outcomes, history_of};
+use crate::rows::{Rows, rows_of};
+use crate::summary::{add_same_parts, all_in_order};
+use crate::telling::{Telling, history_to};
+use crate::wording::add_number;
+use ccan_outcomes::all_ports::AllPorts;
+use ccan_outcomes::{Ending, Histories, HistoryStep};
 use ccan_ram::PortName;
-use ccan_script::Script;
+use ccan_search::Progress;
 use std::alloc::{AllocError, Global};
 
-/// Adds the first line: how many outcomes there are, in how many states.
-pub fn add_heading(text: &mut String, outcomes: usize, states: usize) -> Result<(), AllocError>
-    ensures { OnOk result
-        (string_bytes text.new ≡ string_bytes text.old ++ heading_text outcomes states) }
-{
-    add_counted(text, outcomes, "outcome")?;
-    text.push_str(" in ")?;
-    add_counted(text, states, "state")?;
-    text.push_str("\n")?;
-    Ok(())
-}
-
-/// Adds the line in a place, where it is the same in all outcomes.
-#[tactic(auto, unfolding(crate::specs::Report::same_line, crate::specs::Report::labelled))]
-fn add_same_line(text: &mut String, all: &[Rows], place: usize) -> Result<(), AllocError>
-    ensures { OnOk result
-        (string_bytes text.new ≡ string_bytes text.old ++ same_line all.now place) }
-{
-    let line = line_in(all, 0, place);
-    if !line.is_empty() && is_in_all(all, place, line) {
-        text.push_str("same in all: ")?;
-        text.push_str(line)?;
-    }
-    Ok(())
-}
-
-/// Adds the lines that are the same in all outcomes.
-#[tactic(auto, using(crate::proofs::Texts::each_begins, crate::proofs::Texts::each_goes_on))]
-pub fn add_same(text: &mut String, all: &[Rows]) -> Result<(), AllocError>
-    ensures { OnOk result
-        (string_bytes text.new ≡ string_bytes text.old ++ same_text all.now) }
-{
-    for place in 0..place_count(all) {
-        add_same_line(text, all, place)?;
-    }
-    Ok(())
-}
-
-/// Adds an outcome's line in a place, where it is not the same in all.
-#[tactic(auto, unfolding(crate::specs::Report::different_line))]
+/// Adds the line of an outcome in a place, if several lines may stand there.
+#[tactic(auto, unfolding(crate::specs::Listing::different_line))]
 fn add_different_line(
     text: &mut String,
-    all: &[Rows],
-    number: usize,
+    choices: &[Vec<&str>],
+    rows: &Rows,
     place: usize,
 ) -> Result<(), AllocError>
-    ensures { OnOk result
-        (string_bytes text.new ≡ string_bytes text.old ++ different_line all.now number place) }
+    requires { place < length choices.now }
+    ensures { OnOk result (string_bytes text.new
+        ≡ string_bytes text.old ++ different_line (all_texts choices.now) rows.now place) }
 {
-    let line = line_in(all, number, place);
-    if !is_in_all(all, place, line) {
-        text.push_str(line)?;
+    if choices[place].len() > 1 {
+        text.push_str(rows.line(place))?;
     }
     Ok(())
 }
 
 /// Adds the lines of an outcome that are not the same in all.
 #[tactic(auto, using(crate::proofs::Texts::each_begins, crate::proofs::Texts::each_goes_on))]
-fn add_different(text: &mut String, all: &[Rows], number: usize) -> Result<(), AllocError>
-    ensures { OnOk result (string_bytes text.new
-        ≡ string_bytes text.old ++ each (place_count all.now) (different_line all.now number)) }
+fn add_different(text: &mut String, choices: &[Vec<&str>], rows: &Rows) -> Result<(), AllocError>
+    ensures { OnOk result (string_bytes text.new ≡ string_bytes text.old
+        ++ each (length choices.now) (different_line (all_texts choices.now) rows.now)) }
 {
-    for place in 0..place_count(all) {
-        add_different_line(text, all, number, place)?;
+    for place in 0..choices.len() {
+        add_different_line(text, choices, rows, place)?;
     }
     Ok(())
 }
 
-/// The lines of an outcome that are not the same in all.
-pub fn different_lines(alloc: Global, all: &[Rows], number: usize) -> Result<String, AllocError>
-    ensures { IfOk result (λ text. string_bytes text ≡ different_lines all.now number) }
+/// The lines of an outcome that are not the same in all, by the lines that may stand in each place.
+pub fn different_lines(
+    alloc: Global,
+    choices: &[Vec<&str>],
+    ending: &Ending,
+) -> Result<String, AllocError>
+    ensures { IfOk result (λ text.
+        string_bytes text ≡ different_lines (all_texts choices.now) (rows_of ending.now)) }
 {
+    let rows = rows_of(alloc, ending)?;
     let mut text = String::new(alloc);
-    add_different(&mut text, all, number)?;
+    add_different(&mut text, choices, &rows)?;
     Ok(text)
 }
 
@@ -167,70 +143,79 @@ pub fn add_told_outcome(
 /// was found.
 ///
 /// The number is from 0.
-pub fn add_outcome(
+pub fn add_outcome<P: Progress>(
     alloc: Global,
     text: &mut String,
-    script: &Script,
-    outcomes: &Outcomes,
+    telling: &Telling<'_, P>,
+    histories: &mut Histories,
+    ending: &Ending,
     lines: &str,
     number: usize,
-) -> Result<(), AllocError>
-    requires within { number < length outcomes.now.listing.endings.keys }
-    requires found { AreFound (fields_of script.now) outcomes.now }
-    ensures { OnOk result ((added : List ℕ)
+) -> Result<(), LabError>
+    requires can { CanBeTold (fields_of telling.now.script.now) telling.now.list.now }
+    requires at { slice_get (endings_in telling.now.list.now.words) number ≡ Some ending.now }
+    requires few { number + 1 < 2 ^ 64 }
+    ensures text { OnOk result ((added : List ℕ)
         × (string_bytes text.new ≡ string_bytes text.old ++ added)
-        × IsOutcomeText (fields_of script.now) outcomes.now.listing.endings.keys lines.now number
-        added) }
+        × IsOutcomeText (fields_of telling.now.script.now) (endings_in telling.now.list.now.words)
+        lines.now number added) }
+    ensures without { IfErr result (HasNoHistory (fields_of telling.now.script.now)
+        ⟦<AllPorts as PartialEq>⟧.eq telling.now.most) }
 {
-    let history = history_of(alloc, script, outcomes, number)?;
-    let ending = &outcomes.listing.endings.as_slice()[number];
-    let order = order_to(alloc, script, ending, history.as_slice())?;
+    let history = history_to(alloc, telling, histories, number, ending)?;
+    let order = order_to(alloc, telling.script, ending, history.as_slice())?;
     add_told_outcome(text, lines, number, history.as_slice(), &order)?;
     Ok(())
 }
 
-/// Adds all outcomes.
-fn add_outcomes(
+/// Adds all outcomes, by the lines that may stand in each place.
+fn add_outcomes<P: Progress>(
     alloc: Global,
     text: &mut String,
-    script: &Script,
-    outcomes: &Outcomes,
-    all: &[Rows],
-) -> Result<(), AllocError>
-    requires rows { all.now ≡ map rows_of outcomes.now.listing.endings.keys }
-    requires found { AreFound (fields_of script.now) outcomes.now }
-    ensures { OnOk result ((added : List ℕ)
+    telling: &Telling<'_, P>,
+    choices: &[Vec<&str>],
+) -> Result<(), LabError>
+    requires can { CanBeTold (fields_of telling.now.script.now) telling.now.list.now }
+    ensures text { OnOk result ((added : List ℕ)
         × (string_bytes text.new ≡ string_bytes text.old ++ added)
-        × AreOutcomeTexts (fields_of script.now) outcomes.now.listing.endings.keys
-        (length outcomes.now.listing.endings.keys) added) }
+        × AreOutcomeTexts (fields_of telling.now.script.now) (endings_in telling.now.list.now.words)
+        (all_texts choices.now) (length (endings_in telling.now.list.now.words)) added) }
+    ensures without { IfErr result (HasNoHistory (fields_of telling.now.script.now)
+        ⟦<AllPorts as PartialEq>⟧.eq telling.now.most) }
 {
-    for number in 0..outcomes.listing.endings.len() {
-        let lines = different_lines(alloc, all, number)?;
-        add_outcome(alloc, text, script, outcomes, lines.as_str(), number)?;
+    let mut histories = Histories::new(alloc);
+    for number in 0..usize::MAX {
+        let Some(ending) = telling.list.words.ending(alloc, number as u64)? else {
+            return Ok(());
+        };
+        let lines = different_lines(alloc, choices, &ending)?;
+        add_outcome(
+            alloc,
+            text,
+            telling,
+            &mut histories,
+            &ending,
+            lines.as_str(),
+            number,
+        )?;
     }
-    Ok(())
+    // The loop has a bound, so that it ends. A list that comes to it answers as if memory was refused.
+    Err(LabError::Memory)
 }
 
 /// The list of all outcomes of a script, each with a history that leads to it.
-pub fn listing(
-    alloc: Global,
-    script: &Script,
-    outcomes: &Outcomes,
-    all: &[Rows],
-) -> Result<String, AllocError>
-    requires rows { all.now ≡ map rows_of outcomes.now.listing.endings.keys }
-    requires found { AreFound (fields_of script.now) outcomes.now }
-    ensures { IfOk result (λ text. IsListing (fields_of script.now)
-        outcomes.now.listing.endings.keys (length outcomes.now.reached.states.keys)
-        (string_bytes text)) }
+pub fn listing<P: Progress>(alloc: Global, telling: &Telling<'_, P>) -> Result<String, LabError>
+    requires can { CanBeTold (fields_of telling.now.script.now) telling.now.list.now }
+    ensures text { IfOk result (λ text. IsListing (fields_of telling.now.script.now)
+        (endings_in telling.now.list.now.words) (string_bytes text)) }
+    ensures without { IfErr result (HasNoHistory (fields_of telling.now.script.now)
+        ⟦<AllPorts as PartialEq>⟧.eq telling.now.most) }
 {
-    let mut text = String::new(alloc);
-    add_heading(
-        &mut text,
-        outcomes.listing.endings.len(),
-        outcomes.reached.states.len(),
-    )?;
-    add_same(&mut text, all)?;
-    add_outcomes(alloc, &mut text, script, outcomes, all)?;
+    let words = &telling.list.words;
+    let rows = all_choices(alloc, telling.script, words)?;
+    let choices = all_in_order(alloc, rows.as_slice())?;
+    let mut text = count_text(alloc, words.count())?;
+    add_same_parts(&mut text, choices.as_slice())?;
+    add_outcomes(alloc, &mut text, telling, choices.as_slice())?;
     Ok(text)
 }

@@ -87,7 +87,7 @@ fn add_choices(
 }
 
 /// Adds what is the same in all outcomes, place by place.
-fn add_same_parts(text: &mut String, all: &[Vec<&str>]) -> Result<(), AllocError>
+pub fn add_same_parts(text: &mut String, all: &[Vec<&str>]) -> Result<(), AllocError>
     ensures { OnOk result
         (string_bytes text.new ≡ string_bytes text.old ++ same_parts (all_texts all.now)) }
 {
@@ -124,7 +124,7 @@ fn add_closing(text: &mut String, outcomes: u64) -> Result<(), AllocError>
 }
 
 /// The lines of each place, each once, in the order of their bytes.
-fn all_in_order<'a>(alloc: Global, all: &'a [Rows]) -> Result<Vec<Vec<&'a str>>, AllocError>
+pub fn all_in_order<'a>(alloc: Global, all: &'a [Rows]) -> Result<Vec<Vec<&'a str>>, AllocError>
     ensures { IfOk result (λ sorted. AreAllInOrder all.now (all_texts sorted.items)) }
 {
     let mut sorted = Vec::new(alloc);

@@ -1,18 +1,21 @@
 //! The outcomes of a script, as a page shows them.
-ghost use Rattle.std.specs.Prelude.{◌≡◌, ◌+◌, ◌++◌, ◌<◌, ◌≤◌, IfOk, length, map, min, string_bytes};
+ghost use Rattle.std.specs.Prelude.{◌≡◌, ◌+◌, ◌^◌, ◌++◌, ◌∷◌, [], ◌<◌, Some, IfOk, OnOk, length, map, min, slice_get};
 ghost use Rattle.ccan_line.specs.Script.{fields_of};
-ghost use Rattle.ccan_outcomes.specs.Outcomes.{AreFound};
-ghost use Rattle.ccan_lab.specs.Paging.{AreShown, IsShown, ShowsOutcomes, line_of, line_stepped};
-ghost use Rattle.ccan_lab.specs.Report.{same_text};
-ghost use Rattle.ccan_lab.specs.Rows.{rows_of};
+ghost use Rattle.ccan_outcomes.specs.OutcomeWords.{endings_in};
+ghost use Rattle.ccan_lab.specs.Paging.{AreShown, IsShown, ShowsEndings, ShowsOutcomes, line_of, line_stepped};
+ghost use Rattle.ccan_lab.specs.Sorted.{all_texts};
+ghost use Rattle.ccan_lab.specs.Telling.{CanBeTold};
 
+use crate::choices::all_choices;
 use crate::lab_error::LabError;
+use crate::outcome_words::list_of;
 use crate::paging::history_steps::{opening_of, shown_history};
 use crate::paging::run_steps::ordered_steps;
 use crate::replay::order_to;
-use crate::report::{add_same, different_lines};
-use crate::rows::{Rows, all_rows};
-use ccan_outcomes::{HistoryStep, Outcomes, all_outcomes, history_of, looking_once, states_along};
+use crate::report::different_lines;
+use crate::summary::{add_same_parts, all_in_order};
+use crate::telling::{Telling, history_to};
+use ccan_outcomes::{Ending, Histories, HistoryStep, looking_once, states_along};
 use ccan_page as page;
 use ccan_page::{Outcome, Page};
 use ccan_ram::PortName;
@@ -31,13 +34,9 @@ struct Ordered {
 fn ordered_of(
     alloc: Global,
     script: &Script,
-    outcomes: &Outcomes,
-    place: usize,
+    ending: &Ending,
     steps: &[HistoryStep],
-) -> Result<Ordered, AllocError>
-    requires { place < length outcomes.now.listing.endings.keys }
-{
-    let ending = &outcomes.listing.endings.as_slice()[place];
+) -> Result<Ordered, AllocError> {
     match order_to(alloc, script, ending, steps)? {
         Some(order) => {
             let run = ordered_steps(alloc, script, order.as_slice())?;
@@ -57,96 +56,96 @@ fn ordered_of(
 fn steps_shown(
     alloc: Global,
     script: &Script,
-    outcomes: &Outcomes,
-    place: usize,
+    ending: &Ending,
     steps: &[HistoryStep],
 ) -> Result<Vec<page::Step>, AllocError>
-    requires { place < length outcomes.now.listing.endings.keys }
     ensures { IfOk result (λ made. map line_of made.items ≡ map line_stepped steps.now) }
 {
     let states = states_along(alloc, script, steps)?;
-    let ending = &outcomes.listing.endings.as_slice()[place];
     shown_history(alloc, script, steps, states.as_slice(), ending)
 }
 
 /// The outcome of this place in the list, from 0.
-fn outcome_at(
+fn outcome_at<P: Progress>(
     alloc: Global,
-    script: &Script,
-    outcomes: &Outcomes,
-    all: &[Rows],
+    telling: &Telling<'_, P>,
+    histories: &mut Histories,
+    choices: &[Vec<&str>],
+    ending: &Ending,
     place: usize,
-) -> Result<Outcome, AllocError>
-    requires within { place < length outcomes.now.listing.endings.keys }
-    requires rows { all.now ≡ map rows_of outcomes.now.listing.endings.keys }
-    requires found { AreFound (fields_of script.now) outcomes.now }
-    ensures { IfOk result (λ outcome. IsShown (fields_of script.now)
-        outcomes.now.listing.endings.keys place outcome) }
+) -> Result<Outcome, LabError>
+    requires can { CanBeTold (fields_of telling.now.script.now) telling.now.list.now }
+    requires at { slice_get (endings_in telling.now.list.now.words) place ≡ Some ending.now }
+    requires few { place + 1 < 2 ^ 64 }
+    ensures { IfOk result (IsShown (fields_of telling.now.script.now)
+        (endings_in telling.now.list.now.words) (all_texts choices.now) place) }
 {
-    let steps = history_of(alloc, script, outcomes, place)?;
+    let script = telling.script;
+    let steps = history_to(alloc, telling, histories, place, ending)?;
     let steps = steps.as_slice();
-    let ending = &outcomes.listing.endings.as_slice()[place];
-    let Ordered { order, run } = ordered_of(alloc, script, outcomes, place, steps)?;
+    let Ordered { order, run } = ordered_of(alloc, script, ending, steps)?;
     Ok(Outcome {
         number: place + 1,
-        lines: different_lines(alloc, all, place)?,
+        lines: different_lines(alloc, choices, ending)?,
         order,
         opening: opening_of(alloc, steps, ending)?,
-        history: steps_shown(alloc, script, outcomes, place, steps)?,
+        history: steps_shown(alloc, script, ending, steps)?,
         run,
     })
 }
 
-/// How many outcomes of a list of so many are shown.
-fn shown_count(limit: usize, count: usize) -> usize
-    ensures least { result ≡ min limit count }
-    ensures within { result ≤ count }
+/// Adds an outcome to those that are shown.
+fn add_shown(shown: &mut Vec<Outcome>, outcome: Outcome) -> Result<(), AllocError>
+    ensures { OnOk result (shown.new.items ≡ shown.old.items ++ outcome ∷ []) }
 {
-    if limit < count { limit } else { count }
+    shown.push(outcome)?;
+    Ok(())
 }
 
 /// The first outcomes of a list, at most so many.
-fn outcomes_shown(
+fn outcomes_shown<P: Progress>(
     alloc: Global,
-    script: &Script,
-    outcomes: &Outcomes,
-    all: &[Rows],
+    telling: &Telling<'_, P>,
+    choices: &[Vec<&str>],
     limit: usize,
-) -> Result<Vec<Outcome>, AllocError>
-    requires rows { all.now ≡ map rows_of outcomes.now.listing.endings.keys }
-    requires found { AreFound (fields_of script.now) outcomes.now }
-    ensures { IfOk result (λ shown. AreShown (fields_of script.now)
-        outcomes.now.listing.endings.keys
-        (min limit (length outcomes.now.listing.endings.keys)) shown.items) }
+) -> Result<Vec<Outcome>, LabError>
+    requires can { CanBeTold (fields_of telling.now.script.now) telling.now.list.now }
+    ensures { IfOk result (λ shown. AreShown (fields_of telling.now.script.now)
+        (endings_in telling.now.list.now.words) (all_texts choices.now)
+        (min limit (length (endings_in telling.now.list.now.words))) shown.items) }
 {
+    let mut histories = Histories::new(alloc);
     let mut shown = Vec::new(alloc);
-    for place in 0..shown_count(limit, outcomes.listing.endings.len()) {
-        shown.push(outcome_at(alloc, script, outcomes, all, place)?)?;
+    for place in 0..limit {
+        let Some(ending) = telling.list.words.ending(alloc, place as u64)? else {
+            return Ok(shown);
+        };
+        let outcome = outcome_at(alloc, telling, &mut histories, choices, &ending, place)?;
+        add_shown(&mut shown, outcome)?;
     }
     Ok(shown)
 }
 
 /// The page with these outcomes.
-fn found_page<'a>(
+fn found_page<'a, P: Progress>(
     alloc: Global,
-    script: &Script,
-    outcomes: &Outcomes,
+    telling: &Telling<'_, P>,
     limit: usize,
     mut page: Page<'a>,
-) -> Result<Page<'a>, AllocError>
-    requires { AreFound (fields_of script.now) outcomes.now }
+) -> Result<Page<'a>, LabError>
+    requires can { CanBeTold (fields_of telling.now.script.now) telling.now.list.now }
     ensures file { IfOk result (λ made. made.file.now ≡ page.entry.file.now) }
-    ensures count { IfOk result (λ made. made.count ≡ length outcomes.now.listing.endings.keys) }
-    ensures same { IfOk result (λ made. string_bytes made.same
-        ≡ string_bytes page.entry.same ++ same_text (map rows_of outcomes.now.listing.endings.keys)) }
-    ensures shown { IfOk result (λ made. AreShown (fields_of script.now)
-        outcomes.now.listing.endings.keys
-        (min limit (length outcomes.now.listing.endings.keys)) made.outcomes.items) }
+    ensures shows { IfOk result (ShowsEndings (fields_of telling.now.script.now)
+        (endings_in telling.now.list.now.words) limit) }
 {
-    let all = all_rows(alloc, outcomes.listing.endings.as_slice())?;
-    add_same(&mut page.same, all.as_slice())?;
-    page.count = outcomes.listing.endings.len();
-    page.outcomes = outcomes_shown(alloc, script, outcomes, all.as_slice(), limit)?;
+    let words = &telling.list.words;
+    let rows = all_choices(alloc, telling.script, words)?;
+    let choices = all_in_order(alloc, rows.as_slice())?;
+    let mut same = String::new(alloc);
+    add_same_parts(&mut same, choices.as_slice())?;
+    page.same = same;
+    page.count = words.count() as usize;
+    page.outcomes = outcomes_shown(alloc, telling, choices.as_slice(), limit)?;
     Ok(page)
 }
 
@@ -164,8 +163,12 @@ pub(crate) fn outcomes_page<'a, P: Progress>(
     ensures outcomes { IfOk result (λ made. ShowsOutcomes (fields_of script) limit made) }
 {
     let script = looking_once(alloc, script)?;
-    match all_outcomes(alloc, &script, most, progress)? {
-        Some(outcomes) => Ok(found_page(alloc, &script, &outcomes, limit, page)?),
-        None => Err(LabError::More(most)),
-    }
+    let list = list_of(alloc, &script, most, progress)?;
+    let telling = Telling {
+        script: &script,
+        list: &list,
+        most,
+        progress,
+    };
+    found_page(alloc, &telling, limit, page)
 }

@@ -1,4 +1,4 @@
-use Rattle.std.proofs.Common.{ℕ, ◌≡◌, ◌+◌, ◌++◌, ◌∷◌, [], ap, sym, ◌∙◌, rules}
+use Rattle.std.proofs.Common.{◌≡◌, ◌+◌, ◌++◌, ◌∷◌, [], ap, sym, ◌∙◌, rules}
 use Rattle.ccan_line.specs.Script.{fields_of}
 use Rattle.ccan_lab.specs.Beginnings.{has_transfer_of}
 use Rattle.ccan_lab.proofs.Formed.{object_added, object_passed}

@@ -1,5 +1,5 @@
-use Rattle.std.proofs.Common.{◌≡◌, ◌+◌, ℕ, List, map, ap, ◌∙◌, arith, rules}
-use Rattle.ccan_lab.specs.Choices.{HasObjects, final_of}
+use Rattle.std.proofs.Common.{◌≡◌, ◌+◌, ℕ, map, ap, ◌∙◌, rules}
+use Rattle.ccan_lab.specs.Choices.{final_of}
 use Rattle.ccan_lab.proofs.Added.{objects_more, objects_none}
 use Rattle.ccan_lab.proofs.choices.add_objects.Goals as goal
 

@@ -1,4 +1,3 @@
-use Rattle.std.proofs.Common.{◌≡◌, ◌+◌, List, ℕ}
 use Rattle.ccan_outcomes.specs.OutcomeWords.{endings_in}
 use Rattle.ccan_lab.proofs.Added.{port_more, port_none}
 use Rattle.ccan_lab.proofs.choices.add_port.Goals as goal

@@ -1,4 +1,4 @@
-use Rattle.std.proofs.Common.{◌≡◌, ◌+◌, [], List, ℕ, length, subst, sym, ap, ◌∙◌, rules}
+use Rattle.std.proofs.Common.{[], List, ℕ, length, subst, rules}
 use Rattle.ccan_line.specs.Script.{fields_of}
 use Rattle.ccan_object.specs.declared.record.Record.{Record}
 use Rattle.ccan_object.specs.Profile.{objects_in}

@@ -1,24 +1,25 @@
-use Rattle.std.proofs.Common.{◌≡◌, ◌<◌, length, false, ℕ, List, map, ap, sym, ◌∙◌, subst, string_bytes, rules}
+use Rattle.std.proofs.Common.{◌≡◌, false, ℕ, List, map, ap, sym, ◌∙◌, subst, string_bytes, rules}
 use Rattle.ccan_line.specs.Script.{fields_of}
+use Rattle.ccan_outcomes.specs.OutcomeWords.{endings_in}
 use Rattle.ccan_lab.specs.Observed.{is_repeat, text_at}
 use Rattle.ccan_lab.specs.Report.{IsOutcomeText}
 use Rattle.ccan_lab.proofs.Apart.{first_text, text_in}
 use Rattle.ccan_lab.proofs.observed.add_if_first.Goals as goal
 
 pub returns-clause-text : goal.returns-clause-text
-returns-clause-text c =
+returns-clause-text g c =
     let texts = c.args.texts.now in
     let number = c.args.number in
-    let script = fields_of c.args.script.now in
-    let keys = c.args.outcomes.now.listing.endings.keys in
+    let script = fields_of c.args.telling.now.script.now in
+    let keys = endings_in c.args.telling.now.list.now.words in
     let repeat = is_repeat (map string_bytes texts) number in
     let lines = text_at (map string_bytes texts) number in
-    let added = c.in_ok-add_outcome.ensures.0 in
+    let added = c.in_ok-add_outcome.ensures.text.0 in
     let first : repeat ≡ false = search rules in
     let shown = c.index-texts-number.result in
-    let within : number < length texts = subst (λ count. number < count) (sym c.requires.as_many) c.requires.within in
-    let lines_are : c.as_str.result.now ≡ lines =
-    c.as_str.ensures.value ∙ ap string_bytes c.index-texts-number.is ∙ sym (text_in texts number shown within) in
+    let within = c.requires.within in
+    let lines_are : c.as_str-lines.result.now ≡ lines =
+    c.as_str-lines.ensures.value ∙ ap string_bytes c.index-texts-number.is ∙ sym (text_in texts number shown within) in
     let told : IsOutcomeText script keys lines number added =
-    subst (λ (l : List ℕ). IsOutcomeText script keys l number added) lines_are c.in_ok-add_outcome.ensures.2 in
-    (added, c.in_ok-add_outcome.ensures.1, first_text (IsOutcomeText script keys) repeat lines number added first told)
+    subst (λ (l : List ℕ). IsOutcomeText script keys l number added) lines_are c.in_ok-add_outcome.ensures.text.2 in
+    (added, c.in_ok-add_outcome.ensures.text.1, first_text (IsOutcomeText script keys) repeat lines number added first told)

@@ -1,4 +1,4 @@
-use Rattle.std.proofs.Common.{◌≡◌, ◌++◌, ℕ, List, [], string_bytes, append-nil, sym, subst, ap, ◌∙◌, OnOk}
+use Rattle.std.proofs.Common.{◌≡◌, ◌++◌, ℕ, List, string_bytes, append-nil, sym, subst, ap, ◌∙◌, OnOk}
 use Rattle.ccan_lab.proofs.Parts.{same_none, same_one}
 use Rattle.ccan_lab.proofs.summary.add_same.Goals as goal
 

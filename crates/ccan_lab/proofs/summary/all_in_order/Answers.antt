@@ -1,7 +1,6 @@
-use Rattle.std.proofs.Common.{◌≡◌, ◌<◌, ◌+◌, ◌++◌, ◌∷◌, [], Bor, List, ℕ, Some, length, length-append, map, slice_get, sym, ap, refl, subst, ◌∙◌, arith}
+use Rattle.std.proofs.Common.{◌≡◌, ◌∷◌, [], List, length, length-append, sym, ap, refl, subst, ◌∙◌, arith}
 use Rattle.std.proofs.lemmas.List.{length-map}
-use Rattle.ccan_lab.specs.Sorted.{AreAllInOrder, all_texts, texts_of}
-use Rattle.ccan_lab.specs.Summary.{AreInOrder}
+use Rattle.ccan_lab.specs.Sorted.{texts_of}
 use Rattle.ccan_lab.proofs.Parts.{AreSorted, Lines, sorted_more}
 use Rattle.ccan_lab.proofs.summary.all_in_order.Goals as goal
 

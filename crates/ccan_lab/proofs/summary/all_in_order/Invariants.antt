@@ -1,4 +1,4 @@
-use Rattle.std.proofs.Common.{◌≡◌, ℕ, List, Some, length, slice_get, take}
+use Rattle.std.proofs.Common.{◌≡◌, ℕ, List, Some, length, slice_get}
 use Rattle.ccan_lab.specs.Sorted.{all_texts}
 use Rattle.ccan_lab.specs.Summary.{AreInOrder}
 use Rattle.ccan_lab.proofs.summary.all_in_order.Given as goal

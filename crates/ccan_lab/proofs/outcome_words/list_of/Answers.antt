@@ -1,5 +1,5 @@
 use Rattle.std.proofs.Common.{◌≡◌, Option, Some, None, IfSome, IfNone, refl, subst}
-use Rattle.ccan_lab.proofs.outcome_words.words_of.Goals as goal
+use Rattle.ccan_lab.proofs.outcome_words.list_of.Goals as goal
 
 of_some : {T : Type 0} (P : T → Type 0) (o : Option T) (found : T) → o ≡ Some found → IfSome o P → P found
 of_some {T} P o found is holds = subst (λ (x : Option T). IfSome x P) is holds
@@ -8,8 +8,8 @@ of_none : {T : Type 0} (P : Type 0) (o : Option T) → o ≡ None → IfNone o P
 of_none {T} P o is holds = subst (λ (x : Option T). IfNone x P) is holds
 
 -- the graph is of the machine, and its words need so many nodes
-pub returns-clause-without : goal.returns-clause-without
-returns-clause-without g c = (
+pub returns-in-None-clause-without : goal.returns-in-None-clause-without
+returns-in-None-clause-without g c = (
   refl,
   (
     c.in-Some.graph,

@@ -1,0 +1,38 @@
+-- Why a line that is asked for has no answer.
+use Rattle.std.proofs.Common.{ℕ, Bool, List, inl, inr}
+use Rattle.ccan_line.specs.Script.{ScriptFields}
+use Rattle.ccan_outcomes.specs.declared.all_ports.AllPorts.{AllPorts}
+use Rattle.ccan_lab.specs.declared.lab_error.LabError.{LabError}
+use Rattle.ccan_lab.specs.declared.lab_error.LabError.TheVariants as fault
+use Rattle.ccan_lab.specs.Words.{HasNoHistory, HasNoWords, IsUnanswered}
+
+module _ (script : ScriptFields) (begin : List ℕ) (eq : AllPorts → AllPorts → Bool) (most : ℕ) where
+  -- there are no words
+  pub no_words : (why : LabError) → HasNoWords script eq most why → IsUnanswered script begin eq most why
+  no_words fault.Words h = absurd h
+  no_words fault.Open h = absurd h
+  no_words (fault.Input of) h = absurd h
+  no_words (fault.More told) h = inl h
+  no_words (fault.Nodes told) h = inl h
+  no_words (fault.NoPlace number) h = absurd h
+  no_words fault.NoLine h = absurd h
+  no_words fault.Log h = absurd h
+  no_words fault.Frames h = absurd h
+  no_words (fault.NoOutcome number listed) h = absurd h
+  no_words fault.Memory h = inl h
+  no_words fault.Write h = absurd h
+
+  -- there is no history
+  pub no_history : (why : LabError) → HasNoHistory script eq most why → IsUnanswered script begin eq most why
+  no_history fault.Words h = absurd h
+  no_history fault.Open h = absurd h
+  no_history (fault.Input of) h = absurd h
+  no_history (fault.More told) h = inr h
+  no_history (fault.Nodes told) h = absurd h
+  no_history (fault.NoPlace number) h = absurd h
+  no_history fault.NoLine h = absurd h
+  no_history fault.Log h = absurd h
+  no_history fault.Frames h = absurd h
+  no_history (fault.NoOutcome number listed) h = absurd h
+  no_history fault.Memory h = inr h
+  no_history fault.Write h = absurd h

@@ -1,0 +1,53 @@
+-- What is printed of all outcomes of a script, each with a history, and of one of them. Source: this project's own.
+use Rattle.std.specs.Prelude.{ℕ, zero, suc, ◌≡◌, ◌++◌, nat_lt, List, [], Some, length, map, min, slice_get, if◌then◌else◌}
+use Rattle.ccan_line.specs.Script.{ScriptFields}
+use Rattle.ccan_outcomes.specs.declared.ending.Ending.{Ending}
+use Rattle.ccan_lab.specs.Answer.{first_with}
+use Rattle.ccan_lab.specs.Counting.{count_text, greatest}
+use Rattle.ccan_lab.specs.Observed.{places_of}
+use Rattle.ccan_lab.specs.Report.{IsOutcomeText, each}
+use Rattle.ccan_lab.specs.Rows.{line_at, rows_at, rows_of}
+use Rattle.ccan_lab.specs.Summary.{AreChoices, choices_at, same_parts}
+
+-- for each place of the script these are the lines that the outcomes have there
+pub record HasChoices (script : ScriptFields) (endings : List Ending) (choices : List (List (List ℕ))) : Type 0 where
+  pub as_many : length choices ≡ places_of script
+  pub are : (place : ℕ) (lines : List (List ℕ)) → slice_get choices place ≡ Some lines → AreChoices endings place lines
+
+-- the line of an outcome in a place, if several may stand there
+unfoldable pub different_line : List (List (List ℕ)) → List (List ℕ) → ℕ → List ℕ
+different_line choices rows place = if nat_lt 1 (length (choices_at choices place)) then line_at rows place else []
+
+-- the lines of an outcome that are not the same in all
+abbrev pub different_lines : List (List (List ℕ)) → List (List ℕ) → List ℕ
+different_lines choices rows = each (length choices) (different_line choices rows)
+
+-- the text is that of the outcome of this number, from 0, with those lines
+abbrev pub IsNumberedText : ScriptFields → List Ending → List (List (List ℕ)) → ℕ → List ℕ → Type 0
+IsNumberedText script endings choices number text =
+    IsOutcomeText script endings (different_lines choices (rows_at (map rows_of endings) number)) number text
+
+-- the text is that of the outcomes before this number, in turn
+abbrev pub AreOutcomeTexts : ScriptFields → List Ending → List (List (List ℕ)) → ℕ → List ℕ → Type 0
+AreOutcomeTexts script endings choices zero text = text ≡ []
+AreOutcomeTexts script endings choices (suc number) text =
+    (before : List ℕ) × (last : List ℕ) × (text ≡ before ++ last)
+    × AreOutcomeTexts script endings choices number before × IsNumberedText script endings choices number last
+
+-- the number of outcomes, what is the same in all, and each outcome with a history
+pub record IsListing (script : ScriptFields) (endings : List Ending) (text : List ℕ) : Type 0 where
+  pub choices : List (List (List ℕ))
+  pub has_choices : HasChoices script endings choices
+  pub outcomes : List ℕ
+  pub are : AreOutcomeTexts script endings choices (length endings) outcomes
+  pub text_is : text ≡ count_text (min (length endings) greatest) ++ (same_parts choices ++ outcomes)
+
+-- the number of outcomes, and the first of them that has a line that begins so, with a history
+pub record IsFoundText (script : ScriptFields) (endings : List Ending) (begin text : List ℕ) : Type 0 where
+  pub choices : List (List (List ℕ))
+  pub has_choices : HasChoices script endings choices
+  pub number : ℕ
+  pub is_first : first_with begin endings ≡ Some number
+  pub outcome : List ℕ
+  pub is_one : IsNumberedText script endings choices number outcome
+  pub text_is : text ≡ count_text (min (length endings) greatest) ++ outcome

@@ -1,0 +1,56 @@
+//! The outcomes of a script, told one by one, each with a history.
+ghost use Rattle.std.specs.Prelude.{◌≡◌, IfErr, IfOk, Some, slice_get};
+ghost use Rattle.ccan_line.specs.Script.{fields_of};
+ghost use Rattle.ccan_outcomes.specs.History.{IsHistoryOf};
+ghost use Rattle.ccan_outcomes.specs.OutcomeWords.{endings_in};
+ghost use Rattle.ccan_lab.specs.Telling.{CanBeTold};
+ghost use Rattle.ccan_lab.specs.Words.{HasNoHistory};
+
+use crate::lab_error::LabError;
+use crate::outcome_words::OutcomeList;
+use ccan_outcomes::all_ports::AllPorts;
+use ccan_outcomes::{Ending, Histories, HistoryStep, searched_history};
+use ccan_script::Script;
+use ccan_search::Progress;
+use std::alloc::Global;
+
+/// Outcomes of a script that are to be told.
+#[derive(Clone, Copy)]
+pub struct Telling<'a, P: Progress> {
+    /// The script.
+    pub script: &'a Script,
+    /// Its outcomes.
+    pub list: &'a OutcomeList,
+    /// How many states a search for a history keeps at most.
+    pub most: usize,
+    /// What is told how far such a search is.
+    pub progress: &'a P,
+}
+
+/// A history that leads to the outcome of this number, from 0: one that is found along the graph, or else, by a search of all
+/// states.
+pub fn history_to<P: Progress>(
+    alloc: Global,
+    telling: &Telling<'_, P>,
+    histories: &mut Histories,
+    number: usize,
+    ending: &Ending,
+) -> Result<Vec<HistoryStep>, LabError>
+    requires can { CanBeTold (fields_of telling.now.script.now) telling.now.list.now }
+    requires at { slice_get (endings_in telling.now.list.now.words) number ≡ Some ending.now }
+    ensures history { IfOk result (λ steps.
+        IsHistoryOf (fields_of telling.now.script.now) ending.now steps.items) }
+    ensures without { IfErr result (HasNoHistory (fields_of telling.now.script.now)
+        ⟦<AllPorts as PartialEq>⟧.eq telling.now.most) }
+{
+    let script = telling.script;
+    let OutcomeList { words, graph } = telling.list;
+    let found = histories.history(alloc, script, graph, words, number as u64, ending)?;
+    if let Some(steps) = found {
+        return Ok(steps);
+    }
+    match searched_history(alloc, script, ending, telling.most, telling.progress)? {
+        Some(steps) => Ok(steps),
+        None => Err(LabError::More(telling.most)),
+    }
+}
