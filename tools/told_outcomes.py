@@ -1,6 +1,6 @@
-"""Scripts whose hosts and bus race, and what can come of each, worked by hand from the rules: how many states the search keeps
-(None where that was not worked out), how the lines begin that are looked at, and these lines of each outcome. Kept are the state in
-which the ports begin, those from which more than one step is followed, and those in which all lines have run."""
+"""Scripts whose hosts and bus race, and what can come of each, worked by hand from the rules: how many states a search keeps that
+looks at all answers (None where that was not worked out), how the lines begin that are looked at, and these lines of each outcome.
+Kept are the state in which the ports begin, those from which more than one step is followed, and those in which all lines have run."""
 
 
 def transfer(request, **registers):

@@ -175,7 +175,7 @@ def outcomes(script: Script, *, most: Optional[int] = None) -> ScriptOutcomes:
     script : dict or path
         The script.
     most : int, optional
-        The most states to keep; a million if left out.
+        The most states to keep, and the most nodes that the outcomes are put together of; a million if left out.
 
     Raises
     ------

@@ -48,7 +48,7 @@ def test_outcomes_of_a_script_as_an_object() -> None:
 def test_the_whole_list() -> None:
     script = TOP / "examples/outcomes/lost_message.json"
     assert ccan.outcomes_text(script) == script.with_name("lost_message.json.stdout").read_text()
-    assert ccan.outcomes_text({}, observe=["final"], most=10).splitlines()[0] == "1 outcome in 1 state, 1 as observed"
+    assert ccan.outcomes_text({}, observe=["final"], most=10).splitlines()[0] == "1 outcome, 1 as observed"
 
 
 def test_questions() -> None:
