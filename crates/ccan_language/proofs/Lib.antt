@@ -1,6 +1,7 @@
 pub mod Counted
 pub mod Decided
 pub mod Grown
+pub mod Imaged
 pub mod Kept
 pub mod Keys
 pub mod Listed
@@ -14,4 +15,6 @@ pub mod Union
 pub mod With
 pub mod Needed
 pub mod Added
+pub mod Borne
 pub mod SaidParts
+pub mod Sourced

@@ -7,16 +7,22 @@
 
 pub mod answers;
 pub mod graph;
+pub mod images;
 pub mod letter;
 pub mod memo;
 pub mod no_room;
 pub mod node;
+pub mod signs;
+pub mod sources;
 pub mod states;
 mod turn;
 
 pub use graph::Graph;
+pub use images::{Images, images_of_each};
 pub use letter::Letter;
 pub use memo::{Longer, Pair};
 pub use no_room::NoRoom;
 pub use node::{Edge, Node};
+pub use signs::{Signs, first_with};
+pub use sources::source_of;
 pub use states::{State, Step, steps_lead_back, words_of_each};
