@@ -12,8 +12,8 @@ complete -c ccan-lab -n __fish_use_subcommand -f -a from-candump -d 'A script of
 
 complete -c ccan-lab -n '__fish_seen_subcommand_from outcomes' -l all -d 'Show each outcome, with a history'
 complete -c ccan-lab -n '__fish_seen_subcommand_from outcomes' -l observe -x -d 'Tell apart only what these lines and objects are'
-complete -c ccan-lab -n '__fish_seen_subcommand_from outcomes' -l can -x -d 'Ask whether an outcome has a line that begins so'
-complete -c ccan-lab -n '__fish_seen_subcommand_from outcomes' -l never -x -d 'Ask whether no outcome has a line that begins so'
+complete -c ccan-lab -n '__fish_seen_subcommand_from outcomes' -l can -x -d 'Ask whether an outcome has all lines that begin so'
+complete -c ccan-lab -n '__fish_seen_subcommand_from outcomes' -l never -x -d 'Ask whether no outcome has all lines that begin so'
 complete -c ccan-lab -n '__fish_seen_subcommand_from outcomes' -l most -x -d 'How many states and nodes to keep at most'
 
 complete -c ccan-lab -n '__fish_seen_subcommand_from count' -l most -x -d 'How many states and nodes to keep at most'

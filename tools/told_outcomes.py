@@ -1,6 +1,7 @@
-"""Scripts whose hosts and bus race, and what can come of each, worked by hand from the rules: how many states a search keeps that
-looks at all answers (None where that was not worked out), how the lines begin that are looked at, and these lines of each outcome.
-Kept are the state in which the ports begin, those from which more than one step is followed, and those in which all lines have run."""
+"""Scripts whose hosts and bus race, and what can come of each, worked by hand from the rules: how many states the search keeps
+(None where that was not worked out), how the lines begin that are looked at, and these lines of each outcome. Kept are the state in
+which the ports begin, those from which more than one step is followed, and those in which all lines have run. States that differ
+only in what was answered are one."""
 
 
 def transfer(request, **registers):
@@ -29,13 +30,14 @@ def seen(flag, value):
 
 
 TOLD = [
-    # Each host writes the data of object 1 once. The later write stands at the end.
+    # Each host writes the data of object 1 once. The later write stands at the end. Kept are the beginning and the two ends: no try
+    # can be lost for good, so each write is one step, and where one host has done, the other goes on alone.
     (
         {
             "if1": [transfer("0001", cmask="0082", dataa1="1111")],
             "if2": [transfer("0001", cmask="0082", dataa1="2222")],
         },
-        None,
+        3,
         "final",
         [final("1111"), final("2222")],
     ),
@@ -84,18 +86,18 @@ TOLD = [
         "bus",
         [["bus status 0000", "bus init", "bus counters 0 0 0 active"]],
     ),
-    # IF2 looks and then writes; IF1 waits for the flag, which is told by one look. Kept are the beginning, IF2 in its try before that
-    # look, and the two ends. IF2's look comes at once, since IF1 changes nothing, and so does what is left of one port where the other
-    # has done.
+    # IF2 looks and then writes; IF1 waits for the flag, which is told by one look. Kept are the beginning and the end: IF2's look and
+    # its write are one step, what is left of one port comes at once where the other has done, and the two ends differ in the answer
+    # alone.
     (
         {"if1": [{"op": "until", "object": 1, "flag": "newdat", "turns": 2}], "if2": [transfer("0001", **NEW)]},
-        4,
+        2,
         "if1",
         [["if1 until 01 newdat yes"], ["if1 until 01 newdat no"]],
     ),
     # Each host writes object 1 with one try. Kept are the beginning, one host or the other in its try, both in it, the two states in
-    # which one has written and the other's try is contended, and the three ends. Where one has written before the other looked, that
-    # one's look and write come at once.
+    # which one has written and the other's try is contended, and the three ends, which differ in who has changed it. Where one
+    # has written before the other looked, that one's look and write come at once.
     (
         {"tries": 1, "if1": [transfer("0001", cmask="0080")], "if2": [transfer("0001", cmask="0080")]},
         9,

@@ -201,26 +201,27 @@ def outcomes_text(script: Script, *, observe: Sequence[str] = (), most: Optional
     return _answer("outcomes", script, "--all", *observed, *_bound(most))
 
 
-def can_come(script: Script, line: str, *, most: Optional[int] = None) -> str:
-    """The first outcome that has a line which begins so, with its history.
+def can_come(script: Script, line: str, *more: str, most: Optional[int] = None) -> str:
+    """The first outcome that has a line which begins so, for each line that is given, with its history.
 
     Raises
     ------
     NotAsAskedError
         Where no outcome has one.
     """
-    return _answer("outcomes", script, f"--can={line}", *_bound(most))
+    return _answer("outcomes", script, *(f"--can={each}" for each in (line, *more)), *_bound(most))
 
 
-def never_comes(script: Script, line: str, *, most: Optional[int] = None) -> None:
-    """Asks that no outcome has a line which begins so. It is a test: its exception shows the outcome that has one.
+def never_comes(script: Script, line: str, *more: str, most: Optional[int] = None) -> None:
+    """Asks that no outcome has a line which begins so, for each line that is given. It is a test: its exception shows the
+    outcome that has them.
 
     Raises
     ------
     NotAsAskedError
         Where an outcome has one. It is an ``AssertionError``.
     """
-    _answer("outcomes", script, f"--never={line}", *_bound(most))
+    _answer("outcomes", script, *(f"--never={each}" for each in (line, *more)), *_bound(most))
 
 
 def explain(script: Script) -> List[Dict[str, Any]]:

@@ -81,7 +81,7 @@ taken (suc n) [] k low = refl
 taken (suc n) (x ∷ xs) zero low = refl
 taken (suc n) (x ∷ xs) (suc k) low = taken n xs k (omega (arith, low))
 
-abbrev final_text : ℕ × Record → List ℕ
+abbrev pub final_text : ℕ × Record → List ℕ
 final_text object = final_row object.0 object.1
 
 pub final_some : (records : List Record) (index : ℕ) (left : Record) → index < 64 → slice_get records index ≡ Some left
@@ -139,7 +139,7 @@ module _ (ending : Ending) where
   abbrev third : List (List ℕ)
   third = map (line_text Bus) ending.bus
 
-  row_if1 : (line : ℕ) (answer : LineAnswer) → slice_get ending.if1 line ≡ Some answer
+  pub row_if1 : (line : ℕ) (answer : LineAnswer) → slice_get ending.if1 line ≡ Some answer
       → line_at (rows_of ending) line ≡ line_text If1 answer
   unfolding line_at rows_of
   row_if1 line answer at =
@@ -149,7 +149,7 @@ module _ (ending : Ending) where
       (front first (second ++ (third ++ final_rows ending.records)) line (omega (arith, low, many))
       ∙ (slice_get-map (line_text If1) ending.if1 line ∙ ap (option_map (line_text If1)) at))
 
-  row_if2 : (if1 line : ℕ) (answer : LineAnswer) → length ending.if1 ≡ if1 → slice_get ending.if2 line ≡ Some answer
+  pub row_if2 : (if1 line : ℕ) (answer : LineAnswer) → length ending.if1 ≡ if1 → slice_get ending.if2 line ≡ Some answer
       → line_at (rows_of ending) (if1 + line) ≡ line_text If2 answer
   unfolding line_at rows_of
   row_if2 if1 line answer long at =
@@ -160,7 +160,7 @@ module _ (ending : Ending) where
       ∙ (front second (third ++ final_rows ending.records) line (omega (arith, low, many))
       ∙ (slice_get-map (line_text If2) ending.if2 line ∙ ap (option_map (line_text If2)) at)))
 
-  row_bus : (if1 if2 line : ℕ) (answer : LineAnswer) → length ending.if1 ≡ if1 → length ending.if2 ≡ if2
+  pub row_bus : (if1 if2 line : ℕ) (answer : LineAnswer) → length ending.if1 ≡ if1 → length ending.if2 ≡ if2
       → slice_get ending.bus line ≡ Some answer → line_at (rows_of ending) (if1 + (if2 + line)) ≡ line_text Bus answer
   unfolding line_at rows_of
   row_bus if1 if2 line answer one two at =
@@ -173,7 +173,7 @@ module _ (ending : Ending) where
       ∙ (front third (final_rows ending.records) line (omega (arith, low, many))
       ∙ (slice_get-map (line_text Bus) ending.bus line ∙ ap (option_map (line_text Bus)) at))))
 
-  row_final : (if1 if2 bus index : ℕ) → length ending.if1 ≡ if1 → length ending.if2 ≡ if2 → length ending.bus ≡ bus
+  pub row_final : (if1 if2 bus index : ℕ) → length ending.if1 ≡ if1 → length ending.if2 ≡ if2 → length ending.bus ≡ bus
       → line_at (rows_of ending) (if1 + (if2 + (bus + index))) ≡ line_at (final_rows ending.records) index
   unfolding line_at rows_of
   row_final if1 if2 bus index one two three =

@@ -7,9 +7,12 @@ pub mod Taken
 pub mod Texts
 pub mod Ordered
 pub mod Chosen
+pub mod SameLines
+pub mod ShownOf
 pub mod Added
 pub mod Parts
 pub mod NoLine
 pub mod Told
 pub mod Listed
 pub mod Unanswered
+pub mod Sought

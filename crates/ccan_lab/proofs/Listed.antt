@@ -1,21 +1,17 @@
 -- What is printed of the list of all outcomes.
 use Rattle.std.proofs.Common.{◌≡◌, ◌<◌, ◌≤◌, ◌+◌, nat_lt, not, cond, ℕ, zero, suc, Bool, true, false, List, [], ◌∷◌, Bor, Option, Some, None, length, map, get_or, slice_get, option_map, unwrap_or, if◌then◌else◌, refl, sym, ap, ◌∙◌, arith}
-use Rattle.std.specs.List.{position_or_len, prefix_len}
 use Rattle.std.proofs.lemmas.Bool.{lt-ltb}
 use Rattle.std.proofs.lemmas.List.{length-map}
-use Rattle.std.proofs.lemmas.Option.{slice_get-get_or, slice_get-map, slice_get_within}
-use Rattle.ccan_language.proofs.Grown.{same_some}
+use Rattle.std.proofs.lemmas.Option.{slice_get-map, slice_get_within}
 use Rattle.ccan_line.specs.Script.{ScriptFields}
 use Rattle.ccan_outcomes.specs.declared.ending.Ending.{Ending}
 use Rattle.ccan_search.proofs.WayOn.{there_within}
-use Rattle.ccan_lab.specs.Answer.{first_with}
 use Rattle.ccan_lab.specs.Listing.{HasChoices, different_line, different_lines}
 use Rattle.ccan_lab.specs.Observed.{places_of}
 use Rattle.ccan_lab.specs.Report.{each}
-use Rattle.ccan_lab.specs.Rows.{has_line, line_at, rows_at, rows_of}
+use Rattle.ccan_lab.specs.Rows.{line_at, rows_at, rows_of}
 use Rattle.ccan_lab.specs.Sorted.{AreAllInOrder, all_texts, texts_of}
 use Rattle.ccan_lab.specs.Summary.{AreLinesAt, choices_at}
-use Rattle.ccan_lab.proofs.NoLine.{none_found}
 use Rattle.ccan_lab.proofs.Parts.{Lines, choices_read, ordered_choices}
 
 -- the lines of all places, each once and in order, are the choices of these places
@@ -74,48 +70,3 @@ pub past_all : {X : Type 0} (xs : List X) (n : ℕ) → slice_get xs n ≡ None 
 past_all [] n at = omega arith
 past_all (x ∷ xs) zero at = absurd cc
 past_all (x ∷ xs) (suc n) at = let later = past_all xs n at in omega (arith, later)
-
--- ---- the first that passes
-
-first_prefix : {X : Type 0} (p : X → Bool) (xs : List X) (n : ℕ) (x : X) → slice_get xs n ≡ Some x → p x ≡ true
-    → ((k : ℕ) (y : X) → k < n → slice_get xs k ≡ Some y → p y ≡ false) → position_or_len p xs ≡ n
-first_prefix p [] n x at passes before = absurd cc
-first_prefix p (y ∷ ys) zero x at passes before =
-    let same : y ≡ x = same_some y x at in
-    ap (λ (b : Bool). cond (not b) (1 + prefix_len (λ it. not (p it)) ys) 0) (ap p same ∙ passes)
-first_prefix p (y ∷ ys) (suc n) x at passes before =
-    let later = first_prefix p ys n x at passes (λ k z low there. before (suc k) z (omega (arith, low)) there) in
-    ap (λ (b : Bool). cond (not b) (1 + prefix_len (λ it. not (p it)) ys) 0) (before 0 y (omega arith) refl) ∙ omega (arith, later)
-
--- none of the outcomes before this number has such a line
-abbrev pub NoneBefore : List ℕ → List Ending → ℕ → Type 0
-NoneBefore begin endings number =
-    (k : ℕ) (ending : Ending) → k < number → slice_get endings k ≡ Some ending → has_line begin (rows_of ending) ≡ false
-
--- the image of an item in a place
-mapped : (endings : List Ending) (k : ℕ) (rows : List (List ℕ)) → slice_get (map rows_of endings) k ≡ Some rows
-    → (ending : Ending) × (slice_get endings k ≡ Some ending) × (rows_of ending ≡ rows)
-mapped [] k rows at = absurd cc
-mapped (e ∷ es) zero rows at = (e, refl, same_some (rows_of e) rows at)
-mapped (e ∷ es) (suc k) rows at = mapped es k rows at
-
-pub found_first : (begin : List ℕ) (endings : List Ending) (number : ℕ) (ending : Ending)
-    → slice_get endings number ≡ Some ending → has_line begin (rows_of ending) ≡ true → NoneBefore begin endings number
-    → first_with begin endings ≡ Some number
-found_first begin endings number ending at has before =
-    let there = slice_get-map rows_of endings number ∙ ap (λ (o : Option Ending). option_map rows_of o) at in
-    let first = first_prefix (has_line begin) (map rows_of endings) number (rows_of ending) there has (λ k rows low here.
-    let of = mapped endings k rows here in
-    ap (has_line begin) (sym of.2) ∙ before k of.0 low of.1) in
-    let within = slice_get_within (map rows_of endings) number (rows_of ending) there in
-    ap (λ (n : ℕ). cond (nat_lt n (length (map rows_of endings))) (Some n) None) first
-    ∙ ap (λ (b : Bool). cond b (Some number) None) (lt-ltb number (length (map rows_of endings)) within)
-
-pub found_none : (begin : List ℕ) (endings : List Ending) (number : ℕ) → length endings ≤ number
-    → NoneBefore begin endings number → first_with begin endings ≡ None
-found_none begin endings number past before =
-    none_found (has_line begin) (map rows_of endings) (λ rows inside.
-    let there = slice_get-get_or (map rows_of endings) inside.0 rows inside.1 in
-    let of = mapped endings inside.0 rows (there ∙ ap (λ (r : List (List ℕ)). Some r) inside.2) in
-    let low = slice_get_within endings inside.0 of.0 of.1 in
-    ap (has_line begin) (sym of.2) ∙ before inside.0 of.0 (omega (arith, low, past)) of.1)

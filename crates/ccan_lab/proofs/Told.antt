@@ -4,11 +4,9 @@ use Rattle.std.specs.Option.{option_map}
 use Rattle.ccan_ram.specs.declared.port.PortName.{PortName}
 use Rattle.ccan_line.specs.Script.{ScriptFields}
 use Rattle.ccan_outcomes.specs.declared.ending.Ending.{Ending}
-use Rattle.ccan_outcomes.specs.declared.watch.Watch.{Watch}
 use Rattle.ccan_outcomes.specs.contracts.ending.EndingPartialEq.TheImpl.{ghosts as ending_is}
 use Rattle.ccan_outcomes.specs.Equal.{same_ending}
-use Rattle.ccan_outcomes.specs.Watch.{kept_ending}
-use Rattle.ccan_lab.specs.Replay.{Replays, ReplaysSeen}
+use Rattle.ccan_lab.specs.Replay.{Replays}
 
 -- the names in an order that was found
 abbrev pub names_in : Option (Vec PortName Global) → Option (List PortName)
@@ -24,10 +22,3 @@ pub replays_equal : (script : ScriptFields) (ending shown : Ending) (order : Lis
     → Replays script shown order → Replays script ending order
 replays_equal script ending shown order equal replays =
     subst (λ (e : Ending). Replays script e order) (sym (same_ending ending shown equal)) replays
-
--- and it has one of which that is kept to which the ending is equal
-pub replays_kept : (script : ScriptFields) (watch : Watch) (ending kept whole : Ending) (order : List PortName)
-    → ending_is.eq ending kept ≡ true → kept ≡ kept_ending watch whole → Replays script whole order
-    → ReplaysSeen script watch ending order
-replays_kept script watch ending kept whole order equal is replays =
-    record { whole = whole; kept_is = same_ending ending kept equal ∙ is; replays = replays }

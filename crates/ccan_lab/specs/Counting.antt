@@ -3,7 +3,7 @@ use Rattle.std.specs.Prelude.{ℕ, ◌≡◌, ◌-◌, ◌^◌, ◌++◌, ◌==�
 use Rattle.std.specs.List.{IsDistinct}
 use Rattle.ccan_line.specs.Script.{ScriptFields}
 use Rattle.ccan_outcomes.specs.declared.ending.Ending.{Ending}
-use Rattle.ccan_outcomes.specs.Ending.{AreOutcomes}
+use Rattle.ccan_outcomes.specs.Ending.{AreOfRuns, AreOutcomes}
 use Rattle.ccan_lab.specs.Report.{counted_text}
 
 -- the greatest number that is counted to
@@ -15,10 +15,11 @@ abbrev pub count_text : ℕ → List ℕ
 count_text number =
     (if number == greatest then codes "at least " else codes "") ++ (counted_text number (codes "outcome") ++ codes "\n")
 
--- the number is that of a list that has each outcome that the promise allows, once, and no other
+-- the number is that of a list that has each outcome that the promise allows, once, and no other; each is that of a run
 pub record IsCount (script : ScriptFields) (eq : Ending → Ending → Bool) (number : ℕ) : Type 0 where
   pub outcomes : List Ending
   pub are : AreOutcomes script outcomes
+  pub runs : AreOfRuns script outcomes
   pub once : IsDistinct eq outcomes
   pub number_is : number ≡ min (length outcomes) greatest
 

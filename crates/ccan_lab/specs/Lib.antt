@@ -23,3 +23,4 @@ pub mod Question
 pub mod Listing
 pub mod Telling
 pub mod Words
+pub mod LineSigns

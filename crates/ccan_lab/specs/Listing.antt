@@ -42,12 +42,15 @@ pub record IsListing (script : ScriptFields) (endings : List Ending) (text : Lis
   pub are : AreOutcomeTexts script endings choices (length endings) outcomes
   pub text_is : text ≡ count_text (min (length endings) greatest) ++ (same_parts choices ++ outcomes)
 
--- the number of outcomes, and the first of them that has a line that begins so, with a history
-pub record IsFoundText (script : ScriptFields) (endings : List Ending) (begin text : List ℕ) : Type 0 where
+-- the number of outcomes, and the one of this number, from 0, with a history
+pub record IsOneText (script : ScriptFields) (endings : List Ending) (number : ℕ) (text : List ℕ) : Type 0 where
   pub choices : List (List (List ℕ))
   pub has_choices : HasChoices script endings choices
-  pub number : ℕ
-  pub is_first : first_with begin endings ≡ Some number
   pub outcome : List ℕ
   pub is_one : IsNumberedText script endings choices number outcome
   pub text_is : text ≡ count_text (min (length endings) greatest) ++ outcome
+
+-- the number of outcomes, and the first of them that has these lines, with a history
+abbrev pub IsFoundText : ScriptFields → List Ending → List (List ℕ) → List ℕ → Type 0
+IsFoundText script endings begins text =
+    (number : ℕ) × (first_with begins endings ≡ Some number) × IsOneText script endings number text

@@ -3,7 +3,7 @@ use Rattle.std.specs.Prelude.{ℕ, Bool, List}
 use Rattle.std.specs.List.{IsDistinct}
 use Rattle.ccan_line.specs.Script.{ScriptFields}
 use Rattle.ccan_outcomes.specs.declared.ending.Ending.{Ending}
-use Rattle.ccan_outcomes.specs.Ending.{AreOutcomes}
+use Rattle.ccan_outcomes.specs.Ending.{AreOfRuns, AreOutcomes}
 use Rattle.ccan_lab.specs.declared.asked.Asked.{Asked}
 use Rattle.ccan_lab.specs.declared.asked.Asked.TheVariants.{Summary, All, Can, Never, Observed, AllObserved}
 use Rattle.ccan_lab.specs.Listing.{IsListing}
@@ -13,8 +13,8 @@ use Rattle.ccan_lab.specs.Observed.{IsObservedListing, names_in}
 abbrev pub IsOfAll : Asked → Type 0
 IsOfAll Summary = ⊥
 IsOfAll All = Unit {0}
-IsOfAll (Can begin) = ⊥
-IsOfAll (Never begin) = ⊥
+IsOfAll Can = ⊥
+IsOfAll Never = ⊥
 IsOfAll (Observed names) = ⊥
 IsOfAll (AllObserved names) = Unit {0}
 
@@ -22,14 +22,16 @@ IsOfAll (AllObserved names) = Unit {0}
 abbrev pub Answers : ScriptFields → List Ending → Asked → List ℕ → Type 0
 Answers script endings Summary text = ⊥
 Answers script endings All text = IsListing script endings text
-Answers script endings (Can begin) text = ⊥
-Answers script endings (Never begin) text = ⊥
+Answers script endings Can text = ⊥
+Answers script endings Never text = ⊥
 Answers script endings (Observed names) text = ⊥
 Answers script endings (AllObserved names) text = IsObservedListing (names_in names.now) script endings text
 
--- the text answers what is asked of a list that has each outcome that the promise allows, once, and no other
+-- the text answers what is asked of a list that has each outcome that the promise allows, once, and no other; each is that of a
+-- run
 pub record TellsAll (script : ScriptFields) (eq : Ending → Ending → Bool) (asked : Asked) (text : List ℕ) : Type 0 where
   pub outcomes : List Ending
   pub are : AreOutcomes script outcomes
+  pub runs : AreOfRuns script outcomes
   pub once : IsDistinct eq outcomes
   pub text_is : Answers script outcomes asked text

@@ -1,13 +1,14 @@
 -- What a page shows of the outcomes of a script. Source: this project's own.
-use Rattle.std.specs.Prelude.{ℕ, zero, suc, ◌≡◌, ◌+◌, ◌-◌, ◌++◌, ◌∷◌, List, [], Option, None, Some}
+use Rattle.std.specs.Prelude.{ℕ, Bool, zero, suc, ◌≡◌, ◌+◌, ◌-◌, ◌++◌, ◌∷◌, List, [], Option, None, Some}
 use Rattle.std.specs.Prelude.{codes, if◌then◌else◌, length, map, min, slice_get, string_bytes}
+use Rattle.std.specs.List.{IsDistinct}
 use Rattle.std.specs.Str.{bytes_eq}
 use Rattle.ccan_ram.specs.declared.port.PortName.{PortName}
 use Rattle.ccan_line.specs.Script.{ScriptFields}
 use Rattle.ccan_explain.specs.declared.step.Step as told
 use Rattle.ccan_outcomes.specs.declared.ending.Ending.{Ending}
 use Rattle.ccan_outcomes.specs.declared.history_step.HistoryStep.{HistoryStep}
-use Rattle.ccan_outcomes.specs.Ending.{AreOutcomes}
+use Rattle.ccan_outcomes.specs.Ending.{AreOfRuns, AreOutcomes}
 use Rattle.ccan_outcomes.specs.History.{IsHistoryOf}
 use Rattle.ccan_outcomes.specs.Waits.{HaveSameOutcomes}
 use Rattle.ccan_page.specs.declared.page.Outcome.{Outcome}
@@ -60,10 +61,12 @@ pub record ShowsEndings (script : ScriptFields) (endings : List Ending) (limit :
   pub same_is : string_bytes page.same ≡ same_parts choices
   pub are_shown : AreShown script endings choices (min limit (length endings)) page.outcomes.items
 
--- it does so of all outcomes of a script that has the same
-pub record ShowsOutcomes (script : ScriptFields) (limit : ℕ) (page : Page) : Type 0 where
+-- it does so of all outcomes of a script that has the same, each once, and each that of a run
+pub record ShowsOutcomes (script : ScriptFields) (eq : Ending → Ending → Bool) (limit : ℕ) (page : Page) : Type 0 where
   pub searched : ScriptFields
   pub same_outcomes : HaveSameOutcomes script searched
   pub endings : List Ending
   pub complete : AreOutcomes searched endings
+  pub runs : AreOfRuns searched endings
+  pub once : IsDistinct eq endings
   pub shows : ShowsEndings searched endings limit page

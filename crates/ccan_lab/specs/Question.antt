@@ -5,31 +5,13 @@ use Rattle.ccan_lab.specs.Observed.{is_known, names_in}
 use Rattle.ccan_lab.specs.declared.asked.Asked.{Asked}
 use Rattle.ccan_lab.specs.declared.asked.Asked.TheVariants.{Summary, All, Can, Never, Observed, AllObserved}
 
--- it is asked whether an outcome can have this line
-abbrev pub IsCan : List ℕ → Asked → Type 0
-IsCan line (Can begin) = begin.now ≡ line
-IsCan line Summary = ⊥
-IsCan line All = ⊥
-IsCan line (Never begin) = ⊥
-IsCan line (Observed names) = ⊥
-IsCan line (AllObserved names) = ⊥
-
--- it is asked whether no outcome has this line
-abbrev pub IsNever : List ℕ → Asked → Type 0
-IsNever line (Never begin) = begin.now ≡ line
-IsNever line Summary = ⊥
-IsNever line All = ⊥
-IsNever line (Can begin) = ⊥
-IsNever line (Observed names) = ⊥
-IsNever line (AllObserved names) = ⊥
-
 -- it is asked what of the outcomes can be told apart in these places
 abbrev pub IsObserving : List ℕ → Asked → Type 0
 IsObserving list (Observed names) = names.now ≡ list
 IsObserving list Summary = ⊥
 IsObserving list All = ⊥
-IsObserving list (Can begin) = ⊥
-IsObserving list (Never begin) = ⊥
+IsObserving list Can = ⊥
+IsObserving list Never = ⊥
 IsObserving list (AllObserved names) = ⊥
 
 -- the same is asked of the list of all outcomes
@@ -37,8 +19,8 @@ abbrev pub IsObservingAll : List ℕ → Asked → Type 0
 IsObservingAll list (AllObserved names) = names.now ≡ list
 IsObservingAll list Summary = ⊥
 IsObservingAll list All = ⊥
-IsObservingAll list (Can begin) = ⊥
-IsObservingAll list (Never begin) = ⊥
+IsObservingAll list Can = ⊥
+IsObservingAll list Never = ⊥
 IsObservingAll list (Observed names) = ⊥
 
 -- a number of states is the one that is given, however large; that it is a number is seen to before
@@ -60,17 +42,23 @@ AreKnown script (Observed names) = AreKnownNames script names.now
 AreKnown script (AllObserved names) = AreKnownNames script names.now
 AreKnown script Summary = Unit {0}
 AreKnown script All = Unit {0}
-AreKnown script (Can begin) = Unit {0}
-AreKnown script (Never begin) = Unit {0}
+AreKnown script Can = Unit {0}
+AreKnown script Never = Unit {0}
 
 -- what is asked with --all, by the names of --observe
 abbrev pub AsksAllBy : Option (List ℕ) → Asked → Type 0
 AsksAllBy (Some names) asked = IsObservingAll names asked
 AsksAllBy None asked = asked ≡ All
 
--- what is asked without --all, by the line of --can, that of --never, and the names of --observe
-abbrev pub AsksBy : Option (List ℕ) → Option (List ℕ) → Option (List ℕ) → Asked → Type 0
-AsksBy (Some line) never observe asked = IsCan line asked
-AsksBy None (Some line) observe asked = IsNever line asked
+-- what is asked without --all, by the lines of --can, those of --never, and the names of --observe
+abbrev pub AsksBy : Option (List (List ℕ)) → Option (List (List ℕ)) → Option (List ℕ) → Asked → Type 0
+AsksBy (Some lines) never observe asked = asked ≡ Can
+AsksBy None (Some lines) observe asked = asked ≡ Never
 AsksBy None None (Some names) asked = IsObserving names asked
 AsksBy None None None asked = asked ≡ Summary
+
+-- the lines that are asked about: all that --can gives, or else all that --never gives
+abbrev pub lines_given : Option (List (List ℕ)) → Option (List (List ℕ)) → List (List ℕ)
+lines_given (Some lines) never = lines
+lines_given None (Some lines) = lines
+lines_given None None = []

@@ -2,7 +2,6 @@
 -- Source: this project's own.
 use Rattle.std.specs.Prelude.{ℕ, ◌++◌, ◌&&◌, nat_eq, nat_lt, Bool, List, [], map, take, length, slice_get, unwrap_or}
 use Rattle.std.specs.List.{enumerate_from, list_all, list_any, starts_with}
-use Rattle.std.specs.Str.{bytes_eq}
 use Rattle.ccan_object.specs.declared.profile.Profile.TheVariants.{Two}
 use Rattle.ccan_object.specs.declared.record.Record.{Record}
 use Rattle.ccan_object.specs.Profile.{objects_in}
@@ -36,14 +35,6 @@ line_at rows place = unwrap_or (slice_get rows place) []
 unfoldable pub rows_at : List (List (List ℕ)) → ℕ → List (List ℕ)
 rows_at all number = unwrap_or (slice_get all number) []
 
--- how many places there are
-unfoldable pub place_count : List (List (List ℕ)) → ℕ
-place_count all = length (rows_at all 0)
-
--- this line stands in this place in every outcome
-unfoldable pub is_in_all : List (List (List ℕ)) → ℕ → List ℕ → Bool
-is_in_all all place line = list_all (λ rows. bytes_eq (line_at rows place) line) all
-
 -- the line is printed, and begins so
 abbrev pub begins_so : List ℕ → List ℕ → Bool
 begins_so begin line = nat_lt 0 (length line) && starts_with nat_eq line begin
@@ -51,3 +42,7 @@ begins_so begin line = nat_lt 0 (length line) && starts_with nat_eq line begin
 -- a printed line of the outcome begins so
 unfoldable pub has_line : List ℕ → List (List ℕ) → Bool
 has_line begin rows = list_any (begins_so begin) rows
+
+-- for each of these the outcome has a printed line that begins so
+unfoldable pub has_lines : List (List ℕ) → List (List ℕ) → Bool
+has_lines begins rows = list_all (λ begin. has_line begin rows) begins

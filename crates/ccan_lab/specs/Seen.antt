@@ -1,57 +1,95 @@
--- A list of what can be told apart by the lines that are looked at, of a search that keeps little of the other answers. Source:
--- this project's own.
-use Rattle.std.specs.Prelude.{ℕ, ◌≡◌, ◌+◌, ◌++◌, Bool, List, take, drop, length, codes}
+-- A list of what can be told apart of the outcomes by the lines that are looked at. Source: this project's own.
+use Rattle.std.specs.Prelude.{ℕ, ◌≡◌, ◌++◌, ◌⊎◌, Bool, List, Some, Contains, length, codes, slice_get}
+use Rattle.std.specs.List.{IsDistinct}
+use Rattle.ccan_language.specs.declared.letter.Letter.{Letter}
+use Rattle.ccan_language.specs.Images.{word_image}
+use Rattle.ccan_language.specs.Words.{IsWordFrom}
 use Rattle.ccan_line.specs.Script.{ScriptFields}
+use Rattle.ccan_ram.specs.declared.port.PortName.{PortName}
 use Rattle.ccan_outcomes.specs.declared.all_ports.AllPorts.{AllPorts}
 use Rattle.ccan_outcomes.specs.declared.ending.Ending.{Ending}
-use Rattle.ccan_outcomes.specs.declared.outcomes.Outcomes.{Outcomes}
-use Rattle.ccan_outcomes.specs.declared.watch.Watch.{Watch}
-use Rattle.ccan_outcomes.specs.Observed.{AreFoundSeen, AreObserved, HasMoreSeen, IsHistorySeen}
-use Rattle.ccan_lab.specs.Observed.{AreFirstTexts, first_count, marks_of, observed_texts}
-use Rattle.ccan_lab.specs.Replay.{ReplaysSeen}
+use Rattle.ccan_outcomes.specs.declared.observed.Observed.{Observed}
+use Rattle.ccan_outcomes.specs.declared.words.OutcomeWords.{OutcomeWords}
+use Rattle.ccan_outcomes.specs.Ending.{AreOfRuns, AreOutcomes}
+use Rattle.ccan_outcomes.specs.History.{IsHistoryOf}
+use Rattle.ccan_outcomes.specs.Observed.{HasManyImages, observed_words}
+use Rattle.ccan_outcomes.specs.OutcomeWords.{ending_of_word, endings_in}
+use Rattle.ccan_lab.specs.declared.lab_error.LabError.{LabError}
+use Rattle.ccan_lab.specs.declared.lab_error.LabError.TheVariants as fault
+use Rattle.ccan_lab.specs.Observed.{AreFirstTexts, first_count, marks_of, observed_lines, observed_texts}
+use Rattle.ccan_lab.specs.Replay.{Replays}
 use Rattle.ccan_lab.specs.Report.{IsTextWith, counted_text}
+use Rattle.ccan_lab.specs.Rows.{rows_of}
+use Rattle.ccan_lab.specs.Words.{HasNoHistory, IsWithout}
 
--- the answers of these places are looked at: of all places those of IF1's lines are first, then IF2's, then the bus's
-pub record IsWatch (script : ScriptFields) (marks : List Bool) (watch : Watch) : Type 0 where
-  pub if1 : watch.if1.items ≡ take (length script.if1) marks
-  pub if2 : watch.if2.items ≡ take (length script.if2) (drop (length script.if1) marks)
-  pub bus : watch.bus.items ≡ take (length script.bus) (drop (length script.if1 + length script.if2) marks)
+-- ---- outcomes that stand for all
 
--- the first line: how many outcomes can be told apart, in how many states
-abbrev pub seen_heading : ℕ → ℕ → List ℕ
-seen_heading apart states =
-    counted_text apart (codes "outcome") ++ (codes " as observed in " ++ (counted_text states (codes "state") ++ codes "\n"))
+-- the outcome is one whose word has the image of this number
+abbrev pub IsShownAt : OutcomeWords → Observed → ℕ → Ending → Type 0
+IsShownAt words observed number ending =
+    (word : List Letter) × IsWordFrom words.graph.nodes.keys words.start word
+    × (slice_get (observed_words words observed) number ≡ Some (word_image observed.images word))
+    × (ending ≡ ending_of_word words word) × Contains (endings_in words) ending
 
--- the text is that of an outcome of which this ending is kept; its number counts those that show what none before them does
-abbrev pub IsSeenText : ScriptFields → Watch → List Ending → List (List ℕ) → List ℕ → ℕ → List ℕ → Type 0
-IsSeenText script watch endings texts lines place text =
-    IsTextWith (IsHistorySeen script watch) (ReplaysSeen script watch) endings place lines (first_count texts place) text
+-- these are outcomes of the images, in turn
+pub record AreShown (words : OutcomeWords) (observed : Observed) (shown : List Ending) : Type 0 where
+  pub as_many : length shown ≡ length (observed_words words observed)
+  pub are : (number : ℕ) (ending : Ending) → slice_get shown number ≡ Some ending → IsShownAt words observed number ending
 
--- the first line, and of the endings that show the same the first, with a history
-pub record IsSeenListing (script : ScriptFields) (watch : Watch) (marks : List Bool) (endings : List Ending) (states : ℕ)
-    (text : List ℕ)
-    : Type 0 where
+-- each of these is an outcome, and each outcome shows the same as one of them, where these marks are set
+pub record AreShownOf (marks : List Bool) (endings shown : List Ending) : Type 0 where
+  pub right : (ending : Ending) → Contains shown ending → Contains endings ending
+  pub complete : (ending : Ending) → Contains endings ending → (other : Ending) × Contains shown other
+      × (observed_lines marks (rows_of ending) ≡ observed_lines marks (rows_of other))
+
+-- ---- the list
+
+-- the first line: how many outcomes can be told apart
+abbrev pub seen_heading : ℕ → List ℕ
+seen_heading apart = counted_text apart (codes "outcome") ++ codes " as observed\n"
+
+-- the script with this order is one, and its run shows these lines, where these marks are set
+pub record ReplaysShown (script : ScriptFields) (marks : List Bool) (lines : List ℕ) (order : List PortName) : Type 0 where
+  pub whole : Ending
+  pub lines_are : observed_lines marks (rows_of whole) ≡ lines
+  pub replays : Replays script whole order
+
+-- the text is that of the outcome in this place, with a history of it; its number counts those that show what none before them does
+abbrev pub IsSeenText : ScriptFields → List Bool → List Ending → List (List ℕ) → List ℕ → ℕ → List ℕ → Type 0
+IsSeenText script marks shown texts lines place text =
+    IsTextWith (IsHistoryOf script) (λ _. ReplaysShown script marks lines) shown place lines (first_count texts place) text
+
+-- the first line, and of the outcomes that show the same the first, with a history
+pub record IsSeenListing (script : ScriptFields) (marks : List Bool) (shown : List Ending) (text : List ℕ) : Type 0 where
   pub outcomes : List ℕ
-  pub are : AreFirstTexts (IsSeenText script watch endings (observed_texts marks endings)) (observed_texts marks endings)
-      (length endings) outcomes
-  pub text_is : text ≡ seen_heading (first_count (observed_texts marks endings) (length endings)) states ++ outcomes
+  pub are : AreFirstTexts (IsSeenText script marks shown (observed_texts marks shown)) (observed_texts marks shown)
+      (length shown) outcomes
+  pub text_is : text ≡ seen_heading (first_count (observed_texts marks shown) (length shown)) ++ outcomes
 
--- the text lists what is kept of the outcomes that the promise allows, where these answers are looked at
-pub record TellsWatched (script : ScriptFields) (watch : Watch) (marks : List Bool) (text : List ℕ) : Type 0 where
-  pub outcomes : Outcomes
-  pub found : AreFoundSeen script watch outcomes
-  pub are : AreObserved script watch outcomes.listing.endings.keys
-  pub lists : IsSeenListing script watch marks outcomes.listing.endings.keys (length outcomes.reached.states.keys) text
+-- the text lists what can be told apart of these outcomes
+abbrev pub ListsSeen : ScriptFields → List Bool → List Ending → List ℕ → Type 0
+ListsSeen script marks endings text =
+    (shown : List Ending) × AreShownOf marks endings shown × IsSeenListing script marks shown text
 
--- the same, where the places of these names are looked at
-pub record TellsSeen (names : List (List ℕ)) (script : ScriptFields) (text : List ℕ) : Type 0 where
-  pub watch : Watch
-  pub is_watch : IsWatch script (marks_of names script) watch
-  pub tells : TellsWatched script watch (marks_of names script) text
+-- the text lists, where the places of these names are looked at, what can be told apart of a list that has each outcome that the
+-- promise allows, once, and no other; each is that of a run
+pub record TellsSeen (names : List (List ℕ)) (script : ScriptFields) (eq : Ending → Ending → Bool) (text : List ℕ) : Type 0 where
+  pub outcomes : List Ending
+  pub are : AreOutcomes script outcomes
+  pub runs : AreOfRuns script outcomes
+  pub once : IsDistinct eq outcomes
+  pub lists : ListsSeen script (marks_of names script) outcomes text
 
--- where the places of these names are looked at, the ports can come to more states than so many, of which no two look the same
-pub record HasMoreAsNamed (names : List (List ℕ)) (script : ScriptFields) (eq : AllPorts → AllPorts → Bool) (most : ℕ) : Type 0
-  where
-    pub watch : Watch
-    pub is_watch : IsWatch script (marks_of names script) watch
-    pub more : HasMoreSeen script watch eq most
+-- ---- why there is none
+
+-- the images of the words need so many nodes, or memory ran out
+abbrev pub HasNoImages : OutcomeWords → ℕ → LabError → Type 0
+HasNoImages words most (fault.Nodes told) = (told ≡ most) × HasManyImages words most
+HasNoImages words most fault.Memory = Unit {0}
+HasNoImages words most _ = ⊥
+
+-- so it is of the words of all outcomes of the script, or there is no list of them, or there is one without a history
+abbrev pub HasNoSeenList : ScriptFields → (AllPorts → AllPorts → Bool) → ℕ → LabError → Type 0
+HasNoSeenList script eq most why =
+    IsWithout script eq most why
+    ⊎ ((words : OutcomeWords) × AreOutcomes script (endings_in words) × HasNoImages words most why)

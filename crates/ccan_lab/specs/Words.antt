@@ -1,18 +1,18 @@
--- What is answered of the words of all outcomes, without a list of them. Source: this project's own.
-use Rattle.std.specs.Prelude.{ℕ, ◌≡◌, ◌⊎◌, Bool, true, false, not, List, None, length, min, string_bytes}
+-- What is answered of the words of all outcomes. Source: this project's own.
+use Rattle.std.specs.Prelude.{ℕ, ◌≡◌, ◌<◌, ◌⊎◌, Bool, true, false, not, List, Some, None, length, min, string_bytes}
 use Rattle.std.specs.List.{IsDistinct}
 use Rattle.ccan_line.specs.Script.{ScriptFields}
 use Rattle.ccan_outcomes.specs.declared.all_ports.AllPorts.{AllPorts}
 use Rattle.ccan_outcomes.specs.declared.ending.Ending.{Ending}
 use Rattle.ccan_outcomes.specs.AllPortsReached.{HasMoreAtOnce}
 use Rattle.ccan_outcomes.specs.AnswerGraph.{HasLargeGraph}
-use Rattle.ccan_outcomes.specs.Ending.{AreOutcomes}
+use Rattle.ccan_outcomes.specs.Ending.{AreOfRuns, AreOutcomes}
 use Rattle.ccan_outcomes.specs.WordStates.{TellsManyWords}
 use Rattle.ccan_lab.specs.declared.lab_error.LabError.{LabError}
 use Rattle.ccan_lab.specs.declared.lab_error.LabError.TheVariants as fault
 use Rattle.ccan_lab.specs.declared.line_search.LineSearch.{LineSearch}
 use Rattle.ccan_lab.specs.declared.line_search.LineSearch.TheVariants.{Found, NotFound, Refused}
-use Rattle.ccan_lab.specs.Answer.{first_with, is_refused, is_so, none_text}
+use Rattle.ccan_lab.specs.Answer.{are_refused, first_with, none_text}
 use Rattle.ccan_lab.specs.Counting.{greatest}
 use Rattle.ccan_lab.specs.Listing.{IsFoundText}
 
@@ -34,45 +34,51 @@ HasNoHistory script eq most _ = ⊥
 abbrev pub IsWithout : ScriptFields → (AllPorts → AllPorts → Bool) → ℕ → LabError → Type 0
 IsWithout script eq most why = HasNoWords script eq most why ⊎ HasNoHistory script eq most why
 
--- none of the outcomes has a line that begins so, and the text says so
-pub record SaysNone (endings : List Ending) (begin text : List ℕ) : Type 0 where
-  pub none : first_with begin endings ≡ None
-  pub text_is : text ≡ none_text (min (length endings) greatest) begin
+-- none of the outcomes has these lines, and the text says so
+pub record SaysNone (endings : List Ending) (begins : List (List ℕ)) (text : List ℕ) : Type 0 where
+  pub none : first_with begins endings ≡ None
+  pub text_is : text ≡ none_text (min (length endings) greatest) begins
 
--- what came of a search among the outcomes: a line that one of them has; one that isn't refused, and that none of them has; or one
--- that is refused
-abbrev pub IsSearched : ScriptFields → List Ending → List ℕ → LineSearch → Type 0
-IsSearched script endings begin Found = is_so (first_with begin endings) ≡ true
-IsSearched script endings begin (NotFound text) =
-    SaysNone endings begin (string_bytes text) × (is_refused script endings begin ≡ false)
-IsSearched script endings begin Refused = is_refused script endings begin ≡ true
+-- what came of a search among the outcomes: the first that has these lines; or that none has, as the text says; or that one of
+-- the lines is refused
+abbrev pub IsSearched : ScriptFields → List Ending → List (List ℕ) → LineSearch → Type 0
+IsSearched script endings begins (Found number) =
+    (first_with begins endings ≡ Some number) × (number < greatest) × (are_refused script endings begins ≡ false)
+IsSearched script endings begins (NotFound text) =
+    SaysNone endings begins (string_bytes text) × (are_refused script endings begins ≡ false)
+IsSearched script endings begins Refused = are_refused script endings begins ≡ true
 
--- the text says that none has the line, of a list that has each outcome that the promise allows, once, and no other
-pub record TellsNone (script : ScriptFields) (eq : Ending → Ending → Bool) (begin text : List ℕ) : Type 0 where
+-- the text says that none has the lines, of a list that has each outcome that the promise allows, once, and no other; each is
+-- that of a run
+pub record TellsNone (script : ScriptFields) (eq : Ending → Ending → Bool) (begins : List (List ℕ)) (text : List ℕ) : Type 0 where
   pub outcomes : List Ending
   pub are : AreOutcomes script outcomes
+  pub runs : AreOfRuns script outcomes
   pub once : IsDistinct eq outcomes
-  pub says : SaysNone outcomes begin text
-  pub taken : is_refused script outcomes begin ≡ false
+  pub says : SaysNone outcomes begins text
+  pub taken : are_refused script outcomes begins ≡ false
 
--- the line is refused by such a list
-abbrev pub RefusesLine : ScriptFields → List ℕ → Type 0
-RefusesLine script begin =
-    (endings : List Ending) × AreOutcomes script endings × (is_refused script endings begin ≡ true)
+-- one of the lines is refused by such a list
+abbrev pub RefusesLine : ScriptFields → List (List ℕ) → Type 0
+RefusesLine script begins =
+    (endings : List Ending) × AreOutcomes script endings × (are_refused script endings begins ≡ true)
 
--- the text shows an outcome that has the line, of a list that has each outcome that the promise allows, once, and no other
-pub record TellsFound (script : ScriptFields) (eq : Ending → Ending → Bool) (begin text : List ℕ) : Type 0 where
+-- the text shows an outcome that has the lines, of a list that has each outcome that the promise allows, once, and no other;
+-- each is that of a run
+pub record TellsFound (script : ScriptFields) (eq : Ending → Ending → Bool) (begins : List (List ℕ)) (text : List ℕ) : Type 0 where
   pub outcomes : List Ending
   pub are : AreOutcomes script outcomes
+  pub runs : AreOfRuns script outcomes
   pub once : IsDistinct eq outcomes
-  pub says : IsFoundText script outcomes begin text
+  pub says : IsFoundText script outcomes begins text
+  pub taken : are_refused script outcomes begins ≡ false
 
--- the text answers whether an outcome has the line, or, if it is asked so, whether none has
-abbrev pub TellsLine : ScriptFields → (Ending → Ending → Bool) → List ℕ → Bool → List ℕ → Bool → Type 0
-TellsLine script eq begin never text holds =
-    (TellsNone script eq begin text × (holds ≡ never)) ⊎ (TellsFound script eq begin text × (holds ≡ not never))
+-- the text answers whether an outcome has all the lines, or, if it is asked so, whether none has
+abbrev pub TellsLine : ScriptFields → (Ending → Ending → Bool) → List (List ℕ) → Bool → List ℕ → Bool → Type 0
+TellsLine script eq begins never text holds =
+    (TellsNone script eq begins text × (holds ≡ never)) ⊎ (TellsFound script eq begins text × (holds ≡ not never))
 
--- why there is no answer: the line is refused, or there are no words, or there is an outcome without a history
-abbrev pub IsUnanswered : ScriptFields → List ℕ → (AllPorts → AllPorts → Bool) → ℕ → LabError → Type 0
-IsUnanswered script begin eq most fault.NoLine = RefusesLine script begin
-IsUnanswered script begin eq most why = IsWithout script eq most why
+-- why there is no answer: a line is refused, or there are no words, or there is an outcome without a history
+abbrev pub IsUnanswered : ScriptFields → List (List ℕ) → (AllPorts → AllPorts → Bool) → ℕ → LabError → Type 0
+IsUnanswered script begins eq most fault.NoLine = RefusesLine script begins
+IsUnanswered script begins eq most why = IsWithout script eq most why

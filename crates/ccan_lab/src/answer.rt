@@ -1,10 +1,11 @@
-//! What is printed of the list of all outcomes, and of one of them that has a line.
-ghost use Rattle.std.specs.Prelude.{◌≡◌, ◌-◌, ◌^◌, ◌<◌, true, Some, IfErr, IfNone, IfOk, IfSome, slice_get, string_bytes};
+//! What is printed of the list of all outcomes, and of one of them that has some lines.
+ghost use Rattle.std.specs.Prelude.{◌≡◌, ◌-◌, ◌^◌, ◌<◌, ◌++◌, IfErr, IfOk, OnOk, codes, length, string_bytes};
 ghost use Rattle.ccan_line.specs.Script.{fields_of};
 ghost use Rattle.ccan_outcomes.specs.OutcomeWords.{endings_in};
-ghost use Rattle.ccan_lab.specs.Answer.{first_with, is_so, none_text};
-ghost use Rattle.ccan_lab.specs.Listing.{IsFoundText};
+ghost use Rattle.ccan_lab.specs.Answer.{each_below, none_text, not_had};
+ghost use Rattle.ccan_lab.specs.Listing.{IsOneText};
 ghost use Rattle.ccan_lab.specs.Outcomes.{Answers, IsOfAll};
+ghost use Rattle.ccan_lab.specs.Sorted.{texts_of};
 ghost use Rattle.ccan_lab.specs.Words.{HasNoHistory};
 ghost use Rattle.ccan_lab.specs.Telling.{CanBeTold};
 
@@ -14,12 +15,11 @@ use crate::counting::count_text;
 use crate::lab_error::LabError;
 use crate::observed::observed_listing;
 use crate::report::{add_outcome, different_lines, listing};
-use crate::rows::rows_of;
 use crate::summary::all_in_order;
 use crate::telling::Telling;
 use crate::wording::add_number;
+use ccan_outcomes::Histories;
 use ccan_outcomes::all_ports::AllPorts;
-use ccan_outcomes::{Ending, Histories, OutcomeWords};
 use ccan_search::Progress;
 use std::alloc::{AllocError, Global};
 
@@ -28,87 +28,110 @@ use std::alloc::{AllocError, Global};
 pub struct Answer {
     /// What is printed.
     pub text: String,
-    /// Whether it is as asked: an outcome has the line, or none has it. A list of outcomes always is.
+    /// Whether it is as asked: an outcome has the lines, or none has them. A list of outcomes always is.
     pub holds: bool,
 }
 
-/// An outcome and its number, from 0.
-#[derive(Drop)]
-pub struct Numbered {
-    /// The number.
-    pub number: usize,
-    /// The outcome.
-    pub ending: Ending,
-}
-
-/// The first outcome that has a line that begins so.
-fn first_with(
-    alloc: Global,
-    words: &OutcomeWords,
-    begin: &str,
-) -> Result<Option<Numbered>, AllocError>
-    ensures first { IfOk result (λ found. IfSome found (λ one.
-        first_with begin.now (endings_in words.now) ≡ Some one.number)) }
-    ensures at { IfOk result (λ found. IfSome found (λ one.
-        slice_get (endings_in words.now) one.number ≡ Some one.ending)) }
-    ensures few { IfOk result (λ found. IfSome found (λ one. one.number < 2 ^ 64 - 1)) }
-    ensures none { IfOk result (λ found. IfNone found
-        (first_with begin.now (endings_in words.now) ≡ None)) }
+/// Adds a beginning, and a line feed.
+fn add_ended(text: &mut String, begin: &str) -> Result<(), AllocError>
+    ensures { OnOk result
+        (string_bytes text.new ≡ string_bytes text.old ++ (begin.now ++ codes "\n")) }
 {
-    for number in 0..usize::MAX {
-        let Some(ending) = words.ending(alloc, number as u64)? else {
-            return Ok(None);
-        };
-        if rows_of(alloc, &ending)?.has_line(begin) {
-            return Ok(Some(Numbered { number, ending }));
-        }
-    }
-    // The loop has a bound, so that it ends. A search that comes to it answers as if memory was refused.
-    Err(AllocError)
+    text.push_str(begin)?;
+    text.push_str("\n")
 }
 
-/// That no outcome has a line that begins so.
-pub fn none_found(alloc: Global, outcomes: usize, begin: &str) -> Result<String, AllocError>
-    ensures { IfOk result (λ text. string_bytes text ≡ none_text outcomes begin.now) }
+/// Adds that it is a line that begins so.
+fn add_line_not_had(text: &mut String, begin: &str) -> Result<(), AllocError>
+    ensures { OnOk result (string_bytes text.new ≡ string_bytes text.old
+        ++ (codes " has a line that begins so: " ++ (begin.now ++ codes "\n"))) }
+{
+    text.push_str(" has a line that begins so: ")?;
+    add_ended(text, begin)
+}
+
+/// Adds that it is these lines together.
+fn add_lines_not_had(text: &mut String, begins: &[&str]) -> Result<(), AllocError>
+    ensures { OnOk result (string_bytes text.new ≡ string_bytes text.old
+        ++ (codes " has lines that begin so:\n" ++ each_below (texts_of begins.now))) }
+{
+    text.push_str(" has lines that begin so:\n")?;
+    add_each_below(text, begins)
+}
+
+/// Adds what no outcome has: a line that begins so, or lines that begin so.
+fn add_not_had(text: &mut String, begins: &[&str]) -> Result<(), AllocError>
+    ensures { OnOk result
+        (string_bytes text.new ≡ string_bytes text.old ++ not_had (texts_of begins.now)) }
+{
+    if begins.len() == 1 {
+        add_line_not_had(text, begins[0])
+    } else {
+        add_lines_not_had(text, begins)
+    }
+}
+
+/// Adds each of these, below one another.
+fn add_each_below(text: &mut String, begins: &[&str]) -> Result<(), AllocError>
+    ensures { OnOk result
+        (string_bytes text.new ≡ string_bytes text.old ++ each_below (texts_of begins.now)) }
+{
+    for begin in begins {
+        add_below(text, begin)?;
+    }
+    Ok(())
+}
+
+/// Adds a beginning on a line of its own.
+fn add_below(text: &mut String, begin: &str) -> Result<(), AllocError>
+    ensures { OnOk result (string_bytes text.new
+        ≡ string_bytes text.old ++ (codes "  " ++ (begin.now ++ codes "\n"))) }
+{
+    text.push_str("  ")?;
+    add_ended(text, begin)
+}
+
+/// That no outcome has lines that begin so.
+pub fn none_found(alloc: Global, outcomes: usize, begins: &[&str]) -> Result<String, AllocError>
+    ensures { IfOk result (λ text. string_bytes text ≡ none_text outcomes (texts_of begins.now)) }
 {
     let mut text = String::new(alloc);
     text.push_str("no outcome of ")?;
     add_number(&mut text, outcomes)?;
-    text.push_str(" has a line that begins so: ")?;
-    text.push_str(begin)?;
-    text.push_str("\n")?;
+    add_not_had(&mut text, begins)?;
     Ok(text)
 }
 
-/// The number of outcomes, and the first that has a line that begins so, with a history.
+/// The number of outcomes, and the one of this number, from 0, with a history.
 pub fn found_text<P: Progress>(
     alloc: Global,
     telling: &Telling<'_, P>,
-    begin: &str,
+    number: usize,
 ) -> Result<String, LabError>
     requires can { CanBeTold (fields_of telling.now.script.now) telling.now.list.now }
-    requires has { is_so (first_with begin.now (endings_in telling.now.list.now.words)) ≡ true }
-    ensures text { IfOk result (λ text. IsFoundText (fields_of telling.now.script.now)
-        (endings_in telling.now.list.now.words) begin.now (string_bytes text)) }
+    requires within { number < length (endings_in telling.now.list.now.words) }
+    requires few { number < 2 ^ 64 - 1 }
+    ensures text { IfOk result (λ text. IsOneText (fields_of telling.now.script.now)
+        (endings_in telling.now.list.now.words) number (string_bytes text)) }
     ensures without { IfErr result (HasNoHistory (fields_of telling.now.script.now)
         ⟦<AllPorts as PartialEq>⟧.eq telling.now.most) }
 {
     let words = &telling.list.words;
-    let Some(found) = first_with(alloc, words, begin)? else {
+    let Some(ending) = words.ending(alloc, number as u64)? else {
         unreachable!()
     };
     let rows = all_choices(alloc, telling.script, words)?;
     let choices = all_in_order(alloc, rows.as_slice())?;
-    let lines = different_lines(alloc, choices.as_slice(), &found.ending)?;
+    let lines = different_lines(alloc, choices.as_slice(), &ending)?;
     let mut text = count_text(alloc, words.count())?;
     add_outcome(
         alloc,
         &mut text,
         telling,
         &mut Histories::new(alloc),
-        &found.ending,
+        &ending,
         lines.as_str(),
-        found.number,
+        number,
     )?;
     Ok(text)
 }
@@ -129,6 +152,6 @@ pub fn text_of<P: Progress>(
     match asked {
         Asked::All => listing(alloc, telling),
         Asked::AllObserved(names) => observed_listing(alloc, telling, names),
-        Asked::Summary | Asked::Observed(_) | Asked::Can(_) | Asked::Never(_) => unreachable!(),
+        Asked::Summary | Asked::Observed(_) | Asked::Can | Asked::Never => unreachable!(),
     }
 }

@@ -5,10 +5,10 @@ pub enum Asked<'a> {
     Summary,
     /// Each outcome with a history that leads to it.
     All,
-    /// Whether an outcome has a line that begins so.
-    Can(&'a str),
-    /// Whether no outcome has a line that begins so.
-    Never(&'a str),
+    /// Whether an outcome has a line that begins so for each LINE that is given.
+    Can,
+    /// Whether no outcome has a line that begins so for each LINE that is given.
+    Never,
     /// What of the outcomes can be told apart by the lines and objects of these names, which have commas between them.
     Observed(&'a str),
     /// The same, of the list of all outcomes: each with its number there.

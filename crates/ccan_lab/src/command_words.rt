@@ -44,6 +44,11 @@ pub fn option<'a>(alloc: Global, name: &'a str, value: &'a str, help: &'a str) -
         .help(help)
 }
 
+/// The option, which may be given more than once.
+pub fn several<'a>(option: Arg<'a>) -> Arg<'a> {
+    option.action(ArgAction::Append)
+}
+
 /// An option with a number.
 pub fn number<'a>(alloc: Global, name: &'a str, help: &'a str) -> Arg<'a> {
     option(alloc, name, "N", help).value_parser(value_parser!(usize))

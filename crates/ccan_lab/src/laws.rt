@@ -2,7 +2,7 @@
 ghost use Rattle.ccan_lab.specs.Answer.{LinesOfOutcomesAreTaken};
 
 /// A line that is searched for is not refused where a printed line of some outcome begins so that the promise allows: it is
-/// refused by a list that has each of these (`all_outcomes`).
+/// refused by a list that has each of these (`list_of`).
 pub fn lines_of_outcomes_are_taken()
     ensures { LinesOfOutcomesAreTaken }
 {}

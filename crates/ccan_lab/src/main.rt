@@ -3,8 +3,8 @@
 //! `ccan-lab outcomes` goes through every outcome that a script can have when its two hosts and its bus run at once. It
 //! shows what each line may be; with `--all` each outcome and a history that leads to it, and with `--observe NAMES` only
 //! those that can be told apart by some lines and objects; with `--can LINE` and `--never LINE` whether an outcome has a line
-//! that begins so. `ccan-lab count` counts the outcomes and lists none. `ccan-lab check` reports the faults of scripts, of each
-//! line the first, each with its file, line and column, and with `--expect TEXT` the first line of a run that is not as expected.
+//! that begins so, or, given several times, whether one has all these lines. `ccan-lab count` counts the outcomes and lists none.
+//! `ccan-lab check` reports the faults of scripts, of each line the first, each with its file, line and column, and with `--expect TEXT` the first line of a run that is not as expected.
 //! `ccan-lab explain` runs a script in its order and tells each line decoded, and `ccan-lab from-candump` makes a script of a log
 //! of a bus.
 //! `ccan-lab draw` draws one picture of a run, or of a history of one of the outcomes. `ccan-lab page` writes a page to step
@@ -13,7 +13,7 @@
 //! Outcomes, checks and runs are asked of several scripts as well as of one: each is answered in turn, and the exit status is the
 //! worst.
 //!
-//! The exit status is 0 where it is as asked, and 6 where no outcome has the line of `--can`, or one has that of
+//! The exit status is 0 where it is as asked, and 6 where no outcome has the lines of `--can`, or one has those of
 //! `--never`. A check ends with 1 where a script has faults, and else with 7 where there are warnings and `--strict` asks
 //! for that, and with 8 where a run is not as expected. A fault is told on standard error, and the exit status: 1 where the
 //! script or the log is refused, 2 where the words of the command line ask no question or search for a line that no printed
@@ -40,6 +40,7 @@ pub mod input;
 pub mod lab_error;
 pub mod laws;
 pub mod line_search;
+pub mod line_signs;
 pub mod observed;
 pub mod outcome_rows;
 pub mod outcome_words;

@@ -141,7 +141,7 @@ fn add_observed(text: &mut String, marks: &[bool], rows: &Rows) -> Result<(), Al
 }
 
 /// The lines of an outcome that are looked at.
-fn observed_lines(alloc: Global, marks: &[bool], rows: &Rows) -> Result<String, AllocError>
+pub fn observed_lines(alloc: Global, marks: &[bool], rows: &Rows) -> Result<String, AllocError>
     ensures { IfOk result (λ text. string_bytes text ≡ observed_lines marks.now rows.now) }
 {
     let mut text = String::new(alloc);

@@ -2,7 +2,7 @@
 ghost use Rattle.std.specs.Prelude.{◌≡◌, IfErr, IfOk};
 ghost use Rattle.std.specs.List.{IsDistinct};
 ghost use Rattle.ccan_line.specs.Script.{fields_of};
-ghost use Rattle.ccan_outcomes.specs.Ending.{AreOutcomes};
+ghost use Rattle.ccan_outcomes.specs.Ending.{AreOfRuns, AreOutcomes};
 ghost use Rattle.ccan_outcomes.specs.OutcomeWords.{AreComplete, AreOfLines, endings_in};
 ghost use Rattle.ccan_lab.specs.Telling.{CanBeTold};
 ghost use Rattle.ccan_lab.specs.Words.{HasNoWords};
@@ -55,6 +55,7 @@ pub fn words_of<P: Progress>(
     progress: &P,
 ) -> Result<OutcomeWords, LabError>
     ensures all { IfOk result (λ words. AreOutcomes (fields_of script.now) (endings_in words)) }
+    ensures runs { IfOk result (λ words. AreOfRuns (fields_of script.now) (endings_in words)) }
     ensures distinct { IfOk result (λ words.
         IsDistinct ⟦<Ending as PartialEq>⟧.eq (endings_in words)) }
     ensures complete { IfOk result (λ words.

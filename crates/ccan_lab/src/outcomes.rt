@@ -9,7 +9,10 @@ ghost use Rattle.ccan_outcomes.specs.OutcomeWords.{endings_in};
 ghost use Rattle.ccan_lab.specs.Outcomes.{Answers, IsOfAll, TellsAll};
 ghost use Rattle.ccan_lab.specs.Telling.{CanBeTold};
 ghost use Rattle.ccan_lab.specs.Question.{AreKnown, AreKnownNames, AsksAllBy, AsksBy, IsGivenBy};
-ghost use Rattle.ccan_lab.specs.Question.{files_named};
+ghost use Rattle.ccan_lab.specs.Observed.{names_in};
+ghost use Rattle.ccan_lab.specs.Question.{files_named, lines_given};
+ghost use Rattle.ccan_lab.specs.Seen.{HasNoSeenList, TellsSeen};
+ghost use Rattle.ccan_lab.specs.Sorted.{texts_of};
 ghost use Rattle.ccan_lab.specs.Summary.{TellsSummary};
 ghost use Rattle.ccan_lab.specs.Words.{HasNoHistory, HasNoWords, IsUnanswered, IsWithout, TellsLine};
 
@@ -17,7 +20,7 @@ use crate::answer::{Answer, found_text, text_of};
 use crate::asked::Asked;
 use crate::beginnings::beginnings_text;
 use crate::command_words::{
-    apart_from, command, files_named, number, option, scripts, switch, with,
+    apart_from, command, files_named, number, option, scripts, several, switch, with,
 };
 use crate::each_file::{FileAnswer, answer_each};
 use crate::input::{script_asked, tell_terminal};
@@ -55,6 +58,8 @@ pub struct OutcomesQuestion<'a> {
     pub files: Vec<&'a str>,
     /// What is asked.
     pub asked: Asked<'a>,
+    /// The LINEs of `--can` or `--never`.
+    pub lines: Vec<&'a str>,
 }
 
 /// The option that a number of states is given by.
@@ -78,16 +83,20 @@ fn observe_option<'a>(alloc: Global) -> Result<Arg<'a>, AllocError> {
     )
 }
 
-/// The option that asks whether an outcome has a line.
+/// The option that asks whether an outcome has lines.
 fn can_option<'a>(alloc: Global) -> Result<Arg<'a>, AllocError> {
-    let help = "Ask whether an outcome has a line that begins so; exit status 6 where none has";
-    apart_from(option(alloc, "can", "LINE", help), "never")
+    let help =
+        "Ask whether an outcome has a line that begins so; exit status 6 where none has. May be given more \
+                 than once, for all in one outcome";
+    apart_from(several(option(alloc, "can", "LINE", help)), "never")
 }
 
-/// The option that asks whether no outcome has a line.
+/// The option that asks whether no outcome has lines.
 fn never_option<'a>(alloc: Global) -> Arg<'a> {
-    let help = "Ask whether no outcome has a line that begins so; exit status 6 where one has";
-    option(alloc, "never", "LINE", help)
+    let help =
+        "Ask whether no outcome has a line that begins so; exit status 6 where one has. May be given more \
+                 than once, for all in one outcome";
+    several(option(alloc, "never", "LINE", help))
 }
 
 /// The command, which takes what chooses outcomes.
@@ -122,23 +131,40 @@ fn asked_of<'a>(words: &ArgMatches<'a>) -> Asked<'a>
     ensures all { one_text (found_of words.entry.now) (codes "all") ≡ Some (codes "true")
         → AsksAllBy (first_value (found_of words.entry.now) (codes "observe")) result }
     ensures line { one_text (found_of words.entry.now) (codes "all") ≡ Some (codes "false")
-        → AsksBy (first_value (found_of words.entry.now) (codes "can"))
-        (first_value (found_of words.entry.now) (codes "never"))
+        → AsksBy (option_map raw_values (matched_of (found_of words.entry.now) (codes "can")))
+        (option_map raw_values (matched_of (found_of words.entry.now) (codes "never")))
         (first_value (found_of words.entry.now) (codes "observe")) result }
 {
     if words.get_flag("all") {
         return all_asked(words);
     }
-    if let Some(begin) = words.get_str("can") {
-        return Asked::Can(begin);
+    if words.get_strs("can").is_some() {
+        return Asked::Can;
     }
-    if let Some(begin) = words.get_str("never") {
-        return Asked::Never(begin);
+    if words.get_strs("never").is_some() {
+        return Asked::Never;
     }
     match words.get_str("observe") {
         Some(names) => Asked::Observed(names),
         None => Asked::Summary,
     }
+}
+
+/// The LINEs that the words of that command ask about.
+fn lines_of<'a>(alloc: Global, words: &ArgMatches<'a>) -> Result<Vec<&'a str>, AllocError>
+    ensures { IfOk result (λ lines. texts_of lines.items ≡ lines_given
+        (option_map raw_values (matched_of (found_of words.entry.now) (codes "can")))
+        (option_map raw_values (matched_of (found_of words.entry.now) (codes "never")))) }
+{
+    let mut lines = Vec::new(alloc);
+    if let Some(given) = words.get_strs("can") {
+        lines.extend_from_slice(given)?;
+        return Ok(lines);
+    }
+    if let Some(given) = words.get_strs("never") {
+        lines.extend_from_slice(given)?;
+    }
+    Ok(lines)
 }
 
 /// How many states are kept at most, and nodes: as it is given, or the default.
@@ -163,14 +189,18 @@ pub fn outcomes_question<'a>(
         → AsksAllBy (first_value (found_of words.entry.now) (codes "observe")) question.asked) }
     ensures line { IfOk result (λ question.
         one_text (found_of words.entry.now) (codes "all") ≡ Some (codes "false")
-        → AsksBy (first_value (found_of words.entry.now) (codes "can"))
-        (first_value (found_of words.entry.now) (codes "never"))
+        → AsksBy (option_map raw_values (matched_of (found_of words.entry.now) (codes "can")))
+        (option_map raw_values (matched_of (found_of words.entry.now) (codes "never")))
         (first_value (found_of words.entry.now) (codes "observe")) question.asked) }
+    ensures lines { IfOk result (λ question. texts_of question.lines.items ≡ lines_given
+        (option_map raw_values (matched_of (found_of words.entry.now) (codes "can")))
+        (option_map raw_values (matched_of (found_of words.entry.now) (codes "never")))) }
 {
     Ok(OutcomesQuestion {
         most: most_of(words),
         files: files_named(alloc, words)?,
         asked: asked_of(words),
+        lines: lines_of(alloc, words)?,
     })
 }
 
@@ -258,12 +288,12 @@ fn answer_of_summary<P: Progress>(
     Ok(Answer { text, holds: true })
 }
 
-/// What is answered to the question whether one of these outcomes has a line that begins so, or, if `never` is set, whether none
-/// has.
+/// What is answered to the question whether one of these outcomes has a line that begins so for each of these beginnings, or, if
+/// `never` is set, whether none has.
 fn answer_by_line<P: Progress>(
     alloc: Global,
     telling: &Telling<'_, P>,
-    begin: &str,
+    begins: &[&str],
     never: bool,
 ) -> Result<Answer, LabError>
     requires can { CanBeTold (fields_of telling.now.script.now) telling.now.list.now }
@@ -272,13 +302,13 @@ fn answer_by_line<P: Progress>(
     requires distinct { IsDistinct ⟦<Ending as PartialEq>⟧.eq
         (endings_in telling.now.list.now.words) }
     ensures told { IfOk result (λ answer. TellsLine (fields_of telling.now.script.now)
-        ⟦<Ending as PartialEq>⟧.eq begin.now never (string_bytes answer.text) answer.holds) }
-    ensures without { IfErr result (IsUnanswered (fields_of telling.now.script.now) begin.now
+        ⟦<Ending as PartialEq>⟧.eq (texts_of begins.now) never (string_bytes answer.text) answer.holds) }
+    ensures without { IfErr result (IsUnanswered (fields_of telling.now.script.now) (texts_of begins.now)
         ⟦<AllPorts as PartialEq>⟧.eq telling.now.most) }
 {
-    match search_among(alloc, telling.script, &telling.list.words, begin)? {
-        LineSearch::Found => {
-            let text = found_text(alloc, telling, begin)?;
+    match search_among(alloc, telling.script, &telling.list.words, begins)? {
+        LineSearch::Found(number) => {
+            let text = found_text(alloc, telling, number)?;
             Ok(Answer {
                 text,
                 holds: !never,
@@ -294,7 +324,7 @@ fn answer_of_list<P: Progress>(
     alloc: Global,
     script: &Script,
     list: OutcomeList,
-    begin: &str,
+    begins: &[&str],
     never: bool,
     most: usize,
     progress: &P,
@@ -303,8 +333,8 @@ fn answer_of_list<P: Progress>(
     requires all { AreOutcomes (fields_of script.now) (endings_in list.words) }
     requires distinct { IsDistinct ⟦<Ending as PartialEq>⟧.eq (endings_in list.words) }
     ensures told { IfOk result (λ answer. TellsLine (fields_of script.now)
-        ⟦<Ending as PartialEq>⟧.eq begin.now never (string_bytes answer.text) answer.holds) }
-    ensures without { IfErr result (IsUnanswered (fields_of script.now) begin.now
+        ⟦<Ending as PartialEq>⟧.eq (texts_of begins.now) never (string_bytes answer.text) answer.holds) }
+    ensures without { IfErr result (IsUnanswered (fields_of script.now) (texts_of begins.now)
         ⟦<AllPorts as PartialEq>⟧.eq most) }
 {
     let telling = Telling {
@@ -313,26 +343,26 @@ fn answer_of_list<P: Progress>(
         most,
         progress,
     };
-    answer_by_line(alloc, &telling, begin, never)
+    answer_by_line(alloc, &telling, begins, never)
 }
 
-/// What is answered to the question whether an outcome of a script has a line that begins so, or, if `never` is set, whether none
-/// has.
+/// What is answered to the question whether an outcome of a script has a line that begins so for each of these beginnings, or, if
+/// `never` is set, whether none has.
 fn answer_of_line<P: Progress>(
     alloc: Global,
     script: &Script,
-    begin: &str,
+    begins: &[&str],
     never: bool,
     most: usize,
     progress: &P,
 ) -> Result<Answer, LabError>
     ensures told { IfOk result (λ answer. TellsLine (fields_of script.now)
-        ⟦<Ending as PartialEq>⟧.eq begin.now never (string_bytes answer.text) answer.holds) }
-    ensures without { IfErr result (IsUnanswered (fields_of script.now) begin.now
+        ⟦<Ending as PartialEq>⟧.eq (texts_of begins.now) never (string_bytes answer.text) answer.holds) }
+    ensures without { IfErr result (IsUnanswered (fields_of script.now) (texts_of begins.now)
         ⟦<AllPorts as PartialEq>⟧.eq most) }
 {
     let list = list_of(alloc, script, most, progress)?;
-    answer_of_list(alloc, script, list, begin, never, most, progress)
+    answer_of_list(alloc, script, list, begins, never, most, progress)
 }
 
 /// What is answered to the question what of the outcomes of a script can be told apart by the lines and objects of these
@@ -343,10 +373,14 @@ fn answer_of_observed<P: Progress>(
     names: &str,
     most: usize,
     progress: &P,
-) -> Result<Answer, LabError> {
-    let Some(text) = seen_text(alloc, script, names, most, progress)? else {
-        return Err(LabError::More(most));
-    };
+) -> Result<Answer, LabError>
+    ensures told { IfOk result (λ answer. TellsSeen (names_in names.now) (fields_of script.now)
+        ⟦<Ending as PartialEq>⟧.eq (string_bytes answer.text)) }
+    ensures holds { IfOk result (λ answer. answer.holds ≡ true) }
+    ensures without { IfErr result
+        (HasNoSeenList (fields_of script.now) ⟦<AllPorts as PartialEq>⟧.eq most) }
+{
+    let text = seen_text(alloc, script, names, most, progress)?;
     Ok(Answer { text, holds: true })
 }
 
@@ -359,11 +393,13 @@ fn answer_of_script<P: Progress>(
 ) -> Result<Answer, LabError> {
     match question.asked {
         Asked::Summary => answer_of_summary(alloc, script, question.most, progress),
-        Asked::Can(begin) => {
-            answer_of_line(alloc, script, begin, false, question.most, progress)
+        Asked::Can => {
+            let lines = question.lines.as_slice();
+            answer_of_line(alloc, script, lines, false, question.most, progress)
         }
-        Asked::Never(begin) => {
-            answer_of_line(alloc, script, begin, true, question.most, progress)
+        Asked::Never => {
+            let lines = question.lines.as_slice();
+            answer_of_line(alloc, script, lines, true, question.most, progress)
         }
         Asked::Observed(names) => {
             answer_of_observed(alloc, script, names, question.most, progress)

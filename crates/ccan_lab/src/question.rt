@@ -88,6 +88,7 @@ pub fn question_asked<'a, S: AsStr>(alloc: Global, words: &'a [S]) -> Result<Que
             most: DEFAULT_MOST,
             files: Vec::new(alloc),
             asked: Asked::Summary,
+            lines: Vec::new(alloc),
         }));
     };
     Ok(Question::Outcomes(outcomes_question(alloc, words)?))

@@ -5,12 +5,12 @@ ghost use Rattle.ccan_ram.specs.declared.event.Event.{Event};
 ghost use Rattle.ccan_line.specs.Order.{times};
 ghost use Rattle.ccan_line.specs.Script.{fields_of};
 ghost use Rattle.ccan_explain.specs.Told.{answers_of};
-ghost use Rattle.ccan_lab.specs.Replay.{Replays, ReplaysSeen, answers_at};
+ghost use Rattle.ccan_lab.specs.Replay.{Replays, answers_at};
 
 use ccan_explain::{Step, Told, tell_in};
 use ccan_object::{ObjectNo, Profile, Record};
 use ccan_outcomes::row::Row;
-use ccan_outcomes::{Ending, HistoryStep, Watch, kept_ending};
+use ccan_outcomes::{Ending, HistoryStep};
 use ccan_ram::{Access, Array, PortName};
 use ccan_script::{LineAnswer, Script, times};
 use std::alloc::{AllocError, Global};
@@ -33,7 +33,7 @@ fn is_last(step: &HistoryStep, later: &[HistoryStep]) -> bool {
 
 /// The order in which the lines of a history take their last steps. A line without a step of its own, such as `status`, comes
 /// right before the next one of its port, or behind all where none is left.
-fn order_of(
+pub fn order_of(
     alloc: Global,
     script: &Script,
     steps: &[HistoryStep],
@@ -118,7 +118,7 @@ fn ending_of(alloc: Global, told: &Told, profile: Profile) -> Result<Ending, All
 }
 
 /// What is shown of the run of the lines, whole one after another in this order. `None`: it doesn't name each line once.
-fn ending_in(
+pub fn ending_in(
     alloc: Global,
     script: &Script,
     order: &[PortName],
@@ -150,24 +150,6 @@ fn leads_to(
     }
 }
 
-/// Whether the lines, run whole one after another in this order, have an outcome of which this ending is kept.
-#[tactic(auto, using(crate::proofs::Told::replays_kept))]
-fn leads_to_kept(
-    alloc: Global,
-    script: &Script,
-    watch: &Watch,
-    order: &[PortName],
-    ending: &Ending,
-) -> Result<bool, AllocError>
-    ensures { IfOk result (λ leads. leads ≡ true
-        → ReplaysSeen (fields_of script.now) watch.now ending.now order.now) }
-{
-    match ending_in(alloc, script, order)? {
-        Some(whole) => Ok(*ending == kept_ending(alloc, watch, &whole)?),
-        None => Ok(false),
-    }
-}
-
 /// An order of whole lines with which a run of the script has the outcome of this history, where the last steps of the
 /// history's lines are in such an order.
 pub fn order_to(
@@ -181,26 +163,6 @@ pub fn order_to(
 {
     let order = order_of(alloc, script, steps)?;
     if leads_to(alloc, script, order.as_slice(), ending)? {
-        Ok(Some(order))
-    } else {
-        Ok(None)
-    }
-}
-
-/// An order of whole lines with which a run of the script has an outcome of which this ending is kept, where the last steps of
-/// the lines of this history, which leads to one, are in such an order.
-pub fn order_to_kept(
-    alloc: Global,
-    script: &Script,
-    watch: &Watch,
-    ending: &Ending,
-    steps: &[HistoryStep],
-) -> Result<Option<Vec<PortName>>, AllocError>
-    ensures { IfOk result (λ found. IfSome found (λ order.
-        ReplaysSeen (fields_of script.now) watch.now ending.now order.items)) }
-{
-    let order = order_of(alloc, script, steps)?;
-    if leads_to_kept(alloc, script, watch, order.as_slice(), ending)? {
         Ok(Some(order))
     } else {
         Ok(None)

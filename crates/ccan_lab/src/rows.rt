@@ -5,7 +5,7 @@ ghost use Rattle.std.specs.List.{enumerate_from, list_any};
 ghost use Rattle.ccan_script.specs.Print.{line_text};
 ghost use Rattle.ccan_lab.specs.Sorted.{texts_of};
 ghost use Rattle.ccan_lab.specs.Summary.{AreInOrder};
-ghost use Rattle.ccan_lab.specs.Rows.{begins_so, final_row, final_rows, has_line, is_in_all, line_at, place_count, rows_at, rows_of};
+ghost use Rattle.ccan_lab.specs.Rows.{begins_so, final_row, final_rows, has_line, line_at, rows_of};
 
 use ccan_object::{ObjectNo, Record};
 use ccan_outcomes::Ending;
@@ -15,7 +15,7 @@ use std::alloc::{AllocError, Global};
 use std::marker::Model;
 
 /// The most objects that a profile has.
-const MAX_OBJECTS: usize = 64;
+pub const MAX_OBJECTS: usize = 64;
 
 /// Printed lines. Those of an outcome stand each in its place: the answers of IF1, those of IF2, those of the bus, and a line for
 /// each object, which is empty if the object is all zero. In the outcomes of one script the same thing stands in the same place.
@@ -89,7 +89,7 @@ impl Rows {
 }
 
 /// Whether a line is printed, and begins so.
-fn begins_so(line: &str, begin: &str) -> bool
+pub fn begins_so(line: &str, begin: &str) -> bool
     ensures { result ≡ begins_so begin.now line.now }
 {
     !line.is_empty() && line.as_bytes().starts_with(begin.as_bytes())
@@ -151,7 +151,7 @@ fn add_finals(rows: &mut Rows, records: &[Record]) -> Result<(), AllocError>
 }
 
 /// The first records, as many as a profile may have.
-fn first_records(records: &[Record]) -> &[Record]
+pub fn first_records(records: &[Record]) -> &[Record]
     ensures records { result.now ≡ take (objects_in Two) records.now }
     ensures length { length result.now ≤ MAX_OBJECTS }
 {
@@ -184,34 +184,4 @@ pub fn all_rows(alloc: Global, endings: &[Ending]) -> Result<Vec<Rows>, AllocErr
         all.push(rows_of(alloc, ending)?)?;
     }
     Ok(all)
-}
-
-/// How many places the outcomes have.
-#[tactic(auto, unfolding(crate::specs::Rows::place_count, crate::specs::Rows::rows_at))]
-pub fn place_count(all: &[Rows]) -> usize
-    ensures { result ≡ place_count all.now }
-{
-    match all.first() {
-        Some(rows) => rows.len(),
-        None => 0,
-    }
-}
-
-/// The line in a place of the outcome of this number, from 0; empty where there is none.
-#[tactic(auto, unfolding(crate::specs::Rows::rows_at, crate::specs::Rows::line_at))]
-pub fn line_in(all: &[Rows], number: usize, place: usize) -> &str
-    ensures { result.now ≡ line_at (rows_at all.now number) place }
-{
-    match all.get(number) {
-        Some(rows) => rows.line(place),
-        None => "",
-    }
-}
-
-/// Whether this line stands in this place in all outcomes.
-#[tactic(auto, unfolding(crate::specs::Rows::is_in_all))]
-pub fn is_in_all(all: &[Rows], place: usize, line: &str) -> bool
-    ensures { result ≡ is_in_all all.now place line.now }
-{
-    all.iter().all(|rows| rows.line(place) == line)
 }

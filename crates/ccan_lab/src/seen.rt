@@ -1,234 +1,352 @@
-//! A list of what can be told apart by some lines and objects, of a search that keeps little of the other answers.
-ghost use Rattle.std.specs.Prelude.{◌≡◌, ◌<◌, ◌≤◌, ◌++◌, List, ℕ, IfOk, IfSome, IfNone, OnOk, drop, length, map, not, take};
+//! A list of what can be told apart of the outcomes by some lines and objects.
+ghost use Rattle.std.specs.Prelude.{◌≡◌, ◌⊎◌, ◌+◌, ◌<◌, ◌≤◌, ◌^◌, ◌++◌, Contains, List, ℕ, IfErr, IfOk, IfSome, OnOk, Some, length, map, not, slice_get, true};
 ghost use Rattle.std.specs.Prelude.{string_bytes};
 ghost use Rattle.ccan_line.specs.Script.{fields_of};
-ghost use Rattle.ccan_outcomes.specs.Observed.{AreFoundSeen, HasMoreSeen, IsHistorySeen};
-ghost use Rattle.ccan_lab.specs.Observed.{AreFirstTexts, IsFirstText, first_count, is_repeat, names_in, observed_lines, text_at};
-ghost use Rattle.ccan_lab.specs.Replay.{ReplaysSeen};
+ghost use Rattle.ccan_outcomes.specs.declared.ending.Ending.{Ending};
+ghost use Rattle.ccan_outcomes.specs.History.{IsHistoryOf};
+ghost use Rattle.ccan_outcomes.specs.Observed.{AreImages};
+ghost use Rattle.ccan_outcomes.specs.OutcomeWords.{endings_in};
+ghost use Rattle.ccan_lab.specs.Observed.{AreFirstTexts, IsFirstText, first_count, is_repeat, marks_of, names_in};
+ghost use Rattle.ccan_lab.specs.Observed.{observed_lines, observed_texts, text_at};
 ghost use Rattle.ccan_lab.specs.Report.{IsTextWith};
-ghost use Rattle.ccan_lab.specs.Rows.{rows_of};
-ghost use Rattle.ccan_lab.specs.Seen.{HasMoreAsNamed, IsSeenListing, IsSeenText, IsWatch, TellsSeen, TellsWatched, seen_heading};
+ghost use Rattle.ccan_lab.specs.Seen.{AreShown, AreShownOf, HasNoImages, HasNoSeenList, IsSeenListing, IsSeenText, ListsSeen, ReplaysShown, TellsSeen};
+ghost use Rattle.ccan_lab.specs.Seen.{seen_heading};
+ghost use Rattle.ccan_lab.specs.Telling.{CanBeTold};
+ghost use Rattle.ccan_lab.specs.Words.{HasNoHistory, HasNoWords};
 
-use crate::observed::{is_repeat, marks_of, observed_texts};
-use crate::replay::order_to_kept;
+use crate::lab_error::LabError;
+use crate::observed::{is_repeat, marks_of, observed_lines, observed_texts};
+use crate::outcome_words::{OutcomeList, list_of};
+use crate::replay::{ending_in, order_of};
 use crate::report::add_told_outcome;
-use crate::rows::all_rows;
+use crate::rows::{all_rows, rows_of};
+use crate::telling::{Telling, history_by_word};
 use crate::wording::add_counted;
+use ccan_language::Letter;
 use ccan_outcomes::all_ports::AllPorts;
-use ccan_outcomes::{Outcomes, Watch, observed_history, observed_outcomes};
+use ccan_outcomes::{Ending, Histories, HistoryStep, Observed, OutcomeWords};
+use ccan_ram::PortName;
 use ccan_script::Script;
 use ccan_search::Progress;
 use std::alloc::{AllocError, Global};
 
-/// So many of these marks, from this place on.
-fn marks_from(
-    alloc: Global,
-    marks: &[bool],
-    place: usize,
-    count: usize,
-) -> Result<Vec<bool>, AllocError>
-    ensures { IfOk result (λ some. some.items ≡ take count (drop place marks.now)) }
-{
-    marks.iter().skip(place).take(count).copied().collect(alloc)
+/// Outcomes of which each other one shows what one of them does, and their words.
+#[derive(Drop)]
+pub struct Shown {
+    /// The words.
+    pub words: Vec<Vec<Letter>>,
+    /// The outcomes.
+    pub endings: Vec<Ending>,
+    ghost as_many: { length words.items ≡ length endings.items },
 }
 
-/// Which answers are looked at, by the marks of all places.
-fn watch_of(alloc: Global, script: &Script, marks: &[bool]) -> Result<Watch, AllocError>
-    ensures { IfOk result (IsWatch (fields_of script.now) marks.now) }
+/// The outcome of each word of what is looked at, in turn.
+fn all_shown(alloc: Global, words: &OutcomeWords, observed: &Observed) -> Result<Shown, AllocError>
+    requires { AreImages words.now observed.now }
+    ensures { IfOk result (λ shown. AreShown words.now observed.now shown.endings.items) }
 {
-    let if1 = script.if1.len();
-    let if2 = script.if2.len();
-    Ok(Watch {
-        if1: marks_from(alloc, marks, 0, if1)?,
-        if2: marks_from(alloc, marks, if1, if2)?,
-        bus: marks_from(alloc, marks, if1 + if2, script.bus.len())?,
-    })
+    let mut shown = Vec::new(alloc);
+    let mut endings = Vec::new(alloc);
+    for number in 0..usize::MAX {
+        let Some(word) = words.observed_word(alloc, observed, number as u64)? else {
+            return Ok(Shown {
+                words: shown,
+                endings,
+            });
+        };
+        endings.push(words.ending_of(alloc, word.as_slice())?)?;
+        shown.push(word)?;
+    }
+    // The loop has a bound, so that it ends. A list that comes to it answers as if memory was refused.
+    Err(AllocError)
 }
 
-/// Adds the first line: how many outcomes can be told apart, in how many states.
-fn add_seen_heading(text: &mut String, apart: usize, states: usize) -> Result<(), AllocError>
-    ensures { OnOk result
-        (string_bytes text.new ≡ string_bytes text.old ++ seen_heading apart states) }
+/// Adds the first line: how many outcomes can be told apart.
+fn add_seen_heading(text: &mut String, apart: usize) -> Result<(), AllocError>
+    ensures { OnOk result (string_bytes text.new ≡ string_bytes text.old ++ seen_heading apart) }
 {
     add_counted(text, apart, "outcome")?;
-    text.push_str(" as observed in ")?;
-    add_counted(text, states, "state")?;
-    text.push_str("\n")
+    text.push_str(" as observed\n")
 }
 
-/// Adds an outcome of which the ending in this place is kept: its head, these lines, a history that leads to it, and an order
-/// of whole lines that leads to such an outcome, where one was found.
+/// Whether the lines, run whole one after another in this order, show these lines, by the marks of all places.
+fn shows_lines(
+    alloc: Global,
+    script: &Script,
+    marks: &[bool],
+    order: &[PortName],
+    lines: &str,
+) -> Result<bool, AllocError>
+    ensures { IfOk result (λ shows. shows ≡ true
+        → ReplaysShown (fields_of script.now) marks.now lines.now order.now) }
+{
+    match ending_in(alloc, script, order)? {
+        Some(whole) => {
+            let rows = rows_of(alloc, &whole)?;
+            Ok(observed_lines(alloc, marks, &rows)?.as_str() == lines)
+        }
+        None => Ok(false),
+    }
+}
+
+/// An order of whole lines with which a run of the script shows these lines, by the marks of all places, where the last steps of
+/// the lines of this history are in such an order.
+fn order_to_lines(
+    alloc: Global,
+    script: &Script,
+    marks: &[bool],
+    lines: &str,
+    steps: &[HistoryStep],
+) -> Result<Option<Vec<PortName>>, AllocError>
+    ensures { IfOk result (λ found. IfSome found (λ order.
+        ReplaysShown (fields_of script.now) marks.now lines.now order.items)) }
+{
+    let order = order_of(alloc, script, steps)?;
+    if shows_lines(alloc, script, marks, order.as_slice(), lines)? {
+        Ok(Some(order))
+    } else {
+        Ok(None)
+    }
+}
+
+/// Adds the outcome in this place: its head, these lines, a history that leads to it, and an order of whole lines that shows the
+/// same lines, where one was found.
 ///
 /// The number is from 0.
-fn add_seen(
+fn add_seen<P: Progress>(
     alloc: Global,
     text: &mut String,
-    script: &Script,
-    watch: &Watch,
-    outcomes: &Outcomes,
+    telling: &Telling<'_, P>,
+    histories: &mut Histories,
+    marks: &[bool],
+    shown: &Shown,
     place: usize,
     lines: &str,
     number: usize,
-) -> Result<(), AllocError>
-    requires within { place < length outcomes.now.listing.endings.keys }
+) -> Result<(), LabError>
+    requires can { CanBeTold (fields_of telling.now.script.now) telling.now.list.now }
+    requires listed { (ending : Ending) → Contains shown.now.endings.items ending
+        → Contains (endings_in telling.now.list.now.words) ending }
+    requires within { place < length shown.now.endings.items }
     requires few { number ≤ place }
-    requires found { AreFoundSeen (fields_of script.now) watch.now outcomes.now }
-    ensures { OnOk result ((added : List ℕ)
+    ensures text { OnOk result ((added : List ℕ)
         × (string_bytes text.new ≡ string_bytes text.old ++ added)
-        × IsTextWith (IsHistorySeen (fields_of script.now) watch.now)
-        (ReplaysSeen (fields_of script.now) watch.now) outcomes.now.listing.endings.keys place
-        lines.now number added) }
+        × IsTextWith (IsHistoryOf (fields_of telling.now.script.now))
+        (λ _. ReplaysShown (fields_of telling.now.script.now) marks.now lines.now)
+        shown.now.endings.items place lines.now number added) }
+    ensures without { IfErr result (HasNoHistory (fields_of telling.now.script.now)
+        ⟦<AllPorts as PartialEq>⟧.eq telling.now.most) }
 {
-    let history = observed_history(alloc, script, watch, outcomes, place)?;
-    let ending = &outcomes.listing.endings.as_slice()[place];
-    let order = order_to_kept(alloc, script, watch, ending, history.as_slice())?;
+    let ending = &shown.endings[place];
+    let word = Vec::from_slice(alloc, shown.words[place].as_slice())?;
+    let history = history_by_word(alloc, telling, histories, word, ending)?;
+    let order = order_to_lines(alloc, telling.script, marks, lines, history.as_slice())?;
     add_told_outcome(text, lines, number, history.as_slice(), &order)?;
     Ok(())
 }
 
-/// Adds the ending in this place under this number, unless one before it shows the same, and says whether it did.
-fn add_if_new(
+/// Adds the outcome in this place under this number, unless one before it shows the same, and says whether it did.
+fn add_if_new<P: Progress>(
     alloc: Global,
     text: &mut String,
-    script: &Script,
-    watch: &Watch,
-    outcomes: &Outcomes,
+    telling: &Telling<'_, P>,
+    histories: &mut Histories,
+    marks: &[bool],
+    shown: &Shown,
     texts: &[String],
     place: usize,
     number: usize,
-) -> Result<bool, AllocError>
-    requires as_many { length texts.now ≡ length outcomes.now.listing.endings.keys }
-    requires within { place < length outcomes.now.listing.endings.keys }
+) -> Result<bool, LabError>
+    requires can { CanBeTold (fields_of telling.now.script.now) telling.now.list.now }
+    requires listed { (ending : Ending) → Contains shown.now.endings.items ending
+        → Contains (endings_in telling.now.list.now.words) ending }
+    requires as_many { length texts.now ≡ length shown.now.endings.items }
+    requires within { place < length shown.now.endings.items }
     requires few { number ≤ place }
     requires counts { number ≡ first_count (map string_bytes texts.now) place }
-    requires found { AreFoundSeen (fields_of script.now) watch.now outcomes.now }
     ensures first { IfOk result (λ added. added
         ≡ not (is_repeat (map string_bytes texts.now) place)) }
     ensures text { OnOk result ((added : List ℕ)
         × (string_bytes text.new ≡ string_bytes text.old ++ added)
-        × IsFirstText (IsSeenText (fields_of script.now) watch.now
-        outcomes.now.listing.endings.keys (map string_bytes texts.now))
+        × IsFirstText (IsSeenText (fields_of telling.now.script.now) marks.now
+        shown.now.endings.items (map string_bytes texts.now))
         (is_repeat (map string_bytes texts.now) place) (text_at (map string_bytes texts.now) place)
         place added) }
+    ensures without { IfErr result (HasNoHistory (fields_of telling.now.script.now)
+        ⟦<AllPorts as PartialEq>⟧.eq telling.now.most) }
 {
     if is_repeat(texts, place) {
         return Ok(false);
     }
     let lines = texts[place].as_str();
-    add_seen(alloc, text, script, watch, outcomes, place, lines, number)?;
+    add_seen(
+        alloc, text, telling, histories, marks, shown, place, lines, number,
+    )?;
     Ok(true)
 }
 
-/// Adds each ending that shows what none before it does, and says how many these are.
-fn add_all_seen(
+/// Adds each outcome that shows what none before it does, and says how many these are.
+fn add_all_seen<P: Progress>(
     alloc: Global,
     text: &mut String,
-    script: &Script,
-    watch: &Watch,
-    outcomes: &Outcomes,
+    telling: &Telling<'_, P>,
+    marks: &[bool],
+    shown: &Shown,
     texts: &[String],
-) -> Result<usize, AllocError>
-    requires as_many { length texts.now ≡ length outcomes.now.listing.endings.keys }
-    requires found { AreFoundSeen (fields_of script.now) watch.now outcomes.now }
+) -> Result<usize, LabError>
+    requires can { CanBeTold (fields_of telling.now.script.now) telling.now.list.now }
+    requires listed { (ending : Ending) → Contains shown.now.endings.items ending
+        → Contains (endings_in telling.now.list.now.words) ending }
+    requires as_many { length texts.now ≡ length shown.now.endings.items }
     ensures count { IfOk result (λ count. count
-        ≡ first_count (map string_bytes texts.now) (length outcomes.now.listing.endings.keys)) }
+        ≡ first_count (map string_bytes texts.now) (length shown.now.endings.items)) }
     ensures text { OnOk result ((added : List ℕ)
         × (string_bytes text.new ≡ string_bytes text.old ++ added)
-        × AreFirstTexts (IsSeenText (fields_of script.now) watch.now
-        outcomes.now.listing.endings.keys (map string_bytes texts.now))
-        (map string_bytes texts.now) (length outcomes.now.listing.endings.keys) added) }
+        × AreFirstTexts (IsSeenText (fields_of telling.now.script.now) marks.now
+        shown.now.endings.items (map string_bytes texts.now))
+        (map string_bytes texts.now) (length shown.now.endings.items) added) }
+    ensures without { IfErr result (HasNoHistory (fields_of telling.now.script.now)
+        ⟦<AllPorts as PartialEq>⟧.eq telling.now.most) }
 {
+    let mut histories = Histories::new(alloc);
     let mut count = 0;
-    for place in 0..outcomes.listing.endings.len() {
-        if add_if_new(alloc, text, script, watch, outcomes, texts, place, count)? {
+    for place in 0..shown.endings.len() {
+        if add_if_new(
+            alloc,
+            text,
+            telling,
+            &mut histories,
+            marks,
+            shown,
+            texts,
+            place,
+            count,
+        )? {
             count += 1;
         }
     }
     Ok(count)
 }
 
-/// The lines of each kept ending that are looked at.
-fn kept_texts(alloc: Global, marks: &[bool], outcomes: &Outcomes) -> Result<Vec<String>, AllocError>
+/// The lines of each of these outcomes that are looked at.
+fn shown_texts(alloc: Global, marks: &[bool], shown: &Shown) -> Result<Vec<String>, AllocError>
     ensures { IfOk result (λ texts. map string_bytes texts.items
-        ≡ map (observed_lines marks.now) (map rows_of outcomes.now.listing.endings.keys)) }
+        ≡ observed_texts marks.now shown.now.endings.items) }
 {
-    let all = all_rows(alloc, outcomes.listing.endings.as_slice())?;
+    let all = all_rows(alloc, shown.endings.as_slice())?;
     observed_texts(alloc, marks, all.as_slice())
 }
 
-/// The first line, and these endings below it.
-fn below_heading(
-    alloc: Global,
-    apart: usize,
-    states: usize,
-    told: &str,
-) -> Result<String, AllocError>
-    ensures { IfOk result (λ text. string_bytes text ≡ seen_heading apart states ++ told.now) }
+/// The first line, and these outcomes below it.
+fn below_heading(alloc: Global, apart: usize, told: &str) -> Result<String, AllocError>
+    ensures { IfOk result (λ text. string_bytes text ≡ seen_heading apart ++ told.now) }
 {
     let mut text = String::new(alloc);
-    add_seen_heading(&mut text, apart, states)?;
+    add_seen_heading(&mut text, apart)?;
     text.push_str(told)?;
     Ok(text)
 }
 
-/// The list of these endings by what is looked at: of those that show the same the first.
-fn seen_listing(
+/// The list of these outcomes by what is looked at: of those that show the same the first.
+fn seen_listing<P: Progress>(
     alloc: Global,
-    script: &Script,
-    watch: &Watch,
+    telling: &Telling<'_, P>,
     marks: &[bool],
-    outcomes: &Outcomes,
-) -> Result<String, AllocError>
-    requires { AreFoundSeen (fields_of script.now) watch.now outcomes.now }
-    ensures { IfOk result (λ text. IsSeenListing (fields_of script.now) watch.now marks.now
-        outcomes.now.listing.endings.keys (length outcomes.now.reached.states.keys)
-        (string_bytes text)) }
+    shown: &Shown,
+) -> Result<String, LabError>
+    requires can { CanBeTold (fields_of telling.now.script.now) telling.now.list.now }
+    requires listed { (ending : Ending) → Contains shown.now.endings.items ending
+        → Contains (endings_in telling.now.list.now.words) ending }
+    ensures text { IfOk result (λ text. IsSeenListing (fields_of telling.now.script.now) marks.now
+        shown.now.endings.items (string_bytes text)) }
+    ensures without { IfErr result (HasNoHistory (fields_of telling.now.script.now)
+        ⟦<AllPorts as PartialEq>⟧.eq telling.now.most) }
 {
-    let texts = kept_texts(alloc, marks, outcomes)?;
+    let texts = shown_texts(alloc, marks, shown)?;
     let mut told = String::new(alloc);
-    let apart = add_all_seen(alloc, &mut told, script, watch, outcomes, texts.as_slice())?;
-    below_heading(alloc, apart, outcomes.reached.states.len(), told.as_str())
+    let apart = add_all_seen(alloc, &mut told, telling, marks, shown, texts.as_slice())?;
+    Ok(below_heading(alloc, apart, told.as_str())?)
 }
 
-/// The list of what of the outcomes of a script can be told apart where these answers are looked at, by the marks of all
-/// places. `None`: the ports can come to more states than `most` that look different.
-fn watched_text<P: Progress>(
+/// Outcomes of which each other one shows what one of them does, by the marks of all places.
+fn shown_of<P: Progress>(
+    alloc: Global,
+    telling: &Telling<'_, P>,
+    marks: &[bool],
+) -> Result<Shown, LabError>
+    requires can { CanBeTold (fields_of telling.now.script.now) telling.now.list.now }
+    ensures shown { IfOk result (λ shown. AreShownOf marks.now
+        (endings_in telling.now.list.now.words) shown.endings.items) }
+    ensures without { IfErr result
+        (HasNoImages telling.now.list.now.words telling.now.most) }
+{
+    let words = &telling.list.words;
+    let Some(observed) = words.observed(alloc, marks, telling.most)? else {
+        return Err(LabError::Nodes(telling.most));
+    };
+    Ok(all_shown(alloc, words, &observed)?)
+}
+
+/// The list of what can be told apart of these outcomes, by the marks of all places.
+fn seen_of<P: Progress>(
+    alloc: Global,
+    telling: &Telling<'_, P>,
+    marks: &[bool],
+) -> Result<String, LabError>
+    requires can { CanBeTold (fields_of telling.now.script.now) telling.now.list.now }
+    ensures text { IfOk result (λ text. ListsSeen (fields_of telling.now.script.now) marks.now
+        (endings_in telling.now.list.now.words) (string_bytes text)) }
+    ensures without { IfErr result (λ why.
+        HasNoImages telling.now.list.now.words telling.now.most why
+        ⊎ HasNoHistory (fields_of telling.now.script.now) ⟦<AllPorts as PartialEq>⟧.eq
+        telling.now.most why) }
+{
+    let shown = shown_of(alloc, telling, marks)?;
+    seen_listing(alloc, telling, marks, &shown)
+}
+
+/// The list of what can be told apart of these outcomes, which are dropped, by the marks of all places.
+fn seen_of_list<P: Progress>(
     alloc: Global,
     script: &Script,
-    watch: &Watch,
+    list: OutcomeList,
     marks: &[bool],
     most: usize,
     progress: &P,
-) -> Result<Option<String>, AllocError>
-    ensures text { IfOk result (λ found. IfSome found (λ text.
-        TellsWatched (fields_of script.now) watch.now marks.now (string_bytes text))) }
-    ensures more { IfOk result (λ found. IfNone found
-        (HasMoreSeen (fields_of script.now) watch.now ⟦<AllPorts as PartialEq>⟧.eq most)) }
+) -> Result<String, LabError>
+    requires can { CanBeTold (fields_of script.now) list }
+    ensures text { IfOk result (λ text. ListsSeen (fields_of script.now) marks.now
+        (endings_in list.words) (string_bytes text)) }
+    ensures without { IfErr result (λ why. HasNoImages list.words most why
+        ⊎ HasNoHistory (fields_of script.now) ⟦<AllPorts as PartialEq>⟧.eq most why) }
 {
-    match observed_outcomes(alloc, script, watch, most, progress)? {
-        Some(outcomes) => Ok(Some(seen_listing(alloc, script, watch, marks, &outcomes)?)),
-        None => Ok(None),
-    }
+    let telling = Telling {
+        script,
+        list: &list,
+        most,
+        progress,
+    };
+    seen_of(alloc, &telling, marks)
 }
 
-/// The list of what of the outcomes of a script can be told apart by the lines and objects of these names, each with a history
-/// that leads to such an outcome. `None`: the ports can come to more states than `most` that look different.
+/// The list of what can be told apart of the outcomes of a script by the lines and objects of these names, each with a history
+/// that leads to such an outcome.
 ///
 /// A name is that of a line, as `if1[1]`, of an object at the end, as `final 01`, or a port's or `final` for all of them; names
 /// have commas between them.
 pub fn seen_text<P: Progress>(
     alloc: Global,
     script: &Script,
-    list: &str,
+    names: &str,
     most: usize,
     progress: &P,
-) -> Result<Option<String>, AllocError>
-    ensures text { IfOk result (λ found. IfSome found (λ text.
-        TellsSeen (names_in list.now) (fields_of script.now) (string_bytes text))) }
-    ensures more { IfOk result (λ found. IfNone found (HasMoreAsNamed (names_in list.now)
-        (fields_of script.now) ⟦<AllPorts as PartialEq>⟧.eq most)) }
+) -> Result<String, LabError>
+    ensures text { IfOk result (λ text. TellsSeen (names_in names.now) (fields_of script.now)
+        ⟦<Ending as PartialEq>⟧.eq (string_bytes text)) }
+    ensures without { IfErr result
+        (HasNoSeenList (fields_of script.now) ⟦<AllPorts as PartialEq>⟧.eq most) }
 {
-    let marks = marks_of(alloc, script, list)?;
-    let watch = watch_of(alloc, script, marks.as_slice())?;
-    watched_text(alloc, script, &watch, marks.as_slice(), most, progress)
+    let marks = marks_of(alloc, script, names)?;
+    let list = list_of(alloc, script, most, progress)?;
+    seen_of_list(alloc, script, list, marks.as_slice(), most, progress)
 }

@@ -1,5 +1,5 @@
 //! The outcomes of a script, told one by one, each with a history.
-ghost use Rattle.std.specs.Prelude.{◌≡◌, IfErr, IfOk, Some, slice_get};
+ghost use Rattle.std.specs.Prelude.{◌≡◌, Contains, IfErr, IfOk, Some, slice_get};
 ghost use Rattle.ccan_line.specs.Script.{fields_of};
 ghost use Rattle.ccan_outcomes.specs.History.{IsHistoryOf};
 ghost use Rattle.ccan_outcomes.specs.OutcomeWords.{endings_in};
@@ -8,6 +8,7 @@ ghost use Rattle.ccan_lab.specs.Words.{HasNoHistory};
 
 use crate::lab_error::LabError;
 use crate::outcome_words::OutcomeList;
+use ccan_language::Letter;
 use ccan_outcomes::all_ports::AllPorts;
 use ccan_outcomes::{Ending, Histories, HistoryStep, searched_history};
 use ccan_script::Script;
@@ -27,8 +28,35 @@ pub struct Telling<'a, P: Progress> {
     pub progress: &'a P,
 }
 
-/// A history that leads to the outcome of this number, from 0: one that is found along the graph, or else, by a search of all
+/// A history that leads to this outcome, which has this word: one that is found along the graph, or else, by a search of all
 /// states.
+pub fn history_by_word<P: Progress>(
+    alloc: Global,
+    telling: &Telling<'_, P>,
+    histories: &mut Histories,
+    word: Vec<Letter>,
+    ending: &Ending,
+) -> Result<Vec<HistoryStep>, LabError>
+    requires can { CanBeTold (fields_of telling.now.script.now) telling.now.list.now }
+    requires listed { Contains (endings_in telling.now.list.now.words) ending.now }
+    ensures history { IfOk result (λ steps.
+        IsHistoryOf (fields_of telling.now.script.now) ending.now steps.items) }
+    ensures without { IfErr result (HasNoHistory (fields_of telling.now.script.now)
+        ⟦<AllPorts as PartialEq>⟧.eq telling.now.most) }
+{
+    let script = telling.script;
+    let OutcomeList { words, graph } = telling.list;
+    let found = histories.history(alloc, script, graph, words, word, ending)?;
+    if let Some(steps) = found {
+        return Ok(steps);
+    }
+    match searched_history(alloc, script, ending, telling.most, telling.progress)? {
+        Some(steps) => Ok(steps),
+        None => Err(LabError::More(telling.most)),
+    }
+}
+
+/// A history that leads to the outcome of this number, from 0, which is this one.
 pub fn history_to<P: Progress>(
     alloc: Global,
     telling: &Telling<'_, P>,
@@ -43,14 +71,8 @@ pub fn history_to<P: Progress>(
     ensures without { IfErr result (HasNoHistory (fields_of telling.now.script.now)
         ⟦<AllPorts as PartialEq>⟧.eq telling.now.most) }
 {
-    let script = telling.script;
-    let OutcomeList { words, graph } = telling.list;
-    let found = histories.history(alloc, script, graph, words, number as u64, ending)?;
-    if let Some(steps) = found {
-        return Ok(steps);
-    }
-    match searched_history(alloc, script, ending, telling.most, telling.progress)? {
-        Some(steps) => Ok(steps),
-        None => Err(LabError::More(telling.most)),
-    }
+    let Some(word) = telling.list.words.word(alloc, number as u64)? else {
+        unreachable!()
+    };
+    history_by_word(alloc, telling, histories, word, ending)
 }

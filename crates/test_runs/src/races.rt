@@ -1,14 +1,18 @@
 //! The outcomes of scripts in which two hosts race, worked by hand. Lists of outcomes are held to what can come of a script with
 //! the program that prints them.
-ghost use Rattle.ccan_outcomes.specs.OutcomeWords.{AreOfLines};
+ghost use Rattle.std.specs.Prelude.{◌≡◌, Some, slice_get};
+ghost use Rattle.ccan_line.specs.Script.{fields_of};
+ghost use Rattle.ccan_outcomes.specs.AnswerGraph.{IsOfMachine};
+ghost use Rattle.ccan_outcomes.specs.Ending.{AreOfRuns};
+ghost use Rattle.ccan_outcomes.specs.Observed.{AreImages};
+ghost use Rattle.ccan_outcomes.specs.OutcomeWords.{AreOfLines, endings_in};
 
 use crate::expect::{holds, same};
 use crate::runs::read;
 use ccan_object::{ObjectNo, Record};
 use ccan_outcomes::{
-    AnswerGraph, Ending, HistoryKind, HistoryStep, OutcomeWords, Outcomes, Watch, all_outcomes,
-    answer_graph, history_of, kept_ending, observed_history, observed_outcomes, states_along,
-    words_of_graph,
+    AnswerGraph, Ending, Histories, HistoryKind, HistoryStep, Observed, OutcomeWords, all_outcomes,
+    answer_graph, history_of, searched_history, states_along, words_of_graph,
 };
 use ccan_ram::PortName;
 use ccan_script::{LineAnswer, Script};
@@ -85,80 +89,6 @@ fn answers_a_history_of_each_outcome(rt: HostRuntime) {
     same(&rt, races(&rt, rt.alloc(), &script), 2);
 }
 
-/// What can be seen by the answers to these lines of IF2. Each has to have a history of four steps: a look and the write, and a
-/// look for each read.
-fn seen(rt: &impl Abort, alloc: Global, script: &Script, watch: &Watch) -> Outcomes {
-    let Ok(Some(found)) = observed_outcomes(alloc, script, watch, 1000, &Untold) else {
-        panic!(rt; "not all outcomes")
-    };
-    for place in 0..found.listing.endings.len() {
-        match observed_history(alloc, script, watch, &found, place) {
-            Ok(history) => same(rt, history.len(), 4),
-            Err(_) => panic!(rt; "no memory"),
-        }
-    }
-    found
-}
-
-/// How many endings and how many states a search has found.
-fn counted(found: &Outcomes) -> (usize, usize) {
-    (found.listing.endings.len(), found.reached.states.len())
-}
-
-/// A look at these lines of IF2, and no other.
-fn watching(rt: &impl Abort, alloc: Global, if2: &[bool]) -> Watch {
-    match Vec::from_slice(alloc, if2) {
-        Ok(if2) => Watch {
-            if1: Vec::new(alloc),
-            if2,
-            bus: Vec::new(alloc),
-        },
-        Err(_) => panic!(rt; "no memory"),
-    }
-}
-
-/// What is kept of an ending by what is looked at.
-fn kept(rt: &impl Abort, alloc: Global, watch: &Watch, ending: &Ending) -> Ending {
-    match kept_ending(alloc, watch, ending) {
-        Ok(kept) => kept,
-        Err(_) => panic!(rt; "no memory"),
-    }
-}
-
-/// How many endings and states are found in all. What is kept of each ending has to be among what is seen.
-fn whole(
-    rt: &impl Abort,
-    alloc: Global,
-    script: &Script,
-    watch: &Watch,
-    found: &Outcomes,
-) -> (usize, usize) {
-    let Ok(Some(all)) = all_outcomes(alloc, script, 1000, &Untold) else {
-        panic!(rt; "not all outcomes")
-    };
-    for ending in all.listing.endings.as_slice() {
-        let kept = kept(rt, alloc, watch, ending);
-        holds(rt, found.listing.endings.contains(&kept));
-    }
-    counted(&all)
-}
-
-#[test]
-fn tells_apart_what_is_looked_at(rt: HostRuntime) {
-    // The two reads show what stood before the write, what it left, or one of each: three outcomes, whose objects are the same
-    // at the end. By the second read alone there are two, and by no answer one.
-    let script = read(&rt, rt.alloc(), TWO_READS);
-    let second = watching(&rt, rt.alloc(), &[false, true]);
-    let found = seen(&rt, rt.alloc(), &script, &second);
-    same(&rt, counted(&found).0, 2);
-    let (endings, most) = whole(&rt, rt.alloc(), &script, &second, &found);
-    same(&rt, endings, 3);
-    let nothing = watching(&rt, rt.alloc(), &[]);
-    let (endings, states) = counted(&seen(&rt, rt.alloc(), &script, &nothing));
-    same(&rt, endings, 1);
-    holds(&rt, states < most);
-}
-
 /// The graph of a script's outcomes.
 fn graph(rt: &impl Abort, alloc: Global, text: &str) -> AnswerGraph {
     let script = read(rt, alloc, text);
@@ -219,7 +149,9 @@ fn words(rt: &impl Abort, alloc: Global, text: &str) -> OutcomeWords
 }
 
 /// The outcome with this number.
-fn numbered(rt: &impl Abort, alloc: Global, words: &OutcomeWords, number: u64) -> Ending {
+fn numbered(rt: &impl Abort, alloc: Global, words: &OutcomeWords, number: u64) -> Ending
+    ensures { slice_get (endings_in words.now) number ≡ Some result }
+{
     match words.ending(alloc, number) {
         Ok(Some(ending)) => ending,
         Ok(None) | Err(_) => panic!(rt; "no such outcome"),
@@ -325,4 +257,120 @@ fn says_the_memory_and_what_is_answered_at_once(rt: HostRuntime) {
     same(&rt, alone.count(), 1);
     let ending = numbered(&rt, rt.alloc(), &alone, 0);
     holds(&rt, ending.bus.as_slice() == [LineAnswer::Init].as_slice());
+}
+
+/// What can be told apart of these outcomes by these marks: for IF1's lines, IF2's, the bus's, and then for the objects.
+fn observed(rt: &impl Abort, alloc: Global, words: &OutcomeWords, marks: &[bool]) -> Observed
+    requires { AreOfLines words.now }
+    ensures { AreImages words.now result }
+{
+    match words.observed(alloc, marks, 1000) {
+        Ok(Some(observed)) => observed,
+        Ok(None) | Err(_) => panic!(rt; "not all that is looked at"),
+    }
+}
+
+/// What the second read of IF2 shows in an outcome that shows what the word of this number says.
+fn second_read(
+    rt: &impl Abort,
+    alloc: Global,
+    words: &OutcomeWords,
+    observed: &Observed,
+    number: u64,
+) -> Option<u8>
+    requires { AreImages words.now observed.now }
+{
+    let word = match words.observed_word(alloc, observed, number) {
+        Ok(found) => found?,
+        Err(_) => panic!(rt; "no memory"),
+    };
+    match words.ending_of(alloc, word.as_slice()) {
+        Ok(ending) => Some(read_and_left(rt, &ending).1),
+        Err(_) => panic!(rt; "no memory"),
+    }
+}
+
+#[test]
+fn tells_apart_what_is_looked_at(rt: HostRuntime) {
+    // The second read shows what stood before the write, or what it left. By nothing that is looked at all outcomes are one, and so
+    // they are by the object, which holds at the end what the write left.
+    let words = words(&rt, rt.alloc(), TWO_READS);
+    let second = observed(&rt, rt.alloc(), &words, &[false, false, true]);
+    let one = second_read(&rt, rt.alloc(), &words, &second, 0);
+    let other = second_read(&rt, rt.alloc(), &words, &second, 1);
+    holds(
+        &rt,
+        (one, other) == (Some(0), Some(0x11)) || (one, other) == (Some(0x11), Some(0)),
+    );
+    holds(
+        &rt,
+        second_read(&rt, rt.alloc(), &words, &second, 2).is_none(),
+    );
+    let nothing = observed(&rt, rt.alloc(), &words, &[]);
+    holds(
+        &rt,
+        second_read(&rt, rt.alloc(), &words, &nothing, 0).is_some(),
+    );
+    holds(
+        &rt,
+        second_read(&rt, rt.alloc(), &words, &nothing, 1).is_none(),
+    );
+    let object = observed(&rt, rt.alloc(), &words, &[false, false, false, true]);
+    holds(
+        &rt,
+        second_read(&rt, rt.alloc(), &words, &object, 0).is_some(),
+    );
+    holds(
+        &rt,
+        second_read(&rt, rt.alloc(), &words, &object, 1).is_none(),
+    );
+}
+
+/// Holds each outcome to a history of four steps, along the graph and by a search of all states.
+fn hold_histories(
+    rt: &impl Abort,
+    alloc: Global,
+    script: &Script,
+    graph: &AnswerGraph,
+    words: &OutcomeWords,
+)
+    requires machine { IsOfMachine (fields_of script.now) graph.now }
+    requires runs { AreOfRuns (fields_of script.now) (endings_in words.now) }
+{
+    let mut histories = Histories::new(alloc);
+    for number in 0..words.count() {
+        let ending = numbered(rt, alloc, words, number);
+        let Ok(Some(word)) = words.word(alloc, number) else {
+            panic!(rt; "no such outcome")
+        };
+        match histories.history(alloc, script, graph, words, word, &ending) {
+            Ok(Some(history)) => writes_at_last(rt, history.as_slice()),
+            Ok(None) | Err(_) => panic!(rt; "no history along the graph"),
+        }
+        match searched_history(alloc, script, &ending, 1000, &Untold) {
+            Ok(Some(history)) => same(rt, history.len(), 4),
+            Ok(None) | Err(_) => panic!(rt; "no history"),
+        }
+    }
+}
+
+/// How many outcomes a script has, of which each has to have such histories.
+fn told(rt: &impl Abort, alloc: Global, text: &str) -> u64 {
+    let script = read(rt, alloc, text);
+    match answer_graph(alloc, &script, 1000, &Untold) {
+        Ok(Some(graph)) => match words_of_graph(alloc, &script, &graph, 1000) {
+            Ok(Some(words)) => {
+                hold_histories(rt, alloc, &script, &graph, &words);
+                words.count()
+            }
+            Ok(None) | Err(_) => panic!(rt; "not all words"),
+        },
+        Ok(None) | Err(_) => panic!(rt; "not all outcomes"),
+    }
+}
+
+#[test]
+fn finds_histories_along_the_graph(rt: HostRuntime) {
+    // A look and a write of each host.
+    same(&rt, told(&rt, rt.alloc(), TWO_WRITES), 2);
 }

@@ -160,7 +160,8 @@ pub(crate) fn outcomes_page<'a, P: Progress>(
     progress: &P,
 ) -> Result<Page<'a>, LabError>
     ensures file { IfOk result (λ made. made.file.now ≡ page.entry.file.now) }
-    ensures outcomes { IfOk result (λ made. ShowsOutcomes (fields_of script) limit made) }
+    ensures outcomes { IfOk result (ShowsOutcomes (fields_of script)
+        ⟦<Ending as PartialEq>⟧.eq limit) }
 {
     let script = looking_once(alloc, script)?;
     let list = list_of(alloc, &script, most, progress)?;

@@ -4,28 +4,34 @@ use Rattle.ccan_line.specs.Script.{fields_of}
 use Rattle.ccan_outcomes.specs.contracts.all_ports.AllPortsPartialEq.TheImpl.{ghosts as ports_are}
 use Rattle.ccan_outcomes.specs.OutcomeWords.{endings_in}
 use Rattle.ccan_lab.specs.declared.lab_error.LabError.TheVariants as fault
+use Rattle.ccan_lab.specs.Sorted.{texts_of}
 use Rattle.ccan_lab.specs.Words.{HasNoHistory, IsUnanswered}
 use Rattle.ccan_lab.proofs.Unanswered.{no_history}
 use Rattle.ccan_lab.proofs.outcomes.answer_by_line.Goals as goal
 
 pub returns-in_ok-text-in-Found-clause-told : goal.returns-in_ok-text-in-Found-clause-told
-returns-in_ok-text-in-Found-clause-told g c = inr (
-  record {
-    outcomes = endings_in c.args.telling.now.list.now.words;
-    are = c.requires.all;
-    once = c.requires.distinct;
-    says = c.in_ok-text-in-Found.ensures.text;
-  },
-  refl,
-)
+returns-in_ok-text-in-Found-clause-told g c =
+    let searched = rw c.in-Found.is at c.in_ok-number.ensures in
+    inr (
+      record {
+        outcomes = endings_in c.args.telling.now.list.now.words;
+        are = c.requires.all;
+        runs = c.requires.can.runs;
+        once = c.requires.distinct;
+        says = (c.in-Found.number, searched.0, c.in_ok-text-in-Found.ensures.text);
+        taken = searched.2;
+      },
+      refl,
+    )
 
 pub returns-in-NotFound-clause-told : goal.returns-in-NotFound-clause-told
 returns-in-NotFound-clause-told g c =
-    let searched = rw c.in-NotFound.is at c.in_ok-search_among.ensures in
+    let searched = rw c.in-NotFound.is at c.in_ok-number.ensures in
     inl (
       record {
         outcomes = endings_in c.args.telling.now.list.now.words;
         are = c.requires.all;
+        runs = c.requires.can.runs;
         once = c.requires.distinct;
         says = searched.0;
         taken = searched.1;
@@ -33,15 +39,15 @@ returns-in-NotFound-clause-told g c =
       refl,
     )
 
-pub returns-in_err-search_among-clause-without : goal.returns-in_err-search_among-clause-without
-returns-in_err-search_among-clause-without g c =
+pub returns-in_err-number-clause-without : goal.returns-in_err-number-clause-without
+returns-in_err-number-clause-without g c =
     let script = fields_of c.args.telling.now.script.now in
     IfErr-weaker c.from_residual.result (λ why. why ≡ fault.Memory) _
-    (λ why is. subst (IsUnanswered script c.args.begin.now ports_are.eq c.args.telling.now.most) (sym is) (inl tt))
+    (λ why is. subst (IsUnanswered script (texts_of c.args.begins.now) ports_are.eq c.args.telling.now.most) (sym is) (inl tt))
     (search rules)
 
 pub returns-in_err-text-in-Found-clause-without : goal.returns-in_err-text-in-Found-clause-without
 returns-in_err-text-in-Found-clause-without g c =
     let script = fields_of c.args.telling.now.script.now in
     IfErr-weaker c.from_residual-in_err-text-in-Found.result (HasNoHistory script ports_are.eq c.args.telling.now.most) _
-    (no_history script c.args.begin.now ports_are.eq c.args.telling.now.most) (search rules)
+    (no_history script (texts_of c.args.begins.now) ports_are.eq c.args.telling.now.most) (search rules)

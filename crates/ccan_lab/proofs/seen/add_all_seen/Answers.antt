@@ -8,18 +8,18 @@ use Rattle.ccan_lab.proofs.seen.add_all_seen.Goals as goal
 use Rattle.ccan_lab.proofs.seen.add_all_seen.Goals.{then-branch, else-branch}
 
 pub loop-place-init : goal.loop-place-init
-loop-place-init c = (
+loop-place-init g c = (
   le_refl 0,
   sym (count_none (map string_bytes c.args.texts.now)),
   ([], sym (append-nil (string_bytes c.args.text.now)), refl),
 )
 
 pub loop-place-preserved : goal.loop-place-preserved
-loop-place-preserved c =
+loop-place-preserved g c =
     let texts = map string_bytes c.args.texts.now in
-    let watch = c.args.watch.now in
-    let script = fields_of c.args.script.now in
-    let keys = c.args.outcomes.now.listing.endings.keys in
+    let marks = c.args.marks.now in
+    let script = fields_of c.args.telling.now.script.now in
+    let keys = c.args.shown.now.endings.items in
     let place = c.loop-place.place in
     let count = c.loop-place.count in
     let first = c.in_ok-add_if_new.field-0 in
@@ -38,7 +38,7 @@ loop-place-preserved c =
         so_far.0 ++ last,
         part_more (string_bytes c.loop-place.text) (string_bytes c.add_if_new.new.text) (string_bytes c.args.text.now)
             so_far.0 last so_far.1 c.in_ok-add_if_new.ensures.text.1,
-        subst (λ (n : ℕ). AreFirstTexts (IsSeenText script watch keys texts) texts n (so_far.0 ++ last)) (sym (add-one place))
+        subst (λ (n : ℕ). AreFirstTexts (IsSeenText script marks keys texts) texts n (so_far.0 ++ last)) (sym (add-one place))
             (so_far.0, last, refl, so_far.2, c.in_ok-add_if_new.ensures.text.2),
       ),
     )

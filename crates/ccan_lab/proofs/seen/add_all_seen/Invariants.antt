@@ -4,10 +4,10 @@ use Rattle.ccan_lab.specs.Observed.{AreFirstTexts, first_count}
 use Rattle.ccan_lab.specs.Seen.{IsSeenText}
 use Rattle.ccan_lab.proofs.seen.add_all_seen.Given as goal
 
--- the endings so far, and how many of them show what none before them does
+-- the outcomes so far, and how many of them show what none before them does
 abbrev pub invariant-loop-place : goal.invariant-loop-place
-invariant-loop-place l =
+invariant-loop-place g l =
     (l.count ≤ l.place) × (l.count ≡ first_count (map string_bytes l.texts) l.place)
     × ((added : List ℕ) × (string_bytes l.text ≡ string_bytes l.initial.text ++ added)
-    × AreFirstTexts (IsSeenText (fields_of l.script) l.watch l.outcomes.listing.endings.keys (map string_bytes l.texts))
+    × AreFirstTexts (IsSeenText (fields_of l.telling.script.now) l.marks l.shown.endings.items (map string_bytes l.texts))
     (map string_bytes l.texts) l.place added)

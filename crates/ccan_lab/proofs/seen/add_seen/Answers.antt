@@ -1,29 +1,29 @@
-use Rattle.std.proofs.Common.{◌≡◌, ◌++◌, List, Some, IfSome, get_or, slice_get, ap, subst, refl, ◌∙◌, string_bytes}
+use Rattle.std.proofs.Common.{◌≡◌, ◌++◌, List, Some, IfSome, slice_get, ap, subst, refl, ◌∙◌, string_bytes}
 use Rattle.std.proofs.lemmas.Option.{get_or_from_slice_get}
 use Rattle.ccan_line.specs.Script.{fields_of}
 use Rattle.ccan_outcomes.specs.declared.ending.Ending.{Ending}
 use Rattle.ccan_outcomes.specs.declared.history_step.HistoryStep.{HistoryStep}
-use Rattle.ccan_lab.specs.Replay.{ReplaysSeen}
+use Rattle.ccan_outcomes.specs.History.{IsHistoryOf}
 use Rattle.ccan_lab.specs.Report.{outcome_text}
+use Rattle.ccan_lab.specs.Seen.{ReplaysShown}
 use Rattle.ccan_lab.proofs.Told.{names_in, names_lead}
 use Rattle.ccan_lab.proofs.seen.add_seen.Goals as goal
 
-pub returns : goal.returns
-returns c =
+pub returns-clause-text : goal.returns-clause-text
+returns-clause-text g c =
     let lines = c.args.lines.now in
-    let script = fields_of c.args.script.now in
+    let script = fields_of c.args.telling.now.script.now in
     let number = c.args.number in
     let place = c.args.place in
-    let watch = c.args.watch.now in
-    let keys = c.args.outcomes.now.listing.endings.keys in
+    let marks = c.args.marks.now in
+    let keys = c.args.shown.now.endings.items in
     let steps = c.in_ok-history.history.items in
     let order = names_in c.in_ok-order.order in
-    let shown = c.index-as_slice-place.result in
-    let found : IfSome order (ReplaysSeen script watch shown) =
-    names_lead (ReplaysSeen script watch shown) c.in_ok-order.order c.in_ok-order.ensures in
+    let shown = c.index-ending.result.now in
+    let found : IfSome order (ReplaysShown script marks lines) =
+    names_lead (ReplaysShown script marks lines) c.in_ok-order.order c.in_ok-order.ensures in
     let it_is : (ending : Ending) → slice_get keys place ≡ Some ending → shown ≡ ending =
-    λ ending is. c.index-as_slice-place.is ∙ ap (λ (es : List Ending). get_or es place shown) c.as_slice.ensures.keys
-    ∙ get_or_from_slice_get keys place ending shown is in
+    λ ending is. c.index-ending.ensures ∙ get_or_from_slice_get keys place ending _ is in
     let added = c.in_ok-add_told_outcome.ensures
     ∙ ap (λ (told : List HistoryStep). string_bytes c.args.text.now ++ outcome_text lines number told order)
     c.as_slice-3.ensures.value in (
@@ -33,8 +33,8 @@ returns c =
         steps,
         order,
         (λ ending is. (
-          c.in_ok-history.ensures ending is,
-          subst (λ (e : Ending). IfSome order (ReplaysSeen script watch e)) (it_is ending is) found,
+          subst (λ (e : Ending). IsHistoryOf script e steps) (it_is ending is) c.in_ok-history.ensures.history,
+          found,
         )),
         refl,
       ),

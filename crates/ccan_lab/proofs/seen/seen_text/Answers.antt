@@ -1,37 +1,36 @@
-use Rattle.std.proofs.Common.{◌∙◌, Bool, List, Option, Some, None, IfNone, string_bytes, subst}
-use Rattle.std.proofs.lemmas.Option.{IfSome_then}
-use Rattle.std.proofs.lemmas.Result.{IfOk-weaker}
+use Rattle.std.proofs.Common.{◌≡◌, ◌⊎◌, inl, inr, ◌∙◌, Bool, List, string_bytes, subst}
+use Rattle.std.proofs.lemmas.Result.{IfErr-weaker, IfOk-weaker}
 use Rattle.ccan_line.specs.Script.{fields_of}
-use Rattle.ccan_lab.specs.Seen.{IsWatch, TellsWatched}
+use Rattle.ccan_outcomes.specs.OutcomeWords.{endings_in}
+use Rattle.ccan_outcomes.specs.contracts.all_ports.AllPortsPartialEq.TheImpl.{ghosts as ports_are}
+use Rattle.ccan_lab.specs.Seen.{HasNoImages, HasNoSeenList, ListsSeen}
+use Rattle.ccan_lab.specs.Words.{HasNoHistory}
 use Rattle.ccan_lab.proofs.seen.seen_text.Goals as goal
-
-none_then : {T : Type 0} (o : Option T) {P Q : Type 0} → IfNone o P → (P → Q) → IfNone o Q
-none_then None is then = then is
-none_then (Some found) is then = tt
 
 pub returns-clause-text : goal.returns-clause-text
 returns-clause-text g c =
     let script = fields_of c.args.script.now in
-    let watch = c.in_ok-watch.watch in
+    let endings = endings_in c.in_ok-list.list.words in
     let marks_are = c.as_slice.ensures.value ∙ c.in_ok-marks.ensures in
-    let listed_by = c.as_slice-2.ensures.value ∙ c.in_ok-marks.ensures in
-    IfOk-weaker c.watched_text.result _ _
-    (λ found tells. IfSome_then found tells (λ text told. record {
-      watch = watch;
-      is_watch = subst (λ (marks : List Bool). IsWatch script marks watch) marks_are c.in_ok-watch.ensures;
-      tells = subst (λ (marks : List Bool). TellsWatched script watch marks (string_bytes text)) listed_by told;
-    }))
-    c.watched_text.ensures.text
+    IfOk-weaker c.seen_of_list.result _ _
+    (λ text lists. record {
+      outcomes = endings;
+      are = c.in_ok-list.ensures.all;
+      runs = c.in_ok-list.ensures.told.runs;
+      once = c.in_ok-list.ensures.distinct;
+      lists = subst (λ (marks : List Bool). ListsSeen script marks endings (string_bytes text)) marks_are lists;
+    })
+    c.seen_of_list.ensures.text
 
-pub returns-clause-more : goal.returns-clause-more
-returns-clause-more g c =
+pub returns-clause-without : goal.returns-clause-without
+returns-clause-without g c =
     let script = fields_of c.args.script.now in
-    let watch = c.in_ok-watch.watch in
-    let marks_are = c.as_slice.ensures.value ∙ c.in_ok-marks.ensures in
-    IfOk-weaker c.watched_text.result _ _
-    (λ found more. none_then found more (λ told. record {
-      watch = watch;
-      is_watch = subst (λ (marks : List Bool). IsWatch script marks watch) marks_are c.in_ok-watch.ensures;
-      more = told;
-    }))
-    c.watched_text.ensures.more
+    let words = c.in_ok-list.list.words in
+    let most = c.args.most in
+    IfErr-weaker c.seen_of_list.result
+    (λ why. HasNoImages words most why ⊎ HasNoHistory script ports_are.eq most why) _
+    (λ why none. elim none as (λ _. HasNoSeenList script ports_are.eq most why) [
+      | inl images ↦ inr (words, c.in_ok-list.ensures.all, images)
+      | inr history ↦ inl (inr history)
+    ])
+    c.seen_of_list.ensures.without

@@ -10,6 +10,8 @@ returns-clause-outcomes g c =
       same_outcomes = c.in_ok-script.ensures.same;
       endings = endings_in c.in_ok-list.list.words;
       complete = c.in_ok-list.ensures.all;
+      runs = c.in_ok-list.ensures.told.runs;
+      once = c.in_ok-list.ensures.distinct;
       shows = shows;
     })
     c.found_page.ensures.shows

@@ -1,0 +1,199 @@
+-- The lines of an outcome are those that the letters of its word tell, so the first outcome with some lines is that of the first
+-- word with their signs.
+use Rattle.std.proofs.Common.{ℕ, zero, suc, ◌+◌, ◌<◌, ◌≤◌, ◌≡◌, ◌||◌, ◌&&◌, not, cond, nat_lt, Bool, true, false, List, [], ◌∷◌, ◌++◌, Option, None, Some, Contains, length, map, position, slice_get, get_or, if◌then◌else◌, refl, sym, ap, subst, ◌∙◌, arith, inl, inr, append-nil}
+use Rattle.std.specs.List.{flat_map, list_all, list_any, prefix_len, range_with_len}
+use Rattle.std.proofs.lemmas.Bool.{lt-ltb}
+use Rattle.std.proofs.lemmas.List.Concat.{flat_map-append}
+use Rattle.std.proofs.lemmas.List.Folds.{list_any-append}
+use Rattle.std.proofs.lemmas.Option.{get_or_from_slice_get}
+use Rattle.ccan_language.specs.declared.letter.Letter.{Letter}
+use Rattle.ccan_language.specs.Count.{all_words}
+use Rattle.ccan_language.specs.Signs.{has_sign, has_signs, first_with as first_with_signs}
+use Rattle.ccan_language.proofs.Borne.{position_map}
+use Rattle.ccan_language.proofs.Grown.{first_in, later_in}
+use Rattle.ccan_language.proofs.Listed.{its_words}
+use Rattle.ccan_line.specs.declared.line_answer.LineAnswer.{LineAnswer}
+use Rattle.ccan_line.specs.declared.line_answer.LineAnswer.TheVariants as answer
+use Rattle.ccan_object.specs.declared.record.Record.{Record}
+use Rattle.ccan_ram.specs.declared.port.PortName.{PortName}
+use Rattle.ccan_ram.specs.declared.port.PortName.TheVariants.{If1, If2, Bus}
+use Rattle.ccan_script.specs.Print.{line_text}
+use Rattle.ccan_outcomes.specs.declared.answers.Answers.{Answers}
+use Rattle.ccan_outcomes.specs.declared.ending.Ending.{Ending}
+use Rattle.ccan_outcomes.specs.declared.words.OutcomeWords.{OutcomeWords}
+use Rattle.ccan_outcomes.specs.Letters.{AreNumbers, lettered}
+use Rattle.ccan_outcomes.specs.OutcomeWords.{AreOfLines, IsWordOf, ending_of_word, endings_in}
+use Rattle.ccan_outcomes.proofs.Worded.{lettered_append, shown, shown_by}
+use Rattle.ccan_lab.specs.Answer.{first_with}
+use Rattle.ccan_lab.specs.LineSigns.{is_told, lines_of_letter, lines_told, port_at, tells_line}
+use Rattle.ccan_lab.specs.Rows.{begins_so, final_rows, has_line, has_lines, rows_of}
+
+-- ---- lists
+
+-- two tests that agree on the items of a list find the same place
+same_prefix : {X : Type 0} (p q : X → Bool) (xs : List X) → ((x : X) → Contains xs x → p x ≡ q x)
+    → prefix_len (λ x. not (p x)) xs ≡ prefix_len (λ x. not (q x)) xs
+same_prefix p q [] same = refl
+same_prefix p q (x ∷ xs) same =
+    ap (λ (b : Bool). cond (not b) (1 + prefix_len (λ it. not (p it)) xs) 0) (same x (first_in x xs))
+    ∙ ap (λ (n : ℕ). cond (not (q x)) (1 + n) 0) (same_prefix p q xs (λ y inside. same y (later_in x xs y inside)))
+
+pub same_position : {X : Type 0} (p q : X → Bool) (xs : List X) → ((x : X) → Contains xs x → p x ≡ q x)
+    → position p xs ≡ position q xs
+same_position p q xs same =
+    ap (λ (n : ℕ). cond (nat_lt n (length xs)) (Some n) None) (same_prefix p q xs same)
+
+-- the numbers so far, and one more
+pub range_more : (a n : ℕ) → range_with_len a (n + 1) ≡ range_with_len a n ++ (a + n) ∷ []
+range_more a zero = let same : a ≡ a + 0 = omega arith in ap (λ (k : ℕ). k ∷ []) same
+range_more a (suc n) =
+    let next : suc n + 1 ≡ suc (n + 1) = omega arith in
+    let same : a + 1 + n ≡ a + suc n = omega arith in
+    ap (range_with_len a) next
+    ∙ ap (λ (l : List ℕ). a ∷ l) (range_more (a + 1) n ∙ ap (λ (k : ℕ). range_with_len (a + 1) n ++ k ∷ []) same)
+
+-- a line stands among lists that are put together where it stands in one of them
+any_of_each : {X : Type 0} (begin : List ℕ) (f : X → List (List ℕ)) (xs : List X)
+    → has_line begin (flat_map f xs) ≡ list_any (λ x. has_line begin (f x)) xs
+unfolding has_line
+any_of_each begin f [] = refl
+any_of_each begin f (x ∷ xs) =
+    list_any-append (begins_so begin) (f x) (flat_map f xs)
+    ∙ ap (λ (b : Bool). list_any (begins_so begin) (f x) || b) (any_of_each begin f xs)
+
+-- ---- the lines of a word
+
+module _ (words : OutcomeWords) where
+  -- the letters of lines of one port
+  of_port : (port : PortName) (place : ℕ) (numbers : List ℕ) (answers : List LineAnswer)
+      → ((k : ℕ) → place ≤ k → k < place + length numbers → port_at words k ≡ Some port)
+      → AreNumbers words.numbers.answers.keys numbers answers
+      → flat_map (lines_of_letter words) (lettered place numbers) ≡ map (line_text port) answers
+  of_port port place [] [] at are = refl
+  of_port port place [] (a ∷ rest) at are = absurd are
+  of_port port place (n ∷ ns) [] at are = absurd are
+  of_port port place (n ∷ ns) (a ∷ rest) at are =
+      let later = flat_map (lines_of_letter words) (lettered (suc place) ns) in
+      ap (λ (o : Option PortName). lines_told words o n ++ later) (at place (omega arith) (omega arith))
+      ∙ ap (λ (x : LineAnswer). line_text port x ∷ later)
+      (get_or_from_slice_get words.numbers.answers.keys n a answer.Init are.0)
+      ∙ ap (λ (l : List (List ℕ)). line_text port a ∷ l)
+      (of_port port (suc place) ns rest (λ k low high. at k (omega (arith, low)) (omega (arith, high))) are.1)
+
+  at_if1 : (k : ℕ) → k < words.if1 → port_at words k ≡ Some If1
+  at_if1 k low =
+      ap (λ (b : Bool). if b then Some If1 else (if nat_lt k (words.if1 + words.if2) then Some If2
+      else (if nat_lt k (words.if1 + words.if2 + words.bus) then Some Bus else None))) (lt-ltb k words.if1 low)
+
+  past_if1 : (k : ℕ) → words.if1 ≤ k → port_at words k ≡ (if nat_lt k (words.if1 + words.if2) then Some If2
+      else (if nat_lt k (words.if1 + words.if2 + words.bus) then Some Bus else None))
+  past_if1 k high =
+      let not_less : nat_lt k words.if1 ≡ false = grind (arith, high) in
+      ap (λ (b : Bool). if b then Some If1 else (if nat_lt k (words.if1 + words.if2) then Some If2
+      else (if nat_lt k (words.if1 + words.if2 + words.bus) then Some Bus else None))) not_less
+
+  at_if2 : (k : ℕ) → words.if1 ≤ k → k < words.if1 + words.if2 → port_at words k ≡ Some If2
+  at_if2 k high low =
+      past_if1 k high
+      ∙ ap (λ (b : Bool). if b then Some If2
+      else (if nat_lt k (words.if1 + words.if2 + words.bus) then Some Bus else None)) (lt-ltb k (words.if1 + words.if2) low)
+
+  past_if2 : (k : ℕ) → words.if1 + words.if2 ≤ k
+      → port_at words k ≡ (if nat_lt k (words.if1 + words.if2 + words.bus) then Some Bus else None)
+  past_if2 k high =
+      let not_less : nat_lt k (words.if1 + words.if2) ≡ false = grind (arith, high) in
+      past_if1 k (omega (arith, high))
+      ∙ ap (λ (b : Bool). if b then Some If2
+      else (if nat_lt k (words.if1 + words.if2 + words.bus) then Some Bus else None)) not_less
+
+  at_bus : (k : ℕ) → words.if1 + words.if2 ≤ k → k < words.if1 + words.if2 + words.bus → port_at words k ≡ Some Bus
+  at_bus k high low =
+      past_if2 k high
+      ∙ ap (λ (b : Bool). if b then Some Bus else None) (lt-ltb k (words.if1 + words.if2 + words.bus) low)
+
+  at_end : (k : ℕ) → words.if1 + words.if2 + words.bus ≤ k → port_at words k ≡ None
+  at_end k high =
+      let not_less : nat_lt k (words.if1 + words.if2 + words.bus) ≡ false = grind (arith, high) in
+      past_if2 k (omega (arith, high)) ∙ ap (λ (b : Bool). if b then Some Bus else None) not_less
+
+  -- of a whole word
+  of_word : (answers : Answers) (records : List Record) (word : List Letter) → IsWordOf words answers records word
+      → rows_of (ending_of_word words word) ≡ flat_map (lines_of_letter words) word
+  unfolding rows_of
+  of_word answers records word is =
+      let f = lines_of_letter words in
+      let p2 = length is.if1 in
+      let p3 = length is.if1 + length is.if2 in
+      let p4 = length is.if1 + length is.if2 + length is.bus in
+      let l1 = is.if1_long in
+      let l2 = is.if2_long in
+      let l3 = is.bus_long in
+      let one = lettered 0 is.if1 in
+      let two = lettered p2 is.if2 in
+      let three = lettered p3 is.bus in
+      let end = lettered p4 (is.memory ∷ []) in
+      let parts : word ≡ one ++ (two ++ (three ++ end)) = is.word_is
+      ∙ lettered_append 0 p2 is.if1 (is.if2 ++ (is.bus ++ is.memory ∷ [])) (omega arith)
+      ∙ ap (λ (l : List Letter). one ++ l) (lettered_append p2 p3 is.if2 (is.bus ++ is.memory ∷ []) refl)
+      ∙ ap (λ (l : List Letter). one ++ (two ++ l)) (lettered_append p3 p4 is.bus (is.memory ∷ []) refl) in
+      let first = of_port If1 0 is.if1 answers.if1 (λ k low high. at_if1 k (omega (arith, high, l1))) is.if1_are in
+      let second = of_port If2 p2 is.if2 answers.if2
+      (λ k low high. at_if2 k (omega (arith, low, l1)) (omega (arith, high, l1, l2))) is.if2_are in
+      let third = of_port Bus p3 is.bus answers.bus
+      (λ k low high. at_bus k (omega (arith, low, l1, l2)) (omega (arith, high, l1, l2, l3))) is.bus_are in
+      let last : flat_map f end ≡ final_rows records =
+      ap (λ (o : Option PortName). lines_told words o is.memory ++ []) (at_end p4 (omega (arith, l1, l2, l3)))
+      ∙ append-nil (lines_told words None is.memory)
+      ∙ ap final_rows (get_or_from_slice_get words.numbers.memories.keys is.memory records [] is.memory_is) in
+      ap rows_of (shown_by words answers records word is)
+      ∙ sym (
+      ap (flat_map f) parts
+      ∙ flat_map-append f one (two ++ (three ++ end))
+      ∙ ap (λ (l : List (List ℕ)). l ++ flat_map f (two ++ (three ++ end))) first
+      ∙ ap (λ (l : List (List ℕ)). map (line_text If1) answers.if1 ++ l) (
+      flat_map-append f two (three ++ end)
+      ∙ ap (λ (l : List (List ℕ)). l ++ flat_map f (three ++ end)) second
+      ∙ ap (λ (l : List (List ℕ)). map (line_text If2) answers.if2 ++ l) (
+      flat_map-append f three end
+      ∙ ap (λ (l : List (List ℕ)). l ++ flat_map f end) third
+      ∙ ap (λ (l : List (List ℕ)). map (line_text Bus) answers.bus ++ l) last
+      )
+      )
+      )
+
+  -- ---- the lines that are sought
+
+  -- the word has the signs of the lines behind the first so many exactly if its outcome has those lines
+  has_rest : (word : List Letter) (rows : List (List ℕ)) → rows ≡ flat_map (lines_of_letter words) word
+      → (all rest : List (List ℕ)) (n : ℕ) → ((k : ℕ) → slice_get all (n + k) ≡ slice_get rest k)
+      → has_signs (tells_line words all) (range_with_len n (length rest)) word ≡ has_lines rest rows
+  unfolding has_lines
+  has_rest word rows is all [] n at = refl
+  has_rest word rows is all (begin ∷ rest) n at =
+      let here : n + 0 ≡ n = omega arith in
+      let first : has_sign (tells_line words all) word n ≡ has_line begin rows =
+      ap (λ (o : Option (List ℕ)). list_any (is_told words o) word) (ap (slice_get all) (sym here) ∙ at 0)
+      ∙ sym (any_of_each begin (lines_of_letter words) word)
+      ∙ ap (has_line begin) (sym is) in
+      ap (λ (b : Bool). b && has_signs (tells_line words all) (range_with_len (n + 1) (length rest)) word) first
+      ∙ ap (λ (b : Bool). has_line begin rows && b) (has_rest word rows is all rest (n + 1) (λ k.
+      let next : n + 1 + k ≡ n + suc k = omega arith in
+      ap (slice_get all) next ∙ at (suc k)))
+
+  pub first_is : AreOfLines words → (begins : List (List ℕ))
+      → first_with_signs (tells_line words begins) (range_with_len 0 (length begins))
+      (all_words words.graph.nodes.keys words.start)
+      ≡ first_with begins (endings_in words)
+  first_is of_lines begins =
+      let nodes = words.graph.nodes.keys in
+      let list = all_words nodes words.start in
+      let its = its_words nodes words.graph.normal words.start words.within in
+      let signs = has_signs (tells_line words begins) (range_with_len 0 (length begins)) in
+      same_position signs (λ word. has_lines begins (rows_of (ending_of_word words word))) list (λ word inside.
+      let of = of_lines word (its.right word inside) in
+      has_rest word (rows_of (ending_of_word words word)) (of_word of.0 of.1 word of.2) begins begins 0 (λ k.
+      let same : 0 + k ≡ k = omega arith in ap (slice_get begins) same))
+      ∙ sym (position_map (has_lines begins) rows_of (λ (ending : Ending). has_lines begins (rows_of ending)) (λ ending. refl)
+      (map (ending_of_word words) list)
+      ∙ position_map (λ (ending : Ending). has_lines begins (rows_of ending)) (ending_of_word words)
+      (λ word. has_lines begins (rows_of (ending_of_word words word))) (λ word. refl) list)
