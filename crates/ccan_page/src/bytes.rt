@@ -52,6 +52,13 @@ impl Bytes {
         self.all.as_slice()
     }
 
+    /// All bytes so far, and nothing else.
+    pub fn into_vec(self) -> Vec<u8>
+        ensures { result.items ≡ self }
+    {
+        self.all
+    }
+
     /// Appends bytes.
     pub fn push_bytes(&mut self, bytes: &[u8]) -> Result<(), AllocError>
         ensures { OnOk result (self.new ≡ self.old ++ bytes.now) }

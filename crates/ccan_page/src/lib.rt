@@ -20,5 +20,6 @@ pub mod step_data;
 mod stepping;
 mod style;
 
+pub use data::data_of;
 pub use page::{Change, LineText, ObjectChange, Outcome, Page, SentFrame, Step};
 pub use page_text::page_of;
