@@ -11,6 +11,7 @@ complete -c ccan-lab -n __fish_use_subcommand -f -a page -d 'A page to step thro
 complete -c ccan-lab -n __fish_use_subcommand -f -a from-candump -d 'A script of a log that candump wrote'
 
 complete -c ccan-lab -n '__fish_seen_subcommand_from outcomes' -l all -d 'Show each outcome, with a history'
+complete -c ccan-lab -n '__fish_seen_subcommand_from outcomes' -l json -d 'Show each outcome, with a history, as JSON'
 complete -c ccan-lab -n '__fish_seen_subcommand_from outcomes' -l observe -x -d 'Tell apart only what these lines and objects are'
 complete -c ccan-lab -n '__fish_seen_subcommand_from outcomes' -l can -x -d 'Ask whether an outcome has all lines that begin so'
 complete -c ccan-lab -n '__fish_seen_subcommand_from outcomes' -l never -x -d 'Ask whether no outcome has all lines that begin so'

@@ -45,6 +45,7 @@ from ._lab import (
     findings_in,
     never_comes,
     outcomes,
+    outcomes_data,
     outcomes_text,
 )
 from ._library import Code, Fault, Flag, Layout, LoadKind, Offset, Register, RoundKind, State, Step
@@ -61,5 +62,5 @@ __all__ = [
     "Offset", "OffsetError", "OtherInterfaceError", "OtherTextError", "OutOfMemoryError", "Outcome", "Port", "Record",
     "Register", "RoundKind", "SavedChipError", "ScriptError", "ScriptOutcomes", "ScriptWarningsError", "SharedError",
     "SpentError", "State", "Status", "Step", "ThreadUseError", "TooManyStatesError", "can_come", "candump", "check", "draw",
-    "explain", "explain_text", "findings_in", "never_comes", "objects_in", "outcomes", "outcomes_text",
+    "explain", "explain_text", "findings_in", "never_comes", "objects_in", "outcomes", "outcomes_data", "outcomes_text",
 ]  # fmt: skip

@@ -201,6 +201,20 @@ def outcomes_text(script: Script, *, observe: Sequence[str] = (), most: Optional
     return _answer("outcomes", script, "--all", *observed, *_bound(most))
 
 
+def outcomes_data(script: Script, *, most: Optional[int] = None) -> Dict[str, Any]:
+    """The same list as ``ccan-lab outcomes --json`` prints it, decoded: each outcome with what the steps of its history changed.
+
+    Parameters
+    ----------
+    script : dict or path
+        The script.
+    most : int, optional
+        As with :func:`outcomes`.
+    """
+    data: Dict[str, Any] = json.loads(_answer("outcomes", script, "--json", *_bound(most)))
+    return data
+
+
 def can_come(script: Script, line: str, *more: str, most: Optional[int] = None) -> str:
     """The first outcome that has a line which begins so, for each line that is given, with its history.
 

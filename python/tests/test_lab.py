@@ -51,6 +51,19 @@ def test_the_whole_list() -> None:
     assert ccan.outcomes_text({}, observe=["final"], most=10).splitlines()[0] == "1 outcome, 1 as observed"
 
 
+def test_the_whole_list_as_data() -> None:
+    data = ccan.outcomes_data(LOST)
+    assert (data["file"], data["count"], len(data["outcomes"])) == (str(LOST), 4, 4)
+    # MsgLst is set where the frame is stored before the host has cleared NewDat: in the first outcome and in the last.
+    losing = [
+        outcome["number"]
+        for outcome in data["outcomes"]
+        if any(changed["after"]["msglst"] for step in outcome["history"] for changed in step["objects"])
+    ]
+    assert losing == [1, 4]
+    assert ccan.outcomes_data({}, most=10)["outcomes"][0]["order"] == []
+
+
 def test_questions() -> None:
     ccan.never_comes(LOST, "if1 busy")
     assert "bus received none" in ccan.can_come(LOST, "bus received none").splitlines()

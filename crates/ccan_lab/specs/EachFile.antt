@@ -1,7 +1,7 @@
 -- What is printed if a question is asked of several files, and the exit status. Source: this project's own; the heading is that
 -- of `head` and `tail`.
 use Rattle.std.specs.Prelude.{ℕ, ◌≡◌, ◌+◌, ◌++◌, ◌&&◌, not, nat_lt, Bool, List, [], Option, Result, Ok, Err}
-use Rattle.std.specs.Prelude.{codes, if◌then◌else◌, map, string_bytes}
+use Rattle.std.specs.Prelude.{codes, if◌then◌else◌, map}
 use Rattle.std.specs.List.{AllZip, flat_map, fold, zip}
 use Rattle.std.specs.Io.KnownBytes.{Appends}
 use Rattle.ccan_lab.specs.declared.each_file.FileAnswer.{FileAnswer}
@@ -22,7 +22,7 @@ heading_if shown name = if shown then heading name else []
 
 -- what is printed of a file: its answer, and nothing if it is refused
 abbrev pub part : Bool → List ℕ → Result FileAnswer LabError → List ℕ
-part shown name (Ok answer) = heading_if shown name ++ string_bytes answer.text
+part shown name (Ok answer) = heading_if shown name ++ answer.text.items
 part shown name (Err fault) = []
 
 -- what is printed of files: that of each, in their order

@@ -5,7 +5,7 @@ use Rattle.ccan_line.specs.Script.{ScriptFields}
 use Rattle.ccan_outcomes.specs.declared.ending.Ending.{Ending}
 use Rattle.ccan_outcomes.specs.Ending.{AreOfRuns, AreOutcomes}
 use Rattle.ccan_lab.specs.declared.asked.Asked.{Asked}
-use Rattle.ccan_lab.specs.declared.asked.Asked.TheVariants.{Summary, All, Can, Never, Observed, AllObserved}
+use Rattle.ccan_lab.specs.declared.asked.Asked.TheVariants.{Summary, All, Json, Can, Never, Observed, AllObserved}
 use Rattle.ccan_lab.specs.Listing.{IsListing}
 use Rattle.ccan_lab.specs.Observed.{IsObservedListing, names_in}
 
@@ -13,6 +13,7 @@ use Rattle.ccan_lab.specs.Observed.{IsObservedListing, names_in}
 abbrev pub IsOfAll : Asked → Type 0
 IsOfAll Summary = ⊥
 IsOfAll All = Unit {0}
+IsOfAll Json = ⊥
 IsOfAll Can = ⊥
 IsOfAll Never = ⊥
 IsOfAll (Observed names) = ⊥
@@ -22,6 +23,7 @@ IsOfAll (AllObserved names) = Unit {0}
 abbrev pub Answers : ScriptFields → List Ending → Asked → List ℕ → Type 0
 Answers script endings Summary text = ⊥
 Answers script endings All text = IsListing script endings text
+Answers script endings Json text = ⊥
 Answers script endings Can text = ⊥
 Answers script endings Never text = ⊥
 Answers script endings (Observed names) text = ⊥

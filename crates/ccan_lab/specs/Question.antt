@@ -3,13 +3,14 @@ use Rattle.std.specs.Prelude.{ℕ, ◌≡◌, ◌<◌, ◌^◌, List, [], ◌∷
 use Rattle.ccan_line.specs.Script.{ScriptFields}
 use Rattle.ccan_lab.specs.Observed.{is_known, names_in}
 use Rattle.ccan_lab.specs.declared.asked.Asked.{Asked}
-use Rattle.ccan_lab.specs.declared.asked.Asked.TheVariants.{Summary, All, Can, Never, Observed, AllObserved}
+use Rattle.ccan_lab.specs.declared.asked.Asked.TheVariants.{Summary, All, Json, Can, Never, Observed, AllObserved}
 
 -- it is asked what of the outcomes can be told apart in these places
 abbrev pub IsObserving : List ℕ → Asked → Type 0
 IsObserving list (Observed names) = names.now ≡ list
 IsObserving list Summary = ⊥
 IsObserving list All = ⊥
+IsObserving list Json = ⊥
 IsObserving list Can = ⊥
 IsObserving list Never = ⊥
 IsObserving list (AllObserved names) = ⊥
@@ -19,6 +20,7 @@ abbrev pub IsObservingAll : List ℕ → Asked → Type 0
 IsObservingAll list (AllObserved names) = names.now ≡ list
 IsObservingAll list Summary = ⊥
 IsObservingAll list All = ⊥
+IsObservingAll list Json = ⊥
 IsObservingAll list Can = ⊥
 IsObservingAll list Never = ⊥
 IsObservingAll list (Observed names) = ⊥
@@ -42,6 +44,7 @@ AreKnown script (Observed names) = AreKnownNames script names.now
 AreKnown script (AllObserved names) = AreKnownNames script names.now
 AreKnown script Summary = Unit {0}
 AreKnown script All = Unit {0}
+AreKnown script Json = Unit {0}
 AreKnown script Can = Unit {0}
 AreKnown script Never = Unit {0}
 
@@ -50,7 +53,7 @@ abbrev pub AsksAllBy : Option (List ℕ) → Asked → Type 0
 AsksAllBy (Some names) asked = IsObservingAll names asked
 AsksAllBy None asked = asked ≡ All
 
--- what is asked without --all, by the lines of --can, those of --never, and the names of --observe
+-- what is asked without --all and --json, by the lines of --can, those of --never, and the names of --observe
 abbrev pub AsksBy : Option (List (List ℕ)) → Option (List (List ℕ)) → Option (List ℕ) → Asked → Type 0
 AsksBy (Some lines) never observe asked = asked ≡ Can
 AsksBy None (Some lines) observe asked = asked ≡ Never

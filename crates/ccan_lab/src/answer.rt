@@ -152,6 +152,8 @@ pub fn text_of<P: Progress>(
     match asked {
         Asked::All => listing(alloc, telling),
         Asked::AllObserved(names) => observed_listing(alloc, telling, names),
-        Asked::Summary | Asked::Observed(_) | Asked::Can | Asked::Never => unreachable!(),
+        Asked::Summary | Asked::Json | Asked::Observed(_) | Asked::Can | Asked::Never => {
+            unreachable!()
+        }
     }
 }

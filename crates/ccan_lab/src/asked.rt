@@ -5,6 +5,8 @@ pub enum Asked<'a> {
     Summary,
     /// Each outcome with a history that leads to it.
     All,
+    /// The same as JSON.
+    Json,
     /// Whether an outcome has a line that begins so for each LINE that is given.
     Can,
     /// Whether no outcome has a line that begins so for each LINE that is given.

@@ -178,7 +178,7 @@ where
     let bytes = bytes_of(rt, file)?;
     let (text, end) = checked(rt.alloc(), file, bytes.as_slice())?;
     Ok(FileAnswer {
-        text,
+        text: text.into_bytes(),
         status: end.status(is_strict),
     })
 }

@@ -120,7 +120,7 @@ where
     let answered = counted(rt.alloc(), &script, most, progress);
     progress.clear();
     Ok(FileAnswer {
-        text: answered?,
+        text: answered?.into_bytes(),
         status: 0,
     })
 }

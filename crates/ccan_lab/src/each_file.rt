@@ -13,9 +13,20 @@ use std::io::Write;
 #[derive(Drop)]
 pub struct FileAnswer {
     /// What is printed of it.
-    pub text: String,
+    pub text: Vec<u8>,
     /// The exit status if it is the only file.
     pub status: u8,
+}
+
+/// Writes bytes.
+fn write_bytes<W: Write>(writer: &mut W, bytes: &[u8]) -> Result<(), LabError>
+    ensures ok { OnOk result (Appends (W.contents writer.old) (W.contents writer.new) bytes.now) }
+    ensures fault { IfErr result (λ e. e ≡ LabError.Write) }
+{
+    match writer.write_all(bytes) {
+        Ok(()) => Ok(()),
+        Err(_) => Err(LabError::Write),
+    }
 }
 
 /// Writes a text.
@@ -23,10 +34,7 @@ fn write_text<W: Write>(writer: &mut W, text: &str) -> Result<(), LabError>
     ensures ok { OnOk result (Appends (W.contents writer.old) (W.contents writer.new) text.now) }
     ensures fault { IfErr result (λ e. e ≡ LabError.Write) }
 {
-    match writer.write_all(text.as_bytes()) {
-        Ok(()) => Ok(()),
-        Err(_) => Err(LabError::Write),
-    }
+    write_bytes(writer, text.as_bytes())
 }
 
 /// Writes the line above the answer of a file.
@@ -67,7 +75,7 @@ fn write_answer<W: Write>(
     match answered {
         Ok(answer) => {
             write_heading_if(writer, is_shown, name)?;
-            write_text(writer, answer.text.as_str())
+            write_bytes(writer, answer.text.as_slice())
         }
         Err(_) => Ok(()),
     }

@@ -142,7 +142,7 @@ where
 {
     tell_terminal(rt, "a script", Some(file));
     let script = script_asked(rt, Some(file))?;
-    let text = explained(rt.alloc(), &script, form)?;
+    let text = explained(rt.alloc(), &script, form)?.into_bytes();
     Ok(FileAnswer { text, status: 0 })
 }
 

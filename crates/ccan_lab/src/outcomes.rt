@@ -6,6 +6,7 @@ ghost use Rattle.std.specs.List.{IsDistinct};
 ghost use Rattle.ccan_line.specs.Script.{fields_of};
 ghost use Rattle.ccan_outcomes.specs.Ending.{AreOutcomes};
 ghost use Rattle.ccan_outcomes.specs.OutcomeWords.{endings_in};
+ghost use Rattle.ccan_lab.specs.declared.asked.Asked.TheVariants as Asked;
 ghost use Rattle.ccan_lab.specs.Outcomes.{Answers, IsOfAll, TellsAll};
 ghost use Rattle.ccan_lab.specs.Telling.{CanBeTold};
 ghost use Rattle.ccan_lab.specs.Question.{AreKnown, AreKnownNames, AsksAllBy, AsksBy, IsGivenBy};
@@ -23,11 +24,13 @@ use crate::command_words::{
     apart_from, command, files_named, number, option, scripts, several, switch, with,
 };
 use crate::each_file::{FileAnswer, answer_each};
-use crate::input::{script_asked, tell_terminal};
+use crate::input::{script_in, tell_terminal};
 use crate::lab_error::LabError;
 use crate::line_search::{LineSearch, search_among};
 use crate::observed::first_unknown;
 use crate::outcome_words::{OutcomeList, list_of, words_of};
+use crate::outcomes_json::answer_of_json;
+use crate::paging::{Source, source_asked};
 use crate::progress_line::ProgressLine;
 use crate::seen::seen_text;
 use crate::summary::short_list;
@@ -73,6 +76,14 @@ fn all_flag<'a>(alloc: Global) -> Result<Arg<'a>, AllocError> {
     apart_from(apart_from(switch(alloc, "all", help), "can")?, "never")
 }
 
+/// The flag that asks for the whole list as JSON.
+fn json_flag<'a>(alloc: Global) -> Result<Arg<'a>, AllocError> {
+    let help = "Show each outcome, with a history, as JSON: the data in a page of ccan-lab page";
+    let json = apart_from(switch(alloc, "json", help), "all")?;
+    let json = apart_from(json, "observe")?;
+    apart_from(apart_from(json, "can")?, "never")
+}
+
 /// The option that asks for the outcomes that can be told apart by some lines.
 fn observe_option<'a>(alloc: Global) -> Result<Arg<'a>, AllocError> {
     let help =
@@ -102,6 +113,7 @@ fn never_option<'a>(alloc: Global) -> Arg<'a> {
 /// The command, which takes what chooses outcomes.
 fn choosing<'a>(alloc: Global, command: Command<'a>) -> Result<Command<'a>, AllocError> {
     let chosen = with(command, all_flag(alloc)?)?;
+    let chosen = with(chosen, json_flag(alloc)?)?;
     let chosen = with(chosen, observe_option(alloc)?)?;
     let chosen = with(chosen, can_option(alloc)?)?;
     with(chosen, never_option(alloc))
@@ -126,18 +138,12 @@ fn all_asked<'a>(words: &ArgMatches<'a>) -> Asked<'a>
     }
 }
 
-/// What the words of that command ask.
-fn asked_of<'a>(words: &ArgMatches<'a>) -> Asked<'a>
-    ensures all { one_text (found_of words.entry.now) (codes "all") ≡ Some (codes "true")
-        → AsksAllBy (first_value (found_of words.entry.now) (codes "observe")) result }
-    ensures line { one_text (found_of words.entry.now) (codes "all") ≡ Some (codes "false")
-        → AsksBy (option_map raw_values (matched_of (found_of words.entry.now) (codes "can")))
+/// What the words of that command ask if they don't ask for the whole list.
+fn part_asked<'a>(words: &ArgMatches<'a>) -> Asked<'a>
+    ensures { AsksBy (option_map raw_values (matched_of (found_of words.entry.now) (codes "can")))
         (option_map raw_values (matched_of (found_of words.entry.now) (codes "never")))
         (first_value (found_of words.entry.now) (codes "observe")) result }
 {
-    if words.get_flag("all") {
-        return all_asked(words);
-    }
     if words.get_strs("can").is_some() {
         return Asked::Can;
     }
@@ -148,6 +154,28 @@ fn asked_of<'a>(words: &ArgMatches<'a>) -> Asked<'a>
         Some(names) => Asked::Observed(names),
         None => Asked::Summary,
     }
+}
+
+/// What the words of that command ask.
+fn asked_of<'a>(words: &ArgMatches<'a>) -> Asked<'a>
+    ensures all { one_text (found_of words.entry.now) (codes "all") ≡ Some (codes "true")
+        → AsksAllBy (first_value (found_of words.entry.now) (codes "observe")) result }
+    ensures json { one_text (found_of words.entry.now) (codes "all") ≡ Some (codes "false")
+        → one_text (found_of words.entry.now) (codes "json") ≡ Some (codes "true")
+        → result ≡ Asked.Json }
+    ensures line { one_text (found_of words.entry.now) (codes "all") ≡ Some (codes "false")
+        → one_text (found_of words.entry.now) (codes "json") ≡ Some (codes "false")
+        → AsksBy (option_map raw_values (matched_of (found_of words.entry.now) (codes "can")))
+        (option_map raw_values (matched_of (found_of words.entry.now) (codes "never")))
+        (first_value (found_of words.entry.now) (codes "observe")) result }
+{
+    if words.get_flag("all") {
+        return all_asked(words);
+    }
+    if words.get_flag("json") {
+        return Asked::Json;
+    }
+    part_asked(words)
 }
 
 /// The LINEs that the words of that command ask about.
@@ -187,8 +215,13 @@ pub fn outcomes_question<'a>(
     ensures all { IfOk result (λ question.
         one_text (found_of words.entry.now) (codes "all") ≡ Some (codes "true")
         → AsksAllBy (first_value (found_of words.entry.now) (codes "observe")) question.asked) }
+    ensures json { IfOk result (λ question.
+        one_text (found_of words.entry.now) (codes "all") ≡ Some (codes "false")
+        → one_text (found_of words.entry.now) (codes "json") ≡ Some (codes "true")
+        → question.asked ≡ Asked.Json) }
     ensures line { IfOk result (λ question.
         one_text (found_of words.entry.now) (codes "all") ≡ Some (codes "false")
+        → one_text (found_of words.entry.now) (codes "json") ≡ Some (codes "false")
         → AsksBy (option_map raw_values (matched_of (found_of words.entry.now) (codes "can")))
         (option_map raw_values (matched_of (found_of words.entry.now) (codes "never")))
         (first_value (found_of words.entry.now) (codes "observe")) question.asked) }
@@ -221,7 +254,7 @@ fn refuse_unknown(alloc: Global, script: &Script, asked: Asked<'_>) -> Result<()
 {
     match asked {
         Asked::Observed(names) | Asked::AllObserved(names) => refuse_names(alloc, script, names),
-        _ => Ok(()),
+        Asked::Summary | Asked::All | Asked::Json | Asked::Can | Asked::Never => Ok(()),
     }
 }
 
@@ -384,30 +417,41 @@ fn answer_of_observed<P: Progress>(
     Ok(Answer { text, holds: true })
 }
 
-/// What is answered to a question about the outcomes of a script.
+/// The exit status of an answer that is as asked, or isn't.
+fn status_of(is_so: bool) -> u8 {
+    if is_so { 0 } else { NOT_SO }
+}
+
+/// What is printed of a file that has this answer, with its exit status.
+fn file_answer(answer: Answer) -> FileAnswer
+    ensures { result.text.items ≡ string_bytes answer.text }
+{
+    FileAnswer {
+        text: answer.text.into_bytes(),
+        status: status_of(answer.holds),
+    }
+}
+
+/// What is answered to a question about the outcomes of the script of this source.
 fn answer_of_script<P: Progress>(
     alloc: Global,
     script: &Script,
+    source: &Source,
     question: &OutcomesQuestion<'_>,
     progress: &P,
-) -> Result<Answer, LabError> {
-    match question.asked {
-        Asked::Summary => answer_of_summary(alloc, script, question.most, progress),
-        Asked::Can => {
-            let lines = question.lines.as_slice();
-            answer_of_line(alloc, script, lines, false, question.most, progress)
-        }
-        Asked::Never => {
-            let lines = question.lines.as_slice();
-            answer_of_line(alloc, script, lines, true, question.most, progress)
-        }
-        Asked::Observed(names) => {
-            answer_of_observed(alloc, script, names, question.most, progress)
-        }
+) -> Result<FileAnswer, LabError> {
+    let (lines, most) = (question.lines.as_slice(), question.most);
+    let answer = match question.asked {
+        Asked::Summary => answer_of_summary(alloc, script, most, progress)?,
+        Asked::Can => answer_of_line(alloc, script, lines, false, most, progress)?,
+        Asked::Never => answer_of_line(alloc, script, lines, true, most, progress)?,
+        Asked::Observed(names) => answer_of_observed(alloc, script, names, most, progress)?,
         Asked::All | Asked::AllObserved(_) => {
-            answer_of_all(alloc, script, question.asked, question.most, progress)
+            answer_of_all(alloc, script, question.asked, most, progress)?
         }
-    }
+        Asked::Json => return answer_of_json(alloc, script, source, most, progress),
+    };
+    Ok(file_answer(answer))
 }
 
 /// Says on standard error what the printed lines of a script begin with.
@@ -417,25 +461,21 @@ fn tell_beginnings<T: AllocGlobal + Eprint>(rt: &T, script: &Script) -> Result<(
     Ok(())
 }
 
-/// What is answered to a question about the outcomes of a script. Where a line is refused that is to be searched for, standard
-/// error says what would be right.
+/// What is answered to a question about the outcomes of the script of this source. Where a line is refused that is to be searched
+/// for, standard error says what would be right.
 fn answered_or_told<T: AllocGlobal + Eprint>(
     rt: &T,
     script: &Script,
+    source: &Source,
     question: &OutcomesQuestion<'_>,
     progress: &ProgressLine<'_, T>,
-) -> Result<Answer, LabError> {
-    let answered = answer_of_script(rt.alloc(), script, question, progress);
+) -> Result<FileAnswer, LabError> {
+    let answered = answer_of_script(rt.alloc(), script, source, question, progress);
     progress.clear();
     if let Err(LabError::NoLine) = answered {
         tell_beginnings(rt, script)?;
     }
     answered
-}
-
-/// The exit status of an answer that is as asked, or isn't.
-fn status_of(is_so: bool) -> u8 {
-    if is_so { 0 } else { NOT_SO }
 }
 
 /// What is answered to a question about the outcomes of the script of a file. A wait is told by its last look: that changes no
@@ -450,17 +490,23 @@ where
     T::Reader: IsTerminal,
 {
     tell_terminal(rt, "a script", Some(file));
-    let script = looking_once(rt.alloc(), script_asked(rt, Some(file))?)?;
+    let source = source_asked(rt, Some(file))?;
+    let script = looking_once(rt.alloc(), script_in(rt.alloc(), source.text.as_slice())?)?;
     refuse_unknown(rt.alloc(), &script, question.asked)?;
-    let answer = answered_or_told(rt, &script, question, progress)?;
-    Ok(FileAnswer {
-        text: answer.text,
-        status: status_of(answer.holds),
-    })
+    answered_or_told(rt, &script, &source, question, progress)
 }
 
-/// Lists the outcomes of each script, and prints what is answered, under the name of its file if there are several. Gives the
-/// worst exit status.
+/// Whether an answer to what is asked names its file.
+fn is_named(asked: Asked<'_>) -> bool {
+    match asked {
+        Asked::Json => true,
+        Asked::Summary | Asked::All | Asked::Can | Asked::Never => false,
+        Asked::Observed(_) | Asked::AllObserved(_) => false,
+    }
+}
+
+/// Lists the outcomes of each script, and prints what is answered, under the name of its file if there are several and the answer
+/// doesn't name it. Gives the worst exit status.
 pub fn answer_outcomes<T: AllocGlobal + Input + Files + Print + Eprint>(
     rt: &T,
     question: &OutcomesQuestion<'_>,
@@ -469,8 +515,8 @@ pub fn answer_outcomes<T: AllocGlobal + Input + Files + Print + Eprint>(
 where
     T::Reader: IsTerminal,
 {
-    let files = question.files.as_slice();
-    answer_each(rt, &mut io::writer(rt), files, false, |file| {
+    let (files, are_named) = (question.files.as_slice(), is_named(question.asked));
+    answer_each(rt, &mut io::writer(rt), files, are_named, |file| {
         outcomes_of_file(rt, file, question, progress)
     })
 }

@@ -4,7 +4,7 @@ ghost use Rattle.std.specs.Option.{option_map};
 ghost use Rattle.ccan_lab.specs.Paging.{page_name};
 
 mod history_steps;
-mod outcome_pages;
+pub(crate) mod outcome_pages;
 mod run_steps;
 
 use crate::command_words::{apart_from, command, file, number, switch, with};
@@ -133,11 +133,11 @@ fn line_texts<'a>(
 
 /// A script's text, and the name of its file.
 #[derive(Drop)]
-struct Source {
+pub(crate) struct Source {
     /// The name that a page has for the file.
-    name: String,
+    pub name: String,
     /// All bytes of the file.
-    text: Vec<u8>,
+    pub text: Vec<u8>,
 }
 
 /// The name that a page has for a file: none for standard input.
@@ -152,7 +152,7 @@ fn name_of(alloc: Global, file: Option<&str>) -> Result<String, AllocError>
 }
 
 /// Reads the script that was asked about.
-fn source_asked<T: AllocGlobal + Input + Files>(
+pub(crate) fn source_asked<T: AllocGlobal + Input + Files>(
     rt: &T,
     file: Option<&str>,
 ) -> Result<Source, LabError>
@@ -165,7 +165,7 @@ fn source_asked<T: AllocGlobal + Input + Files>(
 }
 
 /// A page of this script without an outcome.
-fn empty_page<'a>(alloc: Global, source: &'a Source) -> Result<Page<'a>, AllocError>
+pub(crate) fn empty_page<'a>(alloc: Global, source: &'a Source) -> Result<Page<'a>, AllocError>
     ensures { IfOk result (λ page. page.file.now ≡ string_bytes source.now.name) }
 {
     let text = source.text.as_slice();

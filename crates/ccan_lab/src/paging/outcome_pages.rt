@@ -1,10 +1,12 @@
 //! The outcomes of a script, as a page shows them.
-ghost use Rattle.std.specs.Prelude.{◌≡◌, ◌+◌, ◌^◌, ◌++◌, ◌∷◌, [], ◌<◌, Some, IfOk, OnOk, length, map, min, slice_get};
+ghost use Rattle.std.specs.Prelude.{◌≡◌, ◌+◌, ◌^◌, ◌++◌, ◌∷◌, [], ◌<◌, Some, IfErr, IfOk, OnOk, length, map, min, slice_get};
 ghost use Rattle.ccan_line.specs.Script.{fields_of};
 ghost use Rattle.ccan_outcomes.specs.OutcomeWords.{endings_in};
-ghost use Rattle.ccan_lab.specs.Paging.{AreShown, IsShown, ShowsEndings, ShowsOutcomes, line_of, line_stepped};
+ghost use Rattle.ccan_lab.specs.Paging.{AreShown, IsShown, ShowsEndings, ShowsList, ShowsOutcomes};
+ghost use Rattle.ccan_lab.specs.Paging.{line_of, line_stepped};
 ghost use Rattle.ccan_lab.specs.Sorted.{all_texts};
 ghost use Rattle.ccan_lab.specs.Telling.{CanBeTold};
+ghost use Rattle.ccan_lab.specs.Words.{HasNoHistory, IsWithout};
 
 use crate::choices::all_choices;
 use crate::lab_error::LabError;
@@ -15,6 +17,7 @@ use crate::replay::order_to;
 use crate::report::different_lines;
 use crate::summary::{add_same_parts, all_in_order};
 use crate::telling::{Telling, history_to};
+use ccan_outcomes::all_ports::AllPorts;
 use ccan_outcomes::{Ending, Histories, HistoryStep, looking_once, states_along};
 use ccan_page as page;
 use ccan_page::{Outcome, Page};
@@ -77,8 +80,10 @@ fn outcome_at<P: Progress>(
     requires can { CanBeTold (fields_of telling.now.script.now) telling.now.list.now }
     requires at { slice_get (endings_in telling.now.list.now.words) place ≡ Some ending.now }
     requires few { place + 1 < 2 ^ 64 }
-    ensures { IfOk result (IsShown (fields_of telling.now.script.now)
+    ensures shown { IfOk result (IsShown (fields_of telling.now.script.now)
         (endings_in telling.now.list.now.words) (all_texts choices.now) place) }
+    ensures without { IfErr result (HasNoHistory (fields_of telling.now.script.now)
+        ⟦<AllPorts as PartialEq>⟧.eq telling.now.most) }
 {
     let script = telling.script;
     let steps = history_to(alloc, telling, histories, place, ending)?;
@@ -110,9 +115,11 @@ fn outcomes_shown<P: Progress>(
     limit: usize,
 ) -> Result<Vec<Outcome>, LabError>
     requires can { CanBeTold (fields_of telling.now.script.now) telling.now.list.now }
-    ensures { IfOk result (λ shown. AreShown (fields_of telling.now.script.now)
+    ensures shown { IfOk result (λ shown. AreShown (fields_of telling.now.script.now)
         (endings_in telling.now.list.now.words) (all_texts choices.now)
         (min limit (length (endings_in telling.now.list.now.words))) shown.items) }
+    ensures without { IfErr result (HasNoHistory (fields_of telling.now.script.now)
+        ⟦<AllPorts as PartialEq>⟧.eq telling.now.most) }
 {
     let mut histories = Histories::new(alloc);
     let mut shown = Vec::new(alloc);
@@ -137,6 +144,8 @@ fn found_page<'a, P: Progress>(
     ensures file { IfOk result (λ made. made.file.now ≡ page.entry.file.now) }
     ensures shows { IfOk result (ShowsEndings (fields_of telling.now.script.now)
         (endings_in telling.now.list.now.words) limit) }
+    ensures without { IfErr result (HasNoHistory (fields_of telling.now.script.now)
+        ⟦<AllPorts as PartialEq>⟧.eq telling.now.most) }
 {
     let words = &telling.list.words;
     let rows = all_choices(alloc, telling.script, words)?;
@@ -149,8 +158,32 @@ fn found_page<'a, P: Progress>(
     Ok(page)
 }
 
-/// The page with the outcomes of a script, at most so many, of a search that follows so many states at most. A wait is shown by
-/// its last look, as `ccan-lab outcomes` tells it.
+/// The page with the outcomes of a script, at most so many, of a search that follows so many states at most.
+pub(crate) fn listed_page<'a, P: Progress>(
+    alloc: Global,
+    script: &Script,
+    limit: usize,
+    most: usize,
+    page: Page<'a>,
+    progress: &P,
+) -> Result<Page<'a>, LabError>
+    ensures file { IfOk result (λ made. made.file.now ≡ page.entry.file.now) }
+    ensures outcomes { IfOk result (ShowsList (fields_of script.now)
+        ⟦<Ending as PartialEq>⟧.eq limit) }
+    ensures without { IfErr result
+        (IsWithout (fields_of script.now) ⟦<AllPorts as PartialEq>⟧.eq most) }
+{
+    let list = list_of(alloc, script, most, progress)?;
+    let telling = Telling {
+        script,
+        list: &list,
+        most,
+        progress,
+    };
+    found_page(alloc, &telling, limit, page)
+}
+
+/// The same page, on which a wait is shown by its last look, as `ccan-lab outcomes` tells it.
 pub(crate) fn outcomes_page<'a, P: Progress>(
     alloc: Global,
     script: Script,
@@ -164,12 +197,5 @@ pub(crate) fn outcomes_page<'a, P: Progress>(
         ⟦<Ending as PartialEq>⟧.eq limit) }
 {
     let script = looking_once(alloc, script)?;
-    let list = list_of(alloc, &script, most, progress)?;
-    let telling = Telling {
-        script: &script,
-        list: &list,
-        most,
-        progress,
-    };
-    found_page(alloc, &telling, limit, page)
+    listed_page(alloc, &script, limit, most, page, progress)
 }

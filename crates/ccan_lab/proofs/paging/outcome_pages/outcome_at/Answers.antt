@@ -12,8 +12,8 @@ use Rattle.ccan_lab.specs.Sorted.{all_texts}
 use Rattle.ccan_lab.proofs.Listed.{rows_there}
 use Rattle.ccan_lab.proofs.paging.outcome_pages.outcome_at.Goals as goal
 
-pub returns : goal.returns
-returns g c =
+pub returns-clause-shown : goal.returns-clause-shown
+returns-clause-shown g c =
     let script = fields_of c.args.telling.now.script.now in
     let ending = c.args.ending.now in
     let steps = c.in_ok-steps.steps.items in

@@ -1,17 +1,12 @@
 use Rattle.std.proofs.lemmas.Result.{IfOk-weaker}
 use Rattle.ccan_line.specs.Script.{fields_of}
-use Rattle.ccan_outcomes.specs.OutcomeWords.{endings_in}
 use Rattle.ccan_lab.proofs.paging.outcome_pages.outcomes_page.Goals as goal
 
 pub returns-clause-outcomes : goal.returns-clause-outcomes
 returns-clause-outcomes g c =
-    IfOk-weaker c.found_page.result _ _ (λ made shows. record {
+    IfOk-weaker c.listed_page.result _ _ (λ made shows. record {
       searched = fields_of c.in_ok-script.script;
       same_outcomes = c.in_ok-script.ensures.same;
-      endings = endings_in c.in_ok-list.list.words;
-      complete = c.in_ok-list.ensures.all;
-      runs = c.in_ok-list.ensures.told.runs;
-      once = c.in_ok-list.ensures.distinct;
       shows = shows;
     })
-    c.found_page.ensures.shows
+    c.listed_page.ensures.outcomes

@@ -24,13 +24,13 @@ loop-place-preserved g c =
             c.in_ok-outcome.outcome,
             c.in_ok-add_shown.ensures,
             c.loop-place.invariant.are,
-            c.in_ok-outcome.ensures,
+            c.in_ok-outcome.ensures.shown,
           );
     }
 
 -- behind the last of all
-pub returns-in_default : goal.returns-in_default
-returns-in_default g c =
+pub returns-in_default-clause-shown : goal.returns-in_default-clause-shown
+returns-in_default-clause-shown g c =
     let place = c.loop-place.place in
     let endings = endings_in c.args.telling.now.list.now.words in
     let low = c.loop-place-test.true in
@@ -42,8 +42,8 @@ returns-in_default g c =
     c.loop-place.shown.items) same c.loop-place.invariant.are
 
 -- behind as many as are to be shown
-pub returns : goal.returns
-returns g c =
+pub returns-clause-shown : goal.returns-clause-shown
+returns-clause-shown g c =
     let place = c.loop-place.place in
     let endings = endings_in c.args.telling.now.list.now.words in
     let high = c.loop-place-test.false in
