@@ -1,6 +1,6 @@
 //! The question `ccan-lab outcomes`: its words, and its answer.
 
-ghost use Rattle.std.specs.Prelude.{◌≡◌, IfErr, IfOk, codes, map, option_map, string_bytes, true};
+ghost use Rattle.std.specs.Prelude.{◌≡◌, ◌↔◌, IfErr, IfOk, IsTrue, codes, map, option_map, string_bytes, true};
 ghost use Rattle.clap.specs.Words.{first_value, found_of, matched_of, one_text, raw_values};
 ghost use Rattle.std.specs.List.{IsDistinct};
 ghost use Rattle.ccan_line.specs.Script.{fields_of};
@@ -497,7 +497,9 @@ where
 }
 
 /// Whether an answer to what is asked names its file.
-fn is_named(asked: Asked<'_>) -> bool {
+fn is_named(asked: Asked<'_>) -> bool
+    ensures { IsTrue result ↔ (asked.entry ≡ Asked.Json) }
+{
     match asked {
         Asked::Json => true,
         Asked::Summary | Asked::All | Asked::Can | Asked::Never => false,

@@ -39,8 +39,8 @@ pub(crate) fn answer_of_json<P: Progress>(
     ensures without { IfErr result
         (IsWithout (fields_of script.now) ⟦<AllPorts as PartialEq>⟧.eq most) }
 {
-    let page = empty_page(alloc, source)?;
-    let page = listed_page(alloc, script, usize::MAX, most, page, progress)?;
+    let empty = empty_page(alloc, source)?;
+    let page = listed_page(alloc, script, usize::MAX, most, empty, progress)?;
     let text = json_of(alloc, &page)?;
     Ok(FileAnswer { text, status: 0 })
 }
