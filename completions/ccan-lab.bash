@@ -10,7 +10,7 @@ _ccan_lab() {
         return
     elif [[ "$word" == -* ]]; then
         case ${COMP_WORDS[1]} in
-            outcomes) words="--all --json --observe --can --never --most -h --help" ;;
+            outcomes) words="--all --json --observe --can --never --brief --most -h --help" ;;
             count) words="--most -h --help" ;;
             check) words="--strict --expect -h --help" ;;
             explain) words="--json --candump -h --help" ;;

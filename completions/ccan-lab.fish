@@ -15,6 +15,7 @@ complete -c ccan-lab -n '__fish_seen_subcommand_from outcomes' -l json -d 'Show 
 complete -c ccan-lab -n '__fish_seen_subcommand_from outcomes' -l observe -x -d 'Tell apart only what these lines and objects are'
 complete -c ccan-lab -n '__fish_seen_subcommand_from outcomes' -l can -x -d 'Ask whether an outcome has all lines that begin so'
 complete -c ccan-lab -n '__fish_seen_subcommand_from outcomes' -l never -x -d 'Ask whether no outcome has all lines that begin so'
+complete -c ccan-lab -n '__fish_seen_subcommand_from outcomes' -l brief -d 'Write each history in few lines'
 complete -c ccan-lab -n '__fish_seen_subcommand_from outcomes' -l most -x -d 'How many states and nodes to keep at most'
 
 complete -c ccan-lab -n '__fish_seen_subcommand_from count' -l most -x -d 'How many states and nodes to keep at most'

@@ -185,7 +185,9 @@ def outcomes(script: Script, *, most: Optional[int] = None) -> ScriptOutcomes:
     return _read_outcomes(_answer("outcomes", script, *_bound(most)))
 
 
-def outcomes_text(script: Script, *, observe: Sequence[str] = (), most: Optional[int] = None) -> str:
+def outcomes_text(
+    script: Script, *, observe: Sequence[str] = (), brief: bool = False, most: Optional[int] = None
+) -> str:
     """The list of every outcome with a history, as ``ccan-lab outcomes --all`` prints it.
 
     Parameters
@@ -194,11 +196,14 @@ def outcomes_text(script: Script, *, observe: Sequence[str] = (), most: Optional
         The script.
     observe : sequence of str
         Lines and objects, as ``if1[2]`` or ``final 01``: only what they can be is told apart.
+    brief : bool
+        Whether each history has few lines, with what each change left and each frame on the bus.
     most : int, optional
         As with :func:`outcomes`.
     """
     observed = ["--observe", ",".join(observe)] if observe else []
-    return _answer("outcomes", script, "--all", *observed, *_bound(most))
+    short = ["--brief"] if brief else []
+    return _answer("outcomes", script, "--all", *observed, *short, *_bound(most))
 
 
 def outcomes_data(script: Script, *, most: Optional[int] = None) -> Dict[str, Any]:

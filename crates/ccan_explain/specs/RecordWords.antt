@@ -1,10 +1,12 @@
--- The flags of an object, and how a line changed them. Source: this project's own; the flags are those of the C_CAN User's
+-- A record in words, and its flags by how a line changed them. Source: this project's own; the flags are those of the C_CAN User's
 -- Manual 1.2, section 3.3.4.
-use Rattle.std.specs.Prelude.{ℕ, List, [], ◌++◌, Bool, true, false, ◌||◌, codes, if◌then◌else◌}
+use Rattle.std.specs.Prelude.{ℕ, ◌==◌, nat_lt, List, [], ◌++◌, Bool, true, false, ◌||◌, codes, decimal, take, if◌then◌else◌}
+use Rattle.std.specs.List.{flat_map}
 use Rattle.ccan_object.specs.declared.record.Record.{Record}
 use Rattle.ccan_object.specs.Bits.{part}
+use Rattle.ccan_object.specs.DataLength.{byte_count}
 use Rattle.ccan_accept.specs.Send.{number_of}
-use Rattle.ccan_explain.specs.FrameText.{id_text}
+use Rattle.ccan_explain.specs.FrameText.{capital_hex, id_text}
 
 -- the mask at the places of the identifier: all its bits, or of a standard one bits 28 to 18
 abbrev pub mask_number : Record → ℕ
@@ -48,3 +50,22 @@ flags_text before after =
     (if has_flag before || has_flag after then codes " |" else [])
     ++ (flag_text before.newdat after.newdat (codes "NewDat") ++ (flag_text before.msglst after.msglst (codes "MsgLst")
     ++ (flag_text before.intpnd after.intpnd (codes "IntPnd") ++ flag_text before.txrqst after.txrqst (codes "TxRqst"))))
+
+-- each byte in two digits, behind a space
+abbrev pub spaced_text : List ℕ → List ℕ
+spaced_text bytes = flat_map (λ byte. codes " " ++ capital_hex 2 byte) bytes
+
+-- the data that a data length code means, and whether the code is above 8
+abbrev pub data_text : ℕ → List ℕ → List ℕ
+data_text dlc bytes =
+    decimal (byte_count dlc) ++ ((if byte_count dlc == 1 then codes " byte" else codes " bytes")
+    ++ ((if nat_lt 8 dlc then codes " (DLC above 8)" else []) ++ spaced_text (take (byte_count dlc) bytes)))
+
+-- all of it, except the flags
+abbrev pub record_text : Record → List ℕ
+record_text r =
+    identifier_text r ++ (part_text r ++ (mask_text r ++ (enables_text r ++ (codes ", " ++ data_text r.dlc r.bytes))))
+
+-- what a record became, with its flags
+unfoldable pub left_text : Record → Record → List ℕ
+left_text before after = codes ": " ++ (record_text after ++ flags_text before after)

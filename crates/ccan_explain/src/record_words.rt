@@ -1,8 +1,8 @@
 //! Records and flags for people.
 ghost use Rattle.std.specs.Prelude.{◌≡◌, [], ◌++◌, OnOk, string_bytes, if◌then◌else◌};
 ghost use Rattle.ccan_accept.specs.Send.{number_of};
-ghost use Rattle.ccan_explain.specs.RecordWords.{enables_text, flag_text, flags_text, has_flag, identifier_text};
-ghost use Rattle.ccan_explain.specs.RecordWords.{mask_number, mask_text, part_text};
+ghost use Rattle.ccan_explain.specs.RecordWords.{data_text, enables_text, flag_text, flags_text, has_flag, identifier_text};
+ghost use Rattle.ccan_explain.specs.RecordWords.{left_text, mask_number, mask_text, part_text, record_text, spaced_text};
 
 use crate::digits::{push_decimal, push_hex};
 use crate::frame_text::push_id;
@@ -62,17 +62,28 @@ fn push_mask(text: &mut String, object: &Record) -> Result<(), AllocError>
     Ok(())
 }
 
-/// Appends the data that the length means: `2 bytes 11 22`, and the data length code where it is above 8.
-fn push_bytes(text: &mut String, dlc: DataLength, bytes: &[u8; 8]) -> Result<(), AllocError> {
-    let count = dlc.byte_count();
-    push_decimal(text, count as u64)?;
-    text.push_str(if count == 1 { " byte" } else { " bytes" })?;
-    push_if(text, dlc.get() > 8, " (DLC above 8)")?;
-    for byte in &bytes[..count] {
+/// Appends two digits for each byte, behind a space.
+fn push_spaced(text: &mut String, bytes: &[u8]) -> Result<(), AllocError>
+    ensures { OnOk result
+        (string_bytes text.new ≡ string_bytes text.old ++ spaced_text bytes.now) }
+{
+    for byte in bytes {
         text.push_str(" ")?;
         push_hex(text, 2, u64::from(*byte))?;
     }
     Ok(())
+}
+
+/// Appends the data that the length means: `2 bytes 11 22`, and whether the data length code is above 8.
+fn push_bytes(text: &mut String, dlc: DataLength, bytes: &[u8; 8]) -> Result<(), AllocError>
+    ensures { OnOk result
+        (string_bytes text.new ≡ string_bytes text.old ++ data_text dlc bytes.now) }
+{
+    let count = dlc.byte_count();
+    push_decimal(text, count as u64)?;
+    push_either(text, count == 1, " byte", " bytes")?;
+    push_if(text, dlc.get() > 8, " (DLC above 8)")?;
+    push_spaced(text, &bytes[..count])
 }
 
 /// Appends the identifier and its width: `id 123 std`.
@@ -106,7 +117,10 @@ fn push_enables(text: &mut String, object: &Record) -> Result<(), AllocError>
 }
 
 /// Appends what a record says of an object, but for its four flags: `id 123 std, transmit, valid, EoB, 2 bytes 11 22`.
-pub(crate) fn push_record(text: &mut String, object: &Record) -> Result<(), AllocError> {
+pub(crate) fn push_record(text: &mut String, object: &Record) -> Result<(), AllocError>
+    ensures { OnOk result
+        (string_bytes text.new ≡ string_bytes text.old ++ record_text object.now) }
+{
     push_identifier(text, object)?;
     push_part(text, object)?;
     push_mask(text, object)?;
@@ -154,6 +168,18 @@ pub(crate) fn push_flags(
     push_flag(text, "TxRqst", before.txrqst, after.txrqst)
 }
 
+/// Appends what a record became, behind a colon: `: id 123 std, receive, valid, 1 byte 11 | +NewDat`. A flag that was set has a
+/// `+`, and one that was cleared a `-`.
+#[tactic(auto, unfolding(crate::specs::RecordWords::left_text))]
+pub fn push_left(text: &mut String, before: &Record, after: &Record) -> Result<(), AllocError>
+    ensures { OnOk result
+        (string_bytes text.new ≡ string_bytes text.old ++ left_text before.now after.now) }
+{
+    text.push_str(": ")?;
+    push_record(text, after)?;
+    push_flags(text, before, after)
+}
+
 /// Appends an object as a line left it, with its flags, behind some words.
 pub(crate) fn push_touched(
     text: &mut String,
@@ -163,7 +189,5 @@ pub(crate) fn push_touched(
     text.push_str(words)?;
     text.push_str(" object ")?;
     push_decimal(text, u64::from(touched.object.get()))?;
-    text.push_str(": ")?;
-    push_record(text, &touched.after)?;
-    push_flags(text, &touched.before, &touched.after)
+    push_left(text, &touched.before, &touched.after)
 }

@@ -26,9 +26,9 @@ fn push_node(text: &mut String, node: u8) -> Result<(), AllocError>
     push_decimal(text, u64::from(node))
 }
 
-/// Appends the frame that was on the bus and its sender.
+/// Appends the frame that was on the bus and its sender: `can0 123#1122 from node 1`. Node 0 is the chip.
 #[tactic(auto, unfolding(crate::specs::FrameText::winner_text))]
-fn push_winner(text: &mut String, winner: u8, frame: &Frame) -> Result<(), AllocError>
+pub fn push_winner(text: &mut String, winner: u8, frame: &Frame) -> Result<(), AllocError>
     ensures { OnOk result
         (string_bytes text.new ≡ string_bytes text.old ++ winner_text winner frame.now) }
 {

@@ -16,3 +16,5 @@ pub mod Told
 pub mod Listed
 pub mod Unanswered
 pub mod Sought
+pub mod Detailed
+pub mod Grouped

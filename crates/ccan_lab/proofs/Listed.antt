@@ -1,5 +1,5 @@
 -- What is printed of the list of all outcomes.
-use Rattle.std.proofs.Common.{◌≡◌, ◌<◌, ◌≤◌, ◌+◌, nat_lt, not, cond, ℕ, zero, suc, Bool, true, false, List, [], ◌∷◌, Bor, Option, Some, None, length, map, get_or, slice_get, option_map, unwrap_or, if◌then◌else◌, refl, sym, ap, ◌∙◌, arith}
+use Rattle.std.proofs.Common.{◌≡◌, ◌<◌, ◌≤◌, nat_lt, ℕ, zero, suc, Bool, true, false, List, [], ◌∷◌, Bor, Some, None, length, map, get_or, slice_get, option_map, unwrap_or, if◌then◌else◌, refl, sym, ap, ◌∙◌, arith}
 use Rattle.std.proofs.lemmas.Bool.{lt-ltb}
 use Rattle.std.proofs.lemmas.List.{length-map}
 use Rattle.std.proofs.lemmas.Option.{slice_get-map, slice_get_within}

@@ -1,5 +1,5 @@
 -- The outcomes of the images stand for all outcomes.
-use Rattle.std.proofs.Common.{ℕ, ◌+◌, ◌<◌, ◌≡◌, Bool, List, Some, Contains, get_or, length, slice_get, refl, sym, ap, subst, ◌∙◌, arith}
+use Rattle.std.proofs.Common.{ℕ, ◌≡◌, Bool, List, Some, Contains, get_or, slice_get, sym, ap, subst, ◌∙◌, arith}
 use Rattle.std.proofs.lemmas.Option.{slice_get-get_or, slice_get_within}
 use Rattle.ccan_language.specs.declared.letter.Letter.{Letter}
 use Rattle.ccan_language.specs.Images.{word_image}

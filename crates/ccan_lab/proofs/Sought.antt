@@ -1,7 +1,7 @@
 -- The lines of an outcome are those that the letters of its word tell, so the first outcome with some lines is that of the first
 -- word with their signs.
-use Rattle.std.proofs.Common.{ℕ, zero, suc, ◌+◌, ◌<◌, ◌≤◌, ◌≡◌, ◌||◌, ◌&&◌, not, cond, nat_lt, Bool, true, false, List, [], ◌∷◌, ◌++◌, Option, None, Some, Contains, length, map, position, slice_get, get_or, if◌then◌else◌, refl, sym, ap, subst, ◌∙◌, arith, inl, inr, append-nil}
-use Rattle.std.specs.List.{flat_map, list_all, list_any, prefix_len, range_with_len}
+use Rattle.std.proofs.Common.{ℕ, zero, suc, ◌+◌, ◌<◌, ◌≤◌, ◌≡◌, ◌||◌, ◌&&◌, not, cond, nat_lt, Bool, false, List, [], ◌∷◌, ◌++◌, Option, None, Some, Contains, length, map, position, slice_get, if◌then◌else◌, refl, sym, ap, ◌∙◌, arith, append-nil}
+use Rattle.std.specs.List.{flat_map, list_any, prefix_len, range_with_len}
 use Rattle.std.proofs.lemmas.Bool.{lt-ltb}
 use Rattle.std.proofs.lemmas.List.Concat.{flat_map-append}
 use Rattle.std.proofs.lemmas.List.Folds.{list_any-append}
@@ -23,7 +23,7 @@ use Rattle.ccan_outcomes.specs.declared.ending.Ending.{Ending}
 use Rattle.ccan_outcomes.specs.declared.words.OutcomeWords.{OutcomeWords}
 use Rattle.ccan_outcomes.specs.Letters.{AreNumbers, lettered}
 use Rattle.ccan_outcomes.specs.OutcomeWords.{AreOfLines, IsWordOf, ending_of_word, endings_in}
-use Rattle.ccan_outcomes.proofs.Worded.{lettered_append, shown, shown_by}
+use Rattle.ccan_outcomes.proofs.Worded.{lettered_append, shown_by}
 use Rattle.ccan_lab.specs.Answer.{first_with}
 use Rattle.ccan_lab.specs.LineSigns.{is_told, lines_of_letter, lines_told, port_at, tells_line}
 use Rattle.ccan_lab.specs.Rows.{begins_so, final_rows, has_line, has_lines, rows_of}

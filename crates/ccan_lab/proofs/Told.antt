@@ -1,5 +1,5 @@
 -- What leads to an outcome: orders that were found, and equal endings.
-use Rattle.std.proofs.Common.{◌≡◌, List, Option, None, Some, Vec, Global, IfSome, true, sym, ◌∙◌, subst}
+use Rattle.std.proofs.Common.{◌≡◌, List, Option, None, Some, Vec, Global, IfSome, true, sym, subst}
 use Rattle.std.specs.Option.{option_map}
 use Rattle.ccan_ram.specs.declared.port.PortName.{PortName}
 use Rattle.ccan_line.specs.Script.{ScriptFields}

@@ -24,3 +24,6 @@ pub mod Listing
 pub mod Telling
 pub mod Words
 pub mod LineSigns
+pub mod Brief
+pub mod Moved
+pub mod OutcomeText

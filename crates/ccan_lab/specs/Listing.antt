@@ -2,10 +2,12 @@
 use Rattle.std.specs.Prelude.{ℕ, zero, suc, ◌≡◌, ◌++◌, nat_lt, List, [], Some, length, map, min, slice_get, if◌then◌else◌}
 use Rattle.ccan_line.specs.Script.{ScriptFields}
 use Rattle.ccan_outcomes.specs.declared.ending.Ending.{Ending}
+use Rattle.ccan_lab.specs.declared.history_form.HistoryForm.{HistoryForm}
 use Rattle.ccan_lab.specs.Answer.{first_with}
 use Rattle.ccan_lab.specs.Counting.{count_text, greatest}
 use Rattle.ccan_lab.specs.Observed.{places_of}
-use Rattle.ccan_lab.specs.Report.{IsOutcomeText, each}
+use Rattle.ccan_lab.specs.OutcomeText.{IsOutcomeText}
+use Rattle.ccan_lab.specs.Report.{each}
 use Rattle.ccan_lab.specs.Rows.{line_at, rows_at, rows_of}
 use Rattle.ccan_lab.specs.Summary.{AreChoices, choices_at, same_parts}
 
@@ -22,35 +24,36 @@ different_line choices rows place = if nat_lt 1 (length (choices_at choices plac
 abbrev pub different_lines : List (List (List ℕ)) → List (List ℕ) → List ℕ
 different_lines choices rows = each (length choices) (different_line choices rows)
 
--- the text is that of the outcome of this number, from 0, with those lines
-abbrev pub IsNumberedText : ScriptFields → List Ending → List (List (List ℕ)) → ℕ → List ℕ → Type 0
-IsNumberedText script endings choices number text =
-    IsOutcomeText script endings (different_lines choices (rows_at (map rows_of endings) number)) number text
+-- the text is that of the outcome of this number, from 0, with those lines, and with a history in this form
+abbrev pub IsNumberedText : HistoryForm → ScriptFields → List Ending → List (List (List ℕ)) → ℕ → List ℕ → Type 0
+IsNumberedText form script endings choices number text =
+    IsOutcomeText form script endings (different_lines choices (rows_at (map rows_of endings) number)) number text
 
 -- the text is that of the outcomes before this number, in turn
-abbrev pub AreOutcomeTexts : ScriptFields → List Ending → List (List (List ℕ)) → ℕ → List ℕ → Type 0
-AreOutcomeTexts script endings choices zero text = text ≡ []
-AreOutcomeTexts script endings choices (suc number) text =
+abbrev pub AreOutcomeTexts : HistoryForm → ScriptFields → List Ending → List (List (List ℕ)) → ℕ → List ℕ → Type 0
+AreOutcomeTexts form script endings choices zero text = text ≡ []
+AreOutcomeTexts form script endings choices (suc number) text =
     (before : List ℕ) × (last : List ℕ) × (text ≡ before ++ last)
-    × AreOutcomeTexts script endings choices number before × IsNumberedText script endings choices number last
+    × AreOutcomeTexts form script endings choices number before × IsNumberedText form script endings choices number last
 
 -- the number of outcomes, what is the same in all, and each outcome with a history
-pub record IsListing (script : ScriptFields) (endings : List Ending) (text : List ℕ) : Type 0 where
+pub record IsListing (form : HistoryForm) (script : ScriptFields) (endings : List Ending) (text : List ℕ) : Type 0 where
   pub choices : List (List (List ℕ))
   pub has_choices : HasChoices script endings choices
   pub outcomes : List ℕ
-  pub are : AreOutcomeTexts script endings choices (length endings) outcomes
+  pub are : AreOutcomeTexts form script endings choices (length endings) outcomes
   pub text_is : text ≡ count_text (min (length endings) greatest) ++ (same_parts choices ++ outcomes)
 
 -- the number of outcomes, and the one of this number, from 0, with a history
-pub record IsOneText (script : ScriptFields) (endings : List Ending) (number : ℕ) (text : List ℕ) : Type 0 where
+pub record IsOneText (form : HistoryForm) (script : ScriptFields) (endings : List Ending) (number : ℕ) (text : List ℕ)
+    : Type 0 where
   pub choices : List (List (List ℕ))
   pub has_choices : HasChoices script endings choices
   pub outcome : List ℕ
-  pub is_one : IsNumberedText script endings choices number outcome
+  pub is_one : IsNumberedText form script endings choices number outcome
   pub text_is : text ≡ count_text (min (length endings) greatest) ++ outcome
 
 -- the number of outcomes, and the first of them that has these lines, with a history
-abbrev pub IsFoundText : ScriptFields → List Ending → List (List ℕ) → List ℕ → Type 0
-IsFoundText script endings begins text =
-    (number : ℕ) × (first_with begins endings ≡ Some number) × IsOneText script endings number text
+abbrev pub IsFoundText : HistoryForm → ScriptFields → List Ending → List (List ℕ) → List ℕ → Type 0
+IsFoundText form script endings begins text =
+    (number : ℕ) × (first_with begins endings ≡ Some number) × IsOneText form script endings number text

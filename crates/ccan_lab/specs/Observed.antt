@@ -6,8 +6,10 @@ use Rattle.std.specs.Str.{bytes_eq}
 use Rattle.ccan_object.specs.Profile.{objects_in}
 use Rattle.ccan_line.specs.Script.{ScriptFields}
 use Rattle.ccan_outcomes.specs.declared.ending.Ending.{Ending}
+use Rattle.ccan_lab.specs.declared.history_form.HistoryForm.{HistoryForm}
+use Rattle.ccan_lab.specs.OutcomeText.{IsOutcomeText}
 use Rattle.ccan_lab.specs.Place.{place_kind, place_name}
-use Rattle.ccan_lab.specs.Report.{IsOutcomeText, counted_text, each}
+use Rattle.ccan_lab.specs.Report.{counted_text, each}
 use Rattle.ccan_lab.specs.Rows.{line_at, rows_of}
 
 -- ---- what is looked at
@@ -79,10 +81,10 @@ AreFirstTexts IsText texts (suc number) text =
     × IsFirstText IsText (is_repeat texts number) (text_at texts number) number last
 
 -- the first line, and of each kind of outcome that can be told apart the first, with a history
-pub record IsObservedListing (names : List (List ℕ)) (script : ScriptFields) (endings : List Ending) (text : List ℕ)
-    : Type 0 where
+pub record IsObservedListing (form : HistoryForm) (names : List (List ℕ)) (script : ScriptFields) (endings : List Ending)
+    (text : List ℕ) : Type 0 where
   pub outcomes : List ℕ
-  pub are : AreFirstTexts (IsOutcomeText script endings) (observed_texts (marks_of names script) endings) (length endings)
+  pub are : AreFirstTexts (IsOutcomeText form script endings) (observed_texts (marks_of names script) endings) (length endings)
       outcomes
   pub text_is : text ≡ observed_heading (length endings) (first_count (observed_texts (marks_of names script) endings)
       (length endings)) ++ outcomes

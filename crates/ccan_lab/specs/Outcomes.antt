@@ -6,6 +6,7 @@ use Rattle.ccan_outcomes.specs.declared.ending.Ending.{Ending}
 use Rattle.ccan_outcomes.specs.Ending.{AreOfRuns, AreOutcomes}
 use Rattle.ccan_lab.specs.declared.asked.Asked.{Asked}
 use Rattle.ccan_lab.specs.declared.asked.Asked.TheVariants.{Summary, All, Json, Can, Never, Observed, AllObserved}
+use Rattle.ccan_lab.specs.declared.history_form.HistoryForm.{HistoryForm}
 use Rattle.ccan_lab.specs.Listing.{IsListing}
 use Rattle.ccan_lab.specs.Observed.{IsObservedListing, names_in}
 
@@ -19,21 +20,22 @@ IsOfAll Never = ⊥
 IsOfAll (Observed names) = ⊥
 IsOfAll (AllObserved names) = Unit {0}
 
--- the text answers what is asked of the list of all outcomes
-abbrev pub Answers : ScriptFields → List Ending → Asked → List ℕ → Type 0
-Answers script endings Summary text = ⊥
-Answers script endings All text = IsListing script endings text
-Answers script endings Json text = ⊥
-Answers script endings Can text = ⊥
-Answers script endings Never text = ⊥
-Answers script endings (Observed names) text = ⊥
-Answers script endings (AllObserved names) text = IsObservedListing (names_in names.now) script endings text
+-- the text answers what is asked of the list of all outcomes, with histories in this form
+abbrev pub Answers : HistoryForm → ScriptFields → List Ending → Asked → List ℕ → Type 0
+Answers form script endings Summary text = ⊥
+Answers form script endings All text = IsListing form script endings text
+Answers form script endings Json text = ⊥
+Answers form script endings Can text = ⊥
+Answers form script endings Never text = ⊥
+Answers form script endings (Observed names) text = ⊥
+Answers form script endings (AllObserved names) text = IsObservedListing form (names_in names.now) script endings text
 
 -- the text answers what is asked of a list that has each outcome that the promise allows, once, and no other; each is that of a
 -- run
-pub record TellsAll (script : ScriptFields) (eq : Ending → Ending → Bool) (asked : Asked) (text : List ℕ) : Type 0 where
+pub record TellsAll (form : HistoryForm) (script : ScriptFields) (eq : Ending → Ending → Bool) (asked : Asked) (text : List ℕ)
+    : Type 0 where
   pub outcomes : List Ending
   pub are : AreOutcomes script outcomes
   pub runs : AreOfRuns script outcomes
   pub once : IsDistinct eq outcomes
-  pub text_is : Answers script outcomes asked text
+  pub text_is : Answers form script outcomes asked text

@@ -2,6 +2,8 @@
 use Rattle.std.specs.Prelude.{ℕ, ◌≡◌, ◌<◌, ◌^◌, List, [], ◌∷◌, Option, Some, None, codes, decimal, map, not, position}
 use Rattle.ccan_line.specs.Script.{ScriptFields}
 use Rattle.ccan_lab.specs.Observed.{is_known, names_in}
+use Rattle.ccan_lab.specs.declared.history_form.HistoryForm.{HistoryForm}
+use Rattle.ccan_lab.specs.declared.history_form.HistoryForm.TheVariants.{EachStep, Brief}
 use Rattle.ccan_lab.specs.declared.asked.Asked.{Asked}
 use Rattle.ccan_lab.specs.declared.asked.Asked.TheVariants.{Summary, All, Json, Can, Never, Observed, AllObserved}
 
@@ -28,6 +30,10 @@ IsObservingAll list (Observed names) = ⊥
 -- a number of states is the one that is given, however large; that it is a number is seen to before
 abbrev pub IsGivenBy : Option (List ℕ) → ℕ → Type 0
 IsGivenBy word most = (n : ℕ) → n < 2 ^ 64 → word ≡ Some (decimal n) → most ≡ n
+
+-- histories are written in few lines if the flag stands there, and else step by step
+abbrev pub IsFormBy : Option (List ℕ) → HistoryForm → Type 0
+IsFormBy word form = (word ≡ Some (codes "true") → form ≡ Brief) × (word ≡ Some (codes "false") → form ≡ EachStep)
 
 -- the files that are asked about: those that are named, and standard input if none is
 abbrev pub files_named : Option (List (List ℕ)) → List (List ℕ)

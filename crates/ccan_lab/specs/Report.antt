@@ -4,12 +4,9 @@ use Rattle.std.specs.Prelude.{codes, decimal, slice_get, if◌then◌else◌}
 use Rattle.std.specs.List.{enumerate_from, flat_map}
 use Rattle.ccan_ram.specs.declared.port.PortName.{PortName}
 use Rattle.ccan_ram.specs.Port.{port_text}
-use Rattle.ccan_line.specs.Script.{ScriptFields}
 use Rattle.ccan_outcomes.specs.declared.ending.Ending.{Ending}
 use Rattle.ccan_outcomes.specs.declared.history_step.HistoryStep.{HistoryStep}
-use Rattle.ccan_outcomes.specs.History.{IsHistoryOf}
 use Rattle.ccan_lab.specs.History.{step_text}
-use Rattle.ccan_lab.specs.Replay.{Replays}
 
 -- ---- parts
 
@@ -55,22 +52,17 @@ abbrev pub order_text : Option (List PortName) → List ℕ
 order_text None = []
 order_text (Some order) = codes "  \"order\": [" ++ (names_text order ++ codes "]\n")
 
--- the outcome of a number from 0, of which these lines are shown: its head, the lines, the history, and an order, if there is
--- one
-abbrev pub outcome_text : List ℕ → ℕ → List HistoryStep → Option (List PortName) → List ℕ
-outcome_text lines number steps order =
-    codes "outcome " ++ (decimal (number + 1) ++ (codes "\n" ++ (lines ++ (history_text steps ++ order_text order))))
+-- the outcome of a number from 0, of which these lines are shown: its head, the lines, the history as it is told, and an order, if
+-- there is one
+abbrev pub outcome_text : List ℕ → ℕ → List ℕ → Option (List PortName) → List ℕ
+outcome_text lines number told order =
+    codes "outcome " ++ (decimal (number + 1) ++ (codes "\n" ++ (lines ++ (told ++ order_text order))))
 
--- the text is that of the ending in this place, with these lines and under this number, with a history of it, and with no
--- order, or one that leads to it
-abbrev pub IsTextWith : (Ending → List HistoryStep → Type 0) → (Ending → List PortName → Type 0) → List Ending → ℕ → List ℕ
-    → ℕ → List ℕ → Type 0
-IsTextWith IsHistory LeadsTo endings place lines number text =
-    (steps : List HistoryStep) × (order : Option (List PortName))
+-- the text is that of the ending in this place, with these lines and under this number, with a history of it as it is told, and with
+-- no order, or one that leads to it
+abbrev pub IsTextWith : (Ending → List HistoryStep → Type 0) → (List HistoryStep → List ℕ → Type 0)
+    → (Ending → List PortName → Type 0) → List Ending → ℕ → List ℕ → ℕ → List ℕ → Type 0
+IsTextWith IsHistory IsTold LeadsTo endings place lines number text =
+    (steps : List HistoryStep) × (told : List ℕ) × (order : Option (List PortName))
     × ((ending : Ending) → slice_get endings place ≡ Some ending → IsHistory ending steps × IfSome order (LeadsTo ending))
-    × (text ≡ outcome_text lines number steps order)
-
--- the text is that of the outcome of this number, and an order is one in which whole lines give it
-abbrev pub IsOutcomeText : ScriptFields → List Ending → List ℕ → ℕ → List ℕ → Type 0
-IsOutcomeText script endings lines number text =
-    IsTextWith (IsHistoryOf script) (Replays script) endings number lines number text
+    × IsTold steps told × (text ≡ outcome_text lines number told order)

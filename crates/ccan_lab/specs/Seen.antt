@@ -14,13 +14,15 @@ use Rattle.ccan_outcomes.specs.Ending.{AreOfRuns, AreOutcomes}
 use Rattle.ccan_outcomes.specs.History.{IsHistoryOf}
 use Rattle.ccan_outcomes.specs.Observed.{HasManyImages, observed_words}
 use Rattle.ccan_outcomes.specs.OutcomeWords.{ending_of_word, endings_in}
+use Rattle.ccan_lab.specs.declared.history_form.HistoryForm.{HistoryForm}
 use Rattle.ccan_lab.specs.declared.lab_error.LabError.{LabError}
 use Rattle.ccan_lab.specs.declared.lab_error.LabError.TheVariants as fault
+use Rattle.ccan_lab.specs.Brief.{IsHistoryText}
 use Rattle.ccan_lab.specs.Observed.{AreFirstTexts, first_count, marks_of, observed_lines, observed_texts}
 use Rattle.ccan_lab.specs.Replay.{Replays}
 use Rattle.ccan_lab.specs.Report.{IsTextWith, counted_text}
 use Rattle.ccan_lab.specs.Rows.{rows_of}
-use Rattle.ccan_lab.specs.Words.{HasNoHistory, IsWithout}
+use Rattle.ccan_lab.specs.Words.{IsWithout}
 
 -- ---- outcomes that stand for all
 
@@ -55,41 +57,44 @@ pub record ReplaysShown (script : ScriptFields) (marks : List Bool) (lines : Lis
   pub replays : Replays script whole order
 
 -- the text is that of the outcome in this place, with a history of it; its number counts those that show what none before them does
-abbrev pub IsSeenText : ScriptFields → List Bool → List Ending → List (List ℕ) → List ℕ → ℕ → List ℕ → Type 0
-IsSeenText script marks shown texts lines place text =
-    IsTextWith (IsHistoryOf script) (λ _. ReplaysShown script marks lines) shown place lines (first_count texts place) text
+abbrev pub IsSeenText : HistoryForm → ScriptFields → List Bool → List Ending → List (List ℕ) → List ℕ → ℕ → List ℕ → Type 0
+IsSeenText form script marks shown texts lines place text =
+    IsTextWith (IsHistoryOf script) (IsHistoryText form script) (λ _. ReplaysShown script marks lines) shown place lines
+    (first_count texts place) text
 
 -- the first line, and of the outcomes that show the same the first, with a history
-pub record IsSeenListing (script : ScriptFields) (marks : List Bool) (shown : List Ending) (text : List ℕ) : Type 0 where
+pub record IsSeenListing (form : HistoryForm) (script : ScriptFields) (marks : List Bool) (shown : List Ending) (text : List ℕ)
+    : Type 0 where
   pub outcomes : List ℕ
-  pub are : AreFirstTexts (IsSeenText script marks shown (observed_texts marks shown)) (observed_texts marks shown)
+  pub are : AreFirstTexts (IsSeenText form script marks shown (observed_texts marks shown)) (observed_texts marks shown)
       (length shown) outcomes
   pub text_is : text ≡ seen_heading (first_count (observed_texts marks shown) (length shown)) ++ outcomes
 
 -- the text lists what can be told apart of these outcomes
-abbrev pub ListsSeen : ScriptFields → List Bool → List Ending → List ℕ → Type 0
-ListsSeen script marks endings text =
-    (shown : List Ending) × AreShownOf marks endings shown × IsSeenListing script marks shown text
+abbrev pub ListsSeen : HistoryForm → ScriptFields → List Bool → List Ending → List ℕ → Type 0
+ListsSeen form script marks endings text =
+    (shown : List Ending) × AreShownOf marks endings shown × IsSeenListing form script marks shown text
 
 -- the text lists, where the places of these names are looked at, what can be told apart of a list that has each outcome that the
 -- promise allows, once, and no other; each is that of a run
-pub record TellsSeen (names : List (List ℕ)) (script : ScriptFields) (eq : Ending → Ending → Bool) (text : List ℕ) : Type 0 where
+pub record TellsSeen (form : HistoryForm) (names : List (List ℕ)) (script : ScriptFields) (eq : Ending → Ending → Bool)
+    (text : List ℕ) : Type 0 where
   pub outcomes : List Ending
   pub are : AreOutcomes script outcomes
   pub runs : AreOfRuns script outcomes
   pub once : IsDistinct eq outcomes
-  pub lists : ListsSeen script (marks_of names script) outcomes text
+  pub lists : ListsSeen form script (marks_of names script) outcomes text
 
 -- ---- why there is none
 
--- the images of the words need so many nodes, or memory ran out
-abbrev pub HasNoImages : OutcomeWords → ℕ → LabError → Type 0
-HasNoImages words most (fault.Nodes told) = (told ≡ most) × HasManyImages words most
-HasNoImages words most fault.Memory = Unit {0}
-HasNoImages words most _ = ⊥
+-- images of the words that tell what these marks have looked at need so many nodes, or memory ran out
+abbrev pub HasNoImages : OutcomeWords → List Bool → ℕ → LabError → Type 0
+HasNoImages words marks most (fault.Nodes told) = (told ≡ most) × HasManyImages words marks most
+HasNoImages words marks most fault.Memory = Unit {0}
+HasNoImages words marks most _ = ⊥
 
 -- so it is of the words of all outcomes of the script, or there is no list of them, or there is one without a history
-abbrev pub HasNoSeenList : ScriptFields → (AllPorts → AllPorts → Bool) → ℕ → LabError → Type 0
-HasNoSeenList script eq most why =
+abbrev pub HasNoSeenList : List (List ℕ) → ScriptFields → (AllPorts → AllPorts → Bool) → ℕ → LabError → Type 0
+HasNoSeenList names script eq most why =
     IsWithout script eq most why
-    ⊎ ((words : OutcomeWords) × AreOutcomes script (endings_in words) × HasNoImages words most why)
+    ⊎ ((words : OutcomeWords) × AreOutcomes script (endings_in words) × HasNoImages words (marks_of names script) most why)

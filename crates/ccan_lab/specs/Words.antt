@@ -8,6 +8,7 @@ use Rattle.ccan_outcomes.specs.AllPortsReached.{HasMoreAtOnce}
 use Rattle.ccan_outcomes.specs.AnswerGraph.{HasLargeGraph}
 use Rattle.ccan_outcomes.specs.Ending.{AreOfRuns, AreOutcomes}
 use Rattle.ccan_outcomes.specs.WordStates.{TellsManyWords}
+use Rattle.ccan_lab.specs.declared.history_form.HistoryForm.{HistoryForm}
 use Rattle.ccan_lab.specs.declared.lab_error.LabError.{LabError}
 use Rattle.ccan_lab.specs.declared.lab_error.LabError.TheVariants as fault
 use Rattle.ccan_lab.specs.declared.line_search.LineSearch.{LineSearch}
@@ -65,18 +66,19 @@ RefusesLine script begins =
 
 -- the text shows an outcome that has the lines, of a list that has each outcome that the promise allows, once, and no other;
 -- each is that of a run
-pub record TellsFound (script : ScriptFields) (eq : Ending → Ending → Bool) (begins : List (List ℕ)) (text : List ℕ) : Type 0 where
+pub record TellsFound (form : HistoryForm) (script : ScriptFields) (eq : Ending → Ending → Bool) (begins : List (List ℕ))
+    (text : List ℕ) : Type 0 where
   pub outcomes : List Ending
   pub are : AreOutcomes script outcomes
   pub runs : AreOfRuns script outcomes
   pub once : IsDistinct eq outcomes
-  pub says : IsFoundText script outcomes begins text
+  pub says : IsFoundText form script outcomes begins text
   pub taken : are_refused script outcomes begins ≡ false
 
 -- the text answers whether an outcome has all the lines, or, if it is asked so, whether none has
-abbrev pub TellsLine : ScriptFields → (Ending → Ending → Bool) → List (List ℕ) → Bool → List ℕ → Bool → Type 0
-TellsLine script eq begins never text holds =
-    (TellsNone script eq begins text × (holds ≡ never)) ⊎ (TellsFound script eq begins text × (holds ≡ not never))
+abbrev pub TellsLine : HistoryForm → ScriptFields → (Ending → Ending → Bool) → List (List ℕ) → Bool → List ℕ → Bool → Type 0
+TellsLine form script eq begins never text holds =
+    (TellsNone script eq begins text × (holds ≡ never)) ⊎ (TellsFound form script eq begins text × (holds ≡ not never))
 
 -- why there is no answer: a line is refused, or there are no words, or there is an outcome without a history
 abbrev pub IsUnanswered : ScriptFields → List (List ℕ) → (AllPorts → AllPorts → Bool) → ℕ → LabError → Type 0

@@ -4,6 +4,7 @@ ghost use Rattle.ccan_lab.specs.Telling.{CanBeTold};
 
 use crate::command_words::{command, file, number, with};
 use crate::explaining::print_text;
+use crate::history_form::HistoryForm;
 use crate::input::script_asked;
 use crate::lab_error::LabError;
 use crate::outcome_rows::picture_of_history;
@@ -86,8 +87,8 @@ fn numbered_drawn<P: Progress>(
         return Err(none);
     };
     let mut histories = Histories::new(alloc);
-    let steps = history_to(alloc, telling, &mut histories, place, &ending)?;
-    Ok(picture_of_history(alloc, telling.script, steps.as_slice(), &ending)?)
+    let history = history_to(alloc, telling, &mut histories, place, &ending)?;
+    Ok(picture_of_history(alloc, telling.script, &history, &ending)?)
 }
 
 /// The picture of a history of the outcome of this number, from 1, of these, which are dropped.
@@ -106,6 +107,7 @@ fn listed_drawn<P: Progress>(
         list: &list,
         most,
         progress,
+        form: HistoryForm::EachStep,
     };
     numbered_drawn(alloc, &telling, number)
 }

@@ -5,7 +5,8 @@
 //! with `--observe NAMES` only those that can be told apart by some lines and objects; with `--can LINE` and `--never LINE`
 //! whether an outcome has a line that begins so, or, given several times, whether one has all these lines. `ccan-lab count`
 //! counts the outcomes and lists none.
-//! `ccan-lab check` reports the faults of scripts, of each line the first, each with its file, line and column, and with `--expect TEXT` the first line of a run that is not as expected.
+//! `ccan-lab check` reports the faults of scripts, of each line the first, each with its file, line and column, and with
+//! `--expect TEXT` the first line of a run that is not as expected.
 //! `ccan-lab explain` runs a script in its order and tells each line decoded, and `ccan-lab from-candump` makes a script of a log
 //! of a bus.
 //! `ccan-lab draw` draws one picture of a run, or of a history of one of the outcomes. `ccan-lab page` writes a page to step
@@ -25,6 +26,7 @@
 pub mod answer;
 pub mod asked;
 pub mod beginnings;
+pub mod brief;
 mod bus_forms;
 pub mod check_command;
 pub mod check_end;
@@ -37,11 +39,13 @@ pub mod expect;
 pub mod explaining;
 mod forms;
 pub mod history;
+pub mod history_form;
 pub mod input;
 pub mod lab_error;
 pub mod laws;
 pub mod line_search;
 pub mod line_signs;
+pub mod moved;
 pub mod observed;
 pub mod outcome_rows;
 pub mod outcome_words;

@@ -6,7 +6,7 @@ ghost use Rattle.std.specs.Str.{bytes_eq};
 ghost use Rattle.ccan_line.specs.Script.{fields_of};
 ghost use Rattle.ccan_outcomes.specs.OutcomeWords.{endings_in};
 ghost use Rattle.ccan_lab.specs.Observed.{AreFirstTexts, IsFirstText, IsObservedListing, first_count, is_kind, is_known};
-ghost use Rattle.ccan_lab.specs.Report.{IsOutcomeText};
+ghost use Rattle.ccan_lab.specs.OutcomeText.{IsOutcomeText};
 ghost use Rattle.ccan_lab.specs.Observed.{is_observed, is_place, is_repeat, marks_of, names_in, text_at};
 ghost use Rattle.ccan_lab.specs.Observed.{observed_heading, observed_line, observed_lines, places_of};
 ghost use Rattle.ccan_lab.specs.Words.{HasNoHistory};
@@ -198,7 +198,7 @@ fn add_if_first<P: Progress>(
         ≡ not (is_repeat (map string_bytes texts.now) number)) }
     ensures text { OnOk result ((added : List ℕ)
         × (string_bytes text.new ≡ string_bytes text.old ++ added)
-        × IsFirstText (IsOutcomeText (fields_of telling.now.script.now)
+        × IsFirstText (IsOutcomeText telling.now.form (fields_of telling.now.script.now)
         (endings_in telling.now.list.now.words)) (is_repeat (map string_bytes texts.now) number)
         (text_at (map string_bytes texts.now) number) number added) }
     ensures without { IfErr result (HasNoHistory (fields_of telling.now.script.now)
@@ -227,7 +227,8 @@ fn add_firsts<P: Progress>(
         ≡ first_count (map string_bytes texts.now) (length endings.now)) }
     ensures text { OnOk result ((added : List ℕ)
         × (string_bytes text.new ≡ string_bytes text.old ++ added)
-        × AreFirstTexts (IsOutcomeText (fields_of telling.now.script.now) endings.now)
+        × AreFirstTexts
+        (IsOutcomeText telling.now.form (fields_of telling.now.script.now) endings.now)
         (map string_bytes texts.now) (length endings.now) added) }
     ensures without { IfErr result (HasNoHistory (fields_of telling.now.script.now)
         ⟦<AllPorts as PartialEq>⟧.eq telling.now.most) }
@@ -295,7 +296,7 @@ pub fn observed_listing<P: Progress>(
     list: &str,
 ) -> Result<String, LabError>
     requires can { CanBeTold (fields_of telling.now.script.now) telling.now.list.now }
-    ensures text { IfOk result (λ text. IsObservedListing (names_in list.now)
+    ensures text { IfOk result (λ text. IsObservedListing telling.now.form (names_in list.now)
         (fields_of telling.now.script.now) (endings_in telling.now.list.now.words)
         (string_bytes text)) }
     ensures without { IfErr result (HasNoHistory (fields_of telling.now.script.now)

@@ -3,11 +3,13 @@
 mod columns;
 
 use crate::history::{add_line_name, add_object, kind_text};
+use crate::moved::winner_at;
 use crate::outcome_rows::columns::columns_of;
+use ccan_accept::Frame;
 use ccan_draw::layout::WORDS_GLYPHS;
 use ccan_draw::wrapping::wrapped;
 use ccan_draw::{Picture, Row};
-use ccan_outcomes::{Ending, HistoryKind, HistoryStep, states_along};
+use ccan_outcomes::{Ending, History, HistoryKind, HistoryStep};
 use ccan_ram::PortName;
 use ccan_script::{LineAnswer, Script, print_line};
 use std::alloc::{AllocError, Global};
@@ -132,20 +134,32 @@ fn words_of(
     Ok(text)
 }
 
-/// A row, by the steps behind it.
+/// The frame that was on the bus in the last step of a row, if that is the decision of a round.
+fn frame_of(script: &Script, history: &History, run: &Run) -> Option<Frame> {
+    if run.last.kind != HistoryKind::Decides {
+        return None;
+    }
+    let before = history.states.get(run.end.checked_sub(1)?)?;
+    let (_, frame) = winner_at(script, run.last.line, before)?;
+    Some(frame)
+}
+
+/// A row of a history.
 fn row_of(
     alloc: Global,
+    script: &Script,
+    history: &History,
     run: &Run,
-    later: &[HistoryStep],
     ending: &Ending,
 ) -> Result<Row, AllocError> {
+    let later = behind(history.steps.as_slice(), run.end);
     let mut label = String::new(alloc);
     add_deed(&mut label, run)?;
     let words = words_of(alloc, run, later, ending)?;
     Ok(Row {
         number: run.number,
         port: run.last.port,
-        frame: None,
+        frame: frame_of(script, history, run),
         label,
         object: run.last.object,
         words: wrapped(alloc, words.as_str(), WORDS_GLYPHS)?,
@@ -205,12 +219,13 @@ pub(crate) fn behind(steps: &[HistoryStep], place: usize) -> &[HistoryStep] {
 fn add_rows(
     alloc: Global,
     rows: &mut Vec<Row>,
+    script: &Script,
+    history: &History,
     runs: &[Run],
-    steps: &[HistoryStep],
     ending: &Ending,
 ) -> Result<(), AllocError> {
     for run in runs {
-        rows.push(row_of(alloc, run, behind(steps, run.end), ending)?)?;
+        rows.push(row_of(alloc, script, history, run, ending)?)?;
     }
     Ok(())
 }
@@ -231,16 +246,17 @@ fn ends_of(alloc: Global, openings: usize, runs: &[Run]) -> Result<Vec<usize>, A
 pub fn picture_of_history(
     alloc: Global,
     script: &Script,
-    steps: &[HistoryStep],
+    history: &History,
     ending: &Ending,
 ) -> Result<Picture, AllocError> {
-    let states = states_along(alloc, script, steps)?;
+    let steps = history.steps.as_slice();
+    let states = history.states.as_slice();
     let runs = runs_of(alloc, steps)?;
     let mut rows = opening_rows(alloc, steps, ending)?;
     let ends = ends_of(alloc, rows.len(), runs.as_slice())?;
-    add_rows(alloc, &mut rows, runs.as_slice(), steps, ending)?;
+    add_rows(alloc, &mut rows, script, history, runs.as_slice(), ending)?;
     Ok(Picture {
         rows,
-        columns: columns_of(alloc, states.as_slice(), runs.as_slice(), ends.as_slice())?,
+        columns: columns_of(alloc, states, runs.as_slice(), ends.as_slice())?,
     })
 }

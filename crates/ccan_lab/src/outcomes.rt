@@ -9,7 +9,7 @@ ghost use Rattle.ccan_outcomes.specs.OutcomeWords.{endings_in};
 ghost use Rattle.ccan_lab.specs.declared.asked.Asked.TheVariants as Asked;
 ghost use Rattle.ccan_lab.specs.Outcomes.{Answers, IsOfAll, TellsAll};
 ghost use Rattle.ccan_lab.specs.Telling.{CanBeTold};
-ghost use Rattle.ccan_lab.specs.Question.{AreKnown, AreKnownNames, AsksAllBy, AsksBy, IsGivenBy};
+ghost use Rattle.ccan_lab.specs.Question.{AreKnown, AreKnownNames, AsksAllBy, AsksBy, IsFormBy, IsGivenBy};
 ghost use Rattle.ccan_lab.specs.Observed.{names_in};
 ghost use Rattle.ccan_lab.specs.Question.{files_named, lines_given};
 ghost use Rattle.ccan_lab.specs.Seen.{HasNoSeenList, TellsSeen};
@@ -24,6 +24,7 @@ use crate::command_words::{
     apart_from, command, files_named, number, option, scripts, several, switch, with,
 };
 use crate::each_file::{FileAnswer, answer_each};
+use crate::history_form::HistoryForm;
 use crate::input::{script_in, tell_terminal};
 use crate::lab_error::LabError;
 use crate::line_search::{LineSearch, search_among};
@@ -63,6 +64,8 @@ pub struct OutcomesQuestion<'a> {
     pub asked: Asked<'a>,
     /// The LINEs of `--can` or `--never`.
     pub lines: Vec<&'a str>,
+    /// How histories are written.
+    pub form: HistoryForm,
 }
 
 /// The option that a number of states is given by.
@@ -81,7 +84,8 @@ fn json_flag<'a>(alloc: Global) -> Result<Arg<'a>, AllocError> {
     let help = "Show each outcome, with a history, as JSON: the data in a page of ccan-lab page";
     let json = apart_from(switch(alloc, "json", help), "all")?;
     let json = apart_from(json, "observe")?;
-    apart_from(apart_from(json, "can")?, "never")
+    let json = apart_from(json, "can")?;
+    apart_from(apart_from(json, "never")?, "brief")
 }
 
 /// The option that asks for the outcomes that can be told apart by some lines.
@@ -110,13 +114,21 @@ fn never_option<'a>(alloc: Global) -> Arg<'a> {
     several(option(alloc, "never", "LINE", help))
 }
 
+/// The flag that asks for histories in few lines.
+fn brief_flag<'a>(alloc: Global) -> Arg<'a> {
+    let help =
+        "Write each history in few lines: looks in a row as one, and behind a change or a round the object or the frame";
+    switch(alloc, "brief", help)
+}
+
 /// The command, which takes what chooses outcomes.
 fn choosing<'a>(alloc: Global, command: Command<'a>) -> Result<Command<'a>, AllocError> {
     let chosen = with(command, all_flag(alloc)?)?;
     let chosen = with(chosen, json_flag(alloc)?)?;
     let chosen = with(chosen, observe_option(alloc)?)?;
     let chosen = with(chosen, can_option(alloc)?)?;
-    with(chosen, never_option(alloc))
+    let chosen = with(chosen, never_option(alloc))?;
+    with(chosen, brief_flag(alloc))
 }
 
 /// The command that asks about outcomes.
@@ -195,6 +207,17 @@ fn lines_of<'a>(alloc: Global, words: &ArgMatches<'a>) -> Result<Vec<&'a str>, A
     Ok(lines)
 }
 
+/// How the words of that command have histories written.
+fn form_of(words: &ArgMatches<'_>) -> HistoryForm
+    ensures { IsFormBy (one_text (found_of words.now) (codes "brief")) result }
+{
+    if words.get_flag("brief") {
+        HistoryForm::Brief
+    } else {
+        HistoryForm::EachStep
+    }
+}
+
 /// How many states are kept at most, and nodes: as it is given, or the default.
 pub fn most_of(words: &ArgMatches<'_>) -> usize
     ensures { IsGivenBy (one_text (found_of words.now) (codes "most")) result }
@@ -209,6 +232,8 @@ pub fn outcomes_question<'a>(
 ) -> Result<OutcomesQuestion<'a>, AllocError>
     ensures most { IfOk result (λ question.
         IsGivenBy (one_text (found_of words.entry.now) (codes "most")) question.most) }
+    ensures form { IfOk result (λ question.
+        IsFormBy (one_text (found_of words.entry.now) (codes "brief")) question.form) }
     ensures files { IfOk result (λ question. map (λ file. file.now) question.files.items
         ≡ files_named (option_map raw_values
         (matched_of (found_of words.entry.now) (codes "file")))) }
@@ -234,6 +259,7 @@ pub fn outcomes_question<'a>(
         files: files_named(alloc, words)?,
         asked: asked_of(words),
         lines: lines_of(alloc, words)?,
+        form: form_of(words),
     })
 }
 
@@ -264,13 +290,15 @@ fn text_of_list<P: Progress>(
     script: &Script,
     list: OutcomeList,
     asked: Asked<'_>,
+    form: HistoryForm,
     most: usize,
     progress: &P,
 ) -> Result<String, LabError>
     requires of_all { IsOfAll asked }
     requires can { CanBeTold (fields_of script.now) list }
     ensures text { IfOk result (λ text.
-        Answers (fields_of script.now) (endings_in list.words) asked.entry (string_bytes text)) }
+        Answers form (fields_of script.now) (endings_in list.words) asked.entry
+        (string_bytes text)) }
     ensures without { IfErr result
         (HasNoHistory (fields_of script.now) ⟦<AllPorts as PartialEq>⟧.eq most) }
 {
@@ -279,6 +307,7 @@ fn text_of_list<P: Progress>(
         list: &list,
         most,
         progress,
+        form,
     };
     text_of(alloc, &telling, asked)
 }
@@ -288,18 +317,19 @@ fn answer_of_all<P: Progress>(
     alloc: Global,
     script: &Script,
     asked: Asked<'_>,
+    form: HistoryForm,
     most: usize,
     progress: &P,
 ) -> Result<Answer, LabError>
     requires { IsOfAll asked }
-    ensures told { IfOk result (λ answer. TellsAll (fields_of script.now)
+    ensures told { IfOk result (λ answer. TellsAll form (fields_of script.now)
         ⟦<Ending as PartialEq>⟧.eq asked.entry (string_bytes answer.text)) }
     ensures holds { IfOk result (λ answer. answer.holds ≡ true) }
     ensures without { IfErr result
         (IsWithout (fields_of script.now) ⟦<AllPorts as PartialEq>⟧.eq most) }
 {
     let list = list_of(alloc, script, most, progress)?;
-    let text = text_of_list(alloc, script, list, asked, most, progress)?;
+    let text = text_of_list(alloc, script, list, asked, form, most, progress)?;
     Ok(Answer { text, holds: true })
 }
 
@@ -334,10 +364,11 @@ fn answer_by_line<P: Progress>(
         (endings_in telling.now.list.now.words) }
     requires distinct { IsDistinct ⟦<Ending as PartialEq>⟧.eq
         (endings_in telling.now.list.now.words) }
-    ensures told { IfOk result (λ answer. TellsLine (fields_of telling.now.script.now)
-        ⟦<Ending as PartialEq>⟧.eq (texts_of begins.now) never (string_bytes answer.text) answer.holds) }
-    ensures without { IfErr result (IsUnanswered (fields_of telling.now.script.now) (texts_of begins.now)
-        ⟦<AllPorts as PartialEq>⟧.eq telling.now.most) }
+    ensures told { IfOk result (λ answer. TellsLine telling.now.form
+        (fields_of telling.now.script.now) ⟦<Ending as PartialEq>⟧.eq (texts_of begins.now) never
+        (string_bytes answer.text) answer.holds) }
+    ensures without { IfErr result (IsUnanswered (fields_of telling.now.script.now)
+        (texts_of begins.now) ⟦<AllPorts as PartialEq>⟧.eq telling.now.most) }
 {
     match search_among(alloc, telling.script, &telling.list.words, begins)? {
         LineSearch::Found(number) => {
@@ -359,14 +390,16 @@ fn answer_of_list<P: Progress>(
     list: OutcomeList,
     begins: &[&str],
     never: bool,
+    form: HistoryForm,
     most: usize,
     progress: &P,
 ) -> Result<Answer, LabError>
     requires can { CanBeTold (fields_of script.now) list }
     requires all { AreOutcomes (fields_of script.now) (endings_in list.words) }
     requires distinct { IsDistinct ⟦<Ending as PartialEq>⟧.eq (endings_in list.words) }
-    ensures told { IfOk result (λ answer. TellsLine (fields_of script.now)
-        ⟦<Ending as PartialEq>⟧.eq (texts_of begins.now) never (string_bytes answer.text) answer.holds) }
+    ensures told { IfOk result (λ answer. TellsLine form (fields_of script.now)
+        ⟦<Ending as PartialEq>⟧.eq (texts_of begins.now) never
+        (string_bytes answer.text) answer.holds) }
     ensures without { IfErr result (IsUnanswered (fields_of script.now) (texts_of begins.now)
         ⟦<AllPorts as PartialEq>⟧.eq most) }
 {
@@ -375,6 +408,7 @@ fn answer_of_list<P: Progress>(
         list: &list,
         most,
         progress,
+        form,
     };
     answer_by_line(alloc, &telling, begins, never)
 }
@@ -386,16 +420,18 @@ fn answer_of_line<P: Progress>(
     script: &Script,
     begins: &[&str],
     never: bool,
+    form: HistoryForm,
     most: usize,
     progress: &P,
 ) -> Result<Answer, LabError>
-    ensures told { IfOk result (λ answer. TellsLine (fields_of script.now)
-        ⟦<Ending as PartialEq>⟧.eq (texts_of begins.now) never (string_bytes answer.text) answer.holds) }
+    ensures told { IfOk result (λ answer. TellsLine form (fields_of script.now)
+        ⟦<Ending as PartialEq>⟧.eq (texts_of begins.now) never
+        (string_bytes answer.text) answer.holds) }
     ensures without { IfErr result (IsUnanswered (fields_of script.now) (texts_of begins.now)
         ⟦<AllPorts as PartialEq>⟧.eq most) }
 {
     let list = list_of(alloc, script, most, progress)?;
-    answer_of_list(alloc, script, list, begins, never, most, progress)
+    answer_of_list(alloc, script, list, begins, never, form, most, progress)
 }
 
 /// What is answered to the question what of the outcomes of a script can be told apart by the lines and objects of these
@@ -404,16 +440,18 @@ fn answer_of_observed<P: Progress>(
     alloc: Global,
     script: &Script,
     names: &str,
+    form: HistoryForm,
     most: usize,
     progress: &P,
 ) -> Result<Answer, LabError>
-    ensures told { IfOk result (λ answer. TellsSeen (names_in names.now) (fields_of script.now)
+    ensures told { IfOk result (λ answer. TellsSeen form (names_in names.now) (fields_of script.now)
         ⟦<Ending as PartialEq>⟧.eq (string_bytes answer.text)) }
     ensures holds { IfOk result (λ answer. answer.holds ≡ true) }
     ensures without { IfErr result
-        (HasNoSeenList (fields_of script.now) ⟦<AllPorts as PartialEq>⟧.eq most) }
+        (HasNoSeenList (names_in names.now) (fields_of script.now)
+        ⟦<AllPorts as PartialEq>⟧.eq most) }
 {
-    let text = seen_text(alloc, script, names, most, progress)?;
+    let text = seen_text(alloc, script, names, form, most, progress)?;
     Ok(Answer { text, holds: true })
 }
 
@@ -440,14 +478,14 @@ fn answer_of_script<P: Progress>(
     question: &OutcomesQuestion<'_>,
     progress: &P,
 ) -> Result<FileAnswer, LabError> {
-    let (lines, most) = (question.lines.as_slice(), question.most);
+    let (lines, form, most) = (question.lines.as_slice(), question.form, question.most);
     let answer = match question.asked {
         Asked::Summary => answer_of_summary(alloc, script, most, progress)?,
-        Asked::Can => answer_of_line(alloc, script, lines, false, most, progress)?,
-        Asked::Never => answer_of_line(alloc, script, lines, true, most, progress)?,
-        Asked::Observed(names) => answer_of_observed(alloc, script, names, most, progress)?,
+        Asked::Can => answer_of_line(alloc, script, lines, false, form, most, progress)?,
+        Asked::Never => answer_of_line(alloc, script, lines, true, form, most, progress)?,
+        Asked::Observed(names) => answer_of_observed(alloc, script, names, form, most, progress)?,
         Asked::All | Asked::AllObserved(_) => {
-            answer_of_all(alloc, script, question.asked, most, progress)?
+            answer_of_all(alloc, script, question.asked, form, most, progress)?
         }
         Asked::Json => return answer_of_json(alloc, script, source, most, progress),
     };

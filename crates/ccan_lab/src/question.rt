@@ -5,6 +5,7 @@ use crate::command_words::over;
 use crate::counting::{CountQuestion, count_command, count_question};
 use crate::drawing::{DrawQuestion, draw_command, draw_question};
 use crate::explaining::{ExplainQuestion, explain_command, explain_question, from_candump_command};
+use crate::history_form::HistoryForm;
 use crate::outcomes::{DEFAULT_MOST, OutcomesQuestion, outcomes_command, outcomes_question};
 use crate::paging::{PageQuestion, page_command, page_question};
 use clap::{Command, Error};
@@ -89,6 +90,7 @@ pub fn question_asked<'a, S: AsStr>(alloc: Global, words: &'a [S]) -> Result<Que
             files: Vec::new(alloc),
             asked: Asked::Summary,
             lines: Vec::new(alloc),
+            form: HistoryForm::EachStep,
         }));
     };
     Ok(Question::Outcomes(outcomes_question(alloc, words)?))

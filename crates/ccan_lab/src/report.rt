@@ -3,16 +3,18 @@ ghost use Rattle.std.specs.Option.{option_map};
 ghost use Rattle.ccan_line.specs.Script.{fields_of};
 ghost use Rattle.ccan_outcomes.specs.OutcomeWords.{endings_in};
 ghost use Rattle.ccan_lab.specs.Listing.{AreOutcomeTexts, HasChoices, IsListing, different_line, different_lines};
-ghost use Rattle.ccan_lab.specs.Report.{IsOutcomeText, each, outcome_text};
+ghost use Rattle.ccan_lab.specs.OutcomeText.{IsOutcomeText};
+ghost use Rattle.ccan_lab.specs.Report.{each, outcome_text};
 ghost use Rattle.ccan_lab.specs.Report.{later_names, names_text, order_text, quoted};
 ghost use Rattle.ccan_lab.specs.Rows.{rows_of};
 ghost use Rattle.ccan_lab.specs.Sorted.{all_texts};
 ghost use Rattle.ccan_lab.specs.Words.{HasNoHistory};
 ghost use Rattle.ccan_lab.specs.Telling.{CanBeTold};
 
+use crate::brief::history_told;
 use crate::choices::all_choices;
 use crate::counting::count_text;
-use crate::history::{add_steps, port_word};
+use crate::history::port_word;
 use crate::lab_error::LabError;
 use crate::replay::order_to;
 use crate::rows::{Rows, rows_of};
@@ -20,7 +22,7 @@ use crate::summary::{add_same_parts, all_in_order};
 use crate::telling::{Telling, history_to};
 use crate::wording::add_number;
 use ccan_outcomes::all_ports::AllPorts;
-use ccan_outcomes::{Ending, Histories, HistoryStep};
+use ccan_outcomes::{Ending, Histories};
 use ccan_ram::PortName;
 use ccan_search::Progress;
 use std::alloc::{AllocError, Global};
@@ -117,25 +119,25 @@ fn add_order(text: &mut String, order: &Option<Vec<PortName>>) -> Result<(), All
     Ok(())
 }
 
-/// Adds an outcome with this history: its head, these lines of it, the steps, and the order, if there is one.
+/// Adds an outcome: its head, these lines of it, a history as it is told, and the order, if there is one.
 ///
 /// The number is from 0.
 pub fn add_told_outcome(
     text: &mut String,
     lines: &str,
     number: usize,
-    steps: &[HistoryStep],
+    told: &str,
     order: &Option<Vec<PortName>>,
 ) -> Result<(), AllocError>
     requires { number + 1 < 2 ^ 64 }
     ensures { OnOk result (string_bytes text.new ≡ string_bytes text.old
-        ++ outcome_text lines.now number steps.now (option_map (λ order. order.items) order.now)) }
+        ++ outcome_text lines.now number told.now (option_map (λ order. order.items) order.now)) }
 {
     text.push_str("outcome ")?;
     add_number(text, number + 1)?;
     text.push_str("\n")?;
     text.push_str(lines)?;
-    add_steps(text, steps)?;
+    text.push_str(told)?;
     add_order(text, order)
 }
 
@@ -157,14 +159,15 @@ pub fn add_outcome<P: Progress>(
     requires few { number + 1 < 2 ^ 64 }
     ensures text { OnOk result ((added : List ℕ)
         × (string_bytes text.new ≡ string_bytes text.old ++ added)
-        × IsOutcomeText (fields_of telling.now.script.now) (endings_in telling.now.list.now.words)
-        lines.now number added) }
+        × IsOutcomeText telling.now.form (fields_of telling.now.script.now)
+        (endings_in telling.now.list.now.words) lines.now number added) }
     ensures without { IfErr result (HasNoHistory (fields_of telling.now.script.now)
         ⟦<AllPorts as PartialEq>⟧.eq telling.now.most) }
 {
     let history = history_to(alloc, telling, histories, number, ending)?;
-    let order = order_to(alloc, telling.script, ending, history.as_slice())?;
-    add_told_outcome(text, lines, number, history.as_slice(), &order)?;
+    let order = order_to(alloc, telling.script, ending, history.steps.as_slice())?;
+    let told = history_told(alloc, telling.script, telling.form, &history)?;
+    add_told_outcome(text, lines, number, told.as_str(), &order)?;
     Ok(())
 }
 
@@ -178,8 +181,8 @@ fn add_outcomes<P: Progress>(
     requires can { CanBeTold (fields_of telling.now.script.now) telling.now.list.now }
     ensures text { OnOk result ((added : List ℕ)
         × (string_bytes text.new ≡ string_bytes text.old ++ added)
-        × AreOutcomeTexts (fields_of telling.now.script.now) (endings_in telling.now.list.now.words)
-        (all_texts choices.now) (length (endings_in telling.now.list.now.words)) added) }
+        × AreOutcomeTexts telling.now.form (fields_of telling.now.script.now)
+        (endings_in telling.now.list.now.words) (all_texts choices.now) (length (endings_in telling.now.list.now.words)) added) }
     ensures without { IfErr result (HasNoHistory (fields_of telling.now.script.now)
         ⟦<AllPorts as PartialEq>⟧.eq telling.now.most) }
 {
@@ -206,8 +209,8 @@ fn add_outcomes<P: Progress>(
 /// The list of all outcomes of a script, each with a history that leads to it.
 pub fn listing<P: Progress>(alloc: Global, telling: &Telling<'_, P>) -> Result<String, LabError>
     requires can { CanBeTold (fields_of telling.now.script.now) telling.now.list.now }
-    ensures text { IfOk result (λ text. IsListing (fields_of telling.now.script.now)
-        (endings_in telling.now.list.now.words) (string_bytes text)) }
+    ensures text { IfOk result (λ text. IsListing telling.now.form
+        (fields_of telling.now.script.now) (endings_in telling.now.list.now.words) (string_bytes text)) }
     ensures without { IfErr result (HasNoHistory (fields_of telling.now.script.now)
         ⟦<AllPorts as PartialEq>⟧.eq telling.now.most) }
 {

@@ -1,11 +1,11 @@
 ghost use Rattle.std.specs.Prelude.{◌≡◌, ◌≤◌, ◌<◌, ◌++◌, ◌∷◌, [], IfOk, OnOk, length, map, take, nat_lt};
 ghost use Rattle.ccan_object.specs.Profile.{objects_in};
 ghost use Rattle.ccan_object.specs.declared.profile.Profile.TheVariants.{Two};
-ghost use Rattle.std.specs.List.{enumerate_from, list_any};
+ghost use Rattle.std.specs.List.{enumerate_from};
 ghost use Rattle.ccan_script.specs.Print.{line_text};
 ghost use Rattle.ccan_lab.specs.Sorted.{texts_of};
 ghost use Rattle.ccan_lab.specs.Summary.{AreInOrder};
-ghost use Rattle.ccan_lab.specs.Rows.{begins_so, final_row, final_rows, has_line, line_at, rows_of};
+ghost use Rattle.ccan_lab.specs.Rows.{begins_so, final_row, final_rows, line_at, rows_of};
 
 use ccan_object::{ObjectNo, Record};
 use ccan_outcomes::Ending;
@@ -79,13 +79,6 @@ impl Rows {
         lines.dedup();
         Ok(lines)
     }
-
-    /// Whether a printed line begins so.
-    pub fn has_line(&self, begin: &str) -> bool
-        ensures { result ≡ has_line begin.now self.now }
-    {
-        any_begins_so(&self.lines, begin)
-    }
 }
 
 /// Whether a line is printed, and begins so.
@@ -104,13 +97,6 @@ fn texts<'a>(alloc: Global, lines: &'a [PrintedLine]) -> Result<Vec<&'a str>, Al
         all.push(line.as_str())?;
     }
     Ok(all)
-}
-
-/// Whether one of these lines is printed, and begins so.
-fn any_begins_so(lines: &[PrintedLine], begin: &str) -> bool
-    ensures { result ≡ list_any (λ line. begins_so begin.now line.bytes) lines.now }
-{
-    lines.iter().any(|line| begins_so(line.as_str(), begin))
 }
 
 /// The line of an object, which is empty where the object is all zero.

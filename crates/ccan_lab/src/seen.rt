@@ -6,6 +6,7 @@ ghost use Rattle.ccan_outcomes.specs.declared.ending.Ending.{Ending};
 ghost use Rattle.ccan_outcomes.specs.History.{IsHistoryOf};
 ghost use Rattle.ccan_outcomes.specs.Observed.{AreImages};
 ghost use Rattle.ccan_outcomes.specs.OutcomeWords.{endings_in};
+ghost use Rattle.ccan_lab.specs.Brief.{IsHistoryText};
 ghost use Rattle.ccan_lab.specs.Observed.{AreFirstTexts, IsFirstText, first_count, is_repeat, marks_of, names_in};
 ghost use Rattle.ccan_lab.specs.Observed.{observed_lines, observed_texts, text_at};
 ghost use Rattle.ccan_lab.specs.Report.{IsTextWith};
@@ -14,6 +15,8 @@ ghost use Rattle.ccan_lab.specs.Seen.{seen_heading};
 ghost use Rattle.ccan_lab.specs.Telling.{CanBeTold};
 ghost use Rattle.ccan_lab.specs.Words.{HasNoHistory, HasNoWords};
 
+use crate::brief::history_told;
+use crate::history_form::HistoryForm;
 use crate::lab_error::LabError;
 use crate::observed::{is_repeat, marks_of, observed_lines, observed_texts};
 use crate::outcome_words::{OutcomeList, list_of};
@@ -132,6 +135,7 @@ fn add_seen<P: Progress>(
     ensures text { OnOk result ((added : List ℕ)
         × (string_bytes text.new ≡ string_bytes text.old ++ added)
         × IsTextWith (IsHistoryOf (fields_of telling.now.script.now))
+        (IsHistoryText telling.now.form (fields_of telling.now.script.now))
         (λ _. ReplaysShown (fields_of telling.now.script.now) marks.now lines.now)
         shown.now.endings.items place lines.now number added) }
     ensures without { IfErr result (HasNoHistory (fields_of telling.now.script.now)
@@ -140,8 +144,10 @@ fn add_seen<P: Progress>(
     let ending = &shown.endings[place];
     let word = Vec::from_slice(alloc, shown.words[place].as_slice())?;
     let history = history_by_word(alloc, telling, histories, word, ending)?;
-    let order = order_to_lines(alloc, telling.script, marks, lines, history.as_slice())?;
-    add_told_outcome(text, lines, number, history.as_slice(), &order)?;
+    let steps = history.steps.as_slice();
+    let order = order_to_lines(alloc, telling.script, marks, lines, steps)?;
+    let told = history_told(alloc, telling.script, telling.form, &history)?;
+    add_told_outcome(text, lines, number, told.as_str(), &order)?;
     Ok(())
 }
 
@@ -168,7 +174,7 @@ fn add_if_new<P: Progress>(
         ≡ not (is_repeat (map string_bytes texts.now) place)) }
     ensures text { OnOk result ((added : List ℕ)
         × (string_bytes text.new ≡ string_bytes text.old ++ added)
-        × IsFirstText (IsSeenText (fields_of telling.now.script.now) marks.now
+        × IsFirstText (IsSeenText telling.now.form (fields_of telling.now.script.now) marks.now
         shown.now.endings.items (map string_bytes texts.now))
         (is_repeat (map string_bytes texts.now) place) (text_at (map string_bytes texts.now) place)
         place added) }
@@ -202,7 +208,7 @@ fn add_all_seen<P: Progress>(
         ≡ first_count (map string_bytes texts.now) (length shown.now.endings.items)) }
     ensures text { OnOk result ((added : List ℕ)
         × (string_bytes text.new ≡ string_bytes text.old ++ added)
-        × AreFirstTexts (IsSeenText (fields_of telling.now.script.now) marks.now
+        × AreFirstTexts (IsSeenText telling.now.form (fields_of telling.now.script.now) marks.now
         shown.now.endings.items (map string_bytes texts.now))
         (map string_bytes texts.now) (length shown.now.endings.items) added) }
     ensures without { IfErr result (HasNoHistory (fields_of telling.now.script.now)
@@ -257,8 +263,8 @@ fn seen_listing<P: Progress>(
     requires can { CanBeTold (fields_of telling.now.script.now) telling.now.list.now }
     requires listed { (ending : Ending) → Contains shown.now.endings.items ending
         → Contains (endings_in telling.now.list.now.words) ending }
-    ensures text { IfOk result (λ text. IsSeenListing (fields_of telling.now.script.now) marks.now
-        shown.now.endings.items (string_bytes text)) }
+    ensures text { IfOk result (λ text. IsSeenListing telling.now.form
+        (fields_of telling.now.script.now) marks.now shown.now.endings.items (string_bytes text)) }
     ensures without { IfErr result (HasNoHistory (fields_of telling.now.script.now)
         ⟦<AllPorts as PartialEq>⟧.eq telling.now.most) }
 {
@@ -278,7 +284,7 @@ fn shown_of<P: Progress>(
     ensures shown { IfOk result (λ shown. AreShownOf marks.now
         (endings_in telling.now.list.now.words) shown.endings.items) }
     ensures without { IfErr result
-        (HasNoImages telling.now.list.now.words telling.now.most) }
+        (HasNoImages telling.now.list.now.words marks.now telling.now.most) }
 {
     let words = &telling.list.words;
     let Some(observed) = words.observed(alloc, marks, telling.most)? else {
@@ -294,10 +300,11 @@ fn seen_of<P: Progress>(
     marks: &[bool],
 ) -> Result<String, LabError>
     requires can { CanBeTold (fields_of telling.now.script.now) telling.now.list.now }
-    ensures text { IfOk result (λ text. ListsSeen (fields_of telling.now.script.now) marks.now
-        (endings_in telling.now.list.now.words) (string_bytes text)) }
+    ensures text { IfOk result (λ text. ListsSeen telling.now.form
+        (fields_of telling.now.script.now) marks.now (endings_in telling.now.list.now.words)
+        (string_bytes text)) }
     ensures without { IfErr result (λ why.
-        HasNoImages telling.now.list.now.words telling.now.most why
+        HasNoImages telling.now.list.now.words marks.now telling.now.most why
         ⊎ HasNoHistory (fields_of telling.now.script.now) ⟦<AllPorts as PartialEq>⟧.eq
         telling.now.most why) }
 {
@@ -311,13 +318,14 @@ fn seen_of_list<P: Progress>(
     script: &Script,
     list: OutcomeList,
     marks: &[bool],
+    form: HistoryForm,
     most: usize,
     progress: &P,
 ) -> Result<String, LabError>
     requires can { CanBeTold (fields_of script.now) list }
-    ensures text { IfOk result (λ text. ListsSeen (fields_of script.now) marks.now
+    ensures text { IfOk result (λ text. ListsSeen form (fields_of script.now) marks.now
         (endings_in list.words) (string_bytes text)) }
-    ensures without { IfErr result (λ why. HasNoImages list.words most why
+    ensures without { IfErr result (λ why. HasNoImages list.words marks.now most why
         ⊎ HasNoHistory (fields_of script.now) ⟦<AllPorts as PartialEq>⟧.eq most why) }
 {
     let telling = Telling {
@@ -325,6 +333,7 @@ fn seen_of_list<P: Progress>(
         list: &list,
         most,
         progress,
+        form,
     };
     seen_of(alloc, &telling, marks)
 }
@@ -338,15 +347,17 @@ pub fn seen_text<P: Progress>(
     alloc: Global,
     script: &Script,
     names: &str,
+    form: HistoryForm,
     most: usize,
     progress: &P,
 ) -> Result<String, LabError>
-    ensures text { IfOk result (λ text. TellsSeen (names_in names.now) (fields_of script.now)
+    ensures text { IfOk result (λ text. TellsSeen form (names_in names.now) (fields_of script.now)
         ⟦<Ending as PartialEq>⟧.eq (string_bytes text)) }
     ensures without { IfErr result
-        (HasNoSeenList (fields_of script.now) ⟦<AllPorts as PartialEq>⟧.eq most) }
+        (HasNoSeenList (names_in names.now) (fields_of script.now)
+        ⟦<AllPorts as PartialEq>⟧.eq most) }
 {
     let marks = marks_of(alloc, script, names)?;
     let list = list_of(alloc, script, most, progress)?;
-    seen_of_list(alloc, script, list, marks.as_slice(), most, progress)
+    seen_of_list(alloc, script, list, marks.as_slice(), form, most, progress)
 }

@@ -10,9 +10,10 @@ ghost use Rattle.ccan_outcomes.specs.OutcomeWords.{AreOfLines, endings_in};
 use crate::expect::{holds, same};
 use crate::runs::read;
 use ccan_object::{ObjectNo, Record};
+use ccan_outcomes::all_ports::AllPorts;
 use ccan_outcomes::{
     AnswerGraph, Ending, Histories, HistoryKind, HistoryStep, Observed, OutcomeWords, all_outcomes,
-    answer_graph, history_of, searched_history, states_along, words_of_graph,
+    answer_graph, history_of, searched_history, words_of_graph,
 };
 use ccan_ram::PortName;
 use ccan_script::{LineAnswer, Script};
@@ -58,15 +59,7 @@ fn writes_at_last(rt: &impl Abort, history: &[HistoryStep]) {
     holds(rt, is_write);
 }
 
-/// How many states a history leads through.
-fn states(rt: &impl Abort, alloc: Global, script: &Script, history: &[HistoryStep]) -> usize {
-    match states_along(alloc, script, history) {
-        Ok(states) => states.len(),
-        Err(_) => panic!(rt; "no memory"),
-    }
-}
-
-/// How many outcomes a script has. Each has to have such a history, through five states.
+/// How many outcomes a script has. Each has to have such a history.
 fn races(rt: &impl Abort, alloc: Global, script: &Script) -> usize {
     let Ok(Some(found)) = all_outcomes(alloc, script, 1000, &Untold) else {
         panic!(rt; "not all outcomes")
@@ -77,7 +70,6 @@ fn races(rt: &impl Abort, alloc: Global, script: &Script) -> usize {
             panic!(rt; "no memory")
         };
         writes_at_last(rt, history.as_slice());
-        same(rt, states(rt, alloc, script, history.as_slice()), 5);
     }
     endings
 }
@@ -326,6 +318,21 @@ fn tells_apart_what_is_looked_at(rt: HostRuntime) {
     );
 }
 
+/// Holds the last of these states to the first object of an outcome, and the state before any step to a memory that is zero.
+fn ends_with(rt: &impl Abort, states: &[AllPorts], ending: &Ending) {
+    match (states.first(), states.last()) {
+        (Some(first), Some(last)) => {
+            same(rt, first.records.as_slice().first().copied(), None);
+            same(
+                rt,
+                last.records.as_slice().first(),
+                ending.records.as_slice().first(),
+            );
+        }
+        (Some(_), None) | (None, _) => panic!(rt; "no state"),
+    }
+}
+
 /// Holds each outcome to a history of four steps, along the graph and by a search of all states.
 fn hold_histories(
     rt: &impl Abort,
@@ -344,7 +351,11 @@ fn hold_histories(
             panic!(rt; "no such outcome")
         };
         match histories.history(alloc, script, graph, words, word, &ending) {
-            Ok(Some(history)) => writes_at_last(rt, history.as_slice()),
+            Ok(Some(history)) => {
+                writes_at_last(rt, history.steps.as_slice());
+                same(rt, history.states.len(), 5);
+                ends_with(rt, history.states.as_slice(), &ending);
+            }
             Ok(None) | Err(_) => panic!(rt; "no history along the graph"),
         }
         match searched_history(alloc, script, &ending, 1000, &Untold) {

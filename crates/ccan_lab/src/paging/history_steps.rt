@@ -3,32 +3,16 @@ ghost use Rattle.std.specs.Prelude.{◌≡◌, IfOk, map};
 ghost use Rattle.ccan_lab.specs.Paging.{line_of, line_stepped};
 
 use crate::history::{add_object, kind_text};
+use crate::moved::{Moved, moved_at, record_in, winner_at};
 use crate::outcome_rows::{add_answers, answers_of, behind, next_line};
-use ccan_bus::RoundLine;
 use ccan_object::{MOST_OBJECTS, ObjectNo, Record};
 use ccan_outcomes::all_ports::AllPorts;
 use ccan_outcomes::{Ending, HistoryKind, HistoryStep};
 use ccan_page as page;
 use ccan_page::{Change, ObjectChange, SentFrame};
 use ccan_ram::PortName;
-use ccan_script::{BusLine, Script};
+use ccan_script::Script;
 use std::alloc::{AllocError, Global};
-
-/// The states before a step and behind it.
-#[derive(Clone, Copy)]
-struct Moved<'a> {
-    before: &'a AllPorts,
-    after: &'a AllPorts,
-}
-
-/// The record of an object in a state; those behind the last that stand there are zero.
-fn record_in(state: &AllPorts, object: ObjectNo) -> Record {
-    let place = usize::from(object.get()) - 1;
-    match state.records.as_slice().get(place) {
-        Some(record) => *record,
-        None => Record::zero(),
-    }
-}
 
 /// A change, if it is one.
 fn if_changed(before: Record, after: Record) -> Option<Change> {
@@ -68,30 +52,12 @@ fn objects_of(alloc: Global, moved: &Moved<'_>) -> Result<Vec<ObjectChange>, All
     Ok(objects)
 }
 
-/// The round that a line of the bus is, by its number from 1.
-fn round_at(script: &Script, line: usize) -> Option<&RoundLine> {
-    match script.bus.get(line.checked_sub(1)?)? {
-        BusLine::Round(round) => Some(round),
-        BusLine::Load
-        | BusLine::Status
-        | BusLine::Control { .. }
-        | BusLine::Interrupt
-        | BusLine::Flags(_)
-        | BusLine::Counters(_)
-        | BusLine::Init
-        | BusLine::Recessive(_)
-        | BusLine::LoopBack(_) => None,
-    }
-}
-
-/// The frame that was on the bus in a step: the winner of a decision, which is made again here.
+/// The frame that was on the bus in a step: the winner of a decision.
 fn frame_of(script: &Script, step: &HistoryStep, moved: &Moved<'_>) -> Option<SentFrame> {
     if step.kind != HistoryKind::Decides {
         return None;
     }
-    let round = round_at(script, step.line)?;
-    let mut bus = moved.before.bus.bus;
-    let (node, frame) = bus.decide(round).winner()?;
+    let (node, frame) = winner_at(script, step.line, moved.before)?;
     Some(SentFrame { node, frame })
 }
 
@@ -174,13 +140,6 @@ fn shown_step(
         registers,
         objects,
     })
-}
-
-/// The states before the step of this place and behind it. There is one state more than there are steps, the first before any.
-fn moved_at(states: &[AllPorts], place: usize) -> Option<Moved<'_>> {
-    let before = states.get(place)?;
-    let after = states.get(place.saturating_add(1))?;
-    Some(Moved { before, after })
 }
 
 /// The steps of a history, as a page shows them: one for each.

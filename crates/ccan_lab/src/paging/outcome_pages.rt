@@ -9,6 +9,7 @@ ghost use Rattle.ccan_lab.specs.Telling.{CanBeTold};
 ghost use Rattle.ccan_lab.specs.Words.{HasNoHistory, IsWithout};
 
 use crate::choices::all_choices;
+use crate::history_form::HistoryForm;
 use crate::lab_error::LabError;
 use crate::outcome_words::list_of;
 use crate::paging::history_steps::{opening_of, shown_history};
@@ -18,7 +19,7 @@ use crate::report::different_lines;
 use crate::summary::{add_same_parts, all_in_order};
 use crate::telling::{Telling, history_to};
 use ccan_outcomes::all_ports::AllPorts;
-use ccan_outcomes::{Ending, Histories, HistoryStep, looking_once, states_along};
+use ccan_outcomes::{Ending, Histories, History, HistoryStep, looking_once};
 use ccan_page as page;
 use ccan_page::{Outcome, Page};
 use ccan_ram::PortName;
@@ -55,17 +56,18 @@ fn ordered_of(
     }
 }
 
-/// The steps of this history, as a page shows them.
+/// The steps of a history, as a page shows them.
 fn steps_shown(
     alloc: Global,
     script: &Script,
     ending: &Ending,
-    steps: &[HistoryStep],
+    history: &History,
 ) -> Result<Vec<page::Step>, AllocError>
-    ensures { IfOk result (λ made. map line_of made.items ≡ map line_stepped steps.now) }
+    ensures { IfOk result (λ made.
+        map line_of made.items ≡ map line_stepped history.now.steps.items) }
 {
-    let states = states_along(alloc, script, steps)?;
-    shown_history(alloc, script, steps, states.as_slice(), ending)
+    let steps = history.steps.as_slice();
+    shown_history(alloc, script, steps, history.states.as_slice(), ending)
 }
 
 /// The outcome of this place in the list, from 0.
@@ -86,15 +88,15 @@ fn outcome_at<P: Progress>(
         ⟦<AllPorts as PartialEq>⟧.eq telling.now.most) }
 {
     let script = telling.script;
-    let steps = history_to(alloc, telling, histories, place, ending)?;
-    let steps = steps.as_slice();
+    let history = history_to(alloc, telling, histories, place, ending)?;
+    let steps = history.steps.as_slice();
     let Ordered { order, run } = ordered_of(alloc, script, ending, steps)?;
     Ok(Outcome {
         number: place + 1,
         lines: different_lines(alloc, choices, ending)?,
         order,
         opening: opening_of(alloc, steps, ending)?,
-        history: steps_shown(alloc, script, ending, steps)?,
+        history: steps_shown(alloc, script, ending, &history)?,
         run,
     })
 }
@@ -179,6 +181,7 @@ pub(crate) fn listed_page<'a, P: Progress>(
         list: &list,
         most,
         progress,
+        form: HistoryForm::EachStep,
     };
     found_page(alloc, &telling, limit, page)
 }

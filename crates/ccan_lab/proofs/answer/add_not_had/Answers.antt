@@ -1,4 +1,4 @@
-use Rattle.std.proofs.Common.{◌≡◌, ◌∙◌, ◌++◌, ◌∷◌, [], Bor, List, ℕ, OnOk, codes, length, get_or, string_bytes, refl, sym, ap, subst, arith, rules}
+use Rattle.std.proofs.Common.{◌≡◌, ◌++◌, ◌∷◌, [], Bor, List, ℕ, OnOk, codes, length, get_or, string_bytes, refl, subst, arith, rules}
 use Rattle.ccan_lab.specs.Answer.{each_below, not_had}
 use Rattle.ccan_lab.specs.Sorted.{texts_of}
 use Rattle.ccan_lab.proofs.answer.add_not_had.Goals as goal

@@ -4,7 +4,7 @@ use Rattle.ccan_line.specs.Script.{fields_of}
 use Rattle.ccan_lab.specs.Observed.{AreFirstTexts, first_count, marks_of, names_in, observed_heading, observed_lines, observed_texts}
 use Rattle.ccan_outcomes.specs.declared.ending.Ending.{Ending}
 use Rattle.ccan_outcomes.specs.OutcomeWords.{endings_in}
-use Rattle.ccan_lab.specs.Report.{IsOutcomeText}
+use Rattle.ccan_lab.specs.OutcomeText.{IsOutcomeText}
 use Rattle.ccan_lab.specs.Rows.{rows_of}
 use Rattle.ccan_lab.proofs.Apart.{texts_by_rows}
 use Rattle.ccan_lab.proofs.observed.observed_listing.Goals as goal
@@ -12,13 +12,14 @@ use Rattle.ccan_lab.proofs.observed.observed_listing.Goals as goal
 pub returns-clause-text : goal.returns-clause-text
 returns-clause-text g c =
     let script = fields_of c.args.telling.now.script.now in
+    let form = c.args.telling.now.form in
     let keys = endings_in c.args.telling.now.list.now.words in
     let marks = marks_of (names_in c.args.list.now) script in
     let count = length keys in
     let heading = observed_heading count in
     let texts = map string_bytes c.in_ok-texts.texts.items in
     let is_told : List (List ℕ) → List ℕ → Type 0 =
-    λ told added. AreFirstTexts (IsOutcomeText script keys) told count added in
+    λ told added. AreFirstTexts (IsOutcomeText form script keys) told count added in
     let all = c.in_ok-endings.ensures in
     let texts_are : texts ≡ observed_texts marks keys =
     c.in_ok-texts.ensures ∙ ap (map (observed_lines marks)) (c.as_slice-2.ensures.value ∙ c.in_ok-rows.ensures
@@ -26,8 +27,8 @@ returns-clause-text g c =
     let endings_are : c.as_slice-4.result.now ≡ keys = c.as_slice-4.ensures.value ∙ all in
     let added = c.in_ok-apart.ensures.text.0 in
     let are : is_told texts added =
-    subst (λ (es : List Ending). AreFirstTexts (IsOutcomeText script es) texts (length es) added) endings_are
-    (subst (λ (ts : List (String Global)). AreFirstTexts (IsOutcomeText script c.as_slice-4.result.now) (map string_bytes ts)
+    subst (λ (es : List Ending). AreFirstTexts (IsOutcomeText form script es) texts (length es) added) endings_are
+    (subst (λ (ts : List (String Global)). AreFirstTexts (IsOutcomeText form script c.as_slice-4.result.now) (map string_bytes ts)
     (length c.as_slice-4.result.now) added) c.as_slice-3.ensures.value c.in_ok-apart.ensures.text.2) in
     let apart : c.in_ok-apart.apart ≡ first_count (observed_texts marks keys) count =
     c.in_ok-apart.ensures.count
@@ -46,6 +47,7 @@ returns-clause-text g c =
 pub add_firsts-requires-clause-as_many : goal.add_firsts-requires-clause-as_many
 add_firsts-requires-clause-as_many g c =
     let script = fields_of c.args.telling.now.script.now in
+    let form = c.args.telling.now.form in
     let marks = marks_of (names_in c.args.list.now) script in
     let texts = c.in_ok-texts.texts.items in
     let one = length-map texts string_bytes in

@@ -1,4 +1,4 @@
-use Rattle.std.proofs.Common.{decimal, ◌∙◌, rules}
+use Rattle.std.proofs.Common.{decimal, ◌∙◌}
 use Rattle.ccan_lab.proofs.Most.{read_as_given}
 use Rattle.ccan_lab.proofs.outcomes.most_of.Goals as goal
 

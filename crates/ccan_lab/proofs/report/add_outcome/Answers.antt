@@ -1,8 +1,7 @@
-use Rattle.std.proofs.Common.{◌≡◌, ◌++◌, List, IfSome, sym, ap, subst, refl, ◌∙◌, string_bytes}
+use Rattle.std.proofs.Common.{ℕ, ◌≡◌, ◌++◌, List, IfSome, sym, ap, subst, refl, ◌∙◌, string_bytes}
 use Rattle.ccan_line.specs.Script.{fields_of}
 use Rattle.ccan_language.proofs.Grown.{same_some}
 use Rattle.ccan_outcomes.specs.declared.ending.Ending.{Ending}
-use Rattle.ccan_outcomes.specs.declared.history_step.HistoryStep.{HistoryStep}
 use Rattle.ccan_outcomes.specs.History.{IsHistoryOf}
 use Rattle.ccan_outcomes.specs.OutcomeWords.{endings_in}
 use Rattle.ccan_lab.specs.Replay.{Replays}
@@ -17,23 +16,26 @@ returns-clause-text g c =
     let number = c.args.number in
     let ending = c.args.ending.now in
     let keys = endings_in c.args.telling.now.list.now.words in
-    let steps = c.in_ok-history.history.items in
+    let steps = c.in_ok-history.history.steps.items in
+    let told = string_bytes c.in_ok-told.told in
     let order = names_in c.in_ok-order.order in
     let found : IfSome order (Replays script ending) =
     names_lead (Replays script ending) c.in_ok-order.order c.in_ok-order.ensures in
     let added = c.in_ok-add_told_outcome.ensures
-    ∙ ap (λ (told : List HistoryStep). string_bytes c.args.text.now ++ outcome_text lines number told order)
-    c.as_slice-2.ensures.value in (
-      outcome_text lines number steps order,
+    ∙ ap (λ (words : List ℕ). string_bytes c.args.text.now ++ outcome_text lines number words order)
+    c.as_str.ensures.value in (
+      outcome_text lines number told order,
       added,
       (
         steps,
+        told,
         order,
         (λ shown is.
             let same : ending ≡ shown = same_some ending shown (sym c.requires.at ∙ is) in (
               subst (λ (e : Ending). IsHistoryOf script e steps) same c.in_ok-history.ensures.history,
               subst (λ (e : Ending). IfSome order (Replays script e)) same found,
             )),
+        c.in_ok-told.ensures,
         refl,
       ),
     )

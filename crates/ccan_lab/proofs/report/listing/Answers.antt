@@ -12,6 +12,7 @@ use Rattle.ccan_lab.proofs.report.listing.Goals as goal
 pub returns-clause-text : goal.returns-clause-text
 returns-clause-text g c =
     let script = fields_of c.args.telling.now.script.now in
+    let form = c.args.telling.now.form in
     let endings = endings_in c.args.telling.now.list.now.words in
     let rows = c.in_ok-rows.rows.items in
     let choices = all_texts c.in_ok-choices.choices.items in
@@ -25,7 +26,7 @@ returns-clause-text g c =
       choices = choices;
       has_choices = has_choices script endings rows choices c.in_ok-rows.ensures.places c.in_ok-rows.ensures.lines ordered;
       outcomes = added;
-      are = subst (λ (l : List Lines). AreOutcomeTexts script endings (all_texts l) (length endings) added)
+      are = subst (λ (l : List Lines). AreOutcomeTexts form script endings (all_texts l) (length endings) added)
           c.as_slice-3.ensures.value c.in_ok-add_outcomes.ensures.text.2;
       text_is =
           c.in_ok-add_outcomes.ensures.text.1

@@ -9,5 +9,5 @@ abbrev pub invariant-loop-place : goal.invariant-loop-place
 invariant-loop-place g l =
     (l.count ≤ l.place) × (l.count ≡ first_count (map string_bytes l.texts) l.place)
     × ((added : List ℕ) × (string_bytes l.text ≡ string_bytes l.initial.text ++ added)
-    × AreFirstTexts (IsSeenText (fields_of l.telling.script.now) l.marks l.shown.endings.items (map string_bytes l.texts))
+    × AreFirstTexts (IsSeenText l.telling.form (fields_of l.telling.script.now) l.marks l.shown.endings.items (map string_bytes l.texts))
     (map string_bytes l.texts) l.place added)

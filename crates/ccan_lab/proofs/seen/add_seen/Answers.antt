@@ -1,8 +1,7 @@
-use Rattle.std.proofs.Common.{◌≡◌, ◌++◌, List, Some, IfSome, slice_get, ap, subst, refl, ◌∙◌, string_bytes}
+use Rattle.std.proofs.Common.{ℕ, ◌≡◌, ◌++◌, List, Some, IfSome, slice_get, ap, subst, refl, ◌∙◌, string_bytes}
 use Rattle.std.proofs.lemmas.Option.{get_or_from_slice_get}
 use Rattle.ccan_line.specs.Script.{fields_of}
 use Rattle.ccan_outcomes.specs.declared.ending.Ending.{Ending}
-use Rattle.ccan_outcomes.specs.declared.history_step.HistoryStep.{HistoryStep}
 use Rattle.ccan_outcomes.specs.History.{IsHistoryOf}
 use Rattle.ccan_lab.specs.Report.{outcome_text}
 use Rattle.ccan_lab.specs.Seen.{ReplaysShown}
@@ -17,7 +16,8 @@ returns-clause-text g c =
     let place = c.args.place in
     let marks = c.args.marks.now in
     let keys = c.args.shown.now.endings.items in
-    let steps = c.in_ok-history.history.items in
+    let steps = c.in_ok-history.history.steps.items in
+    let told = string_bytes c.in_ok-told.told in
     let order = names_in c.in_ok-order.order in
     let shown = c.index-ending.result.now in
     let found : IfSome order (ReplaysShown script marks lines) =
@@ -25,17 +25,19 @@ returns-clause-text g c =
     let it_is : (ending : Ending) → slice_get keys place ≡ Some ending → shown ≡ ending =
     λ ending is. c.index-ending.ensures ∙ get_or_from_slice_get keys place ending _ is in
     let added = c.in_ok-add_told_outcome.ensures
-    ∙ ap (λ (told : List HistoryStep). string_bytes c.args.text.now ++ outcome_text lines number told order)
-    c.as_slice-3.ensures.value in (
-      outcome_text lines number steps order,
+    ∙ ap (λ (words : List ℕ). string_bytes c.args.text.now ++ outcome_text lines number words order)
+    c.as_str.ensures.value in (
+      outcome_text lines number told order,
       added,
       (
         steps,
+        told,
         order,
         (λ ending is. (
           subst (λ (e : Ending). IsHistoryOf script e steps) (it_is ending is) c.in_ok-history.ensures.history,
           found,
         )),
+        c.in_ok-told.ensures,
         refl,
       ),
     )

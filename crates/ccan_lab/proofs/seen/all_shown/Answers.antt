@@ -1,4 +1,4 @@
-use Rattle.std.proofs.Common.{ℕ, ◌≡◌, ◌+◌, ◌≤◌, ◌<◌, Some, Contains, List, length, slice_get, refl, sym, ap, subst, ◌∙◌, arith, inl, inr}
+use Rattle.std.proofs.Common.{ℕ, ◌≡◌, ◌+◌, List, length, slice_get, sym, ap, subst, ◌∙◌, arith, inl, inr}
 use Rattle.std.proofs.lemmas.Bool.{cases_lt}
 use Rattle.std.proofs.lemmas.Option.{slice_get_within}
 use Rattle.ccan_language.specs.declared.letter.Letter.{Letter}
@@ -7,7 +7,7 @@ use Rattle.ccan_language.specs.Words.{IsWordFrom}
 use Rattle.ccan_language.proofs.Grown.{slice_get_last_is}
 use Rattle.ccan_outcomes.specs.declared.ending.Ending.{Ending}
 use Rattle.ccan_outcomes.specs.Observed.{observed_words}
-use Rattle.ccan_outcomes.specs.OutcomeWords.{ending_of_word, endings_in}
+use Rattle.ccan_outcomes.specs.OutcomeWords.{ending_of_word}
 use Rattle.ccan_outcomes.proofs.ImageRows.{before_push, push_long}
 use Rattle.ccan_lab.specs.Seen.{IsShownAt}
 use Rattle.ccan_lab.proofs.seen.all_shown.Goals as goal

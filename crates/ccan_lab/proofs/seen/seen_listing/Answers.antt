@@ -7,12 +7,13 @@ use Rattle.ccan_lab.proofs.seen.seen_listing.Goals as goal
 pub returns-clause-text : goal.returns-clause-text
 returns-clause-text g c =
     let script = fields_of c.args.telling.now.script.now in
+    let form = c.args.telling.now.form in
     let marks = c.args.marks.now in
     let keys = c.args.shown.now.endings.items in
     let count = length keys in
     let texts = map string_bytes c.in_ok-texts.texts.items in
     let is_told : List (List ℕ) → List ℕ → Type 0 =
-    λ told added. AreFirstTexts (IsSeenText script marks keys told) told count added in
+    λ told added. AreFirstTexts (IsSeenText form script marks keys told) told count added in
     let texts_are = c.in_ok-texts.ensures in
     let added = c.in_ok-apart.ensures.text.0 in
     let sliced = ap (map string_bytes) c.as_slice.ensures.value in

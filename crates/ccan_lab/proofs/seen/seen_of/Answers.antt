@@ -19,5 +19,5 @@ returns-clause-without g c =
 
 pub returns-in_err-shown-clause-without : goal.returns-in_err-shown-clause-without
 returns-in_err-shown-clause-without g c =
-    IfErr-weaker c.from_residual.result (HasNoImages c.args.telling.now.list.now.words c.args.telling.now.most) _
+    IfErr-weaker c.from_residual.result (HasNoImages c.args.telling.now.list.now.words c.args.marks.now c.args.telling.now.most) _
     (λ why none. inl none) (search rules)

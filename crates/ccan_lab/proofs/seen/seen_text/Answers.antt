@@ -1,8 +1,9 @@
-use Rattle.std.proofs.Common.{◌≡◌, ◌⊎◌, inl, inr, ◌∙◌, Bool, List, string_bytes, subst}
+use Rattle.std.proofs.Common.{◌⊎◌, inl, inr, ◌∙◌, Bool, List, string_bytes, subst}
 use Rattle.std.proofs.lemmas.Result.{IfErr-weaker, IfOk-weaker}
 use Rattle.ccan_line.specs.Script.{fields_of}
 use Rattle.ccan_outcomes.specs.OutcomeWords.{endings_in}
 use Rattle.ccan_outcomes.specs.contracts.all_ports.AllPortsPartialEq.TheImpl.{ghosts as ports_are}
+use Rattle.ccan_lab.specs.Observed.{names_in}
 use Rattle.ccan_lab.specs.Seen.{HasNoImages, HasNoSeenList, ListsSeen}
 use Rattle.ccan_lab.specs.Words.{HasNoHistory}
 use Rattle.ccan_lab.proofs.seen.seen_text.Goals as goal
@@ -11,6 +12,7 @@ pub returns-clause-text : goal.returns-clause-text
 returns-clause-text g c =
     let script = fields_of c.args.script.now in
     let endings = endings_in c.in_ok-list.list.words in
+    let form = c.args.form in
     let marks_are = c.as_slice.ensures.value ∙ c.in_ok-marks.ensures in
     IfOk-weaker c.seen_of_list.result _ _
     (λ text lists. record {
@@ -18,7 +20,7 @@ returns-clause-text g c =
       are = c.in_ok-list.ensures.all;
       runs = c.in_ok-list.ensures.told.runs;
       once = c.in_ok-list.ensures.distinct;
-      lists = subst (λ (marks : List Bool). ListsSeen script marks endings (string_bytes text)) marks_are lists;
+      lists = subst (λ (marks : List Bool). ListsSeen form script marks endings (string_bytes text)) marks_are lists;
     })
     c.seen_of_list.ensures.text
 
@@ -27,10 +29,16 @@ returns-clause-without g c =
     let script = fields_of c.args.script.now in
     let words = c.in_ok-list.list.words in
     let most = c.args.most in
+    let names = names_in c.args.names.now in
+    let marks_are = c.as_slice.ensures.value ∙ c.in_ok-marks.ensures in
     IfErr-weaker c.seen_of_list.result
-    (λ why. HasNoImages words most why ⊎ HasNoHistory script ports_are.eq most why) _
-    (λ why none. elim none as (λ _. HasNoSeenList script ports_are.eq most why) [
-      | inl images ↦ inr (words, c.in_ok-list.ensures.all, images)
+    (λ why. HasNoImages words c.as_slice.result.now most why ⊎ HasNoHistory script ports_are.eq most why) _
+    (λ why none. elim none as (λ _. HasNoSeenList names script ports_are.eq most why) [
+      | inl images ↦ inr (
+        words,
+        c.in_ok-list.ensures.all,
+        subst (λ (marks : List Bool). HasNoImages words marks most why) marks_are images,
+      )
       | inr history ↦ inl (inr history)
     ])
     c.seen_of_list.ensures.without

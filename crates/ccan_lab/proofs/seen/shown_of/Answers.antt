@@ -1,4 +1,3 @@
-use Rattle.std.proofs.lemmas.Result.{IfOk-weaker}
 use Rattle.ccan_line.specs.Script.{fields_of}
 use Rattle.ccan_lab.proofs.ShownOf.{shown_of}
 use Rattle.ccan_lab.proofs.seen.shown_of.Goals as goal

@@ -1,4 +1,4 @@
-use Rattle.std.proofs.Common.{◌≡◌, ◌++◌, Bor, List, ℕ, string_bytes, take, length, sym, ap, ◌∙◌, le_refl, arith}
+use Rattle.std.proofs.Common.{◌≡◌, ◌++◌, Bor, List, ℕ, string_bytes, take, length, ap, ◌∙◌, le_refl, arith}
 use Rattle.std.proofs.lemmas.List.{take_all}
 use Rattle.std.specs.List.{flat_map}
 use Rattle.ccan_lab.specs.Summary.{choice_text}

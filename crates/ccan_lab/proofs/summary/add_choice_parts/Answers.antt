@@ -1,4 +1,4 @@
-use Rattle.std.proofs.Common.{◌≡◌, ◌++◌, Bor, List, ℕ, string_bytes, length, sym, ap, ◌∙◌, arith}
+use Rattle.std.proofs.Common.{◌≡◌, ◌++◌, List, ℕ, string_bytes, sym, ap, ◌∙◌}
 use Rattle.ccan_lab.specs.Place.{place_name}
 use Rattle.ccan_lab.specs.Sorted.{all_texts, texts_of}
 use Rattle.ccan_lab.specs.Summary.{choice_part, choices_at}

@@ -1,4 +1,4 @@
-use Rattle.std.proofs.Common.{◌≡◌, ◌++◌, ℕ, List, [], string_bytes, append-nil, append_assoc, codes, sym, ap, ◌∙◌}
+use Rattle.std.proofs.Common.{◌++◌, ℕ, List, string_bytes, append-nil, append_assoc, codes, sym, ap, ◌∙◌}
 use Rattle.std.specs.List.{flat_map}
 use Rattle.ccan_lab.specs.Place.{place_name}
 use Rattle.ccan_lab.specs.Sorted.{texts_of}

@@ -1,4 +1,4 @@
-use Rattle.std.proofs.Common.{◌≡◌, ◌++◌, Bor, List, ℕ, Some, length, min, slice_get, string_bytes, append_assoc, sym, ap, subst, ◌∙◌, arith}
+use Rattle.std.proofs.Common.{◌≡◌, ◌++◌, List, ℕ, length, min, append_assoc, ap, subst, ◌∙◌, arith}
 use Rattle.std.proofs.lemmas.Option.{slice_get_within}
 use Rattle.ccan_line.specs.Script.{fields_of}
 use Rattle.ccan_search.proofs.WayOn.{there_within}
@@ -6,8 +6,8 @@ use Rattle.ccan_outcomes.specs.OutcomeWords.{endings_in}
 use Rattle.ccan_lab.specs.Counting.{count_text, greatest}
 use Rattle.ccan_lab.specs.Place.{place_name}
 use Rattle.ccan_lab.specs.Sorted.{AreAllInOrder, all_texts}
-use Rattle.ccan_lab.specs.Summary.{AreChoices, IsSummary, choice_parts, closing_text, name_in, same_parts}
-use Rattle.ccan_lab.proofs.Parts.{Lines, ordered_choices}
+use Rattle.ccan_lab.specs.Summary.{choice_parts, closing_text, name_in, same_parts}
+use Rattle.ccan_lab.proofs.Parts.{ordered_choices}
 use Rattle.ccan_lab.proofs.summary.summary.Goals as goal
 
 pub returns : goal.returns

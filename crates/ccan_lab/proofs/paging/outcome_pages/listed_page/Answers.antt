@@ -1,6 +1,9 @@
-use Rattle.std.proofs.lemmas.Result.{IfOk-weaker}
+use Rattle.std.proofs.Common.{inr}
+use Rattle.std.proofs.lemmas.Result.{IfErr-weaker, IfOk-weaker}
 use Rattle.ccan_line.specs.Script.{fields_of}
 use Rattle.ccan_outcomes.specs.OutcomeWords.{endings_in}
+use Rattle.ccan_outcomes.specs.contracts.all_ports.AllPortsPartialEq.TheImpl.{ghosts as ports_are}
+use Rattle.ccan_lab.specs.Words.{HasNoHistory}
 use Rattle.ccan_lab.proofs.paging.outcome_pages.listed_page.Goals as goal
 
 pub returns-clause-outcomes : goal.returns-clause-outcomes
@@ -13,3 +16,8 @@ returns-clause-outcomes g c =
       shows = shows;
     })
     c.found_page.ensures.shows
+
+pub returns-clause-without : goal.returns-clause-without
+returns-clause-without g c =
+    IfErr-weaker c.found_page.result (HasNoHistory (fields_of c.args.script.now) ports_are.eq c.args.most) _
+    (λ why none. inr none) c.found_page.ensures.without

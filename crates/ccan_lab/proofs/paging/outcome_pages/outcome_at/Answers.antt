@@ -1,13 +1,11 @@
 -- The steps that are shown are those of the history that was found.
-use Rattle.std.proofs.Common.{List, ap, map, refl, sym, subst, ◌∙◌}
+use Rattle.std.proofs.Common.{ap, refl, sym, subst, ◌∙◌}
 use Rattle.ccan_language.proofs.Grown.{same_some}
 use Rattle.ccan_line.specs.Script.{fields_of}
 use Rattle.ccan_outcomes.specs.declared.ending.Ending.{Ending}
-use Rattle.ccan_outcomes.specs.declared.history_step.HistoryStep.{HistoryStep}
 use Rattle.ccan_outcomes.specs.History.{IsHistoryOf}
 use Rattle.ccan_outcomes.specs.OutcomeWords.{endings_in}
 use Rattle.ccan_lab.specs.Listing.{different_lines}
-use Rattle.ccan_lab.specs.Paging.{line_stepped}
 use Rattle.ccan_lab.specs.Sorted.{all_texts}
 use Rattle.ccan_lab.proofs.Listed.{rows_there}
 use Rattle.ccan_lab.proofs.paging.outcome_pages.outcome_at.Goals as goal
@@ -16,7 +14,7 @@ pub returns-clause-shown : goal.returns-clause-shown
 returns-clause-shown g c =
     let script = fields_of c.args.telling.now.script.now in
     let ending = c.args.ending.now in
-    let steps = c.in_ok-steps.steps.items in
+    let steps = c.in_ok-history.history.steps.items in
     record {
       number_is = refl;
       lines_are = c.in_ok-different_lines.ensures
@@ -24,7 +22,6 @@ returns-clause-shown g c =
           (sym (rows_there (endings_in c.args.telling.now.list.now.words) c.args.place ending c.requires.at));
       steps = steps;
       lead_to_it = λ shown is. subst (λ (e : Ending). IsHistoryOf script e steps)
-          (same_some ending shown (sym c.requires.at ∙ is)) c.in_ok-steps.ensures.history;
-      are_shown = c.in_ok-steps_shown.ensures
-          ∙ ap (λ (steps : List HistoryStep). map line_stepped steps) c.as_slice-steps.ensures.value;
+          (same_some ending shown (sym c.requires.at ∙ is)) c.in_ok-history.ensures.history;
+      are_shown = c.in_ok-steps_shown.ensures;
     }

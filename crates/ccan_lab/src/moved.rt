@@ -1,0 +1,84 @@
+//! What the states before a step of a history and behind it show of the step.
+ghost use Rattle.std.specs.Prelude.{◌≡◌, ◌-◌, ◌+◌, IfNone, IfSome, None, Some, get_or, option_map, slice_get};
+ghost use Rattle.ccan_line.specs.Script.{fields_of};
+ghost use Rattle.ccan_object.specs.Record.{zero_record};
+ghost use Rattle.ccan_lab.specs.Moved.{IsWonAt, WinsRound, round_at, round_of};
+
+use ccan_accept::Frame;
+use ccan_bus::{Bus, RoundLine};
+use ccan_object::{ObjectNo, Record};
+use ccan_outcomes::all_ports::AllPorts;
+use ccan_script::{BusLine, Script};
+
+/// The states before a step and behind it.
+#[derive(Clone, Copy)]
+pub struct Moved<'a> {
+    /// That before it.
+    pub before: &'a AllPorts,
+    /// That behind it.
+    pub after: &'a AllPorts,
+}
+
+/// The record of an object in a state; those behind the last that stand there are zero.
+pub fn record_in(state: &AllPorts, object: ObjectNo) -> Record
+    ensures { result ≡ get_or state.now.records (object - 1) zero_record }
+{
+    let place = usize::from(object.get()) - 1;
+    match state.records.as_slice().get(place) {
+        Some(record) => *record,
+        None => Record::zero(),
+    }
+}
+
+/// The round that this line of the bus is.
+fn round_of(line: &BusLine) -> Option<&RoundLine>
+    ensures { option_map (λ round. round.now) result ≡ round_of line.now }
+{
+    match line {
+        BusLine::Round(round) => Some(round),
+        BusLine::Load
+        | BusLine::Status
+        | BusLine::Control { .. }
+        | BusLine::Interrupt
+        | BusLine::Flags(_)
+        | BusLine::Counters(_)
+        | BusLine::Init
+        | BusLine::Recessive(_)
+        | BusLine::LoopBack(_) => None,
+    }
+}
+
+/// The round that a line of the bus is, by its number from 1.
+fn round_at(script: &Script, line: usize) -> Option<&RoundLine>
+    ensures { option_map (λ round. round.now) result ≡ round_at (fields_of script.now) line }
+{
+    round_of(script.bus.get(line.checked_sub(1)?)?)
+}
+
+/// The frame that wins a round, and the node that sends it; the controller is node 0. None: no frame contends, or some collide.
+fn winner_by(mut bus: Bus, round: &RoundLine) -> Option<(u8, Frame)>
+    ensures { WinsRound bus round.now result }
+{
+    bus.decide(round).winner()
+}
+
+/// The frame that is on the bus as a round is decided, and the node that sends it, by the state before.
+pub fn winner_at(script: &Script, line: usize, before: &AllPorts) -> Option<(u8, Frame)>
+    ensures { IsWonAt (fields_of script.now) line before.now result }
+{
+    match round_at(script, line) {
+        Some(round) => winner_by(before.bus.bus, round),
+        None => None,
+    }
+}
+
+/// The states before the step of this place and behind it. There is one state more than there are steps, the first before any.
+pub fn moved_at(states: &[AllPorts], place: usize) -> Option<Moved<'_>>
+    ensures some { IfSome result (λ moved. (slice_get states.now place ≡ Some moved.before.now)
+        × (slice_get states.now (place + 1) ≡ Some moved.after.now)) }
+    ensures none { IfNone result (slice_get states.now (place + 1) ≡ None) }
+{
+    let before = states.get(place)?;
+    let after = states.get(place.saturating_add(1))?;
+    Some(Moved { before, after })
+}
