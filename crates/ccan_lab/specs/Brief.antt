@@ -1,17 +1,16 @@
 -- Histories in few lines. Source: this project's own.
-use Rattle.std.specs.Prelude.{ℕ, zero, suc, ◌≡◌, ◌+◌, ◌-◌, ◌++◌, ◌==◌, ◌&&◌, ◌||◌, Bool, true, false, List, [], Option, Some, None}
-use Rattle.std.specs.Prelude.{codes, decimal, get_or, length, slice_get, unwrap_or, if◌then◌else◌}
+use Rattle.std.specs.Prelude.{ℕ, zero, suc, ◌≡◌, ◌+◌, ◌⊎◌, ◌++◌, ◌==◌, ◌&&◌, ◌||◌, Bool, true, false, List, [], Option, Some, None}
+use Rattle.std.specs.Prelude.{codes, decimal, length, slice_get, unwrap_or, if◌then◌else◌}
 use Rattle.ccan_accept.specs.declared.frame.Frame.{Frame}
 use Rattle.ccan_explain.specs.FrameText.{winner_text}
 use Rattle.ccan_explain.specs.RecordWords.{left_text}
 use Rattle.ccan_line.specs.Script.{ScriptFields}
-use Rattle.ccan_object.specs.declared.record.Record.{Record}
-use Rattle.ccan_object.specs.Record.{zero_record}
 use Rattle.ccan_outcomes.specs.declared.all_ports.AllPorts.{AllPorts}
 use Rattle.ccan_outcomes.specs.declared.history_kind.HistoryKind.{HistoryKind}
 use Rattle.ccan_outcomes.specs.declared.history_kind.HistoryKind.TheVariants as kind
 use Rattle.ccan_outcomes.specs.declared.history_step.HistoryStep.{HistoryStep}
-use Rattle.ccan_outcomes.specs.History.{AreAlong}
+use Rattle.ccan_outcomes.specs.History.{LeadThrough}
+use Rattle.ccan_outcomes.specs.Step.{record_in}
 use Rattle.ccan_ram.specs.contracts.port.PortNamePartialEq.TheImpl.{ghosts as port_is}
 use Rattle.ccan_lab.specs.declared.history_form.HistoryForm.{HistoryForm}
 use Rattle.ccan_lab.specs.declared.history_form.HistoryForm.TheVariants.{EachStep, Brief}
@@ -35,11 +34,12 @@ is_change kind.Stores = true
 is_change kind.Resets = true
 is_change other = false
 
--- the second is the object behind the first, or the first itself
+-- the second is the object behind the first
 abbrev pub is_next : Option ℕ → Option ℕ → Bool
 is_next (Some object) (Some next) = next == object + 1
 is_next object next = false
 
+-- both are one object
 abbrev pub is_same : Option ℕ → Option ℕ → Bool
 is_same (Some object) (Some next) = next == object
 is_same object next = false
@@ -110,10 +110,6 @@ brief_text steps details = each (length steps) (group_text steps details)
 
 -- ---- what is written of a step beside this
 
--- the record of an object in a state; those behind the last that stand there are zero
-abbrev pub record_at : AllPorts → ℕ → Record
-record_at state object = get_or state.records (object - 1) zero_record
-
 -- `: can0 123#11 from node 1`
 abbrev pub winner_shown : Option (ℕ × Frame) → List ℕ
 winner_shown None = []
@@ -127,7 +123,7 @@ IsWinnerText script line from text =
 -- what a change made of its object
 abbrev pub changed_text : Option ℕ → AllPorts → AllPorts → List ℕ
 changed_text None from to = []
-changed_text (Some object) from to = left_text (record_at from object) (record_at to object)
+changed_text (Some object) from to = left_text (record_in from.records object) (record_in to.records object)
 
 abbrev pub IsDetailOf : ScriptFields → HistoryStep → HistoryKind → AllPorts → AllPorts → List ℕ → Type 0
 IsDetailOf script step kind.Decides from to text = IsWinnerText script step.line from text
@@ -147,15 +143,22 @@ pub record AreDetails (script : ScriptFields) (steps : List HistoryStep) (states
 
 -- ---- a history in a form
 
--- the text is that of the steps, and what it says of changes and frames is that of the states on their way
-pub record IsBriefText (script : ScriptFields) (steps : List HistoryStep) (text : List ℕ) : Type 0 where
-  pub states : List AllPorts
-  pub along : AreAlong script steps states
+-- the text is that of the steps, and what it says of changes and frames is that of these states
+pub record IsBriefText (script : ScriptFields) (steps : List HistoryStep) (states : List AllPorts) (text : List ℕ) : Type 0 where
   pub details : List (List ℕ)
   pub are : AreDetails script steps states details
   pub text_is : text ≡ brief_text steps details
 
--- the text is that of the steps, in this form
+-- the text is that of the steps with these states, in this form
+abbrev pub IsTextOf : HistoryForm → ScriptFields → List HistoryStep → List AllPorts → List ℕ → Type 0
+IsTextOf EachStep script steps states text = text ≡ history_text steps
+IsTextOf Brief script steps states text = IsBriefText script steps states text
+
+-- the states are those that the steps lead through from where the ports begin, or none is known
+abbrev pub AreAllOrNone : ScriptFields → List HistoryStep → List AllPorts → Type 0
+AreAllOrNone script steps states = LeadThrough script steps states ⊎ (states ≡ [])
+
+-- the text is that of the steps in this form, with the states on their way, if they are known
 abbrev pub IsHistoryText : HistoryForm → ScriptFields → List HistoryStep → List ℕ → Type 0
-IsHistoryText EachStep script steps text = text ≡ history_text steps
-IsHistoryText Brief script steps text = IsBriefText script steps text
+IsHistoryText form script steps text =
+    (states : List AllPorts) × AreAllOrNone script steps states × IsTextOf form script steps states text

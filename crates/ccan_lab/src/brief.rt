@@ -11,8 +11,7 @@
 //! was on the bus.
 ghost use Rattle.std.specs.Prelude.{◌≡◌, ◌+◌, ◌^◌, ◌<◌, ◌++◌, false, IfOk, OnOk, length, map, slice_get, string_bytes};
 ghost use Rattle.ccan_line.specs.Script.{fields_of};
-ghost use Rattle.ccan_outcomes.specs.History.{AreAlong};
-ghost use Rattle.ccan_lab.specs.Brief.{AreDetails, IsBriefText, IsDetail, IsDetailOf, IsHistoryText, IsWinnerText, brief_text};
+ghost use Rattle.ccan_lab.specs.Brief.{AreDetails, IsBriefText, IsDetail, IsDetailOf, IsTextOf, IsWinnerText, brief_text};
 ghost use Rattle.ccan_lab.specs.Report.{history_text};
 ghost use Rattle.ccan_lab.specs.Brief.{changed_text, first_at, goes_on, goes_on_at, group_line, group_text, is_change};
 ghost use Rattle.ccan_lab.specs.Brief.{deed_text, label_text};
@@ -20,12 +19,13 @@ ghost use Rattle.ccan_lab.specs.Brief.{is_look, is_next, is_same, looked_at, num
 
 use crate::history::{add_line_name, add_object, add_steps, kind_text};
 use crate::history_form::HistoryForm;
-use crate::moved::{Moved, moved_at, record_in, winner_at};
+use crate::moved::{Moved, moved_at, winner_at};
 use crate::wording::add_number;
 use ccan_accept::Frame;
 use ccan_explain::{push_left, push_winner};
 use ccan_object::ObjectNo;
 use ccan_outcomes::all_ports::AllPorts;
+use ccan_outcomes::step::record_of;
 use ccan_outcomes::{History, HistoryKind, HistoryStep};
 use ccan_script::Script;
 use std::alloc::{AllocError, Global};
@@ -287,8 +287,8 @@ fn changed_text(
 {
     let mut text = String::new(alloc);
     if let Some(object) = object {
-        let before = record_in(moved.before, object);
-        let after = record_in(moved.after, object);
+        let before = record_of(&moved.before.records, object);
+        let after = record_of(&moved.after.records, object);
         push_left(&mut text, &before, &after)?;
     }
     Ok(text)
@@ -373,9 +373,8 @@ fn groups_told(
 
 /// A history in few lines.
 fn brief_told(alloc: Global, script: &Script, history: &History) -> Result<String, AllocError>
-    requires { AreAlong (fields_of script.now) history.now.steps.items history.now.states.items }
     ensures { IfOk result (λ text. IsBriefText (fields_of script.now)
-        history.now.steps.items (string_bytes text)) }
+        history.now.steps.items history.now.states.items (string_bytes text)) }
 {
     let steps = history.steps.as_slice();
     let details = details_of(alloc, script, steps, history.states.as_slice())?;
@@ -398,9 +397,8 @@ pub fn history_told(
     form: HistoryForm,
     history: &History,
 ) -> Result<String, AllocError>
-    requires { AreAlong (fields_of script.now) history.now.steps.items history.now.states.items }
-    ensures { IfOk result (λ text. IsHistoryText form (fields_of script.now)
-        history.now.steps.items (string_bytes text)) }
+    ensures { IfOk result (λ text. IsTextOf form (fields_of script.now)
+        history.now.steps.items history.now.states.items (string_bytes text)) }
 {
     match form {
         HistoryForm::EachStep => steps_told(alloc, history),

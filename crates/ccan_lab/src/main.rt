@@ -3,8 +3,8 @@
 //! `ccan-lab outcomes` goes through every outcome that a script can have when its two hosts and its bus run at once. It
 //! shows what each line may be; with `--all` each outcome and a history that leads to it, with `--json` the same as JSON, and
 //! with `--observe NAMES` only those that can be told apart by some lines and objects; with `--can LINE` and `--never LINE`
-//! whether an outcome has a line that begins so, or, given several times, whether one has all these lines. `ccan-lab count`
-//! counts the outcomes and lists none.
+//! whether an outcome has a line that begins so, or, given several times, whether one has all these lines. With `--brief`
+//! histories have few lines. `ccan-lab count` counts the outcomes and lists none.
 //! `ccan-lab check` reports the faults of scripts, of each line the first, each with its file, line and column, and with
 //! `--expect TEXT` the first line of a run that is not as expected.
 //! `ccan-lab explain` runs a script in its order and tells each line decoded, and `ccan-lab from-candump` makes a script of a log

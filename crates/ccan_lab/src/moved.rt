@@ -1,12 +1,10 @@
 //! What the states before a step of a history and behind it show of the step.
-ghost use Rattle.std.specs.Prelude.{◌≡◌, ◌-◌, ◌+◌, IfNone, IfSome, None, Some, get_or, option_map, slice_get};
+ghost use Rattle.std.specs.Prelude.{◌≡◌, ◌+◌, IfNone, IfSome, None, Some, option_map, slice_get};
 ghost use Rattle.ccan_line.specs.Script.{fields_of};
-ghost use Rattle.ccan_object.specs.Record.{zero_record};
 ghost use Rattle.ccan_lab.specs.Moved.{IsWonAt, WinsRound, round_at, round_of};
 
 use ccan_accept::Frame;
 use ccan_bus::{Bus, RoundLine};
-use ccan_object::{ObjectNo, Record};
 use ccan_outcomes::all_ports::AllPorts;
 use ccan_script::{BusLine, Script};
 
@@ -17,17 +15,6 @@ pub struct Moved<'a> {
     pub before: &'a AllPorts,
     /// That behind it.
     pub after: &'a AllPorts,
-}
-
-/// The record of an object in a state; those behind the last that stand there are zero.
-pub fn record_in(state: &AllPorts, object: ObjectNo) -> Record
-    ensures { result ≡ get_or state.now.records (object - 1) zero_record }
-{
-    let place = usize::from(object.get()) - 1;
-    match state.records.as_slice().get(place) {
-        Some(record) => *record,
-        None => Record::zero(),
-    }
 }
 
 /// The round that this line of the bus is.

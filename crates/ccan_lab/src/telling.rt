@@ -1,8 +1,9 @@
 //! The outcomes of a script, told one by one, each with a history.
 ghost use Rattle.std.specs.Prelude.{◌≡◌, [], Contains, IfErr, IfOk, Some, slice_get};
 ghost use Rattle.ccan_line.specs.Script.{fields_of};
-ghost use Rattle.ccan_outcomes.specs.History.{AreAlong, IsHistoryOf};
+ghost use Rattle.ccan_outcomes.specs.History.{IsHistoryOf};
 ghost use Rattle.ccan_outcomes.specs.OutcomeWords.{endings_in};
+ghost use Rattle.ccan_lab.specs.Brief.{AreAllOrNone};
 ghost use Rattle.ccan_lab.specs.Telling.{CanBeTold};
 ghost use Rattle.ccan_lab.specs.Words.{HasNoHistory};
 
@@ -55,7 +56,7 @@ pub fn history_by_word<P: Progress>(
     requires listed { Contains (endings_in telling.now.list.now.words) ending.now }
     ensures history { IfOk result (λ history.
         IsHistoryOf (fields_of telling.now.script.now) ending.now history.steps.items) }
-    ensures along { IfOk result (λ history. AreAlong (fields_of telling.now.script.now)
+    ensures states { IfOk result (λ history. AreAllOrNone (fields_of telling.now.script.now)
         history.steps.items history.states.items) }
     ensures without { IfErr result (HasNoHistory (fields_of telling.now.script.now)
         ⟦<AllPorts as PartialEq>⟧.eq telling.now.most) }
@@ -84,7 +85,7 @@ pub fn history_to<P: Progress>(
     requires at { slice_get (endings_in telling.now.list.now.words) number ≡ Some ending.now }
     ensures history { IfOk result (λ history.
         IsHistoryOf (fields_of telling.now.script.now) ending.now history.steps.items) }
-    ensures along { IfOk result (λ history. AreAlong (fields_of telling.now.script.now)
+    ensures states { IfOk result (λ history. AreAllOrNone (fields_of telling.now.script.now)
         history.steps.items history.states.items) }
     ensures without { IfErr result (HasNoHistory (fields_of telling.now.script.now)
         ⟦<AllPorts as PartialEq>⟧.eq telling.now.most) }

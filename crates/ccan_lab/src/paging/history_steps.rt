@@ -3,10 +3,11 @@ ghost use Rattle.std.specs.Prelude.{◌≡◌, IfOk, map};
 ghost use Rattle.ccan_lab.specs.Paging.{line_of, line_stepped};
 
 use crate::history::{add_object, kind_text};
-use crate::moved::{Moved, moved_at, record_in, winner_at};
+use crate::moved::{Moved, moved_at, winner_at};
 use crate::outcome_rows::{add_answers, answers_of, behind, next_line};
 use ccan_object::{MOST_OBJECTS, ObjectNo, Record};
 use ccan_outcomes::all_ports::AllPorts;
+use ccan_outcomes::step::record_of;
 use ccan_outcomes::{Ending, HistoryKind, HistoryStep};
 use ccan_page as page;
 use ccan_page::{Change, ObjectChange, SentFrame};
@@ -43,8 +44,8 @@ fn objects_of(alloc: Global, moved: &Moved<'_>) -> Result<Vec<ObjectChange>, All
     let mut objects = Vec::new(alloc);
     for place in 0..MOST_OBJECTS {
         let object = ObjectNo::new(place as u8 + 1).unwrap();
-        let before = record_in(moved.before, object);
-        let after = record_in(moved.after, object);
+        let before = record_of(&moved.before.records, object);
+        let after = record_of(&moved.after.records, object);
         if let Some(change) = if_changed(before, after) {
             objects.push(ObjectChange { object, change })?;
         }

@@ -13,8 +13,6 @@ returns c =
     let texts : List (String Global) → List (List ℕ) = map string_bytes in
     let details = texts c.in_ok-details.details.items in
     IfOk-weaker c.groups_told.result _ _ (λ text is. record {
-      states = history.states.items;
-      along = c.requires;
       details = details;
       are = subst (λ (states : List AllPorts). AreDetails script history.steps.items states details) c.as_slice.ensures.value
           (subst (λ (steps : List HistoryStep). AreDetails script steps c.as_slice.result.now details)

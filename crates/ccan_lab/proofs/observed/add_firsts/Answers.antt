@@ -1,4 +1,4 @@
-use Rattle.std.proofs.Common.{◌≡◌, ◌≤◌, ◌+◌, ◌++◌, ℕ, List, Bool, [], ap, ◌∙◌, if◌then◌else◌, map, string_bytes, sym, refl, le_refl, append-nil, add-one, subst, rules}
+use Rattle.std.proofs.Common.{◌≡◌, ◌≤◌, ◌+◌, ◌++◌, ℕ, List, Bool, [], ap, ◌∙◌, if◌then◌else◌, map, string_bytes, sym, refl, le_refl, append-nil, add-one, subst, length, arith, rules}
 use Rattle.ccan_line.specs.Script.{fields_of}
 use Rattle.ccan_outcomes.specs.declared.ending.Ending.{Ending}
 use Rattle.ccan_lab.specs.Observed.{AreFirstTexts, IsFirstText, is_repeat, text_at}
@@ -45,4 +45,20 @@ loop-number-preserved g c =
         subst (λ (n : ℕ). AreFirstTexts (IsOutcomeText form script keys) texts n (so_far.0 ++ last)) (sym (add-one number))
             (so_far.0, last, refl, so_far.2, told),
       ),
+    )
+
+pub returns-clause-text : goal.returns-clause-text
+returns-clause-text g c =
+    let texts = map string_bytes c.args.texts.now in
+    let script = fields_of c.args.telling.now.script.now in
+    let form = c.args.telling.now.form in
+    let keys = c.args.endings.now in
+    let number = c.loop-number.number in
+    let at_most = c.loop-number.auto.number-end in
+    let past = c.loop-number-test.false in
+    let all : number ≡ length keys = omega (arith, at_most, past) in
+    let so_far = c.loop-number.invariant.2 in (
+      so_far.0,
+      so_far.1,
+      subst (λ (n : ℕ). AreFirstTexts (IsOutcomeText form script keys) texts n so_far.0) all so_far.2,
     )

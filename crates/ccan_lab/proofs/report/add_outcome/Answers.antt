@@ -35,7 +35,7 @@ returns-clause-text g c =
               subst (λ (e : Ending). IsHistoryOf script e steps) same c.in_ok-history.ensures.history,
               subst (λ (e : Ending). IfSome order (Replays script e)) same found,
             )),
-        c.in_ok-told.ensures,
+        (c.in_ok-history.history.states.items, c.in_ok-history.ensures.states, c.in_ok-told.ensures),
         refl,
       ),
     )

@@ -37,7 +37,7 @@ returns-clause-text g c =
           subst (λ (e : Ending). IsHistoryOf script e steps) (it_is ending is) c.in_ok-history.ensures.history,
           found,
         )),
-        c.in_ok-told.ensures,
+        (c.in_ok-history.history.states.items, c.in_ok-history.ensures.states, c.in_ok-told.ensures),
         refl,
       ),
     )
