@@ -1,7 +1,7 @@
 -- Lists and counts that grow place by place, and outcome by outcome.
-use Rattle.std.proofs.Common.{◌≡◌, Option, Some, None, option_map, ◌+◌, ◌++◌, ℕ, List, [], ◌∷◌, Bool, true, false, map, filter, take, length, get_or, zero, suc, ◌<◌, refl, ap, sym, ◌∙◌, arith, ◌||◌, not, cond, append-nil, length-append, if◌then◌else◌, string_bytes, Global, String, Bor}
+use Rattle.std.proofs.Common.{add-one, ◌≡◌, Option, Some, None, option_map, ◌+◌, ◌++◌, ℕ, List, [], ◌∷◌, Bool, true, false, map, filter, take, length, get_or, zero, suc, ◌<◌, refl, ap, sym, ◌∙◌, arith, ◌||◌, not, cond, append-nil, length-append, if◌then◌else◌, string_bytes, Global, String, Bor}
 use Rattle.ccan_outcomes.specs.declared.ending.Ending.{Ending}
-use Rattle.ccan_lab.specs.Observed.{IsFirstText, first_count, is_named, is_observed, is_place, is_repeat, observed_lines, observed_texts, text_at}
+use Rattle.ccan_lab.specs.Observed.{IsFirstText, first_count, is_named, is_observed, is_place, is_repeat, observed_lines, observed_texts, repeats_in, text_at}
 use Rattle.ccan_lab.specs.Place.{place_name}
 use Rattle.ccan_lab.specs.Rows.{rows_of}
 use Rattle.std.specs.List.{list_any, range_with_len}
@@ -10,7 +10,6 @@ use Rattle.std.proofs.lemmas.List.FromFn.{filter_of_map_range_with_len_more, map
 use Rattle.std.proofs.lemmas.Simd.{map-map}
 use Rattle.std.specs.Str.{bytes_eq}
 use Rattle.std.proofs.lemmas.Bool.{false≢true}
-use Rattle.std.proofs.lemmas.List.{take-map}
 use Rattle.clap.proofs.WalkLemmas.{list_any-map}
 
 -- the marks of the places so far, and that of one more
@@ -63,17 +62,44 @@ text_in [] number d within = absurd (omega arith)
 text_in (text ∷ later) zero d within = refl
 text_in (text ∷ later) (suc number) d within = text_in later number d (omega arith)
 
--- whether a text before the place of a number is the one there
-pub repeat_by : (texts : List (String Global)) (number : ℕ) (d : String Global) → number < length texts
-    → list_any (λ text. bytes_eq (string_bytes text) (string_bytes (get_or texts number d))) (take number texts)
-    ≡ is_repeat (map string_bytes texts) number
+-- whether a text before it is the same, of one text more
+pub repeats_more : (texts : List (List ℕ)) (number : ℕ) → repeats_in texts (number + 1)
+    ≡ repeats_in texts number ++ is_repeat texts number ∷ []
+repeats_more texts number = map-range_with_len_more (is_repeat texts) 0 number number (omega arith)
+
+take_next : (texts : List (List ℕ)) (number : ℕ) → number < length texts
+    → take (suc number) texts ≡ take number texts ++ text_at texts number ∷ []
+take_next [] number within = absurd (omega arith)
+take_next (text ∷ later) zero within = refl
+take_next (text ∷ later) (suc number) within = ap (λ (l : List (List ℕ)). text ∷ l) (take_next later number (omega arith))
+
+-- whether a text is among those so far, and one more
+pub kept_more : (texts : List (List ℕ)) (number : ℕ) (text : List ℕ) → number < length texts
+    → list_any (λ shown. bytes_eq shown text) (take (number + 1) texts)
+    ≡ cond (bytes_eq (text_at texts number) text) true (list_any (λ shown. bytes_eq shown text) (take number texts))
+kept_more texts number text within =
+    let is : List ℕ → Bool = λ shown. bytes_eq shown text in
+    ap (λ (n : ℕ). list_any is (take n texts)) (add-one number)
+    ∙ ap (list_any is) (take_next texts number within)
+    ∙ list_any-append is (take number texts) (text_at texts number ∷ [])
+    ∙ by (list_any is (take number texts)) (is (text_at texts number))
+  where
+    by : (before last : Bool) → (before || (last || false)) ≡ cond last true before
+    by true true = refl
+    by true false = refl
+    by false true = refl
+    by false false = refl
+
+pub not_not : (b : Bool) → not (not b) ≡ b
+not_not true = refl
+not_not false = refl
+
+-- whether one of these is the text in this place, by what it is
+pub repeat_of : (texts : List (List ℕ)) (number : ℕ) (text : List ℕ) → text_at texts number ≡ text
+    → list_any (λ shown. bytes_eq shown text) (take number texts) ≡ is_repeat texts number
 unfolding is_repeat
-repeat_by texts number d within =
-    let shown = string_bytes (get_or texts number d) in
-    list_any-map (λ text. bytes_eq text shown) string_bytes (take number texts)
-    ∙ ap (list_any (λ text. bytes_eq text shown)) (sym (take-map string_bytes number texts))
-    ∙ ap (λ (t : List ℕ). list_any (λ text. bytes_eq text t) (take number (map string_bytes texts)))
-    (sym (text_in texts number d within))
+repeat_of texts number text is =
+    ap (λ (t : List ℕ). list_any (λ shown. bytes_eq shown t) (take number texts)) (sym is)
 
 -- a first outcome's text
 pub first_text : (IsText : List ℕ → ℕ → List ℕ → Type 0) (repeat : Bool) (lines : List ℕ) (number : ℕ) (added : List ℕ)

@@ -18,3 +18,4 @@ pub mod Unanswered
 pub mod Sought
 pub mod Detailed
 pub mod Grouped
+pub mod Fitting

@@ -1,6 +1,6 @@
 -- Which texts a printed line of a script can begin with. Source: this project's own.
 use Rattle.std.specs.Prelude.{ℕ, ◌+◌, ◌==◌, ◌||◌, Bool, false, List, codes, filter, map}
-use Rattle.std.specs.List.{list_any, range_with_len}
+use Rattle.std.specs.List.{before_first, list_any, range_with_len}
 use Rattle.ccan_object.specs.declared.profile.Profile.{Profile}
 use Rattle.ccan_object.specs.Number.{requested}
 use Rattle.ccan_object.specs.Profile.{objects_in}
@@ -10,6 +10,7 @@ use Rattle.ccan_line.specs.declared.host_line.HostLine.TheVariants as host
 use Rattle.ccan_line.specs.Script.{ScriptFields}
 use Rattle.ccan_lab.specs.BusForms.{bus_begins}
 use Rattle.ccan_lab.specs.Forms.{begins, host_begins, shown_form}
+use Rattle.ccan_lab.specs.Rows.{star}
 
 -- ---- objects
 
@@ -40,5 +41,6 @@ can_begin_among script objects text =
     || (list_any (bus_begins text script.profile objects) script.bus
     || list_any (λ object. begins text (shown_form (codes "final") object)) objects))
 
+-- the same of what stands before the first `*`
 abbrev pub can_begin : ScriptFields → List ℕ → Bool
-can_begin script text = can_begin_among script (transferred_objects script) text
+can_begin script text = can_begin_among script (transferred_objects script) (before_first (λ byte. byte == star) text)

@@ -59,9 +59,13 @@ text_at texts number = unwrap_or (slice_get texts number) []
 unfoldable pub is_repeat : List (List ℕ) → ℕ → Bool
 is_repeat texts number = list_any (λ text. bytes_eq text (text_at texts number)) (take number texts)
 
+-- for each of the outcomes before this number, whether one before it shows the same
+abbrev pub repeats_in : List (List ℕ) → ℕ → List Bool
+repeats_in texts number = map (is_repeat texts) (range_with_len 0 number)
+
 -- how many of the outcomes before this number show what none before them does
 unfoldable pub first_count : List (List ℕ) → ℕ → ℕ
-first_count texts number = length (filter not (map (is_repeat texts) (range_with_len 0 number)))
+first_count texts number = length (filter not (repeats_in texts number))
 
 -- the first line: how many outcomes there are, and how many can be told apart by what they show
 abbrev pub observed_heading : ℕ → ℕ → List ℕ

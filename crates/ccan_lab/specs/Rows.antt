@@ -1,7 +1,7 @@
 -- The lines of an outcome, each in its place. In the outcomes of one script the same thing stands in the same place.
 -- Source: this project's own.
-use Rattle.std.specs.Prelude.{ℕ, ◌++◌, ◌&&◌, nat_eq, nat_lt, Bool, List, [], map, take, length, slice_get, unwrap_or}
-use Rattle.std.specs.List.{enumerate_from, list_all, list_any, starts_with}
+use Rattle.std.specs.Prelude.{ℕ, ◌++◌, ◌∷◌, ◌==◌, ◌&&◌, ◌||◌, nat_lt, Bool, true, false, List, [], map, take, length, slice_get, unwrap_or, if◌then◌else◌}
+use Rattle.std.specs.List.{enumerate_from, list_all, list_any}
 use Rattle.ccan_object.specs.declared.profile.Profile.TheVariants.{Two}
 use Rattle.ccan_object.specs.declared.record.Record.{Record}
 use Rattle.ccan_object.specs.Profile.{objects_in}
@@ -35,9 +35,28 @@ line_at rows place = unwrap_or (slice_get rows place) []
 unfoldable pub rows_at : List (List (List ℕ)) → ℕ → List (List ℕ)
 rows_at all number = unwrap_or (slice_get all number) []
 
+-- `*` in a beginning
+abbrev pub star : ℕ
+star = 42
+
+-- what is left of a line passes, or what is left of it when bytes are taken off its front
+unfoldable pub some_rest : (List ℕ → Bool) → List ℕ → Bool
+some_rest passes [] = passes []
+some_rest passes (byte ∷ rest) = passes (byte ∷ rest) || some_rest passes rest
+
+-- the line has this byte first, and the rest of it passes
+abbrev pub has_first : ℕ → (List ℕ → Bool) → List ℕ → Bool
+has_first wanted passes [] = false
+has_first wanted passes (byte ∷ rest) = wanted == byte && passes rest
+
+-- the line begins so, byte by byte, where `*` stands for any bytes, or none
+unfoldable pub fits : List ℕ → List ℕ → Bool
+fits [] line = true
+fits (wanted ∷ begin) line = if wanted == star then some_rest (fits begin) line else has_first wanted (fits begin) line
+
 -- the line is printed, and begins so
 abbrev pub begins_so : List ℕ → List ℕ → Bool
-begins_so begin line = nat_lt 0 (length line) && starts_with nat_eq line begin
+begins_so begin line = nat_lt 0 (length line) && fits begin line
 
 -- a printed line of the outcome begins so
 unfoldable pub has_line : List ℕ → List (List ℕ) → Bool

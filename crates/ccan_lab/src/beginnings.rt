@@ -1,11 +1,12 @@
 //! Which texts a printed line of a script can begin with.
-ghost use Rattle.std.specs.Prelude.{◌≡◌, IfOk, codes};
-ghost use Rattle.std.specs.List.{list_any};
+ghost use Rattle.std.specs.Prelude.{◌≡◌, ◌==◌, IfOk, codes};
+ghost use Rattle.std.specs.List.{before_first, list_any};
 ghost use Rattle.ccan_line.specs.Script.{fields_of};
 ghost use Rattle.ccan_lab.specs.Beginnings.{can_begin, can_begin_among, has_transfer_of, is_transfer_of};
 ghost use Rattle.ccan_lab.specs.Beginnings.{transferred_objects};
 ghost use Rattle.ccan_lab.specs.BusForms.{bus_begins};
 ghost use Rattle.ccan_lab.specs.Forms.{begins, host_begins, shown_form};
+ghost use Rattle.ccan_lab.specs.Rows.{star};
 
 use crate::bus_forms::bus_begins;
 use crate::forms::{host_begins, shown_begins};
@@ -97,12 +98,22 @@ fn can_begin_among(script: &Script, objects: &[ObjectNo], text: &str) -> bool
         || finals_begin(text, objects)
 }
 
+/// What comes before the first `*` of a text.
+fn before_star(text: &str) -> &str
+    ensures { result.now ≡ before_first (λ byte. byte == star) text.now }
+{
+    match text.split_once('*') {
+        Some((before, _)) => before,
+        None => text,
+    }
+}
+
 /// Whether a printed line of a script can begin with the text: an answer of a port, or an object at the end.
 pub fn can_begin(alloc: Global, script: &Script, text: &str) -> Result<bool, AllocError>
     ensures { IfOk result (λ can. can ≡ can_begin (fields_of script.now) text.now) }
 {
     let objects = transferred_objects(alloc, script)?;
-    Ok(can_begin_among(script, objects.as_slice(), text))
+    Ok(can_begin_among(script, objects.as_slice(), before_star(text)))
 }
 
 /// Beginnings of lines, each of a kind of its own.

@@ -6,8 +6,8 @@
 //!   34-35 if1[0] write 01: id 123 std, receive, valid, EoB, 2 bytes 11 11 | +NewDat
 //! ```
 //!
-//! Looks of one line at one object after the other stand in one line, and so do the look of an attempt and its change, if no step
-//! of another port stands between. Behind a change stands what its object became, and behind the decision of a round the frame that
+//! Looks of one line at one object after the other share a line, and so do the look of an attempt and its change, if no step of
+//! another port comes between. Behind a change is what its object became, and behind the decision of a round the frame that
 //! was on the bus.
 ghost use Rattle.std.specs.Prelude.{◌≡◌, ◌+◌, ◌^◌, ◌<◌, ◌++◌, false, IfOk, OnOk, length, map, slice_get, string_bytes};
 ghost use Rattle.ccan_line.specs.Script.{fields_of};
@@ -92,7 +92,7 @@ fn is_same(object: Option<ObjectNo>, next: Option<ObjectNo>) -> bool
     }
 }
 
-/// Whether both steps stand in one line: a look before a look at the next object, or before a change of the same one.
+/// Whether both steps share a line: a look before a look at the next object, or before a change of the same one.
 fn goes_on(step: &HistoryStep, next: &HistoryStep) -> bool
     ensures { result ≡ goes_on step.now next.now }
 {
@@ -101,7 +101,7 @@ fn goes_on(step: &HistoryStep, next: &HistoryStep) -> bool
     is_look(step.kind) && step.port == next.port && step.line == next.line && (looks_on || changes)
 }
 
-/// Whether the step of this place stands in one line with the next.
+/// Whether the step of this place shares a line with the next.
 #[tactic(auto, unfolding(crate::specs::Brief::goes_on_at))]
 fn goes_on_at(steps: &[HistoryStep], place: usize) -> bool
     requires { place < length steps.now }

@@ -32,7 +32,7 @@ pub struct CheckQuestion<'a> {
     pub files: Vec<&'a str>,
 }
 
-/// The command that tells the faults of scripts.
+/// The command that reports the faults of scripts.
 pub fn check_command<'a>(alloc: Global) -> Result<Command<'a>, AllocError> {
     let checked = command(
         alloc,
@@ -55,7 +55,7 @@ pub fn check_command<'a>(alloc: Global) -> Result<Command<'a>, AllocError> {
     with(checked, scripts(alloc))
 }
 
-/// What is told where a text is expected of several scripts.
+/// What is reported if a text is expected of several scripts.
 fn one_script_expected(alloc: Global) -> Result<Error, Error> {
     let message = "with '--expect <TEXT>' there is one script";
     Ok(check_command(alloc)?.error(ErrorKind::TooManyValues, message)?)

@@ -7,7 +7,7 @@ ghost use Rattle.ccan_lab.specs.Question.{files_named};
 use clap::{Arg, ArgAction, ArgMatches, Command, value_parser};
 use std::alloc::{AllocError, Global};
 
-/// A command, and what it is told to be for.
+/// A command, and what its help says that it is for.
 pub fn command<'a>(alloc: Global, name: &'a str, about: &'a str) -> Command<'a> {
     Command::new(alloc, name).about(about)
 }
@@ -22,7 +22,7 @@ pub fn over<'a>(command: Command<'a>, subcommand: Command<'a>) -> Result<Command
     command.subcommand(subcommand)
 }
 
-/// The option, beside which the one of this name can't stand.
+/// The option, beside which the one of this name can't be given.
 pub fn apart_from<'a>(option: Arg<'a>, other: &'a str) -> Result<Arg<'a>, AllocError> {
     option.conflicts_with(other)
 }

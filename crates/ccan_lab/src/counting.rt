@@ -104,8 +104,8 @@ fn counted<P: Progress>(
     Ok(count_text(alloc, number)?)
 }
 
-/// Counts the outcomes of the script of a file. A wait is counted by its last look: that changes no outcome. On a terminal it is
-/// told how far the search is.
+/// Counts the outcomes of the script of a file. A wait is counted by its last look: that changes no outcome. On a terminal it
+/// shows how far the search is.
 fn count_file<T: AllocGlobal + Input + Files + Eprint>(
     rt: &T,
     file: &str,

@@ -146,7 +146,7 @@ fn drawn<P: Progress>(
     }
 }
 
-/// Draws what is asked, and prints it. On a terminal it is told how far a search for the outcome is.
+/// Draws what is asked, and prints it. On a terminal it shows how far a search for the outcome is.
 pub fn answer_draw<T: AllocGlobal + Input + Files + Print + Eprint>(
     rt: &T,
     question: &DrawQuestion<'_>,

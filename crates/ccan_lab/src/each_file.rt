@@ -159,7 +159,7 @@ fn answer_in_turn<T: Eprint, W: Write, F: Fn(&str) -> Result<FileAnswer, LabErro
 
 /// Asks about each file in turn, and writes the answer before the next is asked about. Gives the worst exit status.
 ///
-/// If there are several files, each answer stands under the name of its file, unless its lines name it. Of a file that is refused
+/// If there are several files, each answer is below the name of its file, unless its lines name it. Of a file that is refused
 /// nothing is written, and standard error says why. After a failed write no file is asked about any more.
 pub fn answer_each<T: Eprint, W: Write, F: Fn(&str) -> Result<FileAnswer, LabError>>(
     rt: &T,

@@ -1,4 +1,4 @@
-//! What a script's run has to print, for tests: the text is compared, and the first line that differs is told.
+//! What a script's run has to print, for tests: the text is compared, and the first line that differs is reported.
 
 ghost use Rattle.std.specs.Prelude.{◌≡◌, ◌≢◌, ◌<◌, ◌≤◌, IfOk, IfSome, IfNone, length, option_map, slice_index, string_bytes, take};
 ghost use Rattle.ccan_line.specs.Script.{fields_of};
@@ -60,7 +60,7 @@ fn first_difference(expected: &[u8], printed: &[u8]) -> Option<usize>
     }
 }
 
-/// The rest of a text from the beginning of the line in which this offset stands.
+/// The rest of a text from the beginning of the line in which this offset is.
 fn rest_from_line(text: &[u8], offset: usize) -> &[u8] {
     let column = Place::of(text, offset).column;
     match text.get(offset.saturating_sub(column - 1)..) {
@@ -119,7 +119,7 @@ fn words_of(
     Ok(words)
 }
 
-/// What is told of two texts that differ first at this offset.
+/// What is reported of two texts that differ first at this offset.
 fn told_at(
     alloc: Global,
     file: &str,
@@ -135,7 +135,7 @@ fn told_at(
     remark_line(alloc, file, expected, "", &Remark { offset, text })
 }
 
-/// What is told of two texts that differ. `None` where they are the same.
+/// What is reported of two texts that differ. `None` if they are the same.
 fn told_difference(
     alloc: Global,
     file: &str,
@@ -151,9 +151,9 @@ fn told_difference(
     }
 }
 
-/// Runs the script in its order, and tells the first line that is not as expected. `None` where all of the text is.
+/// Runs the script in its order, and reports the first line that is not as expected. `None` if all of the text is.
 ///
-/// What is expected stands in the file of this name.
+/// What is expected is in the file of this name.
 pub fn compare_run(
     alloc: Global,
     script: &Script,

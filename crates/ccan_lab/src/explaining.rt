@@ -18,7 +18,7 @@ use std::fs::Files;
 use std::io::{ErrorKind, Input, IsTerminal, Read, Write};
 use std::{fs, io};
 
-/// The form in which a run is told.
+/// The form in which a run is explained.
 #[derive(Clone, Copy)]
 pub enum Form {
     /// Lines for people.
@@ -32,7 +32,7 @@ pub enum Form {
 /// What is asked about runs of scripts.
 #[derive(Drop)]
 pub struct ExplainQuestion<'a> {
-    /// The form in which a run is told. Of several scripts it is that for people.
+    /// The form in which a run is explained. Of several scripts it is that for people.
     pub form: Form,
     /// The files: `-` means standard input.
     pub files: Vec<&'a str>,
@@ -43,7 +43,7 @@ fn json_flag<'a>(alloc: Global) -> Result<Arg<'a>, AllocError> {
     apart_from(switch(alloc, "json", "A JSON object a line"), "candump")
 }
 
-/// The command that tells a run.
+/// The command that explains a run.
 pub fn explain_command<'a>(alloc: Global) -> Result<Command<'a>, AllocError> {
     let told = command(
         alloc,
@@ -83,12 +83,12 @@ fn form_asked(words: &ArgMatches<'_>) -> Form {
     }
 }
 
-/// What is told if a form is asked of several scripts that is of one.
+/// What is reported if a form is asked of several scripts that is of one.
 fn one_script_told(alloc: Global, message: &str) -> Result<Error, Error> {
     Ok(explain_command(alloc)?.error(WordsFault::TooManyValues, message)?)
 }
 
-/// The question that the words after `explain` ask. Several scripts are told for people only.
+/// The question that the words after `explain` ask. Several scripts are explained for people only.
 pub fn explain_question<'a>(
     alloc: Global,
     words: &ArgMatches<'a>,
@@ -121,7 +121,7 @@ pub fn print_text(rt: &impl Print, text: &str) -> Result<(), LabError> {
     }
 }
 
-/// Runs a script in its order, and tells it in this form.
+/// Runs a script in its order, and explains the run in this form.
 fn explained(alloc: Global, script: &Script, form: Form) -> Result<String, AllocError> {
     let told = tell(alloc, script)?;
     match form {
@@ -131,7 +131,7 @@ fn explained(alloc: Global, script: &Script, form: Form) -> Result<String, Alloc
     }
 }
 
-/// Runs the script of a file in its order, and tells it in this form.
+/// Runs the script of a file in its order, and explains the run in this form.
 fn explain_file<T: AllocGlobal + Input + Files + Eprint>(
     rt: &T,
     file: &str,
@@ -146,7 +146,7 @@ where
     Ok(FileAnswer { text, status: 0 })
 }
 
-/// Runs each script in its order, and prints what is told of it, under the name of its file if there are several. Gives the
+/// Runs each script in its order, and prints what explains it, under the name of its file if there are several. Gives the
 /// worst exit status.
 pub fn answer_explain<T: AllocGlobal + Input + Files + Print + Eprint>(
     rt: &T,
@@ -199,7 +199,7 @@ fn script_logged(alloc: Global, log: &[u8]) -> Result<FromLog, LabError> {
     }
 }
 
-/// Makes a script of the log, prints it, and tells on standard error the lines that are left out.
+/// Makes a script of the log, prints it, and reports on standard error the lines that are left out.
 pub fn answer_log<T: AllocGlobal + Input + Files + Print + Eprint>(
     rt: &T,
     file: Option<&str>,

@@ -15,7 +15,7 @@ use ccan_object::{ObjectNo, Profile};
 use ccan_ram::{Flag, PortName};
 use ccan_script::{HostLine, LineAnswer, PrintedLine, print_line};
 
-/// The four fields of a record, and the end of the line. `#` stands for a hexadecimal digit in lower case.
+/// The four fields of a record, and the end of the line. `#` is any hexadecimal digit in lower case.
 pub(crate) const RECORD: &str = " ######## ######## #### ################\n";
 
 /// Whether a byte is one of these.
@@ -39,14 +39,14 @@ fn is_hexadecimal(byte: u8) -> bool
     is_decimal(byte) || is_between(b'a', b'f', byte)
 }
 
-/// Whether it may stand behind `bus counters`: in a number, in the state of a node, between them, or at the end of the line.
+/// Whether it may come behind `bus counters`: in a number, in the state of a node, between them, or at the end of the line.
 fn is_of_counters(byte: u8) -> bool
     ensures { result ≡ is_of_counters byte }
 {
     is_decimal(byte) || is_between(b'a', b'z', byte) || byte == b' ' || byte == b'\n'
 }
 
-/// Whether a byte may stand where a form has this mark.
+/// Whether a byte may be where a form has this mark.
 fn stands_for(mark: u8, byte: u8) -> bool
     ensures { result ≡ stands_for mark byte }
 {
@@ -57,7 +57,7 @@ fn stands_for(mark: u8, byte: u8) -> bool
     }
 }
 
-/// Whether a byte may stand in a place of a line of this form.
+/// Whether a byte may be in a place of a line of this form.
 fn is_marked(form: &[u8], place: usize, byte: u8) -> bool
     ensures { result ≡ is_marked (slice_get form.now place) byte }
 {

@@ -53,7 +53,7 @@ pub fn add_object(text: &mut String, object: Option<ObjectNo>) -> Result<(), All
     Ok(())
 }
 
-/// Adds a port and its line of this number, from 1. It is printed from 0, as jq counts lines and as `ccan` tells faults.
+/// Adds a port and its line of this number, from 1. It is printed from 0, as jq counts lines and as `ccan` reports faults.
 #[tactic(auto, unfolding(crate::specs::History::line_name))]
 pub fn add_line_name(text: &mut String, port: PortName, line: usize) -> Result<(), AllocError>
     ensures { OnOk result

@@ -11,14 +11,14 @@ pub enum LabError {
     /// The file could not be opened.
     #[error("ccan-lab: file could not be opened")]
     Open,
-    /// The input could not be read, or is no script. It prints as `ccan` tells it.
+    /// The input could not be read, or is no script. It prints as `ccan` reports it.
     #[error(transparent)]
     Input(RunError),
     /// The ports can come to more states than this.
-    #[error("ccan-lab: outcomes: more than {0} states")]
+    #[error("ccan-lab: outcomes: more than {0} states; --most allows more, more tries may need fewer")]
     More(usize),
     /// The outcomes need more nodes than this to be put together.
-    #[error("ccan-lab: outcomes: more than {0} nodes")]
+    #[error("ccan-lab: outcomes: more than {0} nodes; --most allows more")]
     Nodes(usize),
     /// The name of this number, from 1, of those that are to be observed is that of no line and no object.
     #[error("ccan-lab: outcomes: --observe: name {0} is no line or object of the script")]

@@ -25,7 +25,7 @@ struct LineSigns<'a> {
     begins: &'a [&'a str],
 }
 
-/// The port of whose line the letter at this place tells. Behind the lines it tells of the objects at the end.
+/// The port to whose line the letter at this place is an answer. Behind the lines it is what the objects are at the end.
 fn port_at(words: &OutcomeWords, place: usize) -> Option<PortName>
     ensures { result ≡ port_at words.now place }
 {
@@ -82,7 +82,7 @@ fn finals_have_line(records: &[Record], begin: &str) -> bool
     any_final_begins(first_records(records), begin)
 }
 
-/// Whether a printed line that the letter tells begins so.
+/// Whether a printed line of the letter begins so.
 #[tactic(auto, unfolding(crate::specs::Rows::has_line))]
 fn letter_has_line(words: &OutcomeWords, letter: Letter, begin: &str) -> bool
     ensures { result ≡ has_line begin.now (lines_of_letter words.now letter) }

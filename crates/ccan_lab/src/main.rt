@@ -7,7 +7,7 @@
 //! histories have few lines. `ccan-lab count` counts the outcomes and lists none.
 //! `ccan-lab check` reports the faults of scripts, of each line the first, each with its file, line and column, and with
 //! `--expect TEXT` the first line of a run that is not as expected.
-//! `ccan-lab explain` runs a script in its order and tells each line decoded, and `ccan-lab from-candump` makes a script of a log
+//! `ccan-lab explain` runs a script in its order and decodes each line, and `ccan-lab from-candump` makes a script of a log
 //! of a bus.
 //! `ccan-lab draw` draws one picture of a run, or of a history of one of the outcomes. `ccan-lab page` writes a page to step
 //! through each outcome, or through a run.
@@ -17,7 +17,7 @@
 //!
 //! The exit status is 0 where it is as asked, and 6 where no outcome has the lines of `--can`, or one has those of
 //! `--never`. A check ends with 1 where a script has faults, and else with 7 where there are warnings and `--strict` asks
-//! for that, and with 8 where a run is not as expected. A fault is told on standard error, and the exit status: 1 where the
+//! for that, and with 8 where a run is not as expected. A fault is reported on standard error, and by the exit status: 1 where the
 //! script or the log is refused, 2 where the words of the command line ask no question or search for a line that no printed
 //! line can begin with, 3 where memory ran out, 4 where a stream or a file failed, 5 where the ports can come to more states, or
 //! the outcomes need more nodes, than were allowed, 9 where there is no outcome of the number that is to be drawn.
@@ -59,6 +59,7 @@ pub mod replay;
 pub mod report;
 pub mod rows;
 pub mod seen;
+pub mod shown_texts;
 pub mod summary;
 mod telling;
 pub mod wording;
@@ -94,12 +95,12 @@ where
     }
 }
 
-/// The exit status where all is told.
+/// The exit status if all was answered.
 fn status_told(_told: ()) -> u8 {
     0
 }
 
-/// Answers a question, and gives the exit status. A long search tells on a terminal how far it is.
+/// Answers a question, and gives the exit status. A long search shows on a terminal how far it is.
 fn answer_question<T: AllocGlobal + Input + Files + Print + Eprint>(
     rt: &T,
     question: &Question<'_>,

@@ -17,6 +17,7 @@ use crate::outcome_words::all_endings;
 use crate::place::{LineCounts, add_place_name, place_kind};
 use crate::report::add_outcome;
 use crate::rows::{Rows, all_rows};
+use crate::shown_texts::ShownTexts;
 use crate::telling::Telling;
 use crate::wording::{add_counted, add_number};
 use ccan_outcomes::all_ports::AllPorts;
@@ -165,49 +166,34 @@ pub fn observed_texts(
     Ok(texts)
 }
 
-/// Whether one of these texts is this one.
-fn is_among(texts: &[String], shown: &str) -> bool
-    ensures { result ≡ list_any (λ text. bytes_eq (string_bytes text) shown.now) texts.now }
-{
-    texts.iter().any(|text| text.as_str() == shown)
-}
-
-/// Whether an outcome before that of this number shows the same.
-pub fn is_repeat(texts: &[String], number: usize) -> bool
-    requires { number < length texts.now }
-    ensures { result ≡ is_repeat (map string_bytes texts.now) number }
-{
-    is_among(&texts[..number], texts[number].as_str())
-}
-
 /// Adds an outcome, unless one before it shows the same, and says whether it did.
 fn add_if_first<P: Progress>(
     alloc: Global,
     text: &mut String,
     telling: &Telling<'_, P>,
     histories: &mut Histories,
-    texts: &[String],
+    texts: &ShownTexts,
     ending: &Ending,
     number: usize,
 ) -> Result<bool, LabError>
     requires can { CanBeTold (fields_of telling.now.script.now) telling.now.list.now }
-    requires within { number < length texts.now }
+    requires within { number < length texts.now.lines.items }
     requires at { slice_get (endings_in telling.now.list.now.words) number ≡ Some ending.now }
     requires few { number + 1 < 2 ^ 64 }
     ensures first { IfOk result (λ added. added
-        ≡ not (is_repeat (map string_bytes texts.now) number)) }
+        ≡ not (is_repeat (map string_bytes texts.now.lines.items) number)) }
     ensures text { OnOk result ((added : List ℕ)
         × (string_bytes text.new ≡ string_bytes text.old ++ added)
         × IsFirstText (IsOutcomeText telling.now.form (fields_of telling.now.script.now)
-        (endings_in telling.now.list.now.words)) (is_repeat (map string_bytes texts.now) number)
-        (text_at (map string_bytes texts.now) number) number added) }
+        (endings_in telling.now.list.now.words)) (is_repeat (map string_bytes texts.now.lines.items) number)
+        (text_at (map string_bytes texts.now.lines.items) number) number added) }
     ensures without { IfErr result (HasNoHistory (fields_of telling.now.script.now)
         ⟦<AllPorts as PartialEq>⟧.eq telling.now.most) }
 {
-    if is_repeat(texts, number) {
+    if texts.is_repeat(number) {
         return Ok(false);
     }
-    let lines = texts[number].as_str();
+    let lines = texts.lines[number].as_str();
     add_outcome(alloc, text, telling, histories, ending, lines, number)?;
     Ok(true)
 }
@@ -217,19 +203,19 @@ fn add_firsts<P: Progress>(
     alloc: Global,
     text: &mut String,
     telling: &Telling<'_, P>,
-    texts: &[String],
+    texts: &ShownTexts,
     endings: &[Ending],
 ) -> Result<usize, LabError>
     requires can { CanBeTold (fields_of telling.now.script.now) telling.now.list.now }
     requires endings { endings.now ≡ endings_in telling.now.list.now.words }
-    requires as_many { length texts.now ≡ length endings.now }
+    requires as_many { length texts.now.lines.items ≡ length endings.now }
     ensures count { IfOk result (λ count. count
-        ≡ first_count (map string_bytes texts.now) (length endings.now)) }
+        ≡ first_count (map string_bytes texts.now.lines.items) (length endings.now)) }
     ensures text { OnOk result ((added : List ℕ)
         × (string_bytes text.new ≡ string_bytes text.old ++ added)
         × AreFirstTexts
         (IsOutcomeText telling.now.form (fields_of telling.now.script.now) endings.now)
-        (map string_bytes texts.now) (length endings.now) added) }
+        (map string_bytes texts.now.lines.items) (length endings.now) added) }
     ensures without { IfErr result (HasNoHistory (fields_of telling.now.script.now)
         ⟦<AllPorts as PartialEq>⟧.eq telling.now.most) }
 {
@@ -304,19 +290,14 @@ pub fn observed_listing<P: Progress>(
 {
     let endings = all_endings(alloc, &telling.list.words)?;
     let rows = all_rows(alloc, endings.as_slice())?;
-    let texts = named_texts(alloc, telling.script, rows.as_slice(), list)?;
+    let lines = named_texts(alloc, telling.script, rows.as_slice(), list)?;
+    let texts = ShownTexts::new(alloc, lines)?;
     let mut firsts = String::new(alloc);
-    let apart = add_firsts(
-        alloc,
-        &mut firsts,
-        telling,
-        texts.as_slice(),
-        endings.as_slice(),
-    )?;
+    let apart = add_firsts(alloc, &mut firsts, telling, &texts, endings.as_slice())?;
     Ok(below_heading(alloc, endings.len(), apart, firsts.as_str())?)
 }
 
-/// Whether a word stands for all lines of a port, or for all objects.
+/// Whether a word means all lines of a port, or all objects.
 fn is_kind(word: &str) -> bool
     ensures { result ≡ is_kind word.now }
 {

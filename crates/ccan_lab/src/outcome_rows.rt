@@ -63,7 +63,7 @@ fn goes_on(steps: &[HistoryStep], place: usize) -> bool {
     }
 }
 
-/// Steps of a history that stand in one row: looks of one line without a break, or one step.
+/// Steps of a history that share a row: looks of one line without a break, or one step.
 #[derive(Clone, Copy)]
 struct Run {
     /// The first of them.
@@ -230,7 +230,7 @@ fn add_rows(
     Ok(())
 }
 
-/// How many steps stand up to each row: none up to a row before the first step.
+/// How many steps there are up to each row: none up to a row before the first step.
 fn ends_of(alloc: Global, openings: usize, runs: &[Run]) -> Result<Vec<usize>, AllocError> {
     let mut ends = Vec::new(alloc);
     for _ in 0..openings {

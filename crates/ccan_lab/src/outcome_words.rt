@@ -19,7 +19,7 @@ use std::alloc::{AllocError, Global};
 pub struct OutcomeList {
     /// The outcomes.
     pub words: OutcomeWords,
-    /// The graph that tells them.
+    /// The graph of which they are made.
     pub graph: AnswerGraph,
 }
 

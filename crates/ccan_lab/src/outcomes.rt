@@ -101,7 +101,7 @@ fn observe_option<'a>(alloc: Global) -> Result<Arg<'a>, AllocError> {
 /// The option that asks whether an outcome has lines.
 fn can_option<'a>(alloc: Global) -> Result<Arg<'a>, AllocError> {
     let help =
-        "Ask whether an outcome has a line that begins so; exit status 6 where none has. May be given more \
+        "Ask whether an outcome has a line that begins so, where * is any bytes; exit status 6 if none has. May be given more \
                  than once, for all in one outcome";
     apart_from(several(option(alloc, "can", "LINE", help)), "never")
 }
@@ -109,7 +109,7 @@ fn can_option<'a>(alloc: Global) -> Result<Arg<'a>, AllocError> {
 /// The option that asks whether no outcome has lines.
 fn never_option<'a>(alloc: Global) -> Arg<'a> {
     let help =
-        "Ask whether no outcome has a line that begins so; exit status 6 where one has. May be given more \
+        "Ask whether no outcome has a line that begins so, where * is any bytes; exit status 6 if one has. May be given more \
                  than once, for all in one outcome";
     several(option(alloc, "never", "LINE", help))
 }
@@ -516,8 +516,8 @@ fn answered_or_told<T: AllocGlobal + Eprint>(
     answered
 }
 
-/// What is answered to a question about the outcomes of the script of a file. A wait is told by its last look: that changes no
-/// outcome. On a terminal it is told how far the search is.
+/// What is answered to a question about the outcomes of the script of a file. A wait is shown by its last look: that changes no
+/// outcome. On a terminal it shows how far the search is.
 fn outcomes_of_file<T: AllocGlobal + Input + Files + Eprint>(
     rt: &T,
     file: &str,

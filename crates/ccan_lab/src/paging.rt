@@ -84,7 +84,7 @@ pub fn page_command<'a>(alloc: Global) -> Result<Command<'a>, AllocError> {
     )
 }
 
-/// What is told where no outcome is to be shown.
+/// What is reported if no outcome is to be shown.
 fn no_outcome_shown(alloc: Global) -> Result<Error, Error> {
     let message = "with '--limit <N>' N is at least 1";
     Ok(page_command(alloc)?.error(ErrorKind::ValueValidation, message)?)
@@ -207,7 +207,7 @@ fn paged<'a, P: Progress>(
     }
 }
 
-/// Writes the page that is asked for. On a terminal it is told how far a search for outcomes is.
+/// Writes the page that is asked for. On a terminal it shows how far a search for outcomes is.
 pub fn answer_page<T: AllocGlobal + Input + Files + Print + Eprint>(
     rt: &T,
     question: &PageQuestion<'_>,

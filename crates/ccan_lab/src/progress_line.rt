@@ -1,4 +1,4 @@
-//! How far a search is, told on a terminal.
+//! How far a search is, shown on a terminal.
 
 use ccan_search::Progress;
 use std::cell::Cell;
@@ -13,7 +13,7 @@ pub struct ProgressLine<'a, T> {
     rt: &'a T,
     /// Whether that is a terminal.
     is_terminal: bool,
-    /// Whether the line stands there.
+    /// Whether the line is there.
     is_written: Cell<bool>,
 }
 

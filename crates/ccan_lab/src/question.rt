@@ -44,7 +44,7 @@ fn program<'a>(alloc: Global) -> Command<'a> {
     versioned(words::command(alloc, "ccan-lab", about))
 }
 
-/// The command, which wants one of those under it and has no other that tells help.
+/// The command, which wants one of those under it and has no other that shows help.
 fn asking<'a>(command: Command<'a>) -> Command<'a> {
     command
         .subcommand_required(true)

@@ -27,7 +27,7 @@ use ccan_ram::PortName;
 use ccan_search::Progress;
 use std::alloc::{AllocError, Global};
 
-/// Adds the line of an outcome in a place, if several lines may stand there.
+/// Adds the line of an outcome in a place, if several lines may be there.
 #[tactic(auto, unfolding(crate::specs::Listing::different_line))]
 fn add_different_line(
     text: &mut String,
@@ -57,7 +57,7 @@ fn add_different(text: &mut String, choices: &[Vec<&str>], rows: &Rows) -> Resul
     Ok(())
 }
 
-/// The lines of an outcome that are not the same in all, by the lines that may stand in each place.
+/// The lines of an outcome that are not the same in all, by the lines that may be in each place.
 pub fn different_lines(
     alloc: Global,
     choices: &[Vec<&str>],
@@ -119,7 +119,7 @@ fn add_order(text: &mut String, order: &Option<Vec<PortName>>) -> Result<(), All
     Ok(())
 }
 
-/// Adds an outcome: its head, these lines of it, a history as it is told, and the order, if there is one.
+/// Adds an outcome: its head, these lines of it, a history as it is shown, and the order, if there is one.
 ///
 /// The number is from 0.
 pub fn add_told_outcome(
@@ -171,7 +171,7 @@ pub fn add_outcome<P: Progress>(
     Ok(())
 }
 
-/// Adds all outcomes, by the lines that may stand in each place.
+/// Adds all outcomes, by the lines that may be in each place.
 fn add_outcomes<P: Progress>(
     alloc: Global,
     text: &mut String,

@@ -1,11 +1,11 @@
-ghost use Rattle.std.specs.Prelude.{◌≡◌, ◌≤◌, ◌<◌, ◌++◌, ◌∷◌, [], IfOk, OnOk, length, map, take, nat_lt};
+ghost use Rattle.std.specs.Prelude.{ℕ, ◌≡◌, ◌≤◌, ◌<◌, ◌++◌, ◌∷◌, [], true, false, drop, IfOk, OnOk, length, map, take, nat_lt};
 ghost use Rattle.ccan_object.specs.Profile.{objects_in};
 ghost use Rattle.ccan_object.specs.declared.profile.Profile.TheVariants.{Two};
 ghost use Rattle.std.specs.List.{enumerate_from};
 ghost use Rattle.ccan_script.specs.Print.{line_text};
 ghost use Rattle.ccan_lab.specs.Sorted.{texts_of};
 ghost use Rattle.ccan_lab.specs.Summary.{AreInOrder};
-ghost use Rattle.ccan_lab.specs.Rows.{begins_so, final_row, final_rows, line_at, rows_of};
+ghost use Rattle.ccan_lab.specs.Rows.{begins_so, final_row, final_rows, fits, line_at, rows_of};
 
 use ccan_object::{ObjectNo, Record};
 use ccan_outcomes::Ending;
@@ -17,8 +17,8 @@ use std::marker::Model;
 /// The most objects that a profile has.
 pub const MAX_OBJECTS: usize = 64;
 
-/// Printed lines. Those of an outcome stand each in its place: the answers of IF1, those of IF2, those of the bus, and a line for
-/// each object, which is empty if the object is all zero. In the outcomes of one script the same thing stands in the same place.
+/// Printed lines. Those of an outcome are each in its place: the answers of IF1, those of IF2, those of the bus, and a line for
+/// each object, which is empty if the object is all zero. In the outcomes of one script the same thing is in the same place.
 ///
 /// Contracts see the list of the lines' texts.
 #[derive(Drop)]
@@ -81,11 +81,52 @@ impl Rows {
     }
 }
 
+/// Whether a line begins with the bytes of a beginning up to its first `*`. A line that does fits if what is left of it does, when
+/// bytes are taken off its front.
+fn starts_literally(begin: &[u8], line: &[u8]) -> bool
+    ensures needed { result ≡ false → fits begin.now line.now ≡ false }
+    ensures earliest { result ≡ true → (count : ℕ) → fits begin.now (drop count line.now) ≡ true
+        → fits begin.now line.now ≡ true }
+{
+    let Some((wanted, later)) = begin.split_first() else {
+        return true;
+    };
+    if *wanted == b'*' {
+        return true;
+    }
+    match line.split_first() {
+        Some((byte, rest)) => *wanted == *byte && starts_literally(later, rest),
+        None => false,
+    }
+}
+
+/// Whether a line begins so, byte by byte, where `*` is any bytes, or none.
+fn fits(begin: &[u8], line: &[u8]) -> bool
+    ensures { result ≡ fits begin.now line.now }
+{
+    let Some((wanted, later)) = begin.split_first() else {
+        return true;
+    };
+    if *wanted == b'*' {
+        for start in 0..line.len() {
+            let rest = &line[start..];
+            if starts_literally(later, rest) {
+                return fits(later, rest);
+            }
+        }
+        return fits(later, &[]);
+    }
+    match line.split_first() {
+        Some((byte, rest)) => *wanted == *byte && fits(later, rest),
+        None => false,
+    }
+}
+
 /// Whether a line is printed, and begins so.
 pub fn begins_so(line: &str, begin: &str) -> bool
     ensures { result ≡ begins_so begin.now line.now }
 {
-    !line.is_empty() && line.as_bytes().starts_with(begin.as_bytes())
+    !line.is_empty() && fits(begin.as_bytes(), line.as_bytes())
 }
 
 /// The texts of these lines.

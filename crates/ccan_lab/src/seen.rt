@@ -18,11 +18,12 @@ ghost use Rattle.ccan_lab.specs.Words.{HasNoHistory, HasNoWords};
 use crate::brief::history_told;
 use crate::history_form::HistoryForm;
 use crate::lab_error::LabError;
-use crate::observed::{is_repeat, marks_of, observed_lines, observed_texts};
+use crate::observed::{marks_of, observed_lines, observed_texts};
 use crate::outcome_words::{OutcomeList, list_of};
 use crate::replay::{ending_in, order_of};
 use crate::report::add_told_outcome;
 use crate::rows::{all_rows, rows_of};
+use crate::shown_texts::ShownTexts;
 use crate::telling::{Telling, history_by_word};
 use crate::wording::add_counted;
 use ccan_language::Letter;
@@ -159,32 +160,32 @@ fn add_if_new<P: Progress>(
     histories: &mut Histories,
     marks: &[bool],
     shown: &Shown,
-    texts: &[String],
+    texts: &ShownTexts,
     place: usize,
     number: usize,
 ) -> Result<bool, LabError>
     requires can { CanBeTold (fields_of telling.now.script.now) telling.now.list.now }
     requires listed { (ending : Ending) → Contains shown.now.endings.items ending
         → Contains (endings_in telling.now.list.now.words) ending }
-    requires as_many { length texts.now ≡ length shown.now.endings.items }
+    requires as_many { length texts.now.lines.items ≡ length shown.now.endings.items }
     requires within { place < length shown.now.endings.items }
     requires few { number ≤ place }
-    requires counts { number ≡ first_count (map string_bytes texts.now) place }
+    requires counts { number ≡ first_count (map string_bytes texts.now.lines.items) place }
     ensures first { IfOk result (λ added. added
-        ≡ not (is_repeat (map string_bytes texts.now) place)) }
+        ≡ not (is_repeat (map string_bytes texts.now.lines.items) place)) }
     ensures text { OnOk result ((added : List ℕ)
         × (string_bytes text.new ≡ string_bytes text.old ++ added)
         × IsFirstText (IsSeenText telling.now.form (fields_of telling.now.script.now) marks.now
-        shown.now.endings.items (map string_bytes texts.now))
-        (is_repeat (map string_bytes texts.now) place) (text_at (map string_bytes texts.now) place)
+        shown.now.endings.items (map string_bytes texts.now.lines.items))
+        (is_repeat (map string_bytes texts.now.lines.items) place) (text_at (map string_bytes texts.now.lines.items) place)
         place added) }
     ensures without { IfErr result (HasNoHistory (fields_of telling.now.script.now)
         ⟦<AllPorts as PartialEq>⟧.eq telling.now.most) }
 {
-    if is_repeat(texts, place) {
+    if texts.is_repeat(place) {
         return Ok(false);
     }
-    let lines = texts[place].as_str();
+    let lines = texts.lines[place].as_str();
     add_seen(
         alloc, text, telling, histories, marks, shown, place, lines, number,
     )?;
@@ -198,19 +199,19 @@ fn add_all_seen<P: Progress>(
     telling: &Telling<'_, P>,
     marks: &[bool],
     shown: &Shown,
-    texts: &[String],
+    texts: &ShownTexts,
 ) -> Result<usize, LabError>
     requires can { CanBeTold (fields_of telling.now.script.now) telling.now.list.now }
     requires listed { (ending : Ending) → Contains shown.now.endings.items ending
         → Contains (endings_in telling.now.list.now.words) ending }
-    requires as_many { length texts.now ≡ length shown.now.endings.items }
+    requires as_many { length texts.now.lines.items ≡ length shown.now.endings.items }
     ensures count { IfOk result (λ count. count
-        ≡ first_count (map string_bytes texts.now) (length shown.now.endings.items)) }
+        ≡ first_count (map string_bytes texts.now.lines.items) (length shown.now.endings.items)) }
     ensures text { OnOk result ((added : List ℕ)
         × (string_bytes text.new ≡ string_bytes text.old ++ added)
         × AreFirstTexts (IsSeenText telling.now.form (fields_of telling.now.script.now) marks.now
-        shown.now.endings.items (map string_bytes texts.now))
-        (map string_bytes texts.now) (length shown.now.endings.items) added) }
+        shown.now.endings.items (map string_bytes texts.now.lines.items))
+        (map string_bytes texts.now.lines.items) (length shown.now.endings.items) added) }
     ensures without { IfErr result (HasNoHistory (fields_of telling.now.script.now)
         ⟦<AllPorts as PartialEq>⟧.eq telling.now.most) }
 {
@@ -268,9 +269,10 @@ fn seen_listing<P: Progress>(
     ensures without { IfErr result (HasNoHistory (fields_of telling.now.script.now)
         ⟦<AllPorts as PartialEq>⟧.eq telling.now.most) }
 {
-    let texts = shown_texts(alloc, marks, shown)?;
+    let lines = shown_texts(alloc, marks, shown)?;
+    let texts = ShownTexts::new(alloc, lines)?;
     let mut told = String::new(alloc);
-    let apart = add_all_seen(alloc, &mut told, telling, marks, shown, texts.as_slice())?;
+    let apart = add_all_seen(alloc, &mut told, telling, marks, shown, &texts)?;
     Ok(below_heading(alloc, apart, told.as_str())?)
 }
 

@@ -30,7 +30,7 @@ fn add_same_line(text: &mut String, line: &str) -> Result<(), AllocError>
     Ok(())
 }
 
-/// Adds the line that stands in a place, if it is one alone.
+/// Adds the line of a place, if it is one alone.
 fn add_same(text: &mut String, lines: &[&str]) -> Result<(), AllocError>
     ensures { OnOk result
         (string_bytes text.new ≡ string_bytes text.old ++ same_part (texts_of lines.now)) }
@@ -42,7 +42,7 @@ fn add_same(text: &mut String, lines: &[&str]) -> Result<(), AllocError>
     }
 }
 
-/// Adds one of several lines that may stand in a place.
+/// Adds one of several lines that may be in a place.
 #[tactic(auto, unfolding(crate::specs::Summary::choice_text))]
 fn add_choice(text: &mut String, line: &str) -> Result<(), AllocError>
     ensures { OnOk result
@@ -56,7 +56,7 @@ fn add_choice(text: &mut String, line: &str) -> Result<(), AllocError>
     }
 }
 
-/// Adds each line that may stand in a place.
+/// Adds each line that may be in a place.
 fn add_choice_lines(text: &mut String, lines: &[&str]) -> Result<(), AllocError>
     ensures { OnOk result (string_bytes text.new
         ≡ string_bytes text.old ++ flat_map choice_text (texts_of lines.now)) }
@@ -67,7 +67,7 @@ fn add_choice_lines(text: &mut String, lines: &[&str]) -> Result<(), AllocError>
     Ok(())
 }
 
-/// Adds the lines that may stand in a place below its name, if they are several.
+/// Adds the lines that may be in a place below its name, if they are several.
 fn add_choices(
     text: &mut String,
     counts: &LineCounts,
@@ -97,7 +97,7 @@ pub fn add_same_parts(text: &mut String, all: &[Vec<&str>]) -> Result<(), AllocE
     Ok(())
 }
 
-/// Adds what may stand in each other place.
+/// Adds what may be in each other place.
 fn add_choice_parts(
     text: &mut String,
     counts: &LineCounts,

@@ -1,4 +1,4 @@
-//! The outcomes of a script, told one by one, each with a history.
+//! The outcomes of a script, shown one by one, each with a history.
 ghost use Rattle.std.specs.Prelude.{◌≡◌, [], Contains, IfErr, IfOk, Some, slice_get};
 ghost use Rattle.ccan_line.specs.Script.{fields_of};
 ghost use Rattle.ccan_outcomes.specs.History.{IsHistoryOf};
@@ -17,7 +17,7 @@ use ccan_script::Script;
 use ccan_search::Progress;
 use std::alloc::Global;
 
-/// Outcomes of a script that are to be told.
+/// Outcomes of a script that are to be shown.
 #[derive(Clone, Copy)]
 pub struct Telling<'a, P: Progress> {
     /// The script.
@@ -26,7 +26,7 @@ pub struct Telling<'a, P: Progress> {
     pub list: &'a OutcomeList,
     /// How many states a search for a history keeps at most.
     pub most: usize,
-    /// What is told how far such a search is.
+    /// What learns how far such a search is.
     pub progress: &'a P,
     /// How histories are written.
     pub form: HistoryForm,

@@ -69,7 +69,7 @@ fn deed_of(alloc: Global, step: &HistoryStep) -> Result<String, AllocError> {
     Ok(deed)
 }
 
-/// What stands behind a step: the answer to its line where the step is the last of it, and those to the lines behind it that
+/// What is behind a step: the answer to its line where the step is the last of it, and those to the lines behind it that
 /// make no step.
 fn told_behind(
     alloc: Global,

@@ -186,7 +186,7 @@ pub(crate) fn listed_page<'a, P: Progress>(
     found_page(alloc, &telling, limit, page)
 }
 
-/// The same page, on which a wait is shown by its last look, as `ccan-lab outcomes` tells it.
+/// The same page, on which a wait is shown by its last look, as `ccan-lab outcomes` shows it.
 pub(crate) fn outcomes_page<'a, P: Progress>(
     alloc: Global,
     script: Script,

@@ -11,13 +11,13 @@ use Rattle.ccan_lab.proofs.observed.add_firsts.Goals.{then-branch, else-branch}
 pub loop-number-init : goal.loop-number-init
 loop-number-init g c = (
   le_refl 0,
-  sym (count_none (map string_bytes c.args.texts.now)),
+  sym (count_none (map string_bytes c.args.texts.now.lines.items)),
   ([], sym (append-nil (string_bytes c.args.text.now)), refl),
 )
 
 pub loop-number-preserved : goal.loop-number-preserved
 loop-number-preserved g c =
-    let texts = map string_bytes c.args.texts.now in
+    let texts = map string_bytes c.args.texts.now.lines.items in
     let script = fields_of c.args.telling.now.script.now in
     let form = c.args.telling.now.form in
     let keys = c.args.endings.now in
@@ -49,7 +49,7 @@ loop-number-preserved g c =
 
 pub returns-clause-text : goal.returns-clause-text
 returns-clause-text g c =
-    let texts = map string_bytes c.args.texts.now in
+    let texts = map string_bytes c.args.texts.now.lines.items in
     let script = fields_of c.args.telling.now.script.now in
     let form = c.args.telling.now.form in
     let keys = c.args.endings.now in

@@ -7,7 +7,7 @@ use Rattle.ccan_lab.proofs.observed.add_firsts.Given as goal
 -- the outcomes so far, and how many of them show what none before them does
 abbrev pub invariant-loop-number : goal.invariant-loop-number
 invariant-loop-number g l =
-    (l.count ≤ l.number) × (l.count ≡ first_count (map string_bytes l.texts) l.number)
+    (l.count ≤ l.number) × (l.count ≡ first_count (map string_bytes l.texts.lines.items) l.number)
     × ((added : List ℕ) × (string_bytes l.text ≡ string_bytes l.initial.text ++ added)
-    × AreFirstTexts (IsOutcomeText l.telling.form (fields_of l.telling.script.now) l.endings) (map string_bytes l.texts)
+    × AreFirstTexts (IsOutcomeText l.telling.form (fields_of l.telling.script.now) l.endings) (map string_bytes l.texts.lines.items)
     l.number added)

@@ -8,7 +8,7 @@ use Rattle.ccan_lab.proofs.observed.add_if_first.Goals as goal
 
 pub returns-clause-text : goal.returns-clause-text
 returns-clause-text g c =
-    let texts = c.args.texts.now in
+    let texts = c.args.texts.now.lines.items in
     let number = c.args.number in
     let script = fields_of c.args.telling.now.script.now in
     let form = c.args.telling.now.form in
@@ -17,10 +17,10 @@ returns-clause-text g c =
     let lines = text_at (map string_bytes texts) number in
     let added = c.in_ok-add_outcome.ensures.text.0 in
     let first : repeat ≡ false = search rules in
-    let shown = c.index-texts-number.result in
+    let shown = c.index.result.now in
     let within = c.requires.within in
     let lines_are : c.as_str-lines.result.now ≡ lines =
-    c.as_str-lines.ensures.value ∙ ap string_bytes c.index-texts-number.is ∙ sym (text_in texts number shown within) in
+    c.as_str-lines.ensures.value ∙ ap string_bytes c.index.ensures ∙ sym (text_in texts number shown within) in
     let told : IsOutcomeText form script keys lines number added =
     subst (λ (l : List ℕ). IsOutcomeText form script keys l number added) lines_are c.in_ok-add_outcome.ensures.text.2 in
     (added, c.in_ok-add_outcome.ensures.text.1, first_text (IsOutcomeText form script keys) repeat lines number added first told)

@@ -10,13 +10,13 @@ use Rattle.ccan_lab.proofs.seen.add_all_seen.Goals.{then-branch, else-branch}
 pub loop-place-init : goal.loop-place-init
 loop-place-init g c = (
   le_refl 0,
-  sym (count_none (map string_bytes c.args.texts.now)),
+  sym (count_none (map string_bytes c.args.texts.now.lines.items)),
   ([], sym (append-nil (string_bytes c.args.text.now)), refl),
 )
 
 pub loop-place-preserved : goal.loop-place-preserved
 loop-place-preserved g c =
-    let texts = map string_bytes c.args.texts.now in
+    let texts = map string_bytes c.args.texts.now.lines.items in
     let marks = c.args.marks.now in
     let script = fields_of c.args.telling.now.script.now in
     let form = c.args.telling.now.form in

@@ -7,7 +7,7 @@ use Rattle.ccan_lab.proofs.seen.add_all_seen.Given as goal
 -- the outcomes so far, and how many of them show what none before them does
 abbrev pub invariant-loop-place : goal.invariant-loop-place
 invariant-loop-place g l =
-    (l.count ≤ l.place) × (l.count ≡ first_count (map string_bytes l.texts) l.place)
+    (l.count ≤ l.place) × (l.count ≡ first_count (map string_bytes l.texts.lines.items) l.place)
     × ((added : List ℕ) × (string_bytes l.text ≡ string_bytes l.initial.text ++ added)
-    × AreFirstTexts (IsSeenText l.telling.form (fields_of l.telling.script.now) l.marks l.shown.endings.items (map string_bytes l.texts))
-    (map string_bytes l.texts) l.place added)
+    × AreFirstTexts (IsSeenText l.telling.form (fields_of l.telling.script.now) l.marks l.shown.endings.items (map string_bytes l.texts.lines.items))
+    (map string_bytes l.texts.lines.items) l.place added)

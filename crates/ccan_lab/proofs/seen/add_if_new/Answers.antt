@@ -10,7 +10,7 @@ use Rattle.ccan_lab.proofs.seen.add_if_new.Goals as goal
 
 pub returns-clause-text : goal.returns-clause-text
 returns-clause-text g c =
-    let texts = c.args.texts.now in
+    let texts = c.args.texts.now.lines.items in
     let place = c.args.place in
     let marks = c.args.marks.now in
     let script = fields_of c.args.telling.now.script.now in
@@ -20,10 +20,10 @@ returns-clause-text g c =
     let lines = text_at (map string_bytes texts) place in
     let added = c.in_ok-add_seen.ensures.text.0 in
     let first : repeat ≡ false = search rules in
-    let shown = c.index-texts-place.result in
+    let shown = c.index.result.now in
     let within : place < length texts = subst (λ count. place < count) (sym c.requires.as_many) c.requires.within in
     let lines_are : c.as_str-lines.result.now ≡ lines =
-    c.as_str-lines.ensures.value ∙ ap string_bytes c.index-texts-place.is ∙ sym (text_in texts place shown within) in
+    c.as_str-lines.ensures.value ∙ ap string_bytes c.index.ensures ∙ sym (text_in texts place shown within) in
     let is_text : List ℕ → ℕ → Type 0 =
     λ shown_lines number.
     IsTextWith (IsHistoryOf script) (IsHistoryText form script) (λ _. ReplaysShown script marks shown_lines) keys place shown_lines

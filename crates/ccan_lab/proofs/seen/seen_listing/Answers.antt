@@ -1,4 +1,5 @@
-use Rattle.std.proofs.Common.{◌≡◌, ◌++◌, ℕ, List, length, map, ap, ◌∙◌, subst, string_bytes, rules}
+use Rattle.std.proofs.Common.{◌≡◌, ◌++◌, ℕ, List, length, map, ap, ◌∙◌, subst, string_bytes, String, Global, rules}
+use Rattle.std.specs.Global.{Vec}
 use Rattle.ccan_line.specs.Script.{fields_of}
 use Rattle.ccan_lab.specs.Observed.{AreFirstTexts, first_count}
 use Rattle.ccan_lab.specs.Seen.{IsSeenText, seen_heading}
@@ -11,15 +12,13 @@ returns-clause-text g c =
     let marks = c.args.marks.now in
     let keys = c.args.shown.now.endings.items in
     let count = length keys in
-    let texts = map string_bytes c.in_ok-texts.texts.items in
+    let texts = map string_bytes c.in_ok-texts.texts.lines.items in
     let is_told : List (List ℕ) → List ℕ → Type 0 =
     λ told added. AreFirstTexts (IsSeenText form script marks keys told) told count added in
-    let texts_are = c.in_ok-texts.ensures in
+    let texts_are = ap (λ (lines : Vec (String Global)). map string_bytes lines.items) c.in_ok-texts.ensures ∙ c.in_ok-lines.ensures in
     let added = c.in_ok-apart.ensures.text.0 in
-    let sliced = ap (map string_bytes) c.as_slice.ensures.value in
-    let are : is_told texts added = subst (λ told. is_told told added) sliced c.in_ok-apart.ensures.text.2 in
-    let apart : c.in_ok-apart.apart ≡ first_count texts count =
-    c.in_ok-apart.ensures.count ∙ ap (λ told. first_count told count) sliced in
+    let are : is_told texts added = c.in_ok-apart.ensures.text.2 in
+    let apart : c.in_ok-apart.apart ≡ first_count texts count = c.in_ok-apart.ensures.count in
     let firsts : c.as_str.result.now ≡ added = search rules in
     record {
       outcomes = added;
