@@ -43,7 +43,13 @@ fn no_winner(report: &RoundReport) -> &'static str {
     match report.decision {
         None => "no frame, the load was given up",
         Some(Decision::Collision) => "no frame, frames with the same arbitration bits collided",
-        Some(_) => "no frame",
+        Some(Decision::Idle)
+        | Some(Decision::Fault(_, _))
+        | Some(Decision::NoAck(_, _))
+        | Some(Decision::Finish(_, _))
+        | Some(Decision::Receipt(_, _))
+        | Some(Decision::Passed(_, _))
+        | Some(Decision::LoopBack(_, _)) => "no frame",
     }
 }
 
@@ -132,18 +138,33 @@ fn own_word(report: &RoundReport) -> &'static str {
     match &report.end.answer {
         RoundAnswer::Sent(_, _) => "  sent from",
         RoundAnswer::Looped(_, _, _) => "  sent from",
-        _ if controller_contends(report) && has_lost(report, 0) => "  lost arbitration, the chip's",
-        _ => "  the chip's",
+        RoundAnswer::Idle
+        | RoundAnswer::Received(_)
+        | RoundAnswer::Passed
+        | RoundAnswer::Collision
+        | RoundAnswer::NoAck
+        | RoundAnswer::Fault
+        | RoundAnswer::Busy(_)
+        | RoundAnswer::Spent(_) => {
+            if controller_contends(report) && has_lost(report, 0) {
+                "  lost arbitration, the chip's"
+            } else {
+                "  the chip's"
+            }
+        }
     }
 }
 
-/// Appends that a memory step was given up, and where.
+/// Appends which memory step was given up, if one was, and where.
 fn push_given_up(
     text: &mut String,
-    step: MemoryStep,
+    refused: Option<MemoryStep>,
     object: ObjectNo,
     why: &str,
 ) -> Result<(), AllocError> {
+    let Some(step) = refused else {
+        return Ok(());
+    };
     text.push_str(match step {
         MemoryStep::Start => "  start of object ",
         MemoryStep::Finish => "  finish of object ",
@@ -157,20 +178,24 @@ fn push_given_up(
 
 /// Appends why no object stored the frame, or which memory step was refused.
 fn push_refusal(text: &mut String, report: &RoundReport) -> Result<(), AllocError> {
-    match (&report.end.answer, report.end.refused) {
-        (RoundAnswer::Received(None), _) => text.push_str(
+    let refused = report.end.refused;
+    match &report.end.answer {
+        RoundAnswer::Received(None) => text.push_str("  stored nowhere: no object accepts it\n"),
+        RoundAnswer::Looped(_, _, None) => text.push_str(
             "  stored nowhere: no object accepts it\n",
         ),
-        (RoundAnswer::Looped(_, _, None), _) => text.push_str(
-            "  stored nowhere: no object accepts it\n",
-        ),
-        (RoundAnswer::Busy(object), Some(step)) => {
-            push_given_up(text, step, *object, "each try was lost")
+        RoundAnswer::Busy(object) => push_given_up(text, refused, *object, "each try was lost"),
+        RoundAnswer::Spent(object) => {
+            push_given_up(text, refused, *object, "the quota of changes is used up")
         }
-        (RoundAnswer::Spent(object), Some(step)) => {
-            push_given_up(text, step, *object, "the quota of changes is used up")
-        }
-        _ => Ok(()),
+        RoundAnswer::Idle
+        | RoundAnswer::Sent(_, _)
+        | RoundAnswer::Received(Some(_))
+        | RoundAnswer::Passed
+        | RoundAnswer::Collision
+        | RoundAnswer::NoAck
+        | RoundAnswer::Fault
+        | RoundAnswer::Looped(_, _, Some(_)) => Ok(()),
     }
 }
 

@@ -92,7 +92,20 @@ fn stored_object(answer: &LineAnswer) -> Option<ObjectNo>
 {
     match answer {
         LineAnswer::Round(ended) => object_storing(ended),
-        _ => None,
+        LineAnswer::Write(_, _)
+        | LineAnswer::Read(_, _)
+        | LineAnswer::Busy(_)
+        | LineAnswer::Spent(_)
+        | LineAnswer::Until(_, _, _)
+        | LineAnswer::Interrupt(_)
+        | LineAnswer::Flags(_, _, _)
+        | LineAnswer::Load(_)
+        | LineAnswer::Status(_)
+        | LineAnswer::Control(_, _)
+        | LineAnswer::Counters { .. }
+        | LineAnswer::Init
+        | LineAnswer::Recessive(_)
+        | LineAnswer::LoopBack(_) => None,
     }
 }
 

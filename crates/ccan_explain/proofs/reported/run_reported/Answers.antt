@@ -4,10 +4,11 @@ use Rattle.ccan_bus.proofs.Steps.{round_of}
 use Rattle.ccan_line.specs.BusLine.{BusFits}
 use Rattle.ccan_explain.proofs.reported.run_reported.Goals as goal
 
-pub returns-in-Round-clause-runs : goal.returns-in-Round-clause-runs
-returns-in-Round-clause-runs g c =
-    let round = c.in-Round.round in
-    rw (c.in-Round.is, c.of_round.ensures)
+pub returns-in-Some-clause-runs : goal.returns-in-Some-clause-runs
+returns-in-Some-clause-runs g c =
+    let round = c.in-Some.round.now in
+    let is = rw c.in-Some.is at c.round_in.ensures.some in
+    rw (is, c.of_round.ensures)
     (Goes-weaker c.report_round.ensures.goes_on
     (λ seen added _ _ f. record {
       each = λ past led.
@@ -21,17 +22,17 @@ returns-in-Round-clause-runs g c =
           );
     }))
 
-pub returns-in-Round-clause-takes : goal.returns-in-Round-clause-takes
-returns-in-Round-clause-takes g c =
+pub returns-in-Some-clause-takes : goal.returns-in-Some-clause-takes
+returns-in-Some-clause-takes g c =
     let same = c.report_round.ensures.same in
     λ profile other takes. record {
       same_profile = same.profile ∙ takes.same_profile;
       known = subst (λ n. BusFits n other) (sym same.others) takes.known;
     }
 
-pub returns-in_default-clause-runs : goal.returns-in_default-clause-runs
-returns-in_default-clause-runs g c =
-    let other = c.in_default.not-Round in
+pub returns-in-None-clause-runs : goal.returns-in-None-clause-runs
+returns-in-None-clause-runs g c =
+    let other = rw c.in-None.is at c.round_in.ensures.none in
     rw c.of_other.ensures
     (Goes-weaker c.run_line.ensures.runs
     (λ seen added _ _ f. record {
