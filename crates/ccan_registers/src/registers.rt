@@ -204,7 +204,19 @@ fn transfer_told(reply: &LineAnswer) -> Result<(), AccessError>
     match reply {
         LineAnswer::Busy(_) => Err(AccessError::Busy),
         LineAnswer::Spent(_) => Err(AccessError::Spent),
-        _ => Ok(()),
+        LineAnswer::Write(_, _)
+        | LineAnswer::Read(_, _)
+        | LineAnswer::Until(_, _, _)
+        | LineAnswer::Interrupt(_)
+        | LineAnswer::Flags(_, _, _)
+        | LineAnswer::Load(_)
+        | LineAnswer::Round(_)
+        | LineAnswer::Status(_)
+        | LineAnswer::Control(_, _)
+        | LineAnswer::Counters { .. }
+        | LineAnswer::Init
+        | LineAnswer::Recessive(_)
+        | LineAnswer::LoopBack(_) => Ok(()),
     }
 }
 
@@ -312,7 +324,11 @@ fn change_by(map: Map, register: Register, value: u16) -> Option<ControllerChang
         Register::BitTiming => Some(ControllerChange::WriteBitTiming(value)),
         Register::Test => Some(ControllerChange::WriteTest(test_written(map, value))),
         Register::Extension => Some(ControllerChange::WriteExtension(value)),
-        _ => None,
+        Register::ErrorCounter
+        | Register::Interrupt
+        | Register::Request(_)
+        | Register::Buffer(_, _)
+        | Register::Flags(_, _) => None,
     }
 }
 
@@ -344,7 +360,14 @@ pub fn write(
         }
         Register::Request(_) => Err(AccessError::OtherInterface),
         Register::Buffer(interface, reg) => write_own(own, holder.name(), interface, reg, value),
-        _ => Ok(()),
+        Register::Control
+        | Register::Status
+        | Register::ErrorCounter
+        | Register::BitTiming
+        | Register::Interrupt
+        | Register::Test
+        | Register::Extension
+        | Register::Flags(_, _) => Ok(()),
     }
 }
 

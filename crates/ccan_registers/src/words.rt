@@ -1,5 +1,5 @@
 //! Reads and writes of two registers that make up a word of 32 bits.
-ghost use Rattle.std.specs.Prelude.{◌≡◌, ◌+◌, ◌<◌, ◌*◌, ◌/◌, ◌%◌, ◌^◌, ◌⊎◌, true, false, IfNone, IfSome};
+ghost use Rattle.std.specs.Prelude.{◌≡◌, ◌+◌, ◌<◌, ◌*◌, ◌/◌, ◌%◌, ◌^◌, ◌⊎◌, true, false, IfNone, IfSome, Some};
 ghost use Rattle.ccan_map.specs.declared.flag_part.FlagPart.{FlagPart};
 ghost use Rattle.ccan_ram.specs.declared.flag.Flag.{Flag};
 ghost use Rattle.ccan_ram.specs.declared.port.PortName.TheVariants.{Bus as BusPort};
@@ -82,6 +82,26 @@ fn read_halves(
     joined(low, high)
 }
 
+/// The flag that a register shows, and of which objects. None: it shows no flag.
+fn flag_shown(register: Option<Register>) -> Option<(Flag, FlagPart)>
+    ensures some { IfSome result (λ r. register ≡ Some (Register.Flags r.0 r.1)) }
+    ensures each { (flag : Flag) (part : FlagPart) → register ≡ Some (Register.Flags flag part)
+        → result ≡ Some (flag, part) }
+{
+    match register? {
+        Register::Flags(flag, part) => Some((flag, part)),
+        Register::Control
+        | Register::Status
+        | Register::ErrorCounter
+        | Register::BitTiming
+        | Register::Interrupt
+        | Register::Test
+        | Register::Extension
+        | Register::Request(_)
+        | Register::Buffer(_, _) => None,
+    }
+}
+
 /// The flag of which both halves of the word at an offset are registers, with the objects that the lower and the upper half show.
 fn flags_at(map: Map, profile: Profile, offset: u32) -> Option<(Flag, FlagPart, FlagPart)>
     requires small { offset + 2 < 2 ^ 32 }
@@ -89,13 +109,12 @@ fn flags_at(map: Map, profile: Profile, offset: u32) -> Option<(Flag, FlagPart, 
     ensures none { IfNone result ((flag : Flag) (low high : FlagPart)
         → AreFlags map profile offset flag low high → ⊥) }
 {
-    let lower = map.register_at(profile, offset);
-    let upper = map.register_at(profile, offset + 2);
-    match (lower, upper) {
-        (Some(Register::Flags(flag, low)), Some(Register::Flags(other, high))) if flag == other => {
-            Some((flag, low, high))
-        }
-        _ => None,
+    let (flag, low) = flag_shown(map.register_at(profile, offset))?;
+    let (other, high) = flag_shown(map.register_at(profile, offset + 2))?;
+    if flag == other {
+        Some((flag, low, high))
+    } else {
+        None
     }
 }
 

@@ -58,7 +58,9 @@ fn before(event: BusEvent, counters: Counters) -> (u16, u8) {
     match event {
         BusEvent::Sent if tec > 0 => (tec.saturating_add(1), rec),
         BusEvent::ReceiveFault => (tec, rec.saturating_sub(1)),
-        _ => (tec, rec),
+        BusEvent::Sent | BusEvent::Received | BusEvent::SendFault | BusEvent::SendNoAck => (
+            tec, rec,
+        ),
     }
 }
 
