@@ -72,6 +72,35 @@ pub const EVENT_RANGE: u32 = 30;
 /// A node's error counters are out of their range.
 pub const COUNTERS_RANGE: u32 = 31;
 
+/// The code of a load.
+fn code_of_load(loading: &LoadAnswer) -> u32
+    ensures { result ≡ code_of (LineAnswer.Load loading.now) }
+{
+    match loading {
+        LoadAnswer::Busy(_) => BUSY,
+        LoadAnswer::Spent(_) => SPENT,
+        LoadAnswer::Loaded(_, _) | LoadAnswer::Held(_) | LoadAnswer::Nothing => DONE,
+    }
+}
+
+/// The code of a round's answer.
+fn code_of_reply(reply: &RoundAnswer) -> u32
+    ensures { result ≡ code_of (LineAnswer.Round reply.now) }
+{
+    match reply {
+        RoundAnswer::Busy(_) => BUSY,
+        RoundAnswer::Spent(_) => SPENT,
+        RoundAnswer::Idle
+        | RoundAnswer::Sent(_, _)
+        | RoundAnswer::Received(_)
+        | RoundAnswer::Passed
+        | RoundAnswer::Collision
+        | RoundAnswer::NoAck
+        | RoundAnswer::Fault
+        | RoundAnswer::Looped(_, _, _) => DONE,
+    }
+}
+
 /// Busy or spent where a step of the memory was, else done.
 pub(crate) fn code_of(answer: &LineAnswer) -> u32
     ensures { result ≡ code_of answer.now }
@@ -79,10 +108,18 @@ pub(crate) fn code_of(answer: &LineAnswer) -> u32
     match answer {
         LineAnswer::Busy(_) => BUSY,
         LineAnswer::Spent(_) => SPENT,
-        LineAnswer::Load(LoadAnswer::Busy(_)) => BUSY,
-        LineAnswer::Load(LoadAnswer::Spent(_)) => SPENT,
-        LineAnswer::Round(RoundAnswer::Busy(_)) => BUSY,
-        LineAnswer::Round(RoundAnswer::Spent(_)) => SPENT,
-        _ => DONE,
+        LineAnswer::Load(loading) => code_of_load(loading),
+        LineAnswer::Round(reply) => code_of_reply(reply),
+        LineAnswer::Write(_, _)
+        | LineAnswer::Read(_, _)
+        | LineAnswer::Until(_, _, _)
+        | LineAnswer::Interrupt(_)
+        | LineAnswer::Flags(_, _, _)
+        | LineAnswer::Status(_)
+        | LineAnswer::Control(_, _)
+        | LineAnswer::Counters { .. }
+        | LineAnswer::Init
+        | LineAnswer::Recessive(_)
+        | LineAnswer::LoopBack(_) => DONE,
     }
 }

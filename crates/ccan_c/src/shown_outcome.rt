@@ -71,7 +71,12 @@ pub(crate) fn object_of(reply: &RoundAnswer) -> u32
         RoundAnswer::Looped(object, _, _) => u32::from(object.get()),
         RoundAnswer::Busy(object) => u32::from(object.get()),
         RoundAnswer::Spent(object) => u32::from(object.get()),
-        _ => 0,
+        RoundAnswer::Idle
+        | RoundAnswer::Received(_)
+        | RoundAnswer::Passed
+        | RoundAnswer::Collision
+        | RoundAnswer::NoAck
+        | RoundAnswer::Fault => 0,
     }
 }
 
@@ -82,7 +87,14 @@ pub(crate) fn finished_of(reply: &RoundAnswer) -> Record
     match reply {
         RoundAnswer::Sent(_, finished) => *finished,
         RoundAnswer::Looped(_, finished, _) => *finished,
-        _ => Record::zero(),
+        RoundAnswer::Idle
+        | RoundAnswer::Received(_)
+        | RoundAnswer::Passed
+        | RoundAnswer::Collision
+        | RoundAnswer::NoAck
+        | RoundAnswer::Fault
+        | RoundAnswer::Busy(_)
+        | RoundAnswer::Spent(_) => Record::zero(),
     }
 }
 
@@ -93,7 +105,14 @@ pub(crate) fn stored_of(reply: &RoundAnswer) -> Option<(ObjectNo, Record)>
     match reply {
         RoundAnswer::Received(stored) => *stored,
         RoundAnswer::Looped(_, _, stored) => *stored,
-        _ => None,
+        RoundAnswer::Idle
+        | RoundAnswer::Sent(_, _)
+        | RoundAnswer::Passed
+        | RoundAnswer::Collision
+        | RoundAnswer::NoAck
+        | RoundAnswer::Fault
+        | RoundAnswer::Busy(_)
+        | RoundAnswer::Spent(_) => None,
     }
 }
 
@@ -123,7 +142,7 @@ fn loaded_by(loading: &LoadAnswer) -> u32
 {
     match loading {
         LoadAnswer::Loaded(object, _) => u32::from(object.get()),
-        _ => 0,
+        LoadAnswer::Held(_) | LoadAnswer::Nothing | LoadAnswer::Busy(_) | LoadAnswer::Spent(_) => 0,
     }
 }
 
@@ -165,7 +184,7 @@ pub(crate) fn is_lost(noted: &Option<Result<ControllerChanged, ControllerBusy>>)
 {
     match noted {
         Some(Err(_)) => true,
-        _ => false,
+        Some(Ok(_)) | None => false,
     }
 }
 
