@@ -39,7 +39,7 @@ fn inside_after(inside: Inside, byte: u8) -> Inside {
         Inside::Text if byte == b'\\' => Inside::Escape,
         Inside::Text if byte == b'"' => Inside::Nothing,
         Inside::Nothing if byte != b'"' => Inside::Nothing,
-        _ => Inside::Text,
+        Inside::Text | Inside::Nothing | Inside::Escape => Inside::Text,
     }
 }
 
