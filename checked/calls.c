@@ -1,4 +1,4 @@
-/* The functions of ccan.h, each over the one of the proved library that tools/checked_library has named unchecked_ccan_*. */
+/* The functions of ccan.h, each over the one of the proved library that tools/build/checked_library has named unchecked_ccan_*. */
 #include "enter.h"
 
 #define CALL(result, name, parameters, arguments, ...) result unchecked_##name parameters;

@@ -13,8 +13,8 @@
  *   READS(from, count)    an array that the call reads
  *   WRITES(to, count)     an array that the call writes
  *
- * To add a call of ccan.h, add its entry here: that is all, and tools/checked_library refuses to build while an entry is missing.
- * A call may have several handles and chips, of one chip or of several. So a call between two handles has
+ * To add a call of ccan.h, add its entry here: that is all, and tools/build/checked_library refuses to build while an entry is
+ * missing. A call may have several handles and chips, of one chip or of several. So a call between two handles has
  * `HOST(host) BUS(bus)`. A pointer of a new kind, such as one to an array of pointers to chips, needs a macro and a kind in
  * argument.h, and a case in enter_argument and in leave_argument of enter.c.
  *

@@ -3,7 +3,7 @@
 #include "explorer.h"
 #include <sys/mman.h>
 
-/* The program's variables, and among them those of the explorer, which are no part of a state (tools/every_library). */
+/* The program's variables, and among them those of the explorer, which are no part of a state (tools/build/every_library). */
 extern char __data_start, _end, __start_ccan_every_own, __stop_ccan_every_own;
 enum { TEXT_BYTES = 1 << 20, GUARD = 4096 };
 

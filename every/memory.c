@@ -30,7 +30,7 @@ void *own_pool(size_t bytes)
     return made;
 }
 
-/* What a compiler calls for copies in the explorer's own code: tools/every_library gives its calls these names. */
+/* What a compiler calls for copies in the explorer's own code: tools/build/every_library gives its calls these names. */
 void *ccan_private_memcpy(void *to, const void *from, size_t bytes)
 {
     copy_bytes(to, from, bytes);

@@ -25,7 +25,7 @@
  *
  * This header is C, and not proved. What is on the bus, what it is to each member, and what that does to a chip come from the calls
  * of ccan.h, which are proved: ccan_begin, ccan_decide, ccan_stay, ccan_decide_again, ccan_finish, and those of a node. What is
- * added here is who takes part, when, and for how long. It is tested by tools/c/network.c, with three chips whose hosts run in
+ * added here is who takes part, when, and for how long. It is tested by tools/test/c/network.c, with three chips whose hosts run in
  * threads, and by examples/c/network.c, whose times and counters were worked out by hand.
  *
  * It takes no memory, and has no state but the struct. One thread at a time may be in a call with a network. The calls use the

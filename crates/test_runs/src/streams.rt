@@ -1,5 +1,5 @@
 //! Scripts with what they print, and want of memory. Scripts of each length, and numbers over their ranges, are given to the
-//! program (`tools/check_long_scripts`).
+//! program (`tools/test/check_long_scripts`).
 use crate::expect::holds;
 use crate::faulty::new_sheet;
 use crate::runs::{read, run};

@@ -1,4 +1,4 @@
-//! So many calls of one kind on the memory without an end. `tools/bench` counts the instructions of two runs, and what a call
+//! So many calls of one kind on the memory without an end. `tools/bench/all` counts the instructions of two runs, and what a call
 //! costs is their difference.
 ghost use Rattle.std.specs.Prelude.{◌≡◌};
 

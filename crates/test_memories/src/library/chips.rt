@@ -1,4 +1,4 @@
-//! What the calls of C come to, each once. `tools/c/calls.c` has more of them, from C, with ranges and refusals.
+//! What the calls of C come to, each once. `tools/test/c/calls.c` has more of them, from C, with ranges and refusals.
 use super::calls::{
     bus_flags, bus_interrupt, bus_line, bus_read16, bus_read32, bus_write16, bus_write32,
     clear_objects, control, counters, end, flags, init, interrupt, is_open, load, loop_back, meet,
@@ -116,7 +116,7 @@ fn the_ports_of_a_chip_meet(rt: HostRuntime) {
     same(&rt, shown(&rt, &mut chip.if1, 5), 0x8000);
 }
 
-/// What one handle tells another, `tools/c/calls.c` tries.
+/// What one handle tells another, `tools/test/c/calls.c` tries.
 #[test]
 fn a_host_tells_and_heeds(rt: HostRuntime) {
     let alloc = rt.alloc();

@@ -1,4 +1,5 @@
-//! The calls of C for several chips on one bus, each once, and what each refuses. `tools/c/network.c` has worked rounds of them.
+//! The calls of C for several chips on one bus, each once, and what each refuses. Worked rounds of them are in
+//! `tools/test/c/network.c`.
 use super::calls::{
     begin, bit_time, bus_write16, counters, decide, decide_again, finish, frame_bits, node_begin,
     node_finish, node_recessive, opened, request, retry_event, set_all, stay,

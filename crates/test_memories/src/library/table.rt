@@ -1,4 +1,4 @@
-//! The numbers and sizes of `include/ccan.h`, as the library has them. `tools/c_table` reads the lines of this file that end
+//! The numbers and sizes of `include/ccan.h`, as the library has them. `tools/test/c_table` reads the lines of this file that end
 //! in a name, and holds the header to them, so each is one line of the form `same(&rt, LIBRARY, NUMBER); // NAME`.
 use super::calls::{bus_write16, node_begin, opened};
 use super::members::{ended, listens, member, nobody, sends, wire};
