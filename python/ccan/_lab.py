@@ -221,7 +221,7 @@ def outcomes_data(script: Script, *, most: Optional[int] = None) -> Dict[str, An
 
 
 def can_come(script: Script, line: str, *more: str, most: Optional[int] = None) -> str:
-    """The first outcome that has a line which begins so, for each line that is given, with its history.
+    """The first outcome that has a line which begins so, for each line that is given, with its history. A ``*`` is any bytes.
 
     Raises
     ------
@@ -232,8 +232,8 @@ def can_come(script: Script, line: str, *more: str, most: Optional[int] = None) 
 
 
 def never_comes(script: Script, line: str, *more: str, most: Optional[int] = None) -> None:
-    """Asks that no outcome has a line which begins so, for each line that is given. It is a test: its exception shows the
-    outcome that has them.
+    """Asks that no outcome has a line which begins so, for each line that is given. A ``*`` is any bytes. It is a test: its
+    exception shows the outcome that has them.
 
     Raises
     ------
