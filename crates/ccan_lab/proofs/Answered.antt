@@ -1,5 +1,5 @@
 -- One file more is asked about.
-use Rattle.std.proofs.Common.{◌≡◌, ◌∙◌, ◌++◌, ℕ, Bool, List, [], ◌∷◌, Option, ap, sym, subst, append-nil, append_assoc, map}
+use Rattle.std.proofs.Common.{◌≡◌, ◌∙◌, ◌++◌, ℕ, Bool, Bor, List, [], ◌∷◌, Option, ap, sym, subst, append-nil, append_assoc, length, map}
 use Rattle.std.proofs.KnownBytes.{Appends-trans}
 use Rattle.std.proofs.lemmas.List.{map-append}
 use Rattle.std.proofs.lemmas.List.Sums.{fold-append}
@@ -8,7 +8,7 @@ use Rattle.std.specs.List.{AllZip}
 use Rattle.std.specs.Io.KnownBytes.{Appends}
 use Rattle.ccan_lab.specs.declared.each_file.FileAnswer.{FileAnswer}
 use Rattle.ccan_lab.specs.declared.lab_error.LabError.{LabError}
-use Rattle.ccan_lab.specs.EachFile.{AreAnswered, part, parts, status_of, worse, worst_of}
+use Rattle.ccan_lab.specs.EachFile.{AreAnswered, has_headings, part, parts, status_of, worse, worst_of}
 
 module _ (Answers : List ℕ → Result FileAnswer LabError → Type 0) (shown : Bool) (name : List ℕ)
     (answered : Result FileAnswer LabError) where
@@ -48,3 +48,28 @@ module _ (Answers : List ℕ → Result FileAnswer LabError → Type 0) (shown :
     worst = is ∙ ap (worse worst) one_is ∙ ap (λ (n : ℕ). worse n (status_of answered)) before.worst
         ∙ worst_more before.answers;
   }
+
+module _ (Answers Others : List ℕ → Result FileAnswer LabError → Type 0)
+    (weaker : (name : List ℕ) (answered : Result FileAnswer LabError) → Answers name answered → Others name answered) where
+  each_weaker : (names : List (List ℕ)) (answers : List (Result FileAnswer LabError)) → AllZip Answers names answers
+      → AllZip Others names answers
+  each_weaker [] [] each = tt
+  each_weaker [] (a ∷ others) each = absurd each
+  each_weaker (n ∷ ns) [] each = absurd each
+  each_weaker (n ∷ ns) (a ∷ others) each = (weaker n a each.0, each_weaker ns others each.1)
+
+  -- files that were asked about so were asked about as this follows from it
+  pub answered_so : (named also : Bool) → named ≡ also → (files others : List (Bor (List ℕ))) → files ≡ others
+      → (old new : Option (List ℕ)) (status : ℕ)
+      → AreAnswered Answers (has_headings named (length files)) (map (λ file. file.now) files) old new status
+      → AreAnswered Others (has_headings also (length others)) (map (λ file. file.now) others) old new status
+  answered_so named also headed files others same old new status are =
+      subst (λ (it : Bool). AreAnswered Others (has_headings it (length others)) (map (λ file. file.now) others) old new status)
+      headed
+      (subst (λ (l : List (Bor (List ℕ))). AreAnswered Others (has_headings named (length l)) (map (λ file. file.now) l) old new status)
+      same (record {
+        answers = are.answers;
+        each = each_weaker (map (λ file. file.now) files) are.answers are.each;
+        printed = are.printed;
+        worst = are.worst;
+      }))

@@ -1,5 +1,7 @@
+pub mod Allowed
 pub mod Answered
 pub mod Apart
+pub mod ByAsked
 pub mod Differ
 pub mod Formed
 pub mod Most

@@ -1,3 +1,4 @@
+pub mod Answered
 pub mod Beginnings
 pub mod BusForms
 pub mod CheckCommand

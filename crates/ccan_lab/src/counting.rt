@@ -1,29 +1,31 @@
 //! The question `ccan-lab count`: its words, and its answer.
 
-ghost use Rattle.std.specs.Prelude.{◌≡◌, IfErr, IfOk, codes, map, option_map, string_bytes};
+ghost use Rattle.std.specs.Prelude.{◌≡◌, IfErr, IfOk, codes, false, length, map, option_map, string_bytes};
 ghost use Rattle.clap.specs.Words.{found_of, matched_of, one_text, raw_values};
 ghost use Rattle.ccan_line.specs.Script.{fields_of};
+ghost use Rattle.ccan_lab.specs.declared.lab_error.LabError.TheVariants as LabError;
+ghost use Rattle.ccan_lab.specs.Answered.{AnswersCount, IsCounted, RefusesCount};
 ghost use Rattle.ccan_lab.specs.Counting.{IsCount, TellsCount, count_text};
+ghost use Rattle.ccan_lab.specs.EachFile.{AreAnswered, has_headings};
 ghost use Rattle.ccan_lab.specs.Question.{IsGivenBy, files_named};
 ghost use Rattle.ccan_lab.specs.Words.{HasNoWords};
 
 use crate::command_words::{command, files_named, scripts, with};
 use crate::each_file::{FileAnswer, answer_each};
-use crate::input::{script_asked, tell_terminal};
+use crate::input::{bytes_asked, searched_script, tell_terminal};
 use crate::lab_error::LabError;
 use crate::outcome_words::words_of;
 use crate::outcomes::{most_of, most_option};
 use crate::progress_line::ProgressLine;
 use crate::wording::add_counted;
+use ccan_outcomes::Ending;
 use ccan_outcomes::all_ports::AllPorts;
-use ccan_outcomes::{Ending, looking_once};
 use ccan_script::Script;
 use ccan_search::Progress;
 use clap::{ArgMatches, Command};
 use std::alloc::{AllocError, Global};
 use std::fs::Files;
-use std::io;
-use std::io::{Input, IsTerminal};
+use std::io::{Input, IsTerminal, Write};
 
 /// Of which scripts the outcomes are counted.
 #[derive(Drop)]
@@ -104,6 +106,24 @@ fn counted<P: Progress>(
     Ok(count_text(alloc, number)?)
 }
 
+/// Counts the outcomes of the script in these bytes.
+fn count_bytes<P: Progress>(
+    alloc: Global,
+    bytes: &[u8],
+    most: usize,
+    progress: &P,
+) -> Result<FileAnswer, LabError>
+    ensures counted { IfOk result (AnswersCount bytes.now) }
+    ensures refused { IfErr result (RefusesCount most bytes.now) }
+{
+    let script = searched_script(alloc, bytes)?;
+    let text = counted(alloc, &script, most, progress)?;
+    Ok(FileAnswer {
+        text: text.into_bytes(),
+        status: 0,
+    })
+}
+
 /// Counts the outcomes of the script of a file. A wait is counted by its last look: that changes no outcome. On a terminal it
 /// shows how far the search is.
 fn count_file<T: AllocGlobal + Input + Files + Eprint>(
@@ -114,29 +134,33 @@ fn count_file<T: AllocGlobal + Input + Files + Eprint>(
 ) -> Result<FileAnswer, LabError>
 where
     T::Reader: IsTerminal,
+    ensures { IsCounted most result }
 {
     tell_terminal(rt, "a script", Some(file));
-    let script = looking_once(rt.alloc(), script_asked(rt, Some(file))?)?;
-    let answered = counted(rt.alloc(), &script, most, progress);
+    let bytes = bytes_asked(rt, Some(file))?;
+    let answered = count_bytes(rt.alloc(), bytes.as_slice(), most, progress);
     progress.clear();
-    Ok(FileAnswer {
-        text: answered?.into_bytes(),
-        status: 0,
-    })
+    answered
 }
 
-/// Counts the outcomes of each script, and prints the number, under the name of its file if there are several. Gives the worst
+/// Counts the outcomes of each script, and writes the number, under the name of its file if there are several. Gives the worst
 /// exit status.
-pub fn answer_count<T: AllocGlobal + Input + Files + Print + Eprint>(
+pub fn answer_count<T: AllocGlobal + Input + Files + Eprint, W: Write>(
     rt: &T,
+    writer: &mut W,
     question: &CountQuestion<'_>,
     progress: &ProgressLine<'_, T>,
 ) -> Result<u8, LabError>
 where
     T::Reader: IsTerminal,
+    ensures answered { IfOk result (λ status. AreAnswered (λ name. IsCounted question.now.most)
+        (has_headings false (length question.now.files.items))
+        (map (λ file. file.now) question.now.files.items)
+        (W.contents writer.old) (W.contents writer.new) status) }
+    ensures fault { IfErr result (λ e. e ≡ LabError.Write) }
 {
     let files = question.files.as_slice();
-    answer_each(rt, &mut io::writer(rt), files, false, |file| {
+    answer_each(rt, writer, files, false, |file| {
         count_file(rt, file, question.most, progress)
     })
 }

@@ -1,4 +1,12 @@
+//! What is read of a file or of standard input: bytes, and the script that they are.
+ghost use Rattle.std.specs.Prelude.{◌≤◌, IfErr, IfOk, Ok, length};
+ghost use Rattle.ccan_line.specs.Script.{fields_of};
+ghost use Rattle.ccan_run.specs.Input.{most_input};
+ghost use Rattle.ccan_script.specs.Reader.{Shows};
+ghost use Rattle.ccan_lab.specs.Answered.{IsSearchedFor, IsUnread, RefusesBytes};
+
 use crate::lab_error::LabError;
+use ccan_outcomes::looking_once;
 use ccan_run::{RunError, read_all, read_input};
 use ccan_script::{Script, read_script};
 use std::alloc::Global;
@@ -34,7 +42,10 @@ pub fn script_asked<T: AllocGlobal + Input + Files>(
 pub fn bytes_asked<T: AllocGlobal + Input + Files>(
     rt: &T,
     file: Option<&str>,
-) -> Result<Vec<u8>, LabError> {
+) -> Result<Vec<u8>, LabError>
+    ensures short { IfOk result (λ bytes. length bytes.items ≤ most_input) }
+    ensures unread { IfErr result IsUnread }
+{
     match file {
         None | Some("-") => Ok(read_all(rt.alloc(), &mut rt.reader())?),
         Some(path) => match fs::open(rt, path) {
@@ -45,9 +56,21 @@ pub fn bytes_asked<T: AllocGlobal + Input + Files>(
 }
 
 /// The script that these bytes are.
-pub fn script_in(alloc: Global, bytes: &[u8]) -> Result<Script, LabError> {
+pub fn script_in(alloc: Global, bytes: &[u8]) -> Result<Script, LabError>
+    ensures read { IfOk result (λ script. Shows bytes.now (Ok (fields_of script))) }
+    ensures refused { IfErr result (RefusesBytes bytes.now) }
+{
     match read_script(alloc, bytes) {
         Ok(script) => Ok(script),
         Err(refusal) => Err(LabError::Input(RunError::Script(refusal))),
     }
+}
+
+/// The script that is searched for the outcomes of the one in these bytes: each of its waits looks once, which changes no outcome.
+pub fn searched_script(alloc: Global, bytes: &[u8]) -> Result<Script, LabError>
+    ensures searched { IfOk result (λ script. IsSearchedFor bytes.now (fields_of script)) }
+    ensures refused { IfErr result (RefusesBytes bytes.now) }
+{
+    let script = script_in(alloc, bytes)?;
+    Ok(looking_once(alloc, script)?)
 }

@@ -109,9 +109,10 @@ fn answer_question<T: AllocGlobal + Input + Files + Print + Eprint>(
 where
     T::Reader: IsTerminal,
 {
+    let mut writer = io::writer(rt);
     match question {
-        Question::Outcomes(question) => answer_outcomes(rt, question, progress),
-        Question::Count(question) => answer_count(rt, question, progress),
+        Question::Outcomes(question) => answer_outcomes(rt, &mut writer, question, progress),
+        Question::Count(question) => answer_count(rt, &mut writer, question, progress),
         Question::Check(question) => answer_check(rt, question),
         Question::Explain(question) => answer_explain(rt, question),
         Question::Draw(question) => answer_draw(rt, question, progress).map(status_told),

@@ -1,12 +1,16 @@
 //! The question `ccan-lab outcomes`: its words, and its answer.
 
-ghost use Rattle.std.specs.Prelude.{◌≡◌, ◌↔◌, IfErr, IfOk, IsTrue, codes, map, option_map, string_bytes, true};
+ghost use Rattle.std.specs.Prelude.{◌≡◌, ◌↔◌, IfErr, IfOk, IsTrue, codes, length, map, option_map, string_bytes, true};
 ghost use Rattle.clap.specs.Words.{first_value, found_of, matched_of, one_text, raw_values};
 ghost use Rattle.std.specs.List.{IsDistinct};
 ghost use Rattle.ccan_line.specs.Script.{fields_of};
 ghost use Rattle.ccan_outcomes.specs.Ending.{AreOutcomes};
 ghost use Rattle.ccan_outcomes.specs.OutcomeWords.{endings_in};
 ghost use Rattle.ccan_lab.specs.declared.asked.Asked.TheVariants as Asked;
+ghost use Rattle.ccan_lab.specs.declared.lab_error.LabError.TheVariants as LabError;
+ghost use Rattle.ccan_lab.specs.Answered.{AnswersAsked, AnswersFile, IsAnswered, RefusesAsked, RefusesFile};
+ghost use Rattle.ccan_lab.specs.Answered.{RefusesNames, RefusesUnknown, names_its_file, status_if};
+ghost use Rattle.ccan_lab.specs.EachFile.{AreAnswered, has_headings};
 ghost use Rattle.ccan_lab.specs.Outcomes.{Answers, IsOfAll, TellsAll};
 ghost use Rattle.ccan_lab.specs.Telling.{CanBeTold};
 ghost use Rattle.ccan_lab.specs.Question.{AreKnown, AreKnownNames, AsksAllBy, AsksBy, IsFormBy, IsGivenBy};
@@ -25,7 +29,7 @@ use crate::command_words::{
 };
 use crate::each_file::{FileAnswer, answer_each};
 use crate::history_form::HistoryForm;
-use crate::input::{script_in, tell_terminal};
+use crate::input::{searched_script, tell_terminal};
 use crate::lab_error::LabError;
 use crate::line_search::{LineSearch, search_among};
 use crate::observed::first_unknown;
@@ -36,15 +40,14 @@ use crate::progress_line::ProgressLine;
 use crate::seen::seen_text;
 use crate::summary::short_list;
 use crate::telling::Telling;
+use ccan_outcomes::Ending;
 use ccan_outcomes::all_ports::AllPorts;
-use ccan_outcomes::{Ending, looking_once};
 use ccan_script::Script;
 use ccan_search::Progress;
 use clap::{Arg, ArgMatches, Command};
 use std::alloc::{AllocError, Global};
 use std::fs::Files;
-use std::io;
-use std::io::{Input, IsTerminal};
+use std::io::{Input, IsTerminal, Write};
 
 /// How many states are kept at most, and how many nodes the words of outcomes have, if the command line doesn't say.
 pub const DEFAULT_MOST: usize = 1_000_000;
@@ -266,7 +269,8 @@ pub fn outcomes_question<'a>(
 /// Refuses names of which one is that of no line and no object of the script.
 #[tactic(auto, using(crate::proofs::Apart::none_found))]
 fn refuse_names(alloc: Global, script: &Script, names: &str) -> Result<(), LabError>
-    ensures { IfOk result (λ done. AreKnownNames (fields_of script.now) names.now) }
+    ensures known { IfOk result (λ done. AreKnownNames (fields_of script.now) names.now) }
+    ensures refused { IfErr result (RefusesNames (fields_of script.now) names.now) }
 {
     match first_unknown(alloc, script, names)? {
         Some(number) => Err(LabError::NoPlace(number)),
@@ -276,7 +280,8 @@ fn refuse_names(alloc: Global, script: &Script, names: &str) -> Result<(), LabEr
 
 /// Refuses names to be observed of which one is that of no line and no object of the script.
 fn refuse_unknown(alloc: Global, script: &Script, asked: Asked<'_>) -> Result<(), LabError>
-    ensures { IfOk result (λ done. AreKnown (fields_of script.now) asked.entry) }
+    ensures known { IfOk result (λ done. AreKnown (fields_of script.now) asked.entry) }
+    ensures refused { IfErr result (RefusesUnknown (fields_of script.now) asked.entry) }
 {
     match asked {
         Asked::Observed(names) | Asked::AllObserved(names) => refuse_names(alloc, script, names),
@@ -456,13 +461,16 @@ fn answer_of_observed<P: Progress>(
 }
 
 /// The exit status of an answer that is as asked, or isn't.
-fn status_of(is_so: bool) -> u8 {
+fn status_of(is_so: bool) -> u8
+    ensures { result ≡ status_if is_so }
+{
     if is_so { 0 } else { NOT_SO }
 }
 
 /// What is printed of a file that has this answer, with its exit status.
 fn file_answer(answer: Answer) -> FileAnswer
-    ensures { result.text.items ≡ string_bytes answer.text }
+    ensures text { result.text.items ≡ string_bytes answer.text }
+    ensures status { result.status ≡ status_if answer.holds }
 {
     FileAnswer {
         text: answer.text.into_bytes(),
@@ -477,7 +485,11 @@ fn answer_of_script<P: Progress>(
     source: &Source,
     question: &OutcomesQuestion<'_>,
     progress: &P,
-) -> Result<FileAnswer, LabError> {
+) -> Result<FileAnswer, LabError>
+    ensures answered { IfOk result
+        (AnswersAsked question.now (string_bytes source.now.name) (fields_of script.now)) }
+    ensures refused { IfErr result (RefusesAsked question.now (fields_of script.now)) }
+{
     let (lines, form, most) = (question.lines.as_slice(), question.form, question.most);
     let answer = match question.asked {
         Asked::Summary => answer_of_summary(alloc, script, most, progress)?,
@@ -493,7 +505,9 @@ fn answer_of_script<P: Progress>(
 }
 
 /// Says on standard error what the printed lines of a script begin with.
-fn tell_beginnings<T: AllocGlobal + Eprint>(rt: &T, script: &Script) -> Result<(), LabError> {
+fn tell_beginnings<T: AllocGlobal + Eprint>(rt: &T, script: &Script) -> Result<(), LabError>
+    ensures { IfErr result (λ why. why ≡ LabError.Memory) }
+{
     let text = beginnings_text(rt.alloc(), script)?;
     let _told = rt.eprintln(text.as_str());
     Ok(())
@@ -507,7 +521,11 @@ fn answered_or_told<T: AllocGlobal + Eprint>(
     source: &Source,
     question: &OutcomesQuestion<'_>,
     progress: &ProgressLine<'_, T>,
-) -> Result<FileAnswer, LabError> {
+) -> Result<FileAnswer, LabError>
+    ensures answered { IfOk result
+        (AnswersAsked question.now (string_bytes source.now.name) (fields_of script.now)) }
+    ensures refused { IfErr result (RefusesAsked question.now (fields_of script.now)) }
+{
     let answered = answer_of_script(rt.alloc(), script, source, question, progress);
     progress.clear();
     if let Err(LabError::NoLine) = answered {
@@ -516,8 +534,24 @@ fn answered_or_told<T: AllocGlobal + Eprint>(
     answered
 }
 
-/// What is answered to a question about the outcomes of the script of a file. A wait is shown by its last look: that changes no
-/// outcome. On a terminal it shows how far the search is.
+/// What is answered to a question about the outcomes of the script in this source. A wait is shown by its last look: that changes
+/// no outcome.
+fn answer_of_source<T: AllocGlobal + Eprint>(
+    rt: &T,
+    source: &Source,
+    question: &OutcomesQuestion<'_>,
+    progress: &ProgressLine<'_, T>,
+) -> Result<FileAnswer, LabError>
+    ensures answered { IfOk result
+        (AnswersFile question.now (string_bytes source.now.name) source.now.text.items) }
+    ensures refused { IfErr result (RefusesFile question.now source.now.text.items) }
+{
+    let script = searched_script(rt.alloc(), source.text.as_slice())?;
+    refuse_unknown(rt.alloc(), &script, question.asked)?;
+    answered_or_told(rt, &script, source, question, progress)
+}
+
+/// What is answered to a question about the outcomes of the script of a file. On a terminal it shows how far the search is.
 fn outcomes_of_file<T: AllocGlobal + Input + Files + Eprint>(
     rt: &T,
     file: &str,
@@ -526,17 +560,17 @@ fn outcomes_of_file<T: AllocGlobal + Input + Files + Eprint>(
 ) -> Result<FileAnswer, LabError>
 where
     T::Reader: IsTerminal,
+    ensures { IsAnswered question.now file.now result }
 {
     tell_terminal(rt, "a script", Some(file));
     let source = source_asked(rt, Some(file))?;
-    let script = looking_once(rt.alloc(), script_in(rt.alloc(), source.text.as_slice())?)?;
-    refuse_unknown(rt.alloc(), &script, question.asked)?;
-    answered_or_told(rt, &script, &source, question, progress)
+    answer_of_source(rt, &source, question, progress)
 }
 
 /// Whether an answer to what is asked names its file.
 fn is_named(asked: Asked<'_>) -> bool
-    ensures { IsTrue result ↔ (asked.entry ≡ Asked.Json) }
+    ensures json { IsTrue result ↔ (asked.entry ≡ Asked.Json) }
+    ensures value { result ≡ names_its_file asked.entry }
 {
     match asked {
         Asked::Json => true,
@@ -545,18 +579,24 @@ fn is_named(asked: Asked<'_>) -> bool
     }
 }
 
-/// Lists the outcomes of each script, and prints what is answered, under the name of its file if there are several and the answer
+/// Lists the outcomes of each script, and writes what is answered, under the name of its file if there are several and the answer
 /// doesn't name it. Gives the worst exit status.
-pub fn answer_outcomes<T: AllocGlobal + Input + Files + Print + Eprint>(
+pub fn answer_outcomes<T: AllocGlobal + Input + Files + Eprint, W: Write>(
     rt: &T,
+    writer: &mut W,
     question: &OutcomesQuestion<'_>,
     progress: &ProgressLine<'_, T>,
 ) -> Result<u8, LabError>
 where
     T::Reader: IsTerminal,
+    ensures answered { IfOk result (λ status. AreAnswered (IsAnswered question.now)
+        (has_headings (names_its_file question.now.asked) (length question.now.files.items))
+        (map (λ file. file.now) question.now.files.items)
+        (W.contents writer.old) (W.contents writer.new) status) }
+    ensures fault { IfErr result (λ e. e ≡ LabError.Write) }
 {
     let (files, are_named) = (question.files.as_slice(), is_named(question.asked));
-    answer_each(rt, &mut io::writer(rt), files, are_named, |file| {
+    answer_each(rt, writer, files, are_named, |file| {
         outcomes_of_file(rt, file, question, progress)
     })
 }

@@ -1,6 +1,7 @@
 //! The question `ccan-lab page`: its words, and the page.
-ghost use Rattle.std.specs.Prelude.{◌≡◌, IfOk, string_bytes};
+ghost use Rattle.std.specs.Prelude.{◌≡◌, IfErr, IfOk, string_bytes};
 ghost use Rattle.std.specs.Option.{option_map};
+ghost use Rattle.ccan_lab.specs.Answered.{IsUnread};
 ghost use Rattle.ccan_lab.specs.Paging.{page_name};
 
 mod history_steps;
@@ -156,8 +157,9 @@ pub(crate) fn source_asked<T: AllocGlobal + Input + Files>(
     rt: &T,
     file: Option<&str>,
 ) -> Result<Source, LabError>
-    ensures { IfOk result (λ source. string_bytes source.name
+    ensures name { IfOk result (λ source. string_bytes source.name
         ≡ page_name (option_map (λ path. path.now) file.entry)) }
+    ensures unread { IfErr result IsUnread }
 {
     let text = bytes_asked(rt, file)?;
     let name = name_of(rt.alloc(), file)?;

@@ -1,0 +1,21 @@
+use Rattle.std.proofs.Common.{◌≡◌, ap, refl, rules, string_bytes, subst}
+use Rattle.ccan_line.specs.Script.{ScriptFields, fields_of}
+use Rattle.ccan_outcomes.specs.contracts.ending.EndingPartialEq.TheImpl.{ghosts as ending_is}
+use Rattle.ccan_lab.specs.Counting.{TellsCount}
+use Rattle.ccan_lab.proofs.Allowed.{counts_so}
+use Rattle.ccan_lab.proofs.counting.count_bytes.Goals as goal
+
+pub returns-clause-counted : goal.returns-clause-counted
+returns-clause-counted g c =
+    let it = c.in_ok-script.ensures.searched in
+    let searched = fields_of c.in_ok-script.script in
+    let text = string_bytes c.in_ok-text.text in
+    let same : text ≡ c.into_bytes.result.items = search rules in
+    record {
+      script = it.script;
+      read = it.read;
+      tells = subst (TellsCount it.script ending_is.eq) same
+          (counts_so it.script searched (ap (λ (script : ScriptFields). script.profile) it.once) it.same_outcomes
+          ending_is.eq text c.in_ok-text.ensures.counted);
+      ends = refl;
+    }

@@ -1,0 +1,40 @@
+use Rattle.std.proofs.Common.{◌≡◌, ◌∙◌, ap, refl, rules, string_bytes}
+use Rattle.ccan_line.specs.Script.{fields_of}
+use Rattle.ccan_lab.specs.declared.answer.Answer.{Answer}
+use Rattle.ccan_lab.specs.Answered.{status_if}
+use Rattle.ccan_lab.specs.Outcomes.{IsOfAll}
+use Rattle.ccan_lab.proofs.ByAsked.{by_all, by_can, by_names, by_never, by_summary}
+use Rattle.ccan_lab.proofs.outcomes.answer_of_script.Goals as goal
+use Rattle.ccan_lab.proofs.outcomes.answer_of_script.Goals.{in-Summary+in_ok-answer-in-Summary, in-Can+in_ok-answer-in-Can}
+use Rattle.ccan_lab.proofs.outcomes.answer_of_script.Goals.{in-Never+in_ok-answer-in-Never, in-Observed+in_ok-answer-in-Observed}
+use Rattle.ccan_lab.proofs.outcomes.answer_of_script.Goals.{in-All+in_ok-answer-in-All}
+
+pub returns-clause-answered : goal.returns-clause-answered
+returns-clause-answered g c =
+    let question = c.args.question.now in
+    let name = string_bytes c.args.source.now.name in
+    let script = fields_of c.args.script.now in
+    let answer = c.file_answer.result in
+    let lines = c.as_slice-lines.result.now in
+    let text = λ (given : Answer) (is : c.match-question.answer ≡ given).
+    c.file_answer.ensures.text ∙ ap (λ (it : Answer). string_bytes it.text) is in
+    let status = λ (given : Answer) (is : c.match-question.answer ≡ given).
+    c.file_answer.ensures.status ∙ ap (λ (it : Answer). status_if it.holds) is in
+    elim c.match-question.branch [
+      | in-Summary+in_ok-answer-in-Summary w ↦
+          by_summary question name script answer w.in_ok-answer-in-Summary.answer (text _ w.answer-is) (status _ w.answer-is)
+          w.in-Summary.is w.in_ok-answer-in-Summary.ensures.told w.in_ok-answer-in-Summary.ensures.holds
+      | in-Can+in_ok-answer-in-Can w ↦
+          by_can question name script answer w.in_ok-answer-in-Can.answer (text _ w.answer-is) (status _ w.answer-is)
+          lines c.as_slice-lines.ensures.value w.in-Can.is w.in_ok-answer-in-Can.ensures.told
+      | in-Never+in_ok-answer-in-Never w ↦
+          by_never question name script answer w.in_ok-answer-in-Never.answer (text _ w.answer-is) (status _ w.answer-is)
+          lines c.as_slice-lines.ensures.value w.in-Never.is w.in_ok-answer-in-Never.ensures.told
+      | in-Observed+in_ok-answer-in-Observed w ↦
+          by_names question name script answer w.in_ok-answer-in-Observed.answer (text _ w.answer-is) (status _ w.answer-is)
+          w.in-Observed.names w.in-Observed.is w.in_ok-answer-in-Observed.ensures.told w.in_ok-answer-in-Observed.ensures.holds
+      | in-All+in_ok-answer-in-All w ↦
+          let of : IsOfAll question.asked = search rules in
+          by_all question name script answer w.in_ok-answer-in-All.answer (text _ w.answer-is) (status _ w.answer-is)
+          question.asked of refl w.in_ok-answer-in-All.ensures.told w.in_ok-answer-in-All.ensures.holds
+    ]

@@ -1,0 +1,24 @@
+use Rattle.std.proofs.Common.{◌≡◌, ap, List, ℕ, string_bytes, subst}
+use Rattle.std.proofs.lemmas.Result.{IfOk-weaker}
+use Rattle.ccan_line.specs.Script.{ScriptFields, fields_of}
+use Rattle.ccan_lab.specs.Answered.{AnswersAsked, IsSearchedFor}
+use Rattle.ccan_lab.specs.Sorted.{texts_of}
+use Rattle.ccan_lab.proofs.Allowed.{ends_so}
+use Rattle.ccan_lab.proofs.outcomes.answer_of_source.Goals as goal
+
+pub returns-clause-answered : goal.returns-clause-answered
+returns-clause-answered g c =
+    let question = c.args.question.now in
+    let name = string_bytes c.args.source.now.name in
+    let searched = fields_of c.in_ok-script.script in
+    let it : IsSearchedFor c.args.source.now.text.items searched =
+    subst (λ (bytes : List ℕ). IsSearchedFor bytes searched) c.as_slice.ensures.value c.in_ok-script.ensures.searched in
+    IfOk-weaker c.answered_or_told.result (AnswersAsked question name searched) _ (λ answer asked. record {
+      searched = searched;
+      is_for = it;
+      known = c.in_ok-refuse_unknown.ensures.known;
+      tells = asked.tells;
+      ends = ends_so it.script searched (ap (λ (script : ScriptFields). script.profile) it.once) it.same_outcomes
+          question.asked (texts_of question.lines.items) answer.status asked.ends;
+    })
+    c.answered_or_told.ensures.answered
