@@ -10,12 +10,12 @@ _ccan_lab() {
         return
     elif [[ "$word" == -* ]]; then
         case ${COMP_WORDS[1]} in
-            outcomes) words="--all --json --observe --can --never --brief --most -h --help" ;;
-            count) words="--most -h --help" ;;
+            outcomes) words="--all --json --observe --can --never --brief --frames --most -h --help" ;;
+            count) words="--frames --most -h --help" ;;
             check) words="--strict --expect -h --help" ;;
             explain) words="--json --candump -h --help" ;;
-            draw) words="--outcome --most -h --help" ;;
-            page) words="--run --outcomes --limit --most -h --help" ;;
+            draw) words="--outcome --frames --most -h --help" ;;
+            page) words="--run --outcomes --limit --frames --most -h --help" ;;
             from-candump) words="-h --help" ;;
         esac
     fi

@@ -16,8 +16,10 @@ complete -c ccan-lab -n '__fish_seen_subcommand_from outcomes' -l observe -x -d 
 complete -c ccan-lab -n '__fish_seen_subcommand_from outcomes' -l can -x -d 'Ask whether an outcome has all lines that begin so'
 complete -c ccan-lab -n '__fish_seen_subcommand_from outcomes' -l never -x -d 'Ask whether no outcome has all lines that begin so'
 complete -c ccan-lab -n '__fish_seen_subcommand_from outcomes' -l brief -d 'Write each history in few lines'
+complete -c ccan-lab -n '__fish_seen_subcommand_from outcomes' -l frames -d 'Tell outcomes apart by the frames that won the bus'
 complete -c ccan-lab -n '__fish_seen_subcommand_from outcomes' -l most -x -d 'How many states and nodes to keep at most'
 
+complete -c ccan-lab -n '__fish_seen_subcommand_from count' -l frames -d 'Tell outcomes apart by the frames that won the bus'
 complete -c ccan-lab -n '__fish_seen_subcommand_from count' -l most -x -d 'How many states and nodes to keep at most'
 
 complete -c ccan-lab -n '__fish_seen_subcommand_from check' -l strict -d 'Status 7 where there are warnings and no faults'
@@ -27,9 +29,11 @@ complete -c ccan-lab -n '__fish_seen_subcommand_from explain' -l json -d 'A JSON
 complete -c ccan-lab -n '__fish_seen_subcommand_from explain' -l candump -d 'The received frames, as candump -L writes them'
 
 complete -c ccan-lab -n '__fish_seen_subcommand_from draw' -l outcome -x -d 'Draw a history of this outcome of outcomes --all'
+complete -c ccan-lab -n '__fish_seen_subcommand_from draw' -l frames -d 'Number the outcomes as outcomes --all --frames does'
 complete -c ccan-lab -n '__fish_seen_subcommand_from draw' -l most -x -d 'How many states and nodes to keep at most'
 
 complete -c ccan-lab -n '__fish_seen_subcommand_from page' -l run -d 'Show the run in order'
 complete -c ccan-lab -n '__fish_seen_subcommand_from page' -l outcomes -d 'Show the outcomes, also of a script with an order'
 complete -c ccan-lab -n '__fish_seen_subcommand_from page' -l limit -x -d 'How many outcomes to show at most'
+complete -c ccan-lab -n '__fish_seen_subcommand_from page' -l frames -d 'Tell outcomes apart by the frames that won the bus'
 complete -c ccan-lab -n '__fish_seen_subcommand_from page' -l most -x -d 'How many states and nodes to keep at most'

@@ -128,6 +128,10 @@ def _bound(most: Optional[int]) -> List[str]:
     return [] if most is None else [f"--most={most}"]
 
 
+def _framed(frames: bool) -> List[str]:
+    return ["--frames"] if frames else []
+
+
 @dataclasses.dataclass(frozen=True)
 class ScriptOutcomes:
     """What can come of a script when its two hosts and its bus run at once.
@@ -137,7 +141,7 @@ class ScriptOutcomes:
     count : int
         How many outcomes there are.
     same : tuple of str
-        The lines that are the same in all outcomes.
+        The lines that are the same in all outcomes. Behind the line of a round and a line feed is its frame, if that is asked for.
     may_be : dict of str to tuple of str
         What each other line may be, by its head, as ``if1[2]`` or ``final 01``.
     """
@@ -154,12 +158,16 @@ def _read_outcomes(text: str) -> ScriptOutcomes:
         raise ValueError(f"ccan-lab began with {first!r}")
     same: List[str] = []
     may_be: Dict[str, List[str]] = {}
-    head = ""
+    head, last = "", same
     for line in rest:
         if line.startswith("same in all: "):
-            same.append(line[len("same in all: ") :])
+            last = same
+            last.append(line[len("same in all: ") :])
         elif line.startswith("  may be: "):
-            may_be[head].append(line[len("  may be: ") :])
+            last = may_be[head]
+            last.append(line[len("  may be: ") :])
+        elif line.startswith("    can0 "):
+            last[-1] += "\n" + line
         elif line != "each outcome, with a history: --all":
             head = line
             may_be[head] = []
@@ -167,13 +175,15 @@ def _read_outcomes(text: str) -> ScriptOutcomes:
     return ScriptOutcomes(int(heading[1]), tuple(same), lines)
 
 
-def outcomes(script: Script, *, most: Optional[int] = None) -> ScriptOutcomes:
+def outcomes(script: Script, *, frames: bool = False, most: Optional[int] = None) -> ScriptOutcomes:
     """Every outcome of a script under any schedule, in short.
 
     Parameters
     ----------
     script : dict or path
         The script.
+    frames : bool
+        Whether outcomes are told apart by the frames that won the bus too, each below the line of its round.
     most : int, optional
         The most states to keep, and the most nodes that the outcomes are put together of; a million if left out.
 
@@ -182,11 +192,16 @@ def outcomes(script: Script, *, most: Optional[int] = None) -> ScriptOutcomes:
     LabError
         By the status of the program: :class:`ScriptError`, :class:`TooManyStatesError` and others.
     """
-    return _read_outcomes(_answer("outcomes", script, *_bound(most)))
+    return _read_outcomes(_answer("outcomes", script, *_framed(frames), *_bound(most)))
 
 
 def outcomes_text(
-    script: Script, *, observe: Sequence[str] = (), brief: bool = False, most: Optional[int] = None
+    script: Script,
+    *,
+    observe: Sequence[str] = (),
+    brief: bool = False,
+    frames: bool = False,
+    most: Optional[int] = None,
 ) -> str:
     """The list of every outcome with a history, as ``ccan-lab outcomes --all`` prints it.
 
@@ -198,30 +213,31 @@ def outcomes_text(
         Lines and objects, as ``if1[2]`` or ``final 01``: only what they can be is told apart.
     brief : bool
         Whether each history has few lines, with what each change left and each frame on the bus.
-    most : int, optional
+    frames, most : optional
         As with :func:`outcomes`.
     """
     observed = ["--observe", ",".join(observe)] if observe else []
     short = ["--brief"] if brief else []
-    return _answer("outcomes", script, "--all", *observed, *short, *_bound(most))
+    return _answer("outcomes", script, "--all", *observed, *short, *_framed(frames), *_bound(most))
 
 
-def outcomes_data(script: Script, *, most: Optional[int] = None) -> Dict[str, Any]:
+def outcomes_data(script: Script, *, frames: bool = False, most: Optional[int] = None) -> Dict[str, Any]:
     """The same list as ``ccan-lab outcomes --json`` prints it, decoded: each outcome with what the steps of its history changed.
 
     Parameters
     ----------
     script : dict or path
         The script.
-    most : int, optional
+    frames, most : optional
         As with :func:`outcomes`.
     """
-    data: Dict[str, Any] = json.loads(_answer("outcomes", script, "--json", *_bound(most)))
+    data: Dict[str, Any] = json.loads(_answer("outcomes", script, "--json", *_framed(frames), *_bound(most)))
     return data
 
 
 def can_come(script: Script, line: str, *more: str, most: Optional[int] = None) -> str:
-    """The first outcome that has a line which begins so, for each line that is given, with its history. A ``*`` is any bytes.
+    """The first outcome that has a line which begins so, for each line that is given, with its history. A ``*`` is any bytes. A line
+    of a frame is, for example, ``can0 123#1122``.
 
     Raises
     ------

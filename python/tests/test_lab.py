@@ -45,6 +45,28 @@ def test_outcomes_of_a_script_as_an_object() -> None:
     assert ccan.outcomes({}).count == 1
 
 
+def test_outcomes_by_their_frames() -> None:
+    mixed = TOP / "examples/questions/mixed_frame.json"
+    # The round is idle, or it loads and finishes behind any of the three writes, in this order.
+    outcomes = ccan.outcomes(mixed, frames=True)
+    assert outcomes.count == 7
+    sent = "bus sent 01 a48c0000 00000000 0088 "
+    assert outcomes.may_be["bus[0]"] == (
+        "bus idle",
+        sent + "1111000011110000\n    can0 123#1111000011110000",
+        sent + "2222000011110000\n    can0 123#1111000011110000",
+        sent + "2222000011110000\n    can0 123#2222000011110000",
+        sent + "2222000022220000\n    can0 123#1111000011110000",
+        sent + "2222000022220000\n    can0 123#2222000011110000",
+        sent + "2222000022220000\n    can0 123#2222000022220000",
+    )
+    # Without frames it is told apart only behind which write the round finishes.
+    assert ccan.outcomes(mixed).count == 4
+    assert "can0 123#2222000011110000\n" in ccan.can_come(mixed, "can0 123#22220000*1111")
+    with pytest.raises(ccan.NotAsAskedError):
+        ccan.never_comes(mixed, "can0 123#2222000011110000")
+
+
 def test_the_whole_list() -> None:
     script = TOP / "examples/outcomes/lost_message.json"
     assert ccan.outcomes_text(script) == script.with_name("lost_message.json.stdout").read_text()

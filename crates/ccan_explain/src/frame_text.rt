@@ -65,7 +65,7 @@ fn push_code(text: &mut String, dlc: u8) -> Result<(), AllocError>
 /// Appends a frame in the compact form of can-utils: `123#1122`, `00000123#`, `123#R`. A data length code above 8 stands
 /// behind the data as one digit, `123#1122334455667788_9`, and behind a remote frame's 8 in the same way.
 #[tactic(auto, unfolding(crate::specs::FrameText::frame_text))]
-pub(crate) fn push_frame(text: &mut String, frame: &Frame) -> Result<(), AllocError>
+pub fn push_frame(text: &mut String, frame: &Frame) -> Result<(), AllocError>
     ensures { OnOk result
         (string_bytes text.new ≡ string_bytes text.old ++ frame_text frame.now) }
 {

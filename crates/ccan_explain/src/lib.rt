@@ -32,7 +32,7 @@ mod words;
 
 pub use bus_log::log_of;
 pub use digits::{push_decimal, push_hex};
-pub use frame_text::push_id;
+pub use frame_text::{push_frame, push_id};
 pub use from_log::{FromLog, LogError, script_of_log};
 pub use json_lines::json_of;
 pub use line_words::push_step;

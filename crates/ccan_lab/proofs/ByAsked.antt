@@ -20,59 +20,59 @@ use Rattle.ccan_lab.proofs.Allowed.{can_ends, never_ends}
 module _ (question : OutcomesQuestion) (name : List ℕ) (script : ScriptFields) (answer : FileAnswer) (given : Answer)
     (text : answer.text.items ≡ string_bytes given.text) (status : answer.status ≡ status_if given.holds) where
   by_asked : (asked : Asked) → question.asked ≡ asked → TellsBy asked question name script answer
-      → EndsAsAsked asked script (texts_of question.lines.items) answer.status → AnswersAsked question name script answer
+      → EndsAsAsked asked question.frames script (texts_of question.lines.items) answer.status → AnswersAsked question name script answer
   by_asked asked is tells ends = record {
     tells = subst (λ (it : Asked). TellsBy it question name script answer) (sym is) tells;
-    ends = subst (λ (it : Asked). EndsAsAsked it script (texts_of question.lines.items) answer.status) (sym is) ends;
+    ends = subst (λ (it : Asked). EndsAsAsked it question.frames script (texts_of question.lines.items) answer.status) (sym is) ends;
   }
 
-  pub by_summary : question.asked ≡ Summary → TellsSummary script ending_is.eq (string_bytes given.text)
+  pub by_summary : question.asked ≡ Summary → TellsSummary question.frames script ending_is.eq (string_bytes given.text)
       → given.holds ≡ true → AnswersAsked question name script answer
   by_summary is told holds =
-      by_asked Summary is (subst (TellsSummary script ending_is.eq) (sym text) told) (status ∙ ap status_if holds)
+      by_asked Summary is (subst (TellsSummary question.frames script ending_is.eq) (sym text) told) (status ∙ ap status_if holds)
 
   pub by_names : (names : Bor (List ℕ)) → question.asked ≡ Observed names
-      → TellsSeen question.form (names_in names.now) script ending_is.eq (string_bytes given.text)
+      → TellsSeen question.frames question.form (names_in names.now) script ending_is.eq (string_bytes given.text)
       → given.holds ≡ true → AnswersAsked question name script answer
   by_names names is told holds =
-      by_asked (Observed names) is (subst (TellsSeen question.form (names_in names.now) script ending_is.eq) (sym text) told)
+      by_asked (Observed names) is (subst (TellsSeen question.frames question.form (names_in names.now) script ending_is.eq) (sym text) told)
       (status ∙ ap status_if holds)
 
   pub by_all : (asked : Asked) → IsOfAll asked → question.asked ≡ asked
-      → TellsAll question.form script ending_is.eq asked (string_bytes given.text) → given.holds ≡ true
+      → TellsAll question.frames question.form script ending_is.eq asked (string_bytes given.text) → given.holds ≡ true
       → AnswersAsked question name script answer
   by_all Summary of is told holds = absurd of
   by_all All of is told holds =
-      by_asked All is (subst (TellsAll question.form script ending_is.eq All) (sym text) told) (status ∙ ap status_if holds)
+      by_asked All is (subst (TellsAll question.frames question.form script ending_is.eq All) (sym text) told) (status ∙ ap status_if holds)
   by_all Json of is told holds = absurd of
   by_all Can of is told holds = absurd of
   by_all Never of is told holds = absurd of
   by_all (Observed names) of is told holds = absurd of
   by_all (AllObserved names) of is told holds =
       by_asked (AllObserved names) is
-      (subst (TellsAll question.form script ending_is.eq (AllObserved names)) (sym text) told) (status ∙ ap status_if holds)
+      (subst (TellsAll question.frames question.form script ending_is.eq (AllObserved names)) (sym text) told) (status ∙ ap status_if holds)
 
   module _ (lines : List (Bor (List ℕ))) (are : lines ≡ question.lines.items) where
     pub by_can : question.asked ≡ Can
-        → TellsLine question.form script ending_is.eq (texts_of lines) false (string_bytes given.text) given.holds
+        → TellsLine question.frames question.form script ending_is.eq (texts_of lines) false (string_bytes given.text) given.holds
         → AnswersAsked question name script answer
     by_can is told =
         let begins = texts_of question.lines.items in
-        let moved : TellsLine question.form script ending_is.eq begins false answer.text.items given.holds =
-        subst (λ (t : List ℕ). TellsLine question.form script ending_is.eq begins false t given.holds) (sym text)
-        (subst (λ (l : List (Bor (List ℕ))). TellsLine question.form script ending_is.eq (texts_of l) false
+        let moved : TellsLine question.frames question.form script ending_is.eq begins false answer.text.items given.holds =
+        subst (λ (t : List ℕ). TellsLine question.frames question.form script ending_is.eq begins false t given.holds) (sym text)
+        (subst (λ (l : List (Bor (List ℕ))). TellsLine question.frames question.form script ending_is.eq (texts_of l) false
         (string_bytes given.text) given.holds) are told) in
         by_asked Can is (given.holds, status, moved)
-        (can_ends question.form script ending_is.eq begins answer.text.items given.holds answer.status status moved)
+        (can_ends question.frames question.form script ending_is.eq begins answer.text.items given.holds answer.status status moved)
 
     pub by_never : question.asked ≡ Never
-        → TellsLine question.form script ending_is.eq (texts_of lines) true (string_bytes given.text) given.holds
+        → TellsLine question.frames question.form script ending_is.eq (texts_of lines) true (string_bytes given.text) given.holds
         → AnswersAsked question name script answer
     by_never is told =
         let begins = texts_of question.lines.items in
-        let moved : TellsLine question.form script ending_is.eq begins true answer.text.items given.holds =
-        subst (λ (t : List ℕ). TellsLine question.form script ending_is.eq begins true t given.holds) (sym text)
-        (subst (λ (l : List (Bor (List ℕ))). TellsLine question.form script ending_is.eq (texts_of l) true
+        let moved : TellsLine question.frames question.form script ending_is.eq begins true answer.text.items given.holds =
+        subst (λ (t : List ℕ). TellsLine question.frames question.form script ending_is.eq begins true t given.holds) (sym text)
+        (subst (λ (l : List (Bor (List ℕ))). TellsLine question.frames question.form script ending_is.eq (texts_of l) true
         (string_bytes given.text) given.holds) are told) in
         by_asked Never is (given.holds, status, moved)
-        (never_ends question.form script ending_is.eq begins answer.text.items given.holds answer.status status moved)
+        (never_ends question.frames question.form script ending_is.eq begins answer.text.items given.holds answer.status status moved)

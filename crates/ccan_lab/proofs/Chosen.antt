@@ -4,18 +4,17 @@ use Rattle.std.proofs.lemmas.List.{length-map}
 use Rattle.std.proofs.lemmas.List.FromFn.{length-enumerate_from}
 use Rattle.std.proofs.lemmas.Option.{get_or_from_slice_get, slice_get-get_or, slice_get-map, slice_get_past, slice_get_within}
 use Rattle.std.specs.List.{enumerate_from}
-use Rattle.ccan_line.specs.declared.line_answer.LineAnswer.{LineAnswer}
+use Rattle.ccan_process.specs.declared.line_end.LineEnd.{LineEnd}
 use Rattle.ccan_line.specs.Script.{ScriptFields}
 use Rattle.ccan_object.specs.declared.record.Record.{Record}
 use Rattle.ccan_object.specs.Profile.{objects_in}
 use Rattle.ccan_ram.specs.declared.port.PortName.{PortName}
 use Rattle.ccan_ram.specs.declared.port.PortName.TheVariants.{If1, If2, Bus}
-use Rattle.ccan_script.specs.Print.{line_text}
 use Rattle.ccan_outcomes.specs.declared.ending.Ending.{Ending}
-use Rattle.ccan_outcomes.specs.OutcomeWords.{AreComplete, IsAnswered, IsLeft}
+use Rattle.ccan_outcomes.specs.OutcomeWords.{AreComplete, EndsSo, IsLeft}
 use Rattle.ccan_lab.specs.Choices.{AreLinesOf, HasObjects, HasPort, final_of}
 use Rattle.ccan_lab.specs.Observed.{places_of}
-use Rattle.ccan_lab.specs.Rows.{final_row, final_rows, line_at, rows_of}
+use Rattle.ccan_lab.specs.Rows.{final_row, final_rows, line_at, rows_of, row_text}
 use Rattle.ccan_lab.specs.Summary.{AreLinesAt}
 use Rattle.ccan_lab.proofs.Texts.{numbered_at, numbered_length}
 
@@ -117,61 +116,61 @@ final_none records index at =
 
 -- ---- what a line answers, as it is printed
 
-pub lines_printed : (endings : List Ending) (port : PortName) (line : ℕ) (answers : List LineAnswer)
-    → ((answer : LineAnswer) → Contains answers answer ↔ IsAnswered endings port line answer)
-    → AreLinesOf endings port line (map (line_text port) answers)
-lines_printed endings port line answers are = record {
+pub lines_printed : (endings : List Ending) (port : PortName) (line : ℕ) (ends : List LineEnd)
+    → ((end : LineEnd) → Contains ends end ↔ EndsSo endings port line end)
+    → AreLinesOf endings port line (map (row_text port) ends)
+lines_printed endings port line ends are = record {
   right = λ text inside.
-      let of = image_of (line_text port) answers text inside in
+      let of = image_of (row_text port) ends text inside in
       (of.0, (are of.0).0 of.1, of.2);
-  complete = λ answer is. image_in (line_text port) answers answer ((are answer).1 is);
+  complete = λ end is. image_in (row_text port) ends end ((are end).1 is);
 }
 
 -- ---- the rows of an outcome
 
 module _ (ending : Ending) where
   abbrev first : List (List ℕ)
-  first = map (line_text If1) ending.if1
+  first = map (row_text If1) ending.if1
 
   abbrev second : List (List ℕ)
-  second = map (line_text If2) ending.if2
+  second = map (row_text If2) ending.if2
 
   abbrev third : List (List ℕ)
-  third = map (line_text Bus) ending.bus
+  third = map (row_text Bus) ending.bus
 
-  pub row_if1 : (line : ℕ) (answer : LineAnswer) → slice_get ending.if1 line ≡ Some answer
-      → line_at (rows_of ending) line ≡ line_text If1 answer
+  pub row_if1 : (line : ℕ) (answer : LineEnd) → slice_get ending.if1 line ≡ Some answer
+      → line_at (rows_of ending) line ≡ row_text If1 answer
   unfolding line_at rows_of
   row_if1 line answer at =
       let low = slice_get_within ending.if1 line answer at in
-      let many = length-map ending.if1 (line_text If1) in
+      let many = length-map ending.if1 (row_text If1) in
       ap (λ (o : Option (List ℕ)). unwrap_or o [])
       (front first (second ++ (third ++ final_rows ending.records)) line (omega (arith, low, many))
-      ∙ (slice_get-map (line_text If1) ending.if1 line ∙ ap (option_map (line_text If1)) at))
+      ∙ (slice_get-map (row_text If1) ending.if1 line ∙ ap (option_map (row_text If1)) at))
 
-  pub row_if2 : (if1 line : ℕ) (answer : LineAnswer) → length ending.if1 ≡ if1 → slice_get ending.if2 line ≡ Some answer
-      → line_at (rows_of ending) (if1 + line) ≡ line_text If2 answer
+  pub row_if2 : (if1 line : ℕ) (answer : LineEnd) → length ending.if1 ≡ if1 → slice_get ending.if2 line ≡ Some answer
+      → line_at (rows_of ending) (if1 + line) ≡ row_text If2 answer
   unfolding line_at rows_of
   row_if2 if1 line answer long at =
       let low = slice_get_within ending.if2 line answer at in
-      let many = length-map ending.if2 (line_text If2) in
+      let many = length-map ending.if2 (row_text If2) in
       ap (λ (o : Option (List ℕ)). unwrap_or o [])
-      (behind first (second ++ (third ++ final_rows ending.records)) if1 line (length-map ending.if1 (line_text If1) ∙ long)
+      (behind first (second ++ (third ++ final_rows ending.records)) if1 line (length-map ending.if1 (row_text If1) ∙ long)
       ∙ (front second (third ++ final_rows ending.records) line (omega (arith, low, many))
-      ∙ (slice_get-map (line_text If2) ending.if2 line ∙ ap (option_map (line_text If2)) at)))
+      ∙ (slice_get-map (row_text If2) ending.if2 line ∙ ap (option_map (row_text If2)) at)))
 
-  pub row_bus : (if1 if2 line : ℕ) (answer : LineAnswer) → length ending.if1 ≡ if1 → length ending.if2 ≡ if2
-      → slice_get ending.bus line ≡ Some answer → line_at (rows_of ending) (if1 + (if2 + line)) ≡ line_text Bus answer
+  pub row_bus : (if1 if2 line : ℕ) (answer : LineEnd) → length ending.if1 ≡ if1 → length ending.if2 ≡ if2
+      → slice_get ending.bus line ≡ Some answer → line_at (rows_of ending) (if1 + (if2 + line)) ≡ row_text Bus answer
   unfolding line_at rows_of
   row_bus if1 if2 line answer one two at =
       let low = slice_get_within ending.bus line answer at in
-      let many = length-map ending.bus (line_text Bus) in
+      let many = length-map ending.bus (row_text Bus) in
       ap (λ (o : Option (List ℕ)). unwrap_or o [])
       (behind first (second ++ (third ++ final_rows ending.records)) if1 (if2 + line)
-      (length-map ending.if1 (line_text If1) ∙ one)
-      ∙ (behind second (third ++ final_rows ending.records) if2 line (length-map ending.if2 (line_text If2) ∙ two)
+      (length-map ending.if1 (row_text If1) ∙ one)
+      ∙ (behind second (third ++ final_rows ending.records) if2 line (length-map ending.if2 (row_text If2) ∙ two)
       ∙ (front third (final_rows ending.records) line (omega (arith, low, many))
-      ∙ (slice_get-map (line_text Bus) ending.bus line ∙ ap (option_map (line_text Bus)) at))))
+      ∙ (slice_get-map (row_text Bus) ending.bus line ∙ ap (option_map (row_text Bus)) at))))
 
   pub row_final : (if1 if2 bus index : ℕ) → length ending.if1 ≡ if1 → length ending.if2 ≡ if2 → length ending.bus ≡ bus
       → line_at (rows_of ending) (if1 + (if2 + (bus + index))) ≡ line_at (final_rows ending.records) index
@@ -179,9 +178,9 @@ module _ (ending : Ending) where
   row_final if1 if2 bus index one two three =
       ap (λ (o : Option (List ℕ)). unwrap_or o [])
       (behind first (second ++ (third ++ final_rows ending.records)) if1 (if2 + (bus + index))
-      (length-map ending.if1 (line_text If1) ∙ one)
-      ∙ (behind second (third ++ final_rows ending.records) if2 (bus + index) (length-map ending.if2 (line_text If2) ∙ two)
-      ∙ behind third (final_rows ending.records) bus index (length-map ending.bus (line_text Bus) ∙ three)))
+      (length-map ending.if1 (row_text If1) ∙ one)
+      ∙ (behind second (third ++ final_rows ending.records) if2 (bus + index) (length-map ending.if2 (row_text If2) ∙ two)
+      ∙ behind third (final_rows ending.records) bus index (length-map ending.bus (row_text Bus) ∙ three)))
 
 -- ---- the lines that stand in a place
 

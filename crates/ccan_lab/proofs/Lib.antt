@@ -21,3 +21,4 @@ pub mod Sought
 pub mod Detailed
 pub mod Grouped
 pub mod Fitting
+pub mod FrameLines

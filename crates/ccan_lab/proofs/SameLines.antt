@@ -7,12 +7,11 @@ use Rattle.std.proofs.lemmas.Option.{slice_get_past}
 use Rattle.std.specs.List.{enumerate_from}
 use Rattle.ccan_object.specs.declared.record.Record.{Record}
 use Rattle.ccan_ram.specs.declared.port.PortName.TheVariants.{If1, If2, Bus}
-use Rattle.ccan_script.specs.Print.{line_text}
 use Rattle.ccan_outcomes.specs.declared.ending.Ending.{Ending}
 use Rattle.ccan_outcomes.specs.Observed.{LookAlike, is_marked}
 use Rattle.ccan_lab.specs.Observed.{observed_line, observed_lines}
 use Rattle.ccan_lab.specs.Report.{each}
-use Rattle.ccan_lab.specs.Rows.{final_rows, line_at, rows_of}
+use Rattle.ccan_lab.specs.Rows.{final_rows, line_at, rows_of, row_text}
 use Rattle.ccan_lab.proofs.Chosen.{final_none, final_some, final_text, item, row_bus, row_final, row_if1, row_if2}
 
 -- the same texts, one after another
@@ -142,12 +141,12 @@ module _ (marks : List Bool) (one other : Ending) (if1 : length one.if1 ≡ leng
   as_long : length (rows_of one) ≡ length (rows_of other)
   unfolding rows_of
   as_long =
-      let a = map (line_text If1) one.if1 in
-      let b = map (line_text If2) one.if2 in
-      let d = map (line_text Bus) one.bus in
-      let e = map (line_text If1) other.if1 in
-      let f = map (line_text If2) other.if2 in
-      let g = map (line_text Bus) other.bus in
+      let a = map (row_text If1) one.if1 in
+      let b = map (row_text If2) one.if2 in
+      let d = map (row_text Bus) one.bus in
+      let e = map (row_text If1) other.if1 in
+      let f = map (row_text If2) other.if2 in
+      let g = map (row_text Bus) other.bus in
       let r = final_rows one.records in
       let s = final_rows other.records in
       let one1 = length-append a (b ++ (d ++ r)) in
@@ -156,12 +155,12 @@ module _ (marks : List Bool) (one other : Ending) (if1 : length one.if1 ≡ leng
       let two1 = length-append e (f ++ (g ++ s)) in
       let two2 = length-append f (g ++ s) in
       let two3 = length-append g s in
-      let long1 = length-map one.if1 (line_text If1) in
-      let long2 = length-map one.if2 (line_text If2) in
-      let long3 = length-map one.bus (line_text Bus) in
-      let more1 = length-map other.if1 (line_text If1) in
-      let more2 = length-map other.if2 (line_text If2) in
-      let more3 = length-map other.bus (line_text Bus) in
+      let long1 = length-map one.if1 (row_text If1) in
+      let long2 = length-map one.if2 (row_text If2) in
+      let long3 = length-map one.bus (row_text Bus) in
+      let more1 = length-map other.if1 (row_text If1) in
+      let more2 = length-map other.if2 (row_text If2) in
+      let more3 = length-map other.bus (row_text Bus) in
       let ends = final_long one.records other.records records in
       omega (arith, one1, one2, one3, two1, two2, two3, long1, long2, long3, more1, more2, more3, ends, if1, if2, bus)
 

@@ -12,12 +12,12 @@ use Rattle.ccan_language.specs.Signs.{has_sign, has_signs, first_with as first_w
 use Rattle.ccan_language.proofs.Borne.{position_map}
 use Rattle.ccan_language.proofs.Grown.{first_in, later_in}
 use Rattle.ccan_language.proofs.Listed.{its_words}
-use Rattle.ccan_line.specs.declared.line_answer.LineAnswer.{LineAnswer}
+use Rattle.ccan_process.specs.declared.line_end.LineEnd.{LineEnd}
 use Rattle.ccan_line.specs.declared.line_answer.LineAnswer.TheVariants as answer
 use Rattle.ccan_object.specs.declared.record.Record.{Record}
 use Rattle.ccan_ram.specs.declared.port.PortName.{PortName}
 use Rattle.ccan_ram.specs.declared.port.PortName.TheVariants.{If1, If2, Bus}
-use Rattle.ccan_script.specs.Print.{line_text}
+use Rattle.ccan_process.specs.LineEnd.{unframed}
 use Rattle.ccan_outcomes.specs.declared.answers.Answers.{Answers}
 use Rattle.ccan_outcomes.specs.declared.ending.Ending.{Ending}
 use Rattle.ccan_outcomes.specs.declared.words.OutcomeWords.{OutcomeWords}
@@ -26,7 +26,7 @@ use Rattle.ccan_outcomes.specs.OutcomeWords.{AreOfLines, IsWordOf, ending_of_wor
 use Rattle.ccan_outcomes.proofs.Worded.{lettered_append, shown_by}
 use Rattle.ccan_lab.specs.Answer.{first_with}
 use Rattle.ccan_lab.specs.LineSigns.{is_told, lines_of_letter, lines_told, port_at, tells_line}
-use Rattle.ccan_lab.specs.Rows.{begins_so, final_rows, has_line, has_lines, rows_of}
+use Rattle.ccan_lab.specs.Rows.{end_lines, begins_so, final_rows, has_line, has_lines, lines_of}
 
 -- ---- lists
 
@@ -65,19 +65,19 @@ any_of_each begin f (x ∷ xs) =
 
 module _ (words : OutcomeWords) where
   -- the letters of lines of one port
-  of_port : (port : PortName) (place : ℕ) (numbers : List ℕ) (answers : List LineAnswer)
+  of_port : (port : PortName) (place : ℕ) (numbers : List ℕ) (ends : List LineEnd)
       → ((k : ℕ) → place ≤ k → k < place + length numbers → port_at words k ≡ Some port)
-      → AreNumbers words.numbers.answers.keys numbers answers
-      → flat_map (lines_of_letter words) (lettered place numbers) ≡ map (line_text port) answers
+      → AreNumbers words.numbers.answers.keys numbers ends
+      → flat_map (lines_of_letter words) (lettered place numbers) ≡ flat_map (end_lines port) ends
   of_port port place [] [] at are = refl
   of_port port place [] (a ∷ rest) at are = absurd are
   of_port port place (n ∷ ns) [] at are = absurd are
   of_port port place (n ∷ ns) (a ∷ rest) at are =
       let later = flat_map (lines_of_letter words) (lettered (suc place) ns) in
       ap (λ (o : Option PortName). lines_told words o n ++ later) (at place (omega arith) (omega arith))
-      ∙ ap (λ (x : LineAnswer). line_text port x ∷ later)
-      (get_or_from_slice_get words.numbers.answers.keys n a answer.Init are.0)
-      ∙ ap (λ (l : List (List ℕ)). line_text port a ∷ l)
+      ∙ ap (λ (x : LineEnd). end_lines port x ++ later)
+      (get_or_from_slice_get words.numbers.answers.keys n a (unframed answer.Init) are.0)
+      ∙ ap (λ (l : List (List ℕ)). end_lines port a ++ l)
       (of_port port (suc place) ns rest (λ k low high. at k (omega (arith, low)) (omega (arith, high))) are.1)
 
   at_if1 : (k : ℕ) → k < words.if1 → port_at words k ≡ Some If1
@@ -118,8 +118,8 @@ module _ (words : OutcomeWords) where
 
   -- of a whole word
   of_word : (answers : Answers) (records : List Record) (word : List Letter) → IsWordOf words answers records word
-      → rows_of (ending_of_word words word) ≡ flat_map (lines_of_letter words) word
-  unfolding rows_of
+      → lines_of (ending_of_word words word) ≡ flat_map (lines_of_letter words) word
+  unfolding lines_of
   of_word answers records word is =
       let f = lines_of_letter words in
       let p2 = length is.if1 in
@@ -145,18 +145,18 @@ module _ (words : OutcomeWords) where
       ap (λ (o : Option PortName). lines_told words o is.memory ++ []) (at_end p4 (omega (arith, l1, l2, l3)))
       ∙ append-nil (lines_told words None is.memory)
       ∙ ap final_rows (get_or_from_slice_get words.numbers.memories.keys is.memory records [] is.memory_is) in
-      ap rows_of (shown_by words answers records word is)
+      ap lines_of (shown_by words answers records word is)
       ∙ sym (
       ap (flat_map f) parts
       ∙ flat_map-append f one (two ++ (three ++ end))
       ∙ ap (λ (l : List (List ℕ)). l ++ flat_map f (two ++ (three ++ end))) first
-      ∙ ap (λ (l : List (List ℕ)). map (line_text If1) answers.if1 ++ l) (
+      ∙ ap (λ (l : List (List ℕ)). flat_map (end_lines If1) answers.if1 ++ l) (
       flat_map-append f two (three ++ end)
       ∙ ap (λ (l : List (List ℕ)). l ++ flat_map f (three ++ end)) second
-      ∙ ap (λ (l : List (List ℕ)). map (line_text If2) answers.if2 ++ l) (
+      ∙ ap (λ (l : List (List ℕ)). flat_map (end_lines If2) answers.if2 ++ l) (
       flat_map-append f three end
       ∙ ap (λ (l : List (List ℕ)). l ++ flat_map f end) third
-      ∙ ap (λ (l : List (List ℕ)). map (line_text Bus) answers.bus ++ l) last
+      ∙ ap (λ (l : List (List ℕ)). flat_map (end_lines Bus) answers.bus ++ l) last
       )
       )
       )
@@ -189,11 +189,11 @@ module _ (words : OutcomeWords) where
       let list = all_words nodes words.start in
       let its = its_words nodes words.graph.normal words.start words.within in
       let signs = has_signs (tells_line words begins) (range_with_len 0 (length begins)) in
-      same_position signs (λ word. has_lines begins (rows_of (ending_of_word words word))) list (λ word inside.
+      same_position signs (λ word. has_lines begins (lines_of (ending_of_word words word))) list (λ word inside.
       let of = of_lines word (its.right word inside) in
-      has_rest word (rows_of (ending_of_word words word)) (of_word of.0 of.1 word of.2) begins begins 0 (λ k.
+      has_rest word (lines_of (ending_of_word words word)) (of_word of.0 of.1 word of.2) begins begins 0 (λ k.
       let same : 0 + k ≡ k = omega arith in ap (slice_get begins) same))
-      ∙ sym (position_map (has_lines begins) rows_of (λ (ending : Ending). has_lines begins (rows_of ending)) (λ ending. refl)
+      ∙ sym (position_map (has_lines begins) lines_of (λ (ending : Ending). has_lines begins (lines_of ending)) (λ ending. refl)
       (map (ending_of_word words) list)
-      ∙ position_map (λ (ending : Ending). has_lines begins (rows_of ending)) (ending_of_word words)
-      (λ word. has_lines begins (rows_of (ending_of_word words word))) (λ word. refl) list)
+      ∙ position_map (λ (ending : Ending). has_lines begins (lines_of ending)) (ending_of_word words)
+      (λ word. has_lines begins (lines_of (ending_of_word words word))) (λ word. refl) list)

@@ -8,7 +8,7 @@ use Rattle.ccan_outcomes.specs.declared.ending.Ending.{Ending}
 use Rattle.ccan_outcomes.specs.Ending.{AreOutcomes}
 use Rattle.ccan_lab.specs.Answer.{IsOfSomeOutcome, are_refused, first_with, is_none_so, is_refused}
 use Rattle.ccan_lab.specs.Beginnings.{can_begin}
-use Rattle.ccan_lab.specs.Rows.{has_line, has_lines, rows_of}
+use Rattle.ccan_lab.specs.Rows.{has_line, has_lines, lines_of}
 
 -- an element that passes is found before the end
 pub found_within : {X Y : Type 0} (f : X → Y) (p : Y → Bool) (xs : List X) (k : ℕ) (x : X) → k < length xs → get_or xs k x ≡ x
@@ -32,22 +32,22 @@ unfolding has_lines
 it_alone begin rows has = ap (λ (b : Bool). b && true) has
 
 taken : (script : ScriptFields) (endings : List Ending) (ending : Ending) (begin : List ℕ) → Contains endings ending
-    → 0 < length begin → has_line begin (rows_of ending) ≡ true → is_refused script endings begin ≡ false
+    → 0 < length begin → has_line begin (lines_of ending) ≡ true → is_refused script endings begin ≡ false
 taken script endings ending begin here some has =
     ap (λ (b : Bool). b || (is_none_so (first_with (begin ∷ []) endings) && not (can_begin script begin))) not_empty
     ∙ ap (λ (found : Option ℕ). is_none_so found && not (can_begin script begin)) first
   where
     place : ℕ
-    place = position_or_len (has_lines (begin ∷ [])) (map rows_of endings)
+    place = position_or_len (has_lines (begin ∷ [])) (map lines_of endings)
 
     not_empty : (length begin == 0) ≡ false
     not_empty = ne_eqb (length begin) 0 (λ none. absurd (omega arith))
 
-    within : place < length (map rows_of endings)
-    within = found_within rows_of (has_lines (begin ∷ [])) endings here.0 ending here.1 here.2 (it_alone begin (rows_of ending) has)
+    within : place < length (map lines_of endings)
+    within = found_within lines_of (has_lines (begin ∷ [])) endings here.0 ending here.1 here.2 (it_alone begin (lines_of ending) has)
 
     first : first_with (begin ∷ []) endings ≡ Some place
-    first = ap (λ (b : Bool). cond b (Some place) None) (lt-ltb place (length (map rows_of endings)) within)
+    first = ap (λ (b : Bool). cond b (Some place) None) (lt-ltb place (length (map lines_of endings)) within)
 
 none_refused : (script : ScriptFields) (endings : List Ending) (begins : List (List ℕ))
     → ((begin : List ℕ) → Contains begins begin → is_refused script endings begin ≡ false)

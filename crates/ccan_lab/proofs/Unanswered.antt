@@ -6,9 +6,9 @@ use Rattle.ccan_lab.specs.declared.lab_error.LabError.{LabError}
 use Rattle.ccan_lab.specs.declared.lab_error.LabError.TheVariants as fault
 use Rattle.ccan_lab.specs.Words.{HasNoHistory, HasNoWords, IsUnanswered}
 
-module _ (script : ScriptFields) (begins : List (List ℕ)) (eq : AllPorts → AllPorts → Bool) (most : ℕ) where
+module _ (frames : Bool) (script : ScriptFields) (begins : List (List ℕ)) (eq : AllPorts → AllPorts → Bool) (most : ℕ) where
   -- there are no words
-  pub no_words : (why : LabError) → HasNoWords script eq most why → IsUnanswered script begins eq most why
+  pub no_words : (why : LabError) → HasNoWords frames script eq most why → IsUnanswered frames script begins eq most why
   no_words fault.Words h = absurd h
   no_words fault.Open h = absurd h
   no_words (fault.Input of) h = absurd h
@@ -23,7 +23,7 @@ module _ (script : ScriptFields) (begins : List (List ℕ)) (eq : AllPorts → A
   no_words fault.Write h = absurd h
 
   -- there is no history
-  pub no_history : (why : LabError) → HasNoHistory script eq most why → IsUnanswered script begins eq most why
+  pub no_history : (why : LabError) → HasNoHistory script eq most why → IsUnanswered frames script begins eq most why
   no_history fault.Words h = absurd h
   no_history fault.Open h = absurd h
   no_history (fault.Input of) h = absurd h

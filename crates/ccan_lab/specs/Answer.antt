@@ -9,11 +9,11 @@ use Rattle.ccan_run.specs.Threads.{RunsAtOnce}
 use Rattle.ccan_outcomes.specs.declared.ending.Ending.{Ending}
 use Rattle.ccan_outcomes.specs.Ending.{AreOutcomes, Shows}
 use Rattle.ccan_lab.specs.Beginnings.{can_begin}
-use Rattle.ccan_lab.specs.Rows.{has_line, has_lines, rows_of}
+use Rattle.ccan_lab.specs.Rows.{has_line, has_lines, lines_of}
 
 -- the first outcome that has, for each of these, a line that begins so, by its number from 0
 abbrev pub first_with : List (List ℕ) → List Ending → Option ℕ
-first_with begins endings = position (has_lines begins) (map rows_of endings)
+first_with begins endings = position (has_lines begins) (map lines_of endings)
 
 -- there is none
 abbrev pub is_none_so : Option ℕ → Bool
@@ -45,7 +45,7 @@ are_refused script endings begins = list_any (is_refused script endings) begins
 
 -- what is shown of the outcome has a printed line that begins so
 abbrev pub HasLine : ScriptFields → List ℕ → Outcome → Type 0
-HasLine script begin outcome = (ending : Ending) → Shows script ending outcome → has_line begin (rows_of ending) ≡ true
+HasLine script begin outcome = (ending : Ending) → Shows script ending outcome → has_line begin (lines_of ending) ≡ true
 
 -- a printed line of some outcome that the promise allows begins so
 abbrev pub IsOfSomeOutcome : ScriptFields → List ℕ → Type 0

@@ -3,15 +3,12 @@ use Rattle.std.specs.Prelude.{ℕ, ◌≡◌, ◌+◌, ◌⊎◌, Bool, true, fa
 use Rattle.ccan_script.specs.Reader as reader
 use Rattle.ccan_line.specs.Script.{ScriptFields}
 use Rattle.ccan_process.specs.WaitLaws.{looking_once}
-use Rattle.ccan_run.specs.declared.outcome.Outcome.{Outcome}
 use Rattle.ccan_run.specs.declared.run_error.RunError.TheVariants as input
-use Rattle.ccan_run.specs.Threads.{RunsAtOnce}
-use Rattle.ccan_words.specs.OneWordEach.{same_object}
 use Rattle.ccan_outcomes.specs.contracts.all_ports.AllPortsPartialEq.TheImpl.{ghosts as ports_are}
 use Rattle.ccan_outcomes.specs.contracts.ending.EndingPartialEq.TheImpl.{ghosts as ending_is}
 use Rattle.ccan_outcomes.specs.declared.ending.Ending.{Ending}
-use Rattle.ccan_outcomes.specs.Ending.{Shows}
-use Rattle.ccan_outcomes.specs.Waits.{HaveSameOutcomes}
+use Rattle.ccan_outcomes.specs.Ending.{IsOfEnd}
+use Rattle.ccan_outcomes.specs.Waits.{HaveSameEnds, HaveSameOutcomes}
 use Rattle.ccan_lab.specs.declared.asked.Asked.{Asked}
 use Rattle.ccan_lab.specs.declared.asked.Asked.TheVariants.{Summary, All, Json, Can, Never, Observed, AllObserved}
 use Rattle.ccan_lab.specs.declared.each_file.FileAnswer.{FileAnswer}
@@ -23,7 +20,7 @@ use Rattle.ccan_lab.specs.Observed.{is_known, names_in}
 use Rattle.ccan_lab.specs.Outcomes.{TellsAll}
 use Rattle.ccan_lab.specs.Paging.{TellsJson, page_name}
 use Rattle.ccan_lab.specs.Question.{AreKnown}
-use Rattle.ccan_lab.specs.Rows.{has_lines, rows_of}
+use Rattle.ccan_lab.specs.Rows.{has_lines, lines_of}
 use Rattle.ccan_lab.specs.Seen.{HasNoSeenList, TellsSeen}
 use Rattle.ccan_lab.specs.Sorted.{texts_of}
 use Rattle.ccan_lab.specs.Summary.{TellsSummary}
@@ -31,12 +28,13 @@ use Rattle.ccan_lab.specs.Words.{HasNoWords, IsUnanswered, IsWithout, TellsLine}
 
 -- ---- the script that is searched
 
--- it is the script in these bytes, but that each wait looks once; both have the same outcomes
+-- it is the script in these bytes, but that each wait looks once; both have the same outcomes, by the same frames
 pub record IsSearchedFor (bytes : List ℕ) (searched : ScriptFields) : Type 0 where
   pub script : ScriptFields
   pub read : reader.Shows bytes (Ok script)
   pub once : searched ≡ looking_once script
   pub same_outcomes : HaveSameOutcomes script searched
+  pub same_ends : HaveSameEnds script searched
 
 -- why there is none: the reader of scripts refuses the bytes, or memory ran out
 abbrev pub RefusesBytes : List ℕ → LabError → Type 0
@@ -55,28 +53,24 @@ IsUnread _ = ⊥
 
 -- ---- the exit status
 
--- what is shown of the outcome has, for each of these beginnings, a line that begins so
-abbrev pub HasLines : ScriptFields → List (List ℕ) → Outcome → Type 0
-HasLines script begins outcome =
-    (ending : Ending) × Shows script ending outcome × (has_lines begins (rows_of ending) ≡ true)
-
--- an outcome that the promise allows has them
-abbrev pub CanHave : ScriptFields → List (List ℕ) → Type 0
-CanHave script begins = (outcome : Outcome) × RunsAtOnce same_object script outcome × HasLines script begins outcome
+-- the ports can come to an end that, as it is told, has for each of these beginnings a line that begins so
+abbrev pub CanHave : Bool → ScriptFields → List (List ℕ) → Type 0
+CanHave frames script begins =
+    (told : Ending) × IsOfEnd frames script told × (has_lines begins (lines_of told) ≡ true)
 
 -- the status is the one exactly if it is so, and the other exactly if it isn't
 abbrev pub IsOneIf : Type 0 → ℕ → ℕ → ℕ → Type 0
 IsOneIf IsSo one other status = (IsSo × (status ≡ one)) ⊎ (¬ IsSo × (status ≡ other))
 
--- --can ends with 6 exactly if no outcome that the promise allows has all the lines, --never exactly if one has; all else with 0
-abbrev pub EndsAsAsked : Asked → ScriptFields → List (List ℕ) → ℕ → Type 0
-EndsAsAsked Can script lines status = IsOneIf (CanHave script lines) 0 6 status
-EndsAsAsked Never script lines status = IsOneIf (CanHave script lines) 6 0 status
-EndsAsAsked Summary script lines status = status ≡ 0
-EndsAsAsked All script lines status = status ≡ 0
-EndsAsAsked Json script lines status = status ≡ 0
-EndsAsAsked (Observed names) script lines status = status ≡ 0
-EndsAsAsked (AllObserved names) script lines status = status ≡ 0
+-- --can ends with 6 exactly if no end to which the ports can come has all the lines, --never exactly if one has; all else with 0
+abbrev pub EndsAsAsked : Asked → Bool → ScriptFields → List (List ℕ) → ℕ → Type 0
+EndsAsAsked Can frames script lines status = IsOneIf (CanHave frames script lines) 0 6 status
+EndsAsAsked Never frames script lines status = IsOneIf (CanHave frames script lines) 6 0 status
+EndsAsAsked Summary frames script lines status = status ≡ 0
+EndsAsAsked All frames script lines status = status ≡ 0
+EndsAsAsked Json frames script lines status = status ≡ 0
+EndsAsAsked (Observed names) frames script lines status = status ≡ 0
+EndsAsAsked (AllObserved names) frames script lines status = status ≡ 0
 
 -- the status of an answer that is as asked, or isn't
 abbrev pub status_if : Bool → ℕ
@@ -89,34 +83,38 @@ status_if false = 6
 abbrev pub TellsLines : OutcomesQuestion → ScriptFields → Bool → FileAnswer → Type 0
 TellsLines question script never answer =
     (holds : Bool) × (answer.status ≡ status_if holds)
-    × TellsLine question.form script ending_is.eq (texts_of question.lines.items) never answer.text.items holds
+    × TellsLine question.frames question.form script ending_is.eq (texts_of question.lines.items) never answer.text.items holds
 
 -- what is printed, by what is asked; only JSON has the file's name
 abbrev pub TellsBy : Asked → OutcomesQuestion → List ℕ → ScriptFields → FileAnswer → Type 0
-TellsBy Summary question name script answer = TellsSummary script ending_is.eq answer.text.items
+TellsBy Summary question name script answer = TellsSummary question.frames script ending_is.eq answer.text.items
 TellsBy Can question name script answer = TellsLines question script false answer
 TellsBy Never question name script answer = TellsLines question script true answer
 TellsBy (Observed names) question name script answer =
-    TellsSeen question.form (names_in names.now) script ending_is.eq answer.text.items
-TellsBy All question name script answer = TellsAll question.form script ending_is.eq All answer.text.items
+    TellsSeen question.frames question.form (names_in names.now) script ending_is.eq answer.text.items
+TellsBy All question name script answer =
+    TellsAll question.frames question.form script ending_is.eq All answer.text.items
 TellsBy (AllObserved names) question name script answer =
-    TellsAll question.form script ending_is.eq (AllObserved names) answer.text.items
-TellsBy Json question name script answer = TellsJson name script ending_is.eq answer.text.items
+    TellsAll question.frames question.form script ending_is.eq (AllObserved names) answer.text.items
+TellsBy Json question name script answer = TellsJson question.frames name script ending_is.eq answer.text.items
 
 -- what is printed and the status are those of what is asked of the script
 pub record AnswersAsked (question : OutcomesQuestion) (name : List ℕ) (script : ScriptFields) (answer : FileAnswer) : Type 0 where
   pub tells : TellsBy question.asked question name script answer
-  pub ends : EndsAsAsked question.asked script (texts_of question.lines.items) answer.status
+  pub ends : EndsAsAsked question.asked question.frames script (texts_of question.lines.items) answer.status
 
 -- why there is no answer, by what is asked: too many states or nodes for it, a line that is refused, or want of memory
 abbrev pub RefusesBy : Asked → OutcomesQuestion → ScriptFields → LabError → Type 0
-RefusesBy Summary question script why = HasNoWords script ports_are.eq question.most why
-RefusesBy Can question script why = IsUnanswered script (texts_of question.lines.items) ports_are.eq question.most why
-RefusesBy Never question script why = IsUnanswered script (texts_of question.lines.items) ports_are.eq question.most why
-RefusesBy (Observed names) question script why = HasNoSeenList (names_in names.now) script ports_are.eq question.most why
-RefusesBy All question script why = IsWithout script ports_are.eq question.most why
-RefusesBy (AllObserved names) question script why = IsWithout script ports_are.eq question.most why
-RefusesBy Json question script why = IsWithout script ports_are.eq question.most why
+RefusesBy Summary question script why = HasNoWords question.frames script ports_are.eq question.most why
+RefusesBy Can question script why =
+    IsUnanswered question.frames script (texts_of question.lines.items) ports_are.eq question.most why
+RefusesBy Never question script why =
+    IsUnanswered question.frames script (texts_of question.lines.items) ports_are.eq question.most why
+RefusesBy (Observed names) question script why =
+    HasNoSeenList question.frames (names_in names.now) script ports_are.eq question.most why
+RefusesBy All question script why = IsWithout question.frames script ports_are.eq question.most why
+RefusesBy (AllObserved names) question script why = IsWithout question.frames script ports_are.eq question.most why
+RefusesBy Json question script why = IsWithout question.frames script ports_are.eq question.most why
 
 abbrev pub RefusesAsked : OutcomesQuestion → ScriptFields → LabError → Type 0
 RefusesAsked question script why = RefusesBy question.asked question script why
@@ -147,7 +145,7 @@ pub record AnswersFile (question : OutcomesQuestion) (name bytes : List ℕ) (an
   pub is_for : IsSearchedFor bytes searched
   pub known : AreKnown searched question.asked
   pub tells : TellsBy question.asked question name searched answer
-  pub ends : EndsAsAsked question.asked is_for.script (texts_of question.lines.items) answer.status
+  pub ends : EndsAsAsked question.asked question.frames is_for.script (texts_of question.lines.items) answer.status
 
 -- why it is not: the bytes are no script, a name is not known in it, or it has no answer
 abbrev pub RefusesFile : OutcomesQuestion → List ℕ → LabError → Type 0
@@ -173,20 +171,20 @@ names_its_file (AllObserved names) = false
 
 -- ---- what is counted of a file
 
--- what is printed is the number of outcomes that the promise allows of the script in these bytes
-pub record AnswersCount (bytes : List ℕ) (answer : FileAnswer) : Type 0 where
+-- what is printed is the number of outcomes that the promise allows of the script in these bytes, told apart by frames or not
+pub record AnswersCount (frames : Bool) (bytes : List ℕ) (answer : FileAnswer) : Type 0 where
   pub script : ScriptFields
   pub read : reader.Shows bytes (Ok script)
-  pub tells : TellsCount script ending_is.eq answer.text.items
+  pub tells : TellsCount frames script ending_is.eq answer.text.items
   pub ends : answer.status ≡ 0
 
 -- why there is none: the bytes are no script, or there are too many states or nodes, or memory ran out
-abbrev pub RefusesCount : ℕ → List ℕ → LabError → Type 0
-RefusesCount most bytes why =
+abbrev pub RefusesCount : Bool → ℕ → List ℕ → LabError → Type 0
+RefusesCount frames most bytes why =
     RefusesBytes bytes why
-    ⊎ ((searched : ScriptFields) × IsSearchedFor bytes searched × HasNoWords searched ports_are.eq most why)
+    ⊎ ((searched : ScriptFields) × IsSearchedFor bytes searched × HasNoWords frames searched ports_are.eq most why)
 
 -- what was read of a file is counted, or there is a reason why it isn't
-abbrev pub IsCounted : ℕ → Result FileAnswer LabError → Type 0
-IsCounted most (Ok answer) = (bytes : List ℕ) × AnswersCount bytes answer
-IsCounted most (Err why) = IsUnread why ⊎ ((bytes : List ℕ) × RefusesCount most bytes why)
+abbrev pub IsCounted : Bool → ℕ → Result FileAnswer LabError → Type 0
+IsCounted frames most (Ok answer) = (bytes : List ℕ) × AnswersCount frames bytes answer
+IsCounted frames most (Err why) = IsUnread why ⊎ ((bytes : List ℕ) × RefusesCount frames most bytes why)

@@ -33,7 +33,7 @@ transferred_objects script =
 
 -- ---- a script
 
--- a printed line of the script can begin so: an answer of a port, or an object at the end
+-- a printed line of the script can begin so: an answer of a port, the frame of a round, or an object at the end
 unfoldable pub can_begin_among : ScriptFields → List ℕ → List ℕ → Bool
 can_begin_among script objects text =
     list_any (host_begins text If1 script.profile) script.if1

@@ -49,9 +49,71 @@ idle_begins text =
     || (begins text (codes "bus collision\n")
     || (begins text (codes "bus ack\n") || begins text (codes "bus fault\n")))))
 
+-- a data frame with a standard identifier: of at most four bytes, of more, and of any number
+unfoldable pub standard_short_begins : List ℕ → Bool
+standard_short_begins text =
+    begins text (codes "can0 ^^^=\n")
+    || (begins text (codes "can0 ^^^=^^\n")
+    || (begins text (codes "can0 ^^^=^^^^\n")
+    || (begins text (codes "can0 ^^^=^^^^^^\n")
+    || (begins text (codes "can0 ^^^=^^^^^^^^\n")))))
+
+unfoldable pub standard_long_begins : List ℕ → Bool
+standard_long_begins text =
+    begins text (codes "can0 ^^^=^^^^^^^^^^\n")
+    || (begins text (codes "can0 ^^^=^^^^^^^^^^^^\n")
+    || (begins text (codes "can0 ^^^=^^^^^^^^^^^^^^\n")
+    || (begins text (codes "can0 ^^^=^^^^^^^^^^^^^^^^\n")
+    || (begins text (codes "can0 ^^^=^^^^^^^^^^^^^^^^_^\n")))))
+
+unfoldable pub standard_data_begins : List ℕ → Bool
+standard_data_begins text = standard_short_begins text || standard_long_begins text
+
+-- a data frame with an extended identifier: of at most four bytes, of more, and of any number
+unfoldable pub extended_short_begins : List ℕ → Bool
+extended_short_begins text =
+    begins text (codes "can0 ^^^^^^^^=\n")
+    || (begins text (codes "can0 ^^^^^^^^=^^\n")
+    || (begins text (codes "can0 ^^^^^^^^=^^^^\n")
+    || (begins text (codes "can0 ^^^^^^^^=^^^^^^\n")
+    || (begins text (codes "can0 ^^^^^^^^=^^^^^^^^\n")))))
+
+unfoldable pub extended_long_begins : List ℕ → Bool
+extended_long_begins text =
+    begins text (codes "can0 ^^^^^^^^=^^^^^^^^^^\n")
+    || (begins text (codes "can0 ^^^^^^^^=^^^^^^^^^^^^\n")
+    || (begins text (codes "can0 ^^^^^^^^=^^^^^^^^^^^^^^\n")
+    || (begins text (codes "can0 ^^^^^^^^=^^^^^^^^^^^^^^^^\n")
+    || (begins text (codes "can0 ^^^^^^^^=^^^^^^^^^^^^^^^^_^\n")))))
+
+unfoldable pub extended_data_begins : List ℕ → Bool
+extended_data_begins text = extended_short_begins text || extended_long_begins text
+
+-- a remote frame with a standard identifier
+unfoldable pub standard_remote_begins : List ℕ → Bool
+standard_remote_begins text =
+    begins text (codes "can0 ^^^=R\n")
+    || (begins text (codes "can0 ^^^=R^\n")
+    || (begins text (codes "can0 ^^^=R8_^\n")))
+
+-- a remote frame with an extended identifier
+unfoldable pub extended_remote_begins : List ℕ → Bool
+extended_remote_begins text =
+    begins text (codes "can0 ^^^^^^^^=R\n")
+    || (begins text (codes "can0 ^^^^^^^^=R^\n")
+    || (begins text (codes "can0 ^^^^^^^^=R8_^\n")))
+
+-- the line of a frame: its identifier, and the bytes of its data or the length of the data that it asks for
+unfoldable pub frames_begin : List ℕ → Bool
+frames_begin text =
+    standard_data_begins text
+    || (extended_data_begins text || (standard_remote_begins text || extended_remote_begins text))
+
+-- a round answers so, or this is the frame that won the bus in it
 unfoldable pub rounds_begin : List ℕ → List ℕ → Bool
 rounds_begin text objects =
-    idle_begins text || (list_any (sent_begins text) objects || list_any (looped_begins text objects) objects)
+    idle_begins text
+    || (list_any (sent_begins text) objects || (list_any (looped_begins text objects) objects || frames_begin text))
 
 -- the controller's state
 unfoldable pub recessive_begins : List ℕ → Bool

@@ -1,19 +1,18 @@
 -- The lines that the outcomes of a script have in each place, port by port and object by object. Source: this project's own.
 use Rattle.std.specs.Prelude.{ℕ, ◌≡◌, ◌+◌, ◌-◌, ◌++◌, List, Some, length, map, slice_get}
 use Rattle.std.specs.List.{Contains}
-use Rattle.ccan_line.specs.declared.line_answer.LineAnswer.{LineAnswer}
+use Rattle.ccan_process.specs.declared.line_end.LineEnd.{LineEnd}
 use Rattle.ccan_object.specs.declared.record.Record.{Record}
 use Rattle.ccan_ram.specs.declared.port.PortName.{PortName}
-use Rattle.ccan_script.specs.Print.{line_text}
 use Rattle.ccan_outcomes.specs.declared.ending.Ending.{Ending}
-use Rattle.ccan_outcomes.specs.OutcomeWords.{IsAnswered}
-use Rattle.ccan_lab.specs.Rows.{final_rows, line_at}
+use Rattle.ccan_outcomes.specs.OutcomeWords.{EndsSo}
+use Rattle.ccan_lab.specs.Rows.{final_rows, line_at, row_text}
 
--- the printed lines of what a line of a port, counted from 0, answers in the outcomes
+-- how a line of a port, counted from 0, ends in the outcomes, as it is printed
 pub record AreLinesOf (endings : List Ending) (port : PortName) (line : ℕ) (texts : List (List ℕ)) : Type 0 where
   pub right : (text : List ℕ) → Contains texts text
-      → (answer : LineAnswer) × IsAnswered endings port line answer × (line_text port answer ≡ text)
-  pub complete : (answer : LineAnswer) → IsAnswered endings port line answer → Contains texts (line_text port answer)
+      → (end : LineEnd) × EndsSo endings port line end × (row_text port end ≡ text)
+  pub complete : (end : LineEnd) → EndsSo endings port line end → Contains texts (row_text port end)
 
 -- behind what was there stand those of each of the first so many lines of a port
 pub record HasPort (endings : List Ending) (port : PortName) (count : ℕ) (old new : List (List (List ℕ))) : Type 0 where

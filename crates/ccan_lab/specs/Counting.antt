@@ -3,7 +3,7 @@ use Rattle.std.specs.Prelude.{ℕ, ◌≡◌, ◌-◌, ◌^◌, ◌++◌, ◌==�
 use Rattle.std.specs.List.{IsDistinct}
 use Rattle.ccan_line.specs.Script.{ScriptFields}
 use Rattle.ccan_outcomes.specs.declared.ending.Ending.{Ending}
-use Rattle.ccan_outcomes.specs.Ending.{AreOfRuns, AreOutcomes}
+use Rattle.ccan_outcomes.specs.Ending.{AreAllEnds, AreOfRuns, AreOutcomes}
 use Rattle.ccan_lab.specs.Report.{counted_text}
 
 -- the greatest number that is counted to
@@ -16,13 +16,14 @@ count_text number =
     (if number == greatest then codes "at least " else codes "") ++ (counted_text number (codes "outcome") ++ codes "\n")
 
 -- the number is that of a list that has each outcome that the promise allows, once, and no other; each is that of a run
-pub record IsCount (script : ScriptFields) (eq : Ending → Ending → Bool) (number : ℕ) : Type 0 where
+pub record IsCount (frames : Bool) (script : ScriptFields) (eq : Ending → Ending → Bool) (number : ℕ) : Type 0 where
   pub outcomes : List Ending
+  pub ends : AreAllEnds frames script outcomes
   pub are : AreOutcomes script outcomes
   pub runs : AreOfRuns script outcomes
   pub once : IsDistinct eq outcomes
   pub number_is : number ≡ min (length outcomes) greatest
 
 -- the text is the line with that number
-abbrev pub TellsCount : ScriptFields → (Ending → Ending → Bool) → List ℕ → Type 0
-TellsCount script eq text = (number : ℕ) × IsCount script eq number × (text ≡ count_text number)
+abbrev pub TellsCount : Bool → ScriptFields → (Ending → Ending → Bool) → List ℕ → Type 0
+TellsCount frames script eq text = (number : ℕ) × IsCount frames script eq number × (text ≡ count_text number)

@@ -32,11 +32,16 @@ is_hexadecimal byte = is_decimal byte || is_between 97 102 byte
 abbrev pub is_of_counters : ℕ → Bool
 is_of_counters byte = is_decimal byte || (is_between 97 122 byte || (byte == 32 || byte == 10))
 
--- in a form `#` stands for a hexadecimal digit, `~` for a byte of the counters, and any other byte for itself; so a line that
--- shows neither is its own form
+-- frames have hexadecimal digits in upper case
+abbrev pub is_capital : ℕ → Bool
+is_capital byte = is_decimal byte || is_between 65 70 byte
+
+-- in a form `#` stands for a hexadecimal digit, `~` for a byte of the counters, `^` for a digit of a frame, `=` for the `#` of a
+-- frame, and any other byte for itself; so a line that shows none of these is its own form
 abbrev pub stands_for : ℕ → ℕ → Bool
 stands_for mark byte =
-    if mark == 35 then is_hexadecimal byte else (if mark == 126 then is_of_counters byte else mark == byte)
+    if mark == 35 then is_hexadecimal byte else (if mark == 126 then is_of_counters byte
+    else (if mark == 94 then is_capital byte else (if mark == 61 then byte == 35 else mark == byte)))
 
 -- a byte may stand in a place of a line of this form
 abbrev pub is_marked : Option ℕ → ℕ → Bool

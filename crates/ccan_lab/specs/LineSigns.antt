@@ -1,12 +1,12 @@
 -- The lines that a letter of a word tells, and which of the lines that are sought are among them. Source: this project's own.
-use Rattle.std.specs.Prelude.{ℕ, ◌+◌, nat_lt, Bool, false, List, [], ◌∷◌, Option, Some, None, get_or, slice_get, if◌then◌else◌}
+use Rattle.std.specs.Prelude.{ℕ, ◌+◌, nat_lt, Bool, false, List, [], Option, Some, None, get_or, slice_get, if◌then◌else◌}
 use Rattle.ccan_language.specs.declared.letter.Letter.{Letter}
 use Rattle.ccan_line.specs.declared.line_answer.LineAnswer.TheVariants as answer
 use Rattle.ccan_ram.specs.declared.port.PortName.{PortName}
 use Rattle.ccan_ram.specs.declared.port.PortName.TheVariants.{If1, If2, Bus}
-use Rattle.ccan_script.specs.Print.{line_text}
+use Rattle.ccan_process.specs.LineEnd.{unframed}
 use Rattle.ccan_outcomes.specs.declared.words.OutcomeWords.{OutcomeWords}
-use Rattle.ccan_lab.specs.Rows.{final_rows, has_line}
+use Rattle.ccan_lab.specs.Rows.{end_lines, final_rows, has_line}
 
 -- the port of whose line the letter at this place tells; behind the lines it tells of the objects at the end
 abbrev pub port_at : OutcomeWords → ℕ → Option PortName
@@ -14,9 +14,9 @@ port_at words place =
     if nat_lt place words.if1 then Some If1 else (if nat_lt place (words.if1 + words.if2) then Some If2
     else (if nat_lt place (words.if1 + words.if2 + words.bus) then Some Bus else None))
 
--- the printed lines of this answer, or of the objects
+-- the printed lines of how a line ended so, or of the objects
 abbrev pub lines_told : OutcomeWords → Option PortName → ℕ → List (List ℕ)
-lines_told words (Some port) number = line_text port (get_or words.numbers.answers.keys number answer.Init) ∷ []
+lines_told words (Some port) number = end_lines port (get_or words.numbers.answers.keys number (unframed answer.Init))
 lines_told words None number = final_rows (get_or words.numbers.memories.keys number [])
 
 -- the printed lines that a letter tells

@@ -3,7 +3,7 @@ use Rattle.std.specs.Prelude.{ℕ, Bool, List}
 use Rattle.std.specs.List.{IsDistinct}
 use Rattle.ccan_line.specs.Script.{ScriptFields}
 use Rattle.ccan_outcomes.specs.declared.ending.Ending.{Ending}
-use Rattle.ccan_outcomes.specs.Ending.{AreOfRuns, AreOutcomes}
+use Rattle.ccan_outcomes.specs.Ending.{AreAllEnds, AreOfRuns, AreOutcomes}
 use Rattle.ccan_lab.specs.declared.asked.Asked.{Asked}
 use Rattle.ccan_lab.specs.declared.asked.Asked.TheVariants.{Summary, All, Json, Can, Never, Observed, AllObserved}
 use Rattle.ccan_lab.specs.declared.history_form.HistoryForm.{HistoryForm}
@@ -30,11 +30,12 @@ Answers form script endings Never text = ⊥
 Answers form script endings (Observed names) text = ⊥
 Answers form script endings (AllObserved names) text = IsObservedListing form (names_in names.now) script endings text
 
--- the text answers what is asked of a list that has each outcome that the promise allows, once, and no other; each is that of a
--- run
-pub record TellsAll (form : HistoryForm) (script : ScriptFields) (eq : Ending → Ending → Bool) (asked : Asked) (text : List ℕ)
+-- the text answers what is asked of a list that has each outcome that the promise allows, once, and no other, with the frames that
+-- won the bus if they are asked for; each is that of a run
+pub record TellsAll (frames : Bool) (form : HistoryForm) (script : ScriptFields) (eq : Ending → Ending → Bool) (asked : Asked) (text : List ℕ)
     : Type 0 where
   pub outcomes : List Ending
+  pub ends : AreAllEnds frames script outcomes
   pub are : AreOutcomes script outcomes
   pub runs : AreOfRuns script outcomes
   pub once : IsDistinct eq outcomes

@@ -8,9 +8,9 @@ use Rattle.ccan_line.specs.Script.{ScriptFields}
 use Rattle.ccan_explain.specs.declared.step.Step as told
 use Rattle.ccan_outcomes.specs.declared.ending.Ending.{Ending}
 use Rattle.ccan_outcomes.specs.declared.history_step.HistoryStep.{HistoryStep}
-use Rattle.ccan_outcomes.specs.Ending.{AreOfRuns, AreOutcomes}
+use Rattle.ccan_outcomes.specs.Ending.{AreAllEnds, AreOfRuns, AreOutcomes}
 use Rattle.ccan_outcomes.specs.History.{IsHistoryOf}
-use Rattle.ccan_outcomes.specs.Waits.{HaveSameOutcomes}
+use Rattle.ccan_outcomes.specs.Waits.{HaveSameEnds, HaveSameOutcomes}
 use Rattle.ccan_page.specs.Data.{data_text}
 use Rattle.ccan_page.specs.declared.page.Outcome.{Outcome}
 use Rattle.ccan_page.specs.declared.page.Page.{Page}
@@ -63,22 +63,24 @@ pub record ShowsEndings (script : ScriptFields) (endings : List Ending) (limit :
   pub are_shown : AreShown script endings choices (min limit (length endings)) page.outcomes.items
 
 -- it does so of a list that has each outcome that the promise allows, once, and no other; each is that of a run
-pub record ShowsList (script : ScriptFields) (eq : Ending → Ending → Bool) (limit : ℕ) (page : Page) : Type 0 where
+pub record ShowsList (frames : Bool) (script : ScriptFields) (eq : Ending → Ending → Bool) (limit : ℕ) (page : Page) : Type 0 where
   pub endings : List Ending
+  pub ends : AreAllEnds frames script endings
   pub complete : AreOutcomes script endings
   pub runs : AreOfRuns script endings
   pub once : IsDistinct eq endings
   pub shows : ShowsEndings script endings limit page
 
 -- it does so of such a list of a script that has the same outcomes
-pub record ShowsOutcomes (script : ScriptFields) (eq : Ending → Ending → Bool) (limit : ℕ) (page : Page) : Type 0 where
+pub record ShowsOutcomes (frames : Bool) (script : ScriptFields) (eq : Ending → Ending → Bool) (limit : ℕ) (page : Page) : Type 0 where
   pub searched : ScriptFields
   pub same_outcomes : HaveSameOutcomes script searched
-  pub shows : ShowsList searched eq limit page
+  pub same_ends : HaveSameEnds script searched
+  pub shows : ShowsList frames searched eq limit page
 
 -- the text is the data of a page that shows all outcomes, with the name of the script's file, and a line feed
-pub record TellsJson (name : List ℕ) (script : ScriptFields) (eq : Ending → Ending → Bool) (text : List ℕ) : Type 0 where
+pub record TellsJson (frames : Bool) (name : List ℕ) (script : ScriptFields) (eq : Ending → Ending → Bool) (text : List ℕ) : Type 0 where
   pub page : Page
   pub file_is : page.file.now ≡ name
-  pub shows : ShowsList script eq greatest page
+  pub shows : ShowsList frames script eq greatest page
   pub text_is : text ≡ data_text page ++ codes "\n"

@@ -1,6 +1,9 @@
 -- What the words of the command line ask, by what `clap` found of them. Source: this project's own.
-use Rattle.std.specs.Prelude.{ℕ, ◌≡◌, ◌<◌, ◌^◌, List, [], ◌∷◌, Option, Some, None, codes, decimal, map, not, position}
+use Rattle.std.specs.Prelude.{ℕ, ◌≡◌, ◌<◌, ◌^◌, ◌==◌, ◌||◌, Bool, true, false, List, [], ◌∷◌, Option, Some, None, codes, decimal, map, not, position}
+use Rattle.std.specs.Borrow.{Bor}
+use Rattle.std.specs.List.{list_any}
 use Rattle.ccan_line.specs.Script.{ScriptFields}
+use Rattle.ccan_lab.specs.Forms.{is_between}
 use Rattle.ccan_lab.specs.Observed.{is_known, names_in}
 use Rattle.ccan_lab.specs.declared.history_form.HistoryForm.{HistoryForm}
 use Rattle.ccan_lab.specs.declared.history_form.HistoryForm.TheVariants.{EachStep, Brief}
@@ -30,6 +33,22 @@ IsObservingAll list (Observed names) = ⊥
 -- a number of states is the one that is given, however large; that it is a number is seen to before
 abbrev pub IsGivenBy : Option (List ℕ) → ℕ → Type 0
 IsGivenBy word most = (n : ℕ) → n < 2 ^ 64 → word ≡ Some (decimal n) → most ≡ n
+
+-- a LINE asks for a frame if it begins with `c`, or if it has a `#` or a letter in upper case: no other printed line does
+unfoldable pub is_of_frame : ℕ → Bool
+is_of_frame byte = byte == 35 || is_between 65 90 byte
+
+unfoldable pub begins_with_c : List ℕ → Bool
+begins_with_c [] = false
+begins_with_c (byte ∷ rest) = byte == 99
+
+unfoldable pub asks_frame : List ℕ → Bool
+asks_frame line = begins_with_c line || list_any is_of_frame line
+
+-- frames are told if the flag stands there, or if a LINE asks for one
+abbrev pub AsksFramesBy : Option (List ℕ) → List (Bor (List ℕ)) → Bool → Type 0
+AsksFramesBy word lines frames =
+    (word ≡ Some (codes "true") → frames ≡ true) × (word ≡ Some (codes "false") → frames ≡ list_any (λ line. asks_frame line.now) lines)
 
 -- histories are written in few lines if the flag stands there, and else step by step
 abbrev pub IsFormBy : Option (List ℕ) → HistoryForm → Type 0

@@ -1,13 +1,49 @@
 -- The lines of an outcome, each in its place. In the outcomes of one script the same thing stands in the same place.
 -- Source: this project's own.
-use Rattle.std.specs.Prelude.{ℕ, ◌++◌, ◌∷◌, ◌==◌, ◌&&◌, ◌||◌, nat_lt, Bool, true, false, List, [], map, take, length, slice_get, unwrap_or, if◌then◌else◌}
-use Rattle.std.specs.List.{enumerate_from, list_all, list_any}
+use Rattle.std.specs.Prelude.{ℕ, ◌++◌, ◌∷◌, ◌==◌, ◌&&◌, ◌||◌, nat_lt, Bool, true, false, List, [], Option, Some, None, codes, map, take, length, slice_get, unwrap_or, if◌then◌else◌}
+use Rattle.std.specs.List.{enumerate_from, flat_map, list_all, list_any}
 use Rattle.ccan_object.specs.declared.profile.Profile.TheVariants.{Two}
 use Rattle.ccan_object.specs.declared.record.Record.{Record}
 use Rattle.ccan_object.specs.Profile.{objects_in}
+use Rattle.ccan_accept.specs.Frame.{FrameFields}
+use Rattle.ccan_ram.specs.declared.port.PortName.{PortName}
 use Rattle.ccan_ram.specs.declared.port.PortName.TheVariants.{If1, If2, Bus}
 use Rattle.ccan_script.specs.Print.{final_line, line_text}
+use Rattle.ccan_explain.specs.FrameText.{frame_text}
+use Rattle.ccan_process.specs.declared.line_end.LineEnd.{LineEnd}
 use Rattle.ccan_outcomes.specs.declared.ending.Ending.{Ending}
+
+-- ---- how a line ended, as it is printed
+
+-- the frame that won the bus, in the compact form of can-utils
+abbrev pub frame_line : FrameFields → List ℕ
+frame_line frame = codes "can0 " ++ (frame_text frame ++ codes "\n")
+
+-- it stands below the line of its round, behind four spaces
+abbrev pub frame_row : Option FrameFields → List ℕ
+frame_row None = []
+frame_row (Some frame) = codes "    " ++ frame_line frame
+
+-- the line of the answer, and below it the frame that won the bus, if one did and it is told
+abbrev pub row_text : PortName → LineEnd → List ℕ
+row_text port end = line_text port end.answer ++ frame_row end.frame
+
+-- the line of the frame, if there is one
+abbrev pub frame_lines : Option FrameFields → List (List ℕ)
+frame_lines None = []
+frame_lines (Some frame) = frame_line frame ∷ []
+
+-- the same as a text, empty if there is none
+abbrev pub frame_in : Option FrameFields → List ℕ
+frame_in None = []
+frame_in (Some frame) = frame_line frame
+
+abbrev pub told_frame : LineEnd → List ℕ
+told_frame end = frame_in end.frame
+
+-- the lines of both
+abbrev pub end_lines : PortName → LineEnd → List (List ℕ)
+end_lines port end = line_text port end.answer ∷ frame_lines end.frame
 
 -- ---- the rows of an outcome
 
@@ -19,10 +55,16 @@ final_row object left = unwrap_or (final_line object left) []
 unfoldable pub final_rows : List Record → List (List ℕ)
 final_rows records = map (λ object. final_row object.0 object.1) (enumerate_from 1 (take (objects_in Two) records))
 
--- the answers of IF1, those of IF2, those of the bus, and then the objects
+-- how the lines of IF1 ended, those of IF2, those of the bus, and then the objects
 unfoldable pub rows_of : Ending → List (List ℕ)
 rows_of ending =
-    map (line_text If1) ending.if1 ++ (map (line_text If2) ending.if2 ++ (map (line_text Bus) ending.bus
+    map (row_text If1) ending.if1 ++ (map (row_text If2) ending.if2 ++ (map (row_text Bus) ending.bus
+    ++ final_rows ending.records))
+
+-- all printed lines of an outcome, the frames among them
+unfoldable pub lines_of : Ending → List (List ℕ)
+lines_of ending =
+    flat_map (end_lines If1) ending.if1 ++ (flat_map (end_lines If2) ending.if2 ++ (flat_map (end_lines Bus) ending.bus
     ++ final_rows ending.records))
 
 -- ---- the rows of all outcomes

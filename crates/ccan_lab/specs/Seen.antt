@@ -10,7 +10,7 @@ use Rattle.ccan_outcomes.specs.declared.all_ports.AllPorts.{AllPorts}
 use Rattle.ccan_outcomes.specs.declared.ending.Ending.{Ending}
 use Rattle.ccan_outcomes.specs.declared.observed.Observed.{Observed}
 use Rattle.ccan_outcomes.specs.declared.words.OutcomeWords.{OutcomeWords}
-use Rattle.ccan_outcomes.specs.Ending.{AreOfRuns, AreOutcomes}
+use Rattle.ccan_outcomes.specs.Ending.{AreAllEnds, AreOfRuns, AreOutcomes}
 use Rattle.ccan_outcomes.specs.History.{IsHistoryOf}
 use Rattle.ccan_outcomes.specs.Observed.{HasManyImages, observed_words}
 use Rattle.ccan_outcomes.specs.OutcomeWords.{ending_of_word, endings_in}
@@ -77,9 +77,10 @@ ListsSeen form script marks endings text =
 
 -- the text lists, where the places of these names are looked at, what can be told apart of a list that has each outcome that the
 -- promise allows, once, and no other; each is that of a run
-pub record TellsSeen (form : HistoryForm) (names : List (List ℕ)) (script : ScriptFields) (eq : Ending → Ending → Bool)
+pub record TellsSeen (frames : Bool) (form : HistoryForm) (names : List (List ℕ)) (script : ScriptFields) (eq : Ending → Ending → Bool)
     (text : List ℕ) : Type 0 where
   pub outcomes : List Ending
+  pub ends : AreAllEnds frames script outcomes
   pub are : AreOutcomes script outcomes
   pub runs : AreOfRuns script outcomes
   pub once : IsDistinct eq outcomes
@@ -94,7 +95,8 @@ HasNoImages words marks most fault.Memory = Unit {0}
 HasNoImages words marks most _ = ⊥
 
 -- so it is of the words of all outcomes of the script, or there is no list of them, or there is one without a history
-abbrev pub HasNoSeenList : List (List ℕ) → ScriptFields → (AllPorts → AllPorts → Bool) → ℕ → LabError → Type 0
-HasNoSeenList names script eq most why =
-    IsWithout script eq most why
-    ⊎ ((words : OutcomeWords) × AreOutcomes script (endings_in words) × HasNoImages words (marks_of names script) most why)
+abbrev pub HasNoSeenList : Bool → List (List ℕ) → ScriptFields → (AllPorts → AllPorts → Bool) → ℕ → LabError → Type 0
+HasNoSeenList frames names script eq most why =
+    IsWithout frames script eq most why
+    ⊎ ((words : OutcomeWords) × AreAllEnds frames script (endings_in words) × AreOutcomes script (endings_in words)
+    × HasNoImages words (marks_of names script) most why)

@@ -6,7 +6,7 @@ use Rattle.std.specs.List.Sorted.{IsStrictlySortedBy}
 use Rattle.std.specs.Ordering.{nat_cmp}
 use Rattle.ccan_line.specs.Script.{ScriptFields}
 use Rattle.ccan_outcomes.specs.declared.ending.Ending.{Ending}
-use Rattle.ccan_outcomes.specs.Ending.{AreOfRuns, AreOutcomes}
+use Rattle.ccan_outcomes.specs.Ending.{AreAllEnds, AreOfRuns, AreOutcomes}
 use Rattle.ccan_lab.specs.Counting.{count_text, greatest}
 use Rattle.ccan_lab.specs.Observed.{places_of}
 use Rattle.ccan_lab.specs.Place.{place_name}
@@ -82,8 +82,9 @@ pub record IsSummary (script : ScriptFields) (endings : List Ending) (text : Lis
       ++ (choice_parts choices (name_in script) ++ closing_text (min (length endings) greatest)))
 
 -- the text is the short list of a list that has each outcome that the promise allows, once, and no other; each is that of a run
-pub record TellsSummary (script : ScriptFields) (eq : Ending → Ending → Bool) (text : List ℕ) : Type 0 where
+pub record TellsSummary (frames : Bool) (script : ScriptFields) (eq : Ending → Ending → Bool) (text : List ℕ) : Type 0 where
   pub outcomes : List Ending
+  pub ends : AreAllEnds frames script outcomes
   pub are : AreOutcomes script outcomes
   pub runs : AreOfRuns script outcomes
   pub once : IsDistinct eq outcomes

@@ -6,7 +6,7 @@ use Rattle.ccan_outcomes.specs.declared.all_ports.AllPorts.{AllPorts}
 use Rattle.ccan_outcomes.specs.declared.ending.Ending.{Ending}
 use Rattle.ccan_outcomes.specs.AllPortsReached.{HasMoreAtOnce}
 use Rattle.ccan_outcomes.specs.AnswerGraph.{HasLargeGraph}
-use Rattle.ccan_outcomes.specs.Ending.{AreOfRuns, AreOutcomes}
+use Rattle.ccan_outcomes.specs.Ending.{AreAllEnds, AreOfRuns, AreOutcomes}
 use Rattle.ccan_outcomes.specs.WordStates.{TellsManyWords}
 use Rattle.ccan_lab.specs.declared.history_form.HistoryForm.{HistoryForm}
 use Rattle.ccan_lab.specs.declared.lab_error.LabError.{LabError}
@@ -19,11 +19,11 @@ use Rattle.ccan_lab.specs.Listing.{IsFoundText}
 
 -- why there are no words: so many states can be reached, or so many steps made one after the other, or the words need so many
 -- nodes, or memory ran out
-abbrev pub HasNoWords : ScriptFields → (AllPorts → AllPorts → Bool) → ℕ → LabError → Type 0
-HasNoWords script eq most (fault.More told) = (told ≡ most) × HasLargeGraph script eq most
-HasNoWords script eq most (fault.Nodes told) = (told ≡ most) × TellsManyWords script most
-HasNoWords script eq most fault.Memory = Unit {0}
-HasNoWords script eq most _ = ⊥
+abbrev pub HasNoWords : Bool → ScriptFields → (AllPorts → AllPorts → Bool) → ℕ → LabError → Type 0
+HasNoWords frames script eq most (fault.More told) = (told ≡ most) × HasLargeGraph script eq most
+HasNoWords frames script eq most (fault.Nodes told) = (told ≡ most) × TellsManyWords frames script most
+HasNoWords frames script eq most fault.Memory = Unit {0}
+HasNoWords frames script eq most _ = ⊥
 
 -- why there is no history: a search through all states comes to more of them, or memory ran out
 abbrev pub HasNoHistory : ScriptFields → (AllPorts → AllPorts → Bool) → ℕ → LabError → Type 0
@@ -32,8 +32,8 @@ HasNoHistory script eq most fault.Memory = Unit {0}
 HasNoHistory script eq most _ = ⊥
 
 -- why there is no list: there are no words, or there is an outcome without a history
-abbrev pub IsWithout : ScriptFields → (AllPorts → AllPorts → Bool) → ℕ → LabError → Type 0
-IsWithout script eq most why = HasNoWords script eq most why ⊎ HasNoHistory script eq most why
+abbrev pub IsWithout : Bool → ScriptFields → (AllPorts → AllPorts → Bool) → ℕ → LabError → Type 0
+IsWithout frames script eq most why = HasNoWords frames script eq most why ⊎ HasNoHistory script eq most why
 
 -- none of the outcomes has these lines, and the text says so
 pub record SaysNone (endings : List Ending) (begins : List (List ℕ)) (text : List ℕ) : Type 0 where
@@ -51,8 +51,9 @@ IsSearched script endings begins Refused = are_refused script endings begins ≡
 
 -- the text says that none has the lines, of a list that has each outcome that the promise allows, once, and no other; each is
 -- that of a run
-pub record TellsNone (script : ScriptFields) (eq : Ending → Ending → Bool) (begins : List (List ℕ)) (text : List ℕ) : Type 0 where
+pub record TellsNone (frames : Bool) (script : ScriptFields) (eq : Ending → Ending → Bool) (begins : List (List ℕ)) (text : List ℕ) : Type 0 where
   pub outcomes : List Ending
+  pub ends : AreAllEnds frames script outcomes
   pub are : AreOutcomes script outcomes
   pub runs : AreOfRuns script outcomes
   pub once : IsDistinct eq outcomes
@@ -60,15 +61,17 @@ pub record TellsNone (script : ScriptFields) (eq : Ending → Ending → Bool) (
   pub taken : are_refused script outcomes begins ≡ false
 
 -- one of the lines is refused by such a list
-abbrev pub RefusesLine : ScriptFields → List (List ℕ) → Type 0
-RefusesLine script begins =
-    (endings : List Ending) × AreOutcomes script endings × (are_refused script endings begins ≡ true)
+abbrev pub RefusesLine : Bool → ScriptFields → List (List ℕ) → Type 0
+RefusesLine frames script begins =
+    (endings : List Ending) × AreAllEnds frames script endings × AreOutcomes script endings
+    × (are_refused script endings begins ≡ true)
 
 -- the text shows an outcome that has the lines, of a list that has each outcome that the promise allows, once, and no other;
 -- each is that of a run
-pub record TellsFound (form : HistoryForm) (script : ScriptFields) (eq : Ending → Ending → Bool) (begins : List (List ℕ))
+pub record TellsFound (frames : Bool) (form : HistoryForm) (script : ScriptFields) (eq : Ending → Ending → Bool) (begins : List (List ℕ))
     (text : List ℕ) : Type 0 where
   pub outcomes : List Ending
+  pub ends : AreAllEnds frames script outcomes
   pub are : AreOutcomes script outcomes
   pub runs : AreOfRuns script outcomes
   pub once : IsDistinct eq outcomes
@@ -76,11 +79,12 @@ pub record TellsFound (form : HistoryForm) (script : ScriptFields) (eq : Ending 
   pub taken : are_refused script outcomes begins ≡ false
 
 -- the text answers whether an outcome has all the lines, or, if it is asked so, whether none has
-abbrev pub TellsLine : HistoryForm → ScriptFields → (Ending → Ending → Bool) → List (List ℕ) → Bool → List ℕ → Bool → Type 0
-TellsLine form script eq begins never text holds =
-    (TellsNone script eq begins text × (holds ≡ never)) ⊎ (TellsFound form script eq begins text × (holds ≡ not never))
+abbrev pub TellsLine : Bool → HistoryForm → ScriptFields → (Ending → Ending → Bool) → List (List ℕ) → Bool → List ℕ → Bool → Type 0
+TellsLine frames form script eq begins never text holds =
+    (TellsNone frames script eq begins text × (holds ≡ never))
+    ⊎ (TellsFound frames form script eq begins text × (holds ≡ not never))
 
 -- why there is no answer: a line is refused, or there are no words, or there is an outcome without a history
-abbrev pub IsUnanswered : ScriptFields → List (List ℕ) → (AllPorts → AllPorts → Bool) → ℕ → LabError → Type 0
-IsUnanswered script begins eq most fault.NoLine = RefusesLine script begins
-IsUnanswered script begins eq most why = IsWithout script eq most why
+abbrev pub IsUnanswered : Bool → ScriptFields → List (List ℕ) → (AllPorts → AllPorts → Bool) → ℕ → LabError → Type 0
+IsUnanswered frames script begins eq most fault.NoLine = RefusesLine frames script begins
+IsUnanswered frames script begins eq most why = IsWithout frames script eq most why

@@ -108,7 +108,7 @@ fn before_star(text: &str) -> &str
     }
 }
 
-/// Whether a printed line of a script can begin with the text: an answer of a port, or an object at the end.
+/// Whether a printed line of a script can begin with the text: an answer of a port, the frame of a round, or an object at the end.
 pub fn can_begin(alloc: Global, script: &Script, text: &str) -> Result<bool, AllocError>
     ensures { IfOk result (λ can. can ≡ can_begin (fields_of script.now) text.now) }
 {
@@ -117,7 +117,7 @@ pub fn can_begin(alloc: Global, script: &Script, text: &str) -> Result<bool, All
 }
 
 /// Beginnings of lines, each of a kind of its own.
-const KINDS: [&str; 35] = [
+const KINDS: [&str; 36] = [
     "if1 write",
     "if1 read",
     "if1 busy",
@@ -152,6 +152,7 @@ const KINDS: [&str; 35] = [
     "bus init",
     "bus recessive",
     "bus loopback",
+    "can0",
     "final",
 ];
 
@@ -185,7 +186,7 @@ fn add_beginnings(
     add_kinds(text, script, objects)?;
     text.push_str("; objects:")?;
     add_objects(text, objects)?;
-    text.push_str("; hexadecimal digits are in lower case")
+    text.push_str("; hexadecimal digits are in lower case, in frames in upper case: can0 123#1A2B")
 }
 
 /// What the printed lines of a script begin with, in words.

@@ -3,6 +3,9 @@ ghost use Rattle.std.specs.Prelude.{◌≡◌};
 ghost use Rattle.std.specs.List.{list_any};
 ghost use Rattle.ccan_lab.specs.BusForms.{bus_begins, idle_begins, load_begins, loads_begin, looped_begins};
 ghost use Rattle.ccan_lab.specs.BusForms.{looped_form, recessive_begins, rounds_begin, sent_begins};
+ghost use Rattle.ccan_lab.specs.BusForms.{extended_data_begins, extended_long_begins, extended_remote_begins};
+ghost use Rattle.ccan_lab.specs.BusForms.{extended_short_begins, frames_begin, standard_data_begins};
+ghost use Rattle.ccan_lab.specs.BusForms.{standard_long_begins, standard_remote_begins, standard_short_begins};
 ghost use Rattle.ccan_lab.specs.Forms.{begins};
 
 use crate::forms::{
@@ -127,12 +130,108 @@ fn any_looped_begins(text: &str, objects: &[ObjectNo]) -> bool
         .any(|object| looped_begins(text, objects, *object))
 }
 
-/// Whether the answer of a round can begin so.
+/// Whether the line of a data frame with a standard identifier and at most four bytes can begin so.
+#[tactic(auto, unfolding(crate::specs::BusForms::standard_short_begins))]
+fn standard_short_begins(text: &str) -> bool
+    ensures { result ≡ standard_short_begins text.now }
+{
+    begins(text, "can0 ^^^=\n")
+        || begins(text, "can0 ^^^=^^\n")
+        || begins(text, "can0 ^^^=^^^^\n")
+        || begins(text, "can0 ^^^=^^^^^^\n")
+        || begins(text, "can0 ^^^=^^^^^^^^\n")
+}
+
+/// Whether the line of one with more bytes can begin so.
+#[tactic(auto, unfolding(crate::specs::BusForms::standard_long_begins))]
+fn standard_long_begins(text: &str) -> bool
+    ensures { result ≡ standard_long_begins text.now }
+{
+    begins(text, "can0 ^^^=^^^^^^^^^^\n")
+        || begins(text, "can0 ^^^=^^^^^^^^^^^^\n")
+        || begins(text, "can0 ^^^=^^^^^^^^^^^^^^\n")
+        || begins(text, "can0 ^^^=^^^^^^^^^^^^^^^^\n")
+        || begins(text, "can0 ^^^=^^^^^^^^^^^^^^^^_^\n")
+}
+
+/// Whether the line of a data frame with a standard identifier can begin so.
+#[tactic(auto, unfolding(crate::specs::BusForms::standard_data_begins))]
+fn standard_data_begins(text: &str) -> bool
+    ensures { result ≡ standard_data_begins text.now }
+{
+    standard_short_begins(text) || standard_long_begins(text)
+}
+
+/// Whether the line of a data frame with an extended identifier and at most four bytes can begin so.
+#[tactic(auto, unfolding(crate::specs::BusForms::extended_short_begins))]
+fn extended_short_begins(text: &str) -> bool
+    ensures { result ≡ extended_short_begins text.now }
+{
+    begins(text, "can0 ^^^^^^^^=\n")
+        || begins(text, "can0 ^^^^^^^^=^^\n")
+        || begins(text, "can0 ^^^^^^^^=^^^^\n")
+        || begins(text, "can0 ^^^^^^^^=^^^^^^\n")
+        || begins(text, "can0 ^^^^^^^^=^^^^^^^^\n")
+}
+
+/// Whether the line of one with more bytes can begin so.
+#[tactic(auto, unfolding(crate::specs::BusForms::extended_long_begins))]
+fn extended_long_begins(text: &str) -> bool
+    ensures { result ≡ extended_long_begins text.now }
+{
+    begins(text, "can0 ^^^^^^^^=^^^^^^^^^^\n")
+        || begins(text, "can0 ^^^^^^^^=^^^^^^^^^^^^\n")
+        || begins(text, "can0 ^^^^^^^^=^^^^^^^^^^^^^^\n")
+        || begins(text, "can0 ^^^^^^^^=^^^^^^^^^^^^^^^^\n")
+        || begins(text, "can0 ^^^^^^^^=^^^^^^^^^^^^^^^^_^\n")
+}
+
+/// Whether the line of a data frame with an extended identifier can begin so.
+#[tactic(auto, unfolding(crate::specs::BusForms::extended_data_begins))]
+fn extended_data_begins(text: &str) -> bool
+    ensures { result ≡ extended_data_begins text.now }
+{
+    extended_short_begins(text) || extended_long_begins(text)
+}
+
+/// Whether the line of a remote frame with a standard identifier can begin so.
+#[tactic(auto, unfolding(crate::specs::BusForms::standard_remote_begins))]
+fn standard_remote_begins(text: &str) -> bool
+    ensures { result ≡ standard_remote_begins text.now }
+{
+    begins(text, "can0 ^^^=R\n") || begins(text, "can0 ^^^=R^\n") || begins(text, "can0 ^^^=R8_^\n")
+}
+
+/// Whether the line of a remote frame with an extended identifier can begin so.
+#[tactic(auto, unfolding(crate::specs::BusForms::extended_remote_begins))]
+fn extended_remote_begins(text: &str) -> bool
+    ensures { result ≡ extended_remote_begins text.now }
+{
+    begins(text, "can0 ^^^^^^^^=R\n")
+        || begins(text, "can0 ^^^^^^^^=R^\n")
+        || begins(text, "can0 ^^^^^^^^=R8_^\n")
+}
+
+/// Whether the line of a frame can begin so.
+#[tactic(auto, unfolding(crate::specs::BusForms::frames_begin))]
+fn frames_begin(text: &str) -> bool
+    ensures { result ≡ frames_begin text.now }
+{
+    standard_data_begins(text)
+        || extended_data_begins(text)
+        || standard_remote_begins(text)
+        || extended_remote_begins(text)
+}
+
+/// Whether the answer of a round can begin so, or the frame that won the bus in it.
 #[tactic(auto, unfolding(crate::specs::BusForms::rounds_begin))]
 fn rounds_begin(text: &str, objects: &[ObjectNo]) -> bool
     ensures { result ≡ rounds_begin text.now objects.now }
 {
-    idle_begins(text) || any_sent_begins(text, objects) || any_looped_begins(text, objects)
+    idle_begins(text)
+        || any_sent_begins(text, objects)
+        || any_looped_begins(text, objects)
+        || frames_begin(text)
 }
 
 /// Whether the controller's state after recessive bits can begin so.

@@ -1,13 +1,13 @@
 //! The question `ccan-lab count`: its words, and its answer.
 
-ghost use Rattle.std.specs.Prelude.{◌≡◌, IfErr, IfOk, codes, false, length, map, option_map, string_bytes};
+ghost use Rattle.std.specs.Prelude.{◌≡◌, [], IfErr, IfOk, codes, false, length, map, option_map, string_bytes};
 ghost use Rattle.clap.specs.Words.{found_of, matched_of, one_text, raw_values};
 ghost use Rattle.ccan_line.specs.Script.{fields_of};
 ghost use Rattle.ccan_lab.specs.declared.lab_error.LabError.TheVariants as LabError;
 ghost use Rattle.ccan_lab.specs.Answered.{AnswersCount, IsCounted, RefusesCount};
 ghost use Rattle.ccan_lab.specs.Counting.{IsCount, TellsCount, count_text};
 ghost use Rattle.ccan_lab.specs.EachFile.{AreAnswered, has_headings};
-ghost use Rattle.ccan_lab.specs.Question.{IsGivenBy, files_named};
+ghost use Rattle.ccan_lab.specs.Question.{AsksFramesBy, IsGivenBy, files_named};
 ghost use Rattle.ccan_lab.specs.Words.{HasNoWords};
 
 use crate::command_words::{command, files_named, scripts, with};
@@ -15,7 +15,7 @@ use crate::each_file::{FileAnswer, answer_each};
 use crate::input::{bytes_asked, searched_script, tell_terminal};
 use crate::lab_error::LabError;
 use crate::outcome_words::words_of;
-use crate::outcomes::{most_of, most_option};
+use crate::outcomes::{frames_flag, most_of, most_option};
 use crate::progress_line::ProgressLine;
 use crate::wording::add_counted;
 use ccan_outcomes::Ending;
@@ -35,12 +35,15 @@ pub struct CountQuestion<'a> {
     pub most: usize,
     /// The files: `-` means standard input.
     pub files: Vec<&'a str>,
+    /// Whether outcomes are told apart by the frames that won the bus.
+    pub frames: bool,
 }
 
 /// The command that counts outcomes.
 pub fn count_command<'a>(alloc: Global) -> Result<Command<'a>, AllocError> {
     let about = "Counts the outcomes of scripts and lists none, so far faster";
     let counted = with(command(alloc, "count", about), most_option(alloc))?;
+    let counted = with(counted, frames_flag(alloc))?;
     with(counted, scripts(alloc))
 }
 
@@ -51,6 +54,8 @@ pub fn count_question<'a>(
 ) -> Result<CountQuestion<'a>, AllocError>
     ensures most { IfOk result (λ question.
         IsGivenBy (one_text (found_of words.entry.now) (codes "most")) question.most) }
+    ensures frames { IfOk result (λ question. AsksFramesBy
+        (one_text (found_of words.entry.now) (codes "frames")) [] question.frames) }
     ensures files { IfOk result (λ question. map (λ file. file.now) question.files.items
         ≡ files_named (option_map raw_values
         (matched_of (found_of words.entry.now) (codes "file")))) }
@@ -58,6 +63,7 @@ pub fn count_question<'a>(
     Ok(CountQuestion {
         most: most_of(words),
         files: files_named(alloc, words)?,
+        frames: words.get_flag("frames"),
     })
 }
 
@@ -78,15 +84,16 @@ pub fn count_text(alloc: Global, number: u64) -> Result<String, AllocError>
 fn outcome_count<P: Progress>(
     alloc: Global,
     script: &Script,
+    frames: bool,
     most: usize,
     progress: &P,
 ) -> Result<u64, LabError>
     ensures count { IfOk result
-        (IsCount (fields_of script.now) ⟦<Ending as PartialEq>⟧.eq) }
+        (IsCount frames (fields_of script.now) ⟦<Ending as PartialEq>⟧.eq) }
     ensures without { IfErr result
-        (HasNoWords (fields_of script.now) ⟦<AllPorts as PartialEq>⟧.eq most) }
+        (HasNoWords frames (fields_of script.now) ⟦<AllPorts as PartialEq>⟧.eq most) }
 {
-    let words = words_of(alloc, script, most, progress)?;
+    let words = words_of(alloc, script, frames, most, progress)?;
     Ok(words.count())
 }
 
@@ -94,15 +101,16 @@ fn outcome_count<P: Progress>(
 fn counted<P: Progress>(
     alloc: Global,
     script: &Script,
+    frames: bool,
     most: usize,
     progress: &P,
 ) -> Result<String, LabError>
-    ensures counted { IfOk result (λ text. TellsCount (fields_of script.now)
+    ensures counted { IfOk result (λ text. TellsCount frames (fields_of script.now)
         ⟦<Ending as PartialEq>⟧.eq (string_bytes text)) }
     ensures without { IfErr result
-        (HasNoWords (fields_of script.now) ⟦<AllPorts as PartialEq>⟧.eq most) }
+        (HasNoWords frames (fields_of script.now) ⟦<AllPorts as PartialEq>⟧.eq most) }
 {
-    let number = outcome_count(alloc, script, most, progress)?;
+    let number = outcome_count(alloc, script, frames, most, progress)?;
     Ok(count_text(alloc, number)?)
 }
 
@@ -110,14 +118,15 @@ fn counted<P: Progress>(
 fn count_bytes<P: Progress>(
     alloc: Global,
     bytes: &[u8],
+    frames: bool,
     most: usize,
     progress: &P,
 ) -> Result<FileAnswer, LabError>
-    ensures counted { IfOk result (AnswersCount bytes.now) }
-    ensures refused { IfErr result (RefusesCount most bytes.now) }
+    ensures counted { IfOk result (AnswersCount frames bytes.now) }
+    ensures refused { IfErr result (RefusesCount frames most bytes.now) }
 {
     let script = searched_script(alloc, bytes)?;
-    let text = counted(alloc, &script, most, progress)?;
+    let text = counted(alloc, &script, frames, most, progress)?;
     Ok(FileAnswer {
         text: text.into_bytes(),
         status: 0,
@@ -129,16 +138,17 @@ fn count_bytes<P: Progress>(
 fn count_file<T: AllocGlobal + Input + Files + Eprint>(
     rt: &T,
     file: &str,
+    frames: bool,
     most: usize,
     progress: &ProgressLine<'_, T>,
 ) -> Result<FileAnswer, LabError>
 where
     T::Reader: IsTerminal,
-    ensures { IsCounted most result }
+    ensures { IsCounted frames most result }
 {
     tell_terminal(rt, "a script", Some(file));
     let bytes = bytes_asked(rt, Some(file))?;
-    let answered = count_bytes(rt.alloc(), bytes.as_slice(), most, progress);
+    let answered = count_bytes(rt.alloc(), bytes.as_slice(), frames, most, progress);
     progress.clear();
     answered
 }
@@ -153,7 +163,8 @@ pub fn answer_count<T: AllocGlobal + Input + Files + Eprint, W: Write>(
 ) -> Result<u8, LabError>
 where
     T::Reader: IsTerminal,
-    ensures answered { IfOk result (λ status. AreAnswered (λ name. IsCounted question.now.most)
+    ensures answered { IfOk result (λ status. AreAnswered
+        (λ name. IsCounted question.now.frames question.now.most)
         (has_headings false (length question.now.files.items))
         (map (λ file. file.now) question.now.files.items)
         (W.contents writer.old) (W.contents writer.new) status) }
@@ -161,6 +172,6 @@ where
 {
     let files = question.files.as_slice();
     answer_each(rt, writer, files, false, |file| {
-        count_file(rt, file, question.most, progress)
+        count_file(rt, file, question.frames, question.most, progress)
     })
 }

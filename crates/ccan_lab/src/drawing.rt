@@ -2,7 +2,7 @@
 ghost use Rattle.ccan_line.specs.Script.{fields_of};
 ghost use Rattle.ccan_lab.specs.Telling.{CanBeTold};
 
-use crate::command_words::{command, file, number, with};
+use crate::command_words::{command, file, number, switch, with};
 use crate::explaining::print_text;
 use crate::history_form::HistoryForm;
 use crate::input::script_asked;
@@ -30,6 +30,8 @@ pub struct DrawQuestion<'a> {
     /// How many states the search keeps at most, and how many nodes the words of the outcomes have, if one is asked. If the script
     /// needs more, nothing is drawn.
     pub most: usize,
+    /// Whether the outcome is one of those that are told apart by the frames that won the bus.
+    pub frames: bool,
     /// The file of the script: `None` or `-` means standard input.
     pub file: Option<&'a str>,
 }
@@ -46,6 +48,12 @@ fn most_option<'a>(alloc: Global) -> Result<Arg<'a>, AllocError> {
     number(alloc, "most", help).requires_arg("outcome")
 }
 
+/// The flag that asks for the outcomes with frames, where an outcome is asked.
+fn frames_option<'a>(alloc: Global) -> Result<Arg<'a>, AllocError> {
+    let help = "Number the outcomes as outcomes --all --frames does";
+    switch(alloc, "frames", help).requires_arg("outcome")
+}
+
 /// The command that draws a run.
 pub fn draw_command<'a>(alloc: Global) -> Result<Command<'a>, AllocError> {
     let drawn = command(
@@ -55,6 +63,7 @@ pub fn draw_command<'a>(alloc: Global) -> Result<Command<'a>, AllocError> {
     );
     let drawn = with(drawn, outcome_option(alloc))?;
     let drawn = with(drawn, most_option(alloc)?)?;
+    let drawn = with(drawn, frames_option(alloc)?)?;
     with(
         drawn,
         file(alloc, "FILE", "The script; left out or -: standard input"),
@@ -66,6 +75,7 @@ pub fn draw_question<'a>(words: &ArgMatches<'a>) -> DrawQuestion<'a> {
     DrawQuestion {
         outcome: words.get_one::<usize>("outcome"),
         most: words.get_one::<usize>("most").unwrap_or(DEFAULT_MOST),
+        frames: words.get_flag("frames"),
         file: words.get_str("file"),
     }
 }
@@ -117,10 +127,11 @@ fn outcome_drawn<P: Progress>(
     alloc: Global,
     script: &Script,
     number: usize,
+    frames: bool,
     most: usize,
     progress: &P,
 ) -> Result<Picture, LabError> {
-    let list = list_of(alloc, script, most, progress)?;
+    let list = list_of(alloc, script, frames, most, progress)?;
     listed_drawn(alloc, script, list, number, most, progress)
 }
 
@@ -140,7 +151,14 @@ fn drawn<P: Progress>(
     match question.outcome {
         Some(number) => {
             let once = looking_once(alloc, script)?;
-            outcome_drawn(alloc, &once, number, question.most, progress)
+            outcome_drawn(
+                alloc,
+                &once,
+                number,
+                question.frames,
+                question.most,
+                progress,
+            )
         }
         None => Ok(run_drawn(alloc, &script)?),
     }

@@ -7,7 +7,7 @@ ghost use Rattle.ccan_script.specs.FlagName.{flag_name};
 ghost use Rattle.ccan_script.specs.Print.{line_text};
 ghost use Rattle.ccan_script.specs.PrintedLine.{verb_text};
 ghost use Rattle.ccan_lab.specs.Forms.{begins, flags_form, host_begins, interrupt_begins, is_between};
-ghost use Rattle.ccan_lab.specs.Forms.{is_decimal, is_hexadecimal, is_marked, is_of_counters, shown_form};
+ghost use Rattle.ccan_lab.specs.Forms.{is_capital, is_decimal, is_hexadecimal, is_marked, is_of_counters, shown_form};
 ghost use Rattle.ccan_lab.specs.Forms.{stands_for, transfer_begins, until_begins, word_form};
 
 use crate::history::port_word;
@@ -39,6 +39,13 @@ fn is_hexadecimal(byte: u8) -> bool
     is_decimal(byte) || is_between(b'a', b'f', byte)
 }
 
+/// Whether it is a hexadecimal digit of a frame, in upper case.
+fn is_capital(byte: u8) -> bool
+    ensures { result ≡ is_capital byte }
+{
+    is_decimal(byte) || is_between(b'A', b'F', byte)
+}
+
 /// Whether it may come behind `bus counters`: in a number, in the state of a node, between them, or at the end of the line.
 fn is_of_counters(byte: u8) -> bool
     ensures { result ≡ is_of_counters byte }
@@ -53,6 +60,8 @@ fn stands_for(mark: u8, byte: u8) -> bool
     match mark {
         b'#' => is_hexadecimal(byte),
         b'~' => is_of_counters(byte),
+        b'^' => is_capital(byte),
+        b'=' => byte == b'#',
         _ => mark == byte,
     }
 }

@@ -1,17 +1,19 @@
 //! The search for the first outcome that has some lines, along the graph of the words of all outcomes: no outcome is listed for it.
-ghost use Rattle.std.specs.Prelude.{◌≡◌, ◌<◌, ◌≤◌, ◌-◌, ◌^◌, [], IfOk, IfSome, get_or, length};
+ghost use Rattle.std.specs.Prelude.{◌≡◌, ◌<◌, ◌≤◌, ◌-◌, ◌^◌, [], IfOk, IfSome, get_or, length, map, string_bytes};
 ghost use Rattle.std.specs.List.{enumerate_from, list_any, range_with_len};
 ghost use Rattle.ccan_line.specs.declared.line_answer.LineAnswer.TheVariants.{Init};
+ghost use Rattle.ccan_process.specs.LineEnd.{unframed};
 ghost use Rattle.ccan_outcomes.specs.OutcomeWords.{AreOfLines, endings_in};
 ghost use Rattle.ccan_lab.specs.Answer.{first_with};
 ghost use Rattle.ccan_lab.specs.LineSigns.{lines_of_letter, port_at};
-ghost use Rattle.ccan_lab.specs.Rows.{begins_so, final_row, final_rows, has_line};
+ghost use Rattle.ccan_lab.specs.Rows.{begins_so, final_row, final_rows, has_line, told_frame};
 ghost use Rattle.ccan_lab.specs.Sorted.{texts_of};
 
-use crate::rows::{MAX_OBJECTS, begins_so, final_row, first_records};
+use crate::rows::{MAX_OBJECTS, begins_so, final_row, first_records, told_frame};
 use ccan_language::{Letter, Signs};
 use ccan_object::{ObjectNo, Record};
 use ccan_outcomes::OutcomeWords;
+use ccan_process::LineEnd;
 use ccan_ram::PortName;
 use ccan_script::{LineAnswer, print_line};
 use std::alloc::{AllocError, Global};
@@ -23,6 +25,9 @@ struct LineSigns<'a> {
     words: &'a OutcomeWords,
     /// The beginnings.
     begins: &'a [&'a str],
+    /// The line of the frame of each end, by its number.
+    frames: &'a [String],
+    ghost frames_are: { map string_bytes frames.now ≡ map told_frame words.now.numbers.answers.keys },
 }
 
 /// The port to whose line the letter at this place is an answer. Behind the lines it is what the objects are at the end.
@@ -40,13 +45,39 @@ fn port_at(words: &OutcomeWords, place: usize) -> Option<PortName>
     }
 }
 
-/// The answer with this number.
-fn answer_named(words: &OutcomeWords, number: usize) -> LineAnswer
-    ensures { result ≡ get_or words.now.numbers.answers.keys number Init }
+/// The end of a line with this number.
+fn end_named(words: &OutcomeWords, number: usize) -> LineEnd
+    ensures { result ≡ get_or words.now.numbers.answers.keys number (unframed Init) }
 {
     match words.numbers.answers.get_index(number) {
-        Some(answer) => answer.get(),
-        None => LineAnswer::Init,
+        Some(end) => end.get(),
+        None => LineEnd::unframed(LineAnswer::Init),
+    }
+}
+
+/// The line of the frame of each end, by its number, empty if it has none.
+fn told_frames(alloc: Global, words: &OutcomeWords) -> Result<Vec<String>, AllocError>
+    ensures { IfOk result (λ frames. map string_bytes frames.items
+        ≡ map told_frame words.now.numbers.answers.keys) }
+{
+    let mut frames = Vec::new(alloc);
+    for end in words.numbers.answers.as_slice() {
+        frames.push(told_frame(alloc, &end.get())?)?;
+    }
+    Ok(frames)
+}
+
+/// Whether the line of the frame of the end with this number begins so, by those of all ends.
+fn frame_begins(words: &OutcomeWords, frames: &[String], number: usize, begin: &str) -> bool
+    requires { map string_bytes frames.now ≡ map told_frame words.now.numbers.answers.keys }
+    ensures { result ≡ begins_so begin.now
+        (told_frame (get_or words.now.numbers.answers.keys number (unframed Init))) }
+{
+    // What has no number has no frame; the proof reads here how many there are.
+    let _ends = words.numbers.answers.as_slice();
+    match frames.get(number) {
+        Some(frame) => begins_so(frame.as_str(), begin),
+        None => false,
     }
 }
 
@@ -82,15 +113,16 @@ fn finals_have_line(records: &[Record], begin: &str) -> bool
     any_final_begins(first_records(records), begin)
 }
 
-/// Whether a printed line of the letter begins so.
-#[tactic(auto, unfolding(crate::specs::Rows::has_line))]
-fn letter_has_line(words: &OutcomeWords, letter: Letter, begin: &str) -> bool
+/// Whether a printed line of the letter begins so, by the lines of the frames of all ends.
+fn letter_has_line(words: &OutcomeWords, frames: &[String], letter: Letter, begin: &str) -> bool
+    requires { map string_bytes frames.now ≡ map told_frame words.now.numbers.answers.keys }
     ensures { result ≡ has_line begin.now (lines_of_letter words.now letter) }
 {
     match port_at(words, letter.place) {
         Some(port) => {
-            let answer = answer_named(words, letter.answer);
-            begins_so(print_line(port, &answer).as_str(), begin)
+            let end = end_named(words, letter.answer);
+            begins_so(print_line(port, &end.answer).as_str(), begin)
+                || frame_begins(words, frames, letter.answer, begin)
         }
         None => finals_have_line(records_named(words, letter.answer), begin),
     }
@@ -104,7 +136,7 @@ impl<'a> Signs for LineSigns<'a> {
 
     fn is_borne(&self, letter: Letter, sign: usize) -> bool {
         match self.begins.get(sign) {
-            Some(begin) => letter_has_line(self.words, letter, begin),
+            Some(begin) => letter_has_line(self.words, self.frames, letter, begin),
             None => false,
         }
     }
@@ -133,6 +165,12 @@ pub fn first_with(
     ensures few { IfOk result (λ found. IfSome found (λ number. number < 2 ^ 64 - 1)) }
 {
     let sought = first_numbers(alloc, begins.len())?;
-    let signs = LineSigns { words, begins };
+    let frames = told_frames(alloc, words)?;
+    let frames = frames.as_slice();
+    let signs = LineSigns {
+        words,
+        begins,
+        frames,
+    };
     ccan_language::first_with(&words.graph, alloc, words.start, &signs, sought.as_slice())
 }

@@ -5,17 +5,19 @@ mod columns;
 use crate::history::{add_line_name, add_object, kind_text};
 use crate::moved::winner_at;
 use crate::outcome_rows::columns::columns_of;
+use crate::rows::push_row;
 use ccan_accept::Frame;
 use ccan_draw::layout::WORDS_GLYPHS;
 use ccan_draw::wrapping::wrapped;
 use ccan_draw::{Picture, Row};
 use ccan_outcomes::{Ending, History, HistoryKind, HistoryStep};
+use ccan_process::LineEnd;
 use ccan_ram::PortName;
-use ccan_script::{LineAnswer, Script, print_line};
+use ccan_script::Script;
 use std::alloc::{AllocError, Global};
 
-/// The answers of a port in an outcome.
-pub(crate) fn answers_of(ending: &Ending, port: PortName) -> &[LineAnswer] {
+/// How the lines of a port ended in an outcome.
+pub(crate) fn ends_of(ending: &Ending, port: PortName) -> &[LineEnd] {
     match port {
         PortName::If1 => ending.if1.as_slice(),
         PortName::If2 => ending.if2.as_slice(),
@@ -24,26 +26,26 @@ pub(crate) fn answers_of(ending: &Ending, port: PortName) -> &[LineAnswer] {
 }
 
 /// The line of a port's next step among these, from 1; where it has none, the number behind that of its last line.
-pub(crate) fn next_line(steps: &[HistoryStep], port: PortName, answers: &[LineAnswer]) -> usize {
+pub(crate) fn next_line(steps: &[HistoryStep], port: PortName, ends: &[LineEnd]) -> usize {
     for step in steps {
         if step.port == port {
             return step.line;
         }
     }
-    answers.len().saturating_add(1)
+    ends.len().saturating_add(1)
 }
 
-/// Adds the answers to the lines of a port from a line of this number, from 1, up to another, a line each.
-pub(crate) fn add_answers(
+/// Adds how the lines of a port ended, from a line of this number, from 1, up to another: a line each, and one for a told frame.
+pub(crate) fn add_ended_lines(
     text: &mut String,
     port: PortName,
-    answers: &[LineAnswer],
+    ends: &[LineEnd],
     from: usize,
     to: usize,
 ) -> Result<(), AllocError> {
     let count = to.saturating_sub(from);
-    for answer in answers.iter().skip(from.saturating_sub(1)).take(count) {
-        text.push_str(print_line(port, answer).as_str())?;
+    for end in ends.iter().skip(from.saturating_sub(1)).take(count) {
+        push_row(text, port, end)?;
     }
     Ok(())
 }
@@ -128,9 +130,9 @@ fn words_of(
     text.push_str(" ")?;
     add_deed(&mut text, run)?;
     text.push_str("\n")?;
-    let answers = answers_of(ending, port);
-    let to = next_line(later, port, answers);
-    add_answers(&mut text, port, answers, run.last.line, to)?;
+    let ends = ends_of(ending, port);
+    let to = next_line(later, port, ends);
+    add_ended_lines(&mut text, port, ends, run.last.line, to)?;
     Ok(text)
 }
 
@@ -173,15 +175,9 @@ fn opening_row(
     ending: &Ending,
     port: PortName,
 ) -> Result<Option<Row>, AllocError> {
-    let answers = answers_of(ending, port);
+    let ends = ends_of(ending, port);
     let mut words = String::new(alloc);
-    add_answers(
-        &mut words,
-        port,
-        answers,
-        1,
-        next_line(steps, port, answers),
-    )?;
+    add_ended_lines(&mut words, port, ends, 1, next_line(steps, port, ends))?;
     if words.is_empty() {
         return Ok(None);
     }
@@ -231,7 +227,7 @@ fn add_rows(
 }
 
 /// How many steps there are up to each row: none up to a row before the first step.
-fn ends_of(alloc: Global, openings: usize, runs: &[Run]) -> Result<Vec<usize>, AllocError> {
+fn row_ends(alloc: Global, openings: usize, runs: &[Run]) -> Result<Vec<usize>, AllocError> {
     let mut ends = Vec::new(alloc);
     for _ in 0..openings {
         ends.push(0)?;
@@ -253,7 +249,7 @@ pub fn picture_of_history(
     let states = history.states.as_slice();
     let runs = runs_of(alloc, steps)?;
     let mut rows = opening_rows(alloc, steps, ending)?;
-    let ends = ends_of(alloc, rows.len(), runs.as_slice())?;
+    let ends = row_ends(alloc, rows.len(), runs.as_slice())?;
     add_rows(alloc, &mut rows, script, history, runs.as_slice(), ending)?;
     Ok(Picture {
         rows,

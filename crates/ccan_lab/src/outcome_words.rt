@@ -2,7 +2,7 @@
 ghost use Rattle.std.specs.Prelude.{◌≡◌, IfErr, IfOk};
 ghost use Rattle.std.specs.List.{IsDistinct};
 ghost use Rattle.ccan_line.specs.Script.{fields_of};
-ghost use Rattle.ccan_outcomes.specs.Ending.{AreOfRuns, AreOutcomes};
+ghost use Rattle.ccan_outcomes.specs.Ending.{AreAllEnds, AreOfRuns, AreOutcomes};
 ghost use Rattle.ccan_outcomes.specs.OutcomeWords.{AreComplete, AreOfLines, endings_in};
 ghost use Rattle.ccan_lab.specs.Telling.{CanBeTold};
 ghost use Rattle.ccan_lab.specs.Words.{HasNoWords};
@@ -23,10 +23,11 @@ pub struct OutcomeList {
     pub graph: AnswerGraph,
 }
 
-/// All outcomes of a script, if their search comes to no more states than `most`, and they need no more nodes.
+/// All outcomes of a script, with the frames that won the bus or without, if their search comes to no more states than `most`, and they need no more nodes.
 pub fn list_of<P: Progress>(
     alloc: Global,
     script: &Script,
+    frames: bool,
     most: usize,
     progress: &P,
 ) -> Result<OutcomeList, LabError>
@@ -34,26 +35,32 @@ pub fn list_of<P: Progress>(
         AreOutcomes (fields_of script.now) (endings_in list.words)) }
     ensures distinct { IfOk result (λ list.
         IsDistinct ⟦<Ending as PartialEq>⟧.eq (endings_in list.words)) }
+    ensures ends { IfOk result (λ list.
+        AreAllEnds frames (fields_of script.now) (endings_in list.words)) }
+    ensures frames { IfOk result (λ list. list.words.numbers.frames ≡ frames) }
     ensures told { IfOk result (CanBeTold (fields_of script.now)) }
     ensures without { IfErr result
-        (HasNoWords (fields_of script.now) ⟦<AllPorts as PartialEq>⟧.eq most) }
+        (HasNoWords frames (fields_of script.now) ⟦<AllPorts as PartialEq>⟧.eq most) }
 {
     let Some(graph) = answer_graph(alloc, script, most, progress)? else {
         return Err(LabError::More(most));
     };
-    match words_of_graph(alloc, script, &graph, most)? {
+    match words_of_graph(alloc, script, &graph, frames, most)? {
         Some(words) => Ok(OutcomeList { words, graph }),
         None => Err(LabError::Nodes(most)),
     }
 }
 
-/// The outcomes of a script as words, for what is answered without a history.
+/// The outcomes of a script as words, with the frames that won the bus or without, for what is answered without a history.
 pub fn words_of<P: Progress>(
     alloc: Global,
     script: &Script,
+    frames: bool,
     most: usize,
     progress: &P,
 ) -> Result<OutcomeWords, LabError>
+    ensures ends { IfOk result (λ words.
+        AreAllEnds frames (fields_of script.now) (endings_in words)) }
     ensures all { IfOk result (λ words. AreOutcomes (fields_of script.now) (endings_in words)) }
     ensures runs { IfOk result (λ words. AreOfRuns (fields_of script.now) (endings_in words)) }
     ensures distinct { IfOk result (λ words.
@@ -62,9 +69,9 @@ pub fn words_of<P: Progress>(
         AreComplete (fields_of script.now) (endings_in words)) }
     ensures letters { IfOk result AreOfLines }
     ensures without { IfErr result
-        (HasNoWords (fields_of script.now) ⟦<AllPorts as PartialEq>⟧.eq most) }
+        (HasNoWords frames (fields_of script.now) ⟦<AllPorts as PartialEq>⟧.eq most) }
 {
-    let OutcomeList { words, graph: _ } = list_of(alloc, script, most, progress)?;
+    let OutcomeList { words, graph: _ } = list_of(alloc, script, frames, most, progress)?;
     Ok(words)
 }
 

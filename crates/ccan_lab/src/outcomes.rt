@@ -2,7 +2,7 @@
 
 ghost use Rattle.std.specs.Prelude.{◌≡◌, ◌↔◌, IfErr, IfOk, IsTrue, codes, length, map, option_map, string_bytes, true};
 ghost use Rattle.clap.specs.Words.{first_value, found_of, matched_of, one_text, raw_values};
-ghost use Rattle.std.specs.List.{IsDistinct};
+ghost use Rattle.std.specs.List.{IsDistinct, list_any};
 ghost use Rattle.ccan_line.specs.Script.{fields_of};
 ghost use Rattle.ccan_outcomes.specs.Ending.{AreOutcomes};
 ghost use Rattle.ccan_outcomes.specs.OutcomeWords.{endings_in};
@@ -15,7 +15,7 @@ ghost use Rattle.ccan_lab.specs.Outcomes.{Answers, IsOfAll, TellsAll};
 ghost use Rattle.ccan_lab.specs.Telling.{CanBeTold};
 ghost use Rattle.ccan_lab.specs.Question.{AreKnown, AreKnownNames, AsksAllBy, AsksBy, IsFormBy, IsGivenBy};
 ghost use Rattle.ccan_lab.specs.Observed.{names_in};
-ghost use Rattle.ccan_lab.specs.Question.{files_named, lines_given};
+ghost use Rattle.ccan_lab.specs.Question.{AsksFramesBy, asks_frame, begins_with_c, files_named, is_of_frame, lines_given};
 ghost use Rattle.ccan_lab.specs.Seen.{HasNoSeenList, TellsSeen};
 ghost use Rattle.ccan_lab.specs.Sorted.{texts_of};
 ghost use Rattle.ccan_lab.specs.Summary.{TellsSummary};
@@ -69,6 +69,8 @@ pub struct OutcomesQuestion<'a> {
     pub lines: Vec<&'a str>,
     /// How histories are written.
     pub form: HistoryForm,
+    /// Whether outcomes are told apart by the frames that won the bus, and show them.
+    pub frames: bool,
 }
 
 /// The option that a number of states is given by.
@@ -124,6 +126,13 @@ fn brief_flag<'a>(alloc: Global) -> Arg<'a> {
     switch(alloc, "brief", help)
 }
 
+/// The flag that asks for frames.
+pub fn frames_flag<'a>(alloc: Global) -> Arg<'a> {
+    let help =
+        "Tell outcomes apart by the frames that won the bus too, and show each below the line of its round";
+    switch(alloc, "frames", help)
+}
+
 /// The command, which takes what chooses outcomes.
 fn choosing<'a>(alloc: Global, command: Command<'a>) -> Result<Command<'a>, AllocError> {
     let chosen = with(command, all_flag(alloc)?)?;
@@ -131,7 +140,8 @@ fn choosing<'a>(alloc: Global, command: Command<'a>) -> Result<Command<'a>, Allo
     let chosen = with(chosen, observe_option(alloc)?)?;
     let chosen = with(chosen, can_option(alloc)?)?;
     let chosen = with(chosen, never_option(alloc))?;
-    with(chosen, brief_flag(alloc))
+    let chosen = with(chosen, brief_flag(alloc))?;
+    with(chosen, frames_flag(alloc))
 }
 
 /// The command that asks about outcomes.
@@ -221,6 +231,59 @@ fn form_of(words: &ArgMatches<'_>) -> HistoryForm
     }
 }
 
+/// Whether a byte is of no printed line but that of a frame.
+#[tactic(auto, unfolding(crate::specs::Question::is_of_frame))]
+fn is_of_frame(byte: u8) -> bool
+    ensures { result ≡ is_of_frame byte }
+{
+    byte == b'#' || (b'A' <= byte && byte <= b'Z')
+}
+
+/// Whether it begins with `c`.
+#[tactic(auto, unfolding(crate::specs::Question::begins_with_c))]
+fn begins_with_c(line: &[u8]) -> bool
+    ensures { result ≡ begins_with_c line.now }
+{
+    match line.split_first() {
+        Some((byte, _)) => *byte == b'c',
+        None => false,
+    }
+}
+
+/// Whether one of these bytes is of no printed line but that of a frame.
+fn any_of_frame(line: &[u8]) -> bool
+    ensures { result ≡ list_any is_of_frame line.now }
+{
+    line.iter().any(|byte| is_of_frame(*byte))
+}
+
+/// Whether a LINE asks for a frame.
+#[tactic(auto, unfolding(crate::specs::Question::asks_frame))]
+fn asks_frame(line: &str) -> bool
+    ensures { result ≡ asks_frame line.now }
+{
+    let bytes = line.as_bytes();
+    begins_with_c(bytes) || any_of_frame(bytes)
+}
+
+/// Whether one of these LINEs asks for a frame.
+fn any_asks_frame(lines: &[&str]) -> bool
+    ensures { result ≡ list_any (λ line. asks_frame line.now) lines.now }
+{
+    lines.iter().any(|line| asks_frame(line))
+}
+
+/// Whether frames are told, by the words of that command and its LINEs.
+fn frames_of(words: &ArgMatches<'_>, lines: &[&str]) -> bool
+    ensures { AsksFramesBy (one_text (found_of words.now) (codes "frames")) lines.now result }
+{
+    if words.get_flag("frames") {
+        true
+    } else {
+        any_asks_frame(lines)
+    }
+}
+
 /// How many states are kept at most, and nodes: as it is given, or the default.
 pub fn most_of(words: &ArgMatches<'_>) -> usize
     ensures { IsGivenBy (one_text (found_of words.now) (codes "most")) result }
@@ -253,15 +316,20 @@ pub fn outcomes_question<'a>(
         → AsksBy (option_map raw_values (matched_of (found_of words.entry.now) (codes "can")))
         (option_map raw_values (matched_of (found_of words.entry.now) (codes "never")))
         (first_value (found_of words.entry.now) (codes "observe")) question.asked) }
+    ensures frames { IfOk result (λ question.
+        AsksFramesBy (one_text (found_of words.entry.now) (codes "frames"))
+        question.lines.items question.frames) }
     ensures lines { IfOk result (λ question. texts_of question.lines.items ≡ lines_given
         (option_map raw_values (matched_of (found_of words.entry.now) (codes "can")))
         (option_map raw_values (matched_of (found_of words.entry.now) (codes "never")))) }
 {
+    let lines = lines_of(alloc, words)?;
     Ok(OutcomesQuestion {
         most: most_of(words),
         files: files_named(alloc, words)?,
         asked: asked_of(words),
-        lines: lines_of(alloc, words)?,
+        frames: frames_of(words, lines.as_slice()),
+        lines,
         form: form_of(words),
     })
 }
@@ -323,17 +391,18 @@ fn answer_of_all<P: Progress>(
     script: &Script,
     asked: Asked<'_>,
     form: HistoryForm,
+    frames: bool,
     most: usize,
     progress: &P,
 ) -> Result<Answer, LabError>
     requires { IsOfAll asked }
-    ensures told { IfOk result (λ answer. TellsAll form (fields_of script.now)
+    ensures told { IfOk result (λ answer. TellsAll frames form (fields_of script.now)
         ⟦<Ending as PartialEq>⟧.eq asked.entry (string_bytes answer.text)) }
     ensures holds { IfOk result (λ answer. answer.holds ≡ true) }
     ensures without { IfErr result
-        (IsWithout (fields_of script.now) ⟦<AllPorts as PartialEq>⟧.eq most) }
+        (IsWithout frames (fields_of script.now) ⟦<AllPorts as PartialEq>⟧.eq most) }
 {
-    let list = list_of(alloc, script, most, progress)?;
+    let list = list_of(alloc, script, frames, most, progress)?;
     let text = text_of_list(alloc, script, list, asked, form, most, progress)?;
     Ok(Answer { text, holds: true })
 }
@@ -342,16 +411,17 @@ fn answer_of_all<P: Progress>(
 fn answer_of_summary<P: Progress>(
     alloc: Global,
     script: &Script,
+    frames: bool,
     most: usize,
     progress: &P,
 ) -> Result<Answer, LabError>
-    ensures told { IfOk result (λ answer. TellsSummary (fields_of script.now)
+    ensures told { IfOk result (λ answer. TellsSummary frames (fields_of script.now)
         ⟦<Ending as PartialEq>⟧.eq (string_bytes answer.text)) }
     ensures holds { IfOk result (λ answer. answer.holds ≡ true) }
     ensures without { IfErr result
-        (HasNoWords (fields_of script.now) ⟦<AllPorts as PartialEq>⟧.eq most) }
+        (HasNoWords frames (fields_of script.now) ⟦<AllPorts as PartialEq>⟧.eq most) }
 {
-    let words = words_of(alloc, script, most, progress)?;
+    let words = words_of(alloc, script, frames, most, progress)?;
     let text = short_list(alloc, script, words)?;
     Ok(Answer { text, holds: true })
 }
@@ -369,10 +439,12 @@ fn answer_by_line<P: Progress>(
         (endings_in telling.now.list.now.words) }
     requires distinct { IsDistinct ⟦<Ending as PartialEq>⟧.eq
         (endings_in telling.now.list.now.words) }
-    ensures told { IfOk result (λ answer. TellsLine telling.now.form
+    ensures told { IfOk result (λ answer. TellsLine telling.now.list.now.words.numbers.frames
+        telling.now.form
         (fields_of telling.now.script.now) ⟦<Ending as PartialEq>⟧.eq (texts_of begins.now) never
         (string_bytes answer.text) answer.holds) }
-    ensures without { IfErr result (IsUnanswered (fields_of telling.now.script.now)
+    ensures without { IfErr result (IsUnanswered
+        telling.now.list.now.words.numbers.frames (fields_of telling.now.script.now)
         (texts_of begins.now) ⟦<AllPorts as PartialEq>⟧.eq telling.now.most) }
 {
     match search_among(alloc, telling.script, &telling.list.words, begins)? {
@@ -402,10 +474,10 @@ fn answer_of_list<P: Progress>(
     requires can { CanBeTold (fields_of script.now) list }
     requires all { AreOutcomes (fields_of script.now) (endings_in list.words) }
     requires distinct { IsDistinct ⟦<Ending as PartialEq>⟧.eq (endings_in list.words) }
-    ensures told { IfOk result (λ answer. TellsLine form (fields_of script.now)
+    ensures told { IfOk result (λ answer. TellsLine list.words.numbers.frames form (fields_of script.now)
         ⟦<Ending as PartialEq>⟧.eq (texts_of begins.now) never
         (string_bytes answer.text) answer.holds) }
-    ensures without { IfErr result (IsUnanswered (fields_of script.now) (texts_of begins.now)
+    ensures without { IfErr result (IsUnanswered list.words.numbers.frames (fields_of script.now) (texts_of begins.now)
         ⟦<AllPorts as PartialEq>⟧.eq most) }
 {
     let telling = Telling {
@@ -426,16 +498,17 @@ fn answer_of_line<P: Progress>(
     begins: &[&str],
     never: bool,
     form: HistoryForm,
+    frames: bool,
     most: usize,
     progress: &P,
 ) -> Result<Answer, LabError>
-    ensures told { IfOk result (λ answer. TellsLine form (fields_of script.now)
+    ensures told { IfOk result (λ answer. TellsLine frames form (fields_of script.now)
         ⟦<Ending as PartialEq>⟧.eq (texts_of begins.now) never
         (string_bytes answer.text) answer.holds) }
-    ensures without { IfErr result (IsUnanswered (fields_of script.now) (texts_of begins.now)
+    ensures without { IfErr result (IsUnanswered frames (fields_of script.now) (texts_of begins.now)
         ⟦<AllPorts as PartialEq>⟧.eq most) }
 {
-    let list = list_of(alloc, script, most, progress)?;
+    let list = list_of(alloc, script, frames, most, progress)?;
     answer_of_list(alloc, script, list, begins, never, form, most, progress)
 }
 
@@ -446,17 +519,18 @@ fn answer_of_observed<P: Progress>(
     script: &Script,
     names: &str,
     form: HistoryForm,
+    frames: bool,
     most: usize,
     progress: &P,
 ) -> Result<Answer, LabError>
-    ensures told { IfOk result (λ answer. TellsSeen form (names_in names.now) (fields_of script.now)
+    ensures told { IfOk result (λ answer. TellsSeen frames form (names_in names.now) (fields_of script.now)
         ⟦<Ending as PartialEq>⟧.eq (string_bytes answer.text)) }
     ensures holds { IfOk result (λ answer. answer.holds ≡ true) }
     ensures without { IfErr result
-        (HasNoSeenList (names_in names.now) (fields_of script.now)
+        (HasNoSeenList frames (names_in names.now) (fields_of script.now)
         ⟦<AllPorts as PartialEq>⟧.eq most) }
 {
-    let text = seen_text(alloc, script, names, form, most, progress)?;
+    let text = seen_text(alloc, script, names, form, frames, most, progress)?;
     Ok(Answer { text, holds: true })
 }
 
@@ -490,16 +564,19 @@ fn answer_of_script<P: Progress>(
         (AnswersAsked question.now (string_bytes source.now.name) (fields_of script.now)) }
     ensures refused { IfErr result (RefusesAsked question.now (fields_of script.now)) }
 {
-    let (lines, form, most) = (question.lines.as_slice(), question.form, question.most);
+    let (lines, form) = (question.lines.as_slice(), question.form);
+    let (frames, most) = (question.frames, question.most);
     let answer = match question.asked {
-        Asked::Summary => answer_of_summary(alloc, script, most, progress)?,
-        Asked::Can => answer_of_line(alloc, script, lines, false, form, most, progress)?,
-        Asked::Never => answer_of_line(alloc, script, lines, true, form, most, progress)?,
-        Asked::Observed(names) => answer_of_observed(alloc, script, names, form, most, progress)?,
+        Asked::Summary => answer_of_summary(alloc, script, frames, most, progress)?,
+        Asked::Can => answer_of_line(alloc, script, lines, false, form, frames, most, progress)?,
+        Asked::Never => answer_of_line(alloc, script, lines, true, form, frames, most, progress)?,
+        Asked::Observed(names) => answer_of_observed(
+            alloc, script, names, form, frames, most, progress,
+        )?,
         Asked::All | Asked::AllObserved(_) => {
-            answer_of_all(alloc, script, question.asked, form, most, progress)?
+            answer_of_all(alloc, script, question.asked, form, frames, most, progress)?
         }
-        Asked::Json => return answer_of_json(alloc, script, source, most, progress),
+        Asked::Json => return answer_of_json(alloc, script, source, frames, most, progress),
     };
     Ok(file_answer(answer))
 }

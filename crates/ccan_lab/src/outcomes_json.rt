@@ -30,17 +30,18 @@ pub(crate) fn answer_of_json<P: Progress>(
     alloc: Global,
     script: &Script,
     source: &Source,
+    frames: bool,
     most: usize,
     progress: &P,
 ) -> Result<FileAnswer, LabError>
-    ensures told { IfOk result (λ answer. TellsJson (string_bytes source.now.name)
+    ensures told { IfOk result (λ answer. TellsJson frames (string_bytes source.now.name)
         (fields_of script.now) ⟦<Ending as PartialEq>⟧.eq answer.text.items) }
     ensures status { IfOk result (λ answer. answer.status ≡ 0) }
     ensures without { IfErr result
-        (IsWithout (fields_of script.now) ⟦<AllPorts as PartialEq>⟧.eq most) }
+        (IsWithout frames (fields_of script.now) ⟦<AllPorts as PartialEq>⟧.eq most) }
 {
     let empty = empty_page(alloc, source)?;
-    let page = listed_page(alloc, script, usize::MAX, most, empty, progress)?;
+    let page = listed_page(alloc, script, usize::MAX, frames, most, empty, progress)?;
     let text = json_of(alloc, &page)?;
     Ok(FileAnswer { text, status: 0 })
 }

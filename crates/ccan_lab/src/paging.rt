@@ -11,7 +11,7 @@ mod run_steps;
 use crate::command_words::{apart_from, command, file, number, switch, with};
 use crate::input::{bytes_asked, script_in};
 use crate::lab_error::LabError;
-use crate::outcomes::DEFAULT_MOST;
+use crate::outcomes::{DEFAULT_MOST, frames_flag};
 use crate::paging::outcome_pages::outcomes_page;
 use crate::paging::run_steps::run_page;
 use crate::progress_line::ProgressLine;
@@ -49,6 +49,8 @@ pub struct PageQuestion<'a> {
     pub limit: usize,
     /// How many states a search follows at most. If there are more, there is no page.
     pub most: usize,
+    /// Whether outcomes are told apart by the frames that won the bus, and show them.
+    pub frames: bool,
     /// The file of the script: `None` or `-` means standard input.
     pub file: Option<&'a str>,
 }
@@ -56,10 +58,9 @@ pub struct PageQuestion<'a> {
 /// The flag that asks for the run in order.
 fn run_flag<'a>(alloc: Global) -> Result<Arg<'a>, AllocError> {
     let help = "Show the run in the script's order, as where the script has an order";
-    apart_from(
-        apart_from(apart_from(switch(alloc, "run", help), "outcomes")?, "limit")?,
-        "most",
-    )
+    let run = apart_from(switch(alloc, "run", help), "outcomes")?;
+    let run = apart_from(run, "limit")?;
+    apart_from(apart_from(run, "most")?, "frames")
 }
 
 /// The flag that asks for the outcomes.
@@ -79,6 +80,7 @@ pub fn page_command<'a>(alloc: Global) -> Result<Command<'a>, AllocError> {
     let paged = with(paged, limit.default_value("100"))?;
     let most = number(alloc, "most", "How many states and nodes to keep at most");
     let paged = with(paged, most.default_value("1000000"))?;
+    let paged = with(paged, frames_flag(alloc))?;
     with(
         paged,
         file(alloc, "FILE", "The script; left out or -: standard input"),
@@ -112,6 +114,7 @@ pub fn page_question<'a>(alloc: Global, words: &ArgMatches<'a>) -> Result<PageQu
         kind: kind_asked(words),
         limit,
         most: words.get_one::<usize>("most").unwrap_or(DEFAULT_MOST),
+        frames: words.get_flag("frames"),
         file: words.get_str("file"),
     })
 }
@@ -205,7 +208,15 @@ fn paged<'a, P: Progress>(
     if is_run(question.kind, source.text.as_slice()) {
         Ok(run_page(alloc, &script, page)?)
     } else {
-        outcomes_page(alloc, script, question.limit, question.most, page, progress)
+        outcomes_page(
+            alloc,
+            script,
+            question.limit,
+            question.frames,
+            question.most,
+            page,
+            progress,
+        )
     }
 }
 

@@ -91,6 +91,7 @@ pub fn question_asked<'a, S: AsStr>(alloc: Global, words: &'a [S]) -> Result<Que
             asked: Asked::Summary,
             lines: Vec::new(alloc),
             form: HistoryForm::EachStep,
+            frames: false,
         }));
     };
     Ok(Question::Outcomes(outcomes_question(alloc, words)?))

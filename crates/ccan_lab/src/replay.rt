@@ -4,15 +4,17 @@ ghost use Rattle.ccan_ram.specs.History.{leaves};
 ghost use Rattle.ccan_ram.specs.declared.event.Event.{Event};
 ghost use Rattle.ccan_line.specs.Order.{times};
 ghost use Rattle.ccan_line.specs.Script.{fields_of};
-ghost use Rattle.ccan_explain.specs.Told.{answers_of};
-ghost use Rattle.ccan_lab.specs.Replay.{Replays, answers_at};
+ghost use Rattle.ccan_lab.specs.Replay.{Replays, end_of, ends_at, won};
 
+use ccan_accept::Frame;
+use ccan_bus::RoundReport;
 use ccan_explain::{Step, Told, tell_in};
 use ccan_object::{ObjectNo, Profile, Record};
 use ccan_outcomes::row::Row;
 use ccan_outcomes::{Ending, HistoryStep};
+use ccan_process::LineEnd;
 use ccan_ram::{Access, Array, PortName};
-use ccan_script::{LineAnswer, Script, times};
+use ccan_script::{Script, times};
 use std::alloc::{AllocError, Global};
 
 /// Names a port until it is named so often.
@@ -64,18 +66,42 @@ fn is_order(script: &Script, order: &[PortName]) -> bool
         && times(order, PortName::Bus) == script.bus.len()
 }
 
-/// The answers to the lines of one port.
-#[tactic(auto, unfolding(crate::specs::Replay::answers_at))]
-fn answers_at(alloc: Global, steps: &[Step], port: PortName) -> Result<Row<LineAnswer>, AllocError>
-    ensures { IfOk result (λ answers. answers ≡ answers_at port (answers_of steps.now)) }
+/// The frame that won the bus, by the report of a round.
+fn won(report: &Option<RoundReport>) -> Option<Frame>
+    ensures { result ≡ won report.now }
 {
-    let mut answers = Vec::new(alloc);
+    let decision = report.as_ref()?.decision?;
+    let (_, frame) = decision.winner()?;
+    Some(frame)
+}
+
+/// How the line of a step ended.
+fn end_of(step: &Step) -> LineEnd
+    ensures { result ≡ end_of step.now }
+{
+    LineEnd {
+        answer: step.answer,
+        frame: won(&step.report),
+    }
+}
+
+/// How the lines of one port ended, as it is told.
+#[tactic(auto, unfolding(crate::specs::Replay::ends_at))]
+fn ends_at(
+    alloc: Global,
+    frames: bool,
+    steps: &[Step],
+    port: PortName,
+) -> Result<Row<LineEnd>, AllocError>
+    ensures { IfOk result (λ ends. ends ≡ ends_at frames port steps.now) }
+{
+    let mut ends = Vec::new(alloc);
     for step in steps {
         if port.index() == step.port.index() {
-            answers.push(step.answer)?;
+            ends.push(end_of(step).told(frames))?;
         }
     }
-    Row::from_vec(alloc, answers)
+    Row::from_vec(alloc, ends)
 }
 
 /// The records in a memory of this profile, that of object 1 first.
@@ -96,31 +122,38 @@ fn records_in(alloc: Global, ram: &Array, profile: Profile) -> Result<Row<Record
 }
 
 /// What is shown of a run over a memory of this profile.
-fn ending_of(alloc: Global, told: &Told, profile: Profile) -> Result<Ending, AllocError>
+fn ending_of(
+    alloc: Global,
+    frames: bool,
+    told: &Told,
+    profile: Profile,
+) -> Result<Ending, AllocError>
     requires { (⟦<Array as Access>⟧.passes told.now.ram).terms.profile ≡ profile }
     ensures if1 { IfOk result (λ ending.
-        ending.if1 ≡ answers_at PortName.If1 (answers_of told.now.steps.items)) }
+        ending.if1 ≡ ends_at frames PortName.If1 told.now.steps.items) }
     ensures if2 { IfOk result (λ ending.
-        ending.if2 ≡ answers_at PortName.If2 (answers_of told.now.steps.items)) }
+        ending.if2 ≡ ends_at frames PortName.If2 told.now.steps.items) }
     ensures bus { IfOk result (λ ending.
-        ending.bus ≡ answers_at PortName.Bus (answers_of told.now.steps.items)) }
+        ending.bus ≡ ends_at frames PortName.Bus told.now.steps.items) }
     ensures records { IfOk result (λ ending. (history : List Event)
         → (⟦<Array as Access>⟧.passes told.now.ram).has_seen history
         → ending.records ≡ leaves profile history) }
 {
     let steps = told.steps.as_slice();
     Ok(Ending {
-        if1: answers_at(alloc, steps, PortName::If1)?,
-        if2: answers_at(alloc, steps, PortName::If2)?,
-        bus: answers_at(alloc, steps, PortName::Bus)?,
+        if1: ends_at(alloc, frames, steps, PortName::If1)?,
+        if2: ends_at(alloc, frames, steps, PortName::If2)?,
+        bus: ends_at(alloc, frames, steps, PortName::Bus)?,
         records: records_in(alloc, &told.ram, profile)?,
     })
 }
 
-/// What is shown of the run of the lines, whole one after another in this order. `None`: it doesn't name each line once.
+/// What is shown of the run of the lines, whole one after another in this order, with the frames that won the bus or without.
+/// `None`: it doesn't name each line once.
 pub fn ending_in(
     alloc: Global,
     script: &Script,
+    frames: bool,
     order: &[PortName],
 ) -> Result<Option<Ending>, AllocError>
     ensures { IfOk result (λ found. IfSome found (λ ending.
@@ -130,31 +163,33 @@ pub fn ending_in(
         return Ok(None);
     }
     let told = tell_in(alloc, script, order)?;
-    Ok(Some(ending_of(alloc, &told, script.profile)?))
+    Ok(Some(ending_of(alloc, frames, &told, script.profile)?))
 }
 
-/// Whether the lines, run whole one after another in this order, have the outcome.
+/// Whether the lines, run whole one after another in this order, have the outcome, as it is told.
 #[tactic(auto, using(crate::proofs::Told::replays_equal))]
 fn leads_to(
     alloc: Global,
     script: &Script,
+    frames: bool,
     order: &[PortName],
     ending: &Ending,
 ) -> Result<bool, AllocError>
     ensures { IfOk result (λ leads. leads ≡ true
         → Replays (fields_of script.now) ending.now order.now) }
 {
-    match ending_in(alloc, script, order)? {
+    match ending_in(alloc, script, frames, order)? {
         Some(shown) => Ok(*ending == shown),
         None => Ok(false),
     }
 }
 
 /// An order of whole lines with which a run of the script has the outcome of this history, where the last steps of the
-/// history's lines are in such an order.
+/// history's lines are in such an order. If the outcome is told with frames, the run has the same.
 pub fn order_to(
     alloc: Global,
     script: &Script,
+    frames: bool,
     ending: &Ending,
     steps: &[HistoryStep],
 ) -> Result<Option<Vec<PortName>>, AllocError>
@@ -162,7 +197,7 @@ pub fn order_to(
         Replays (fields_of script.now) ending.now order.items)) }
 {
     let order = order_of(alloc, script, steps)?;
-    if leads_to(alloc, script, order.as_slice(), ending)? {
+    if leads_to(alloc, script, frames, order.as_slice(), ending)? {
         Ok(Some(order))
     } else {
         Ok(None)

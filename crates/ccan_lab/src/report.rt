@@ -165,7 +165,14 @@ pub fn add_outcome<P: Progress>(
         ⟦<AllPorts as PartialEq>⟧.eq telling.now.most) }
 {
     let history = history_to(alloc, telling, histories, number, ending)?;
-    let order = order_to(alloc, telling.script, ending, history.steps.as_slice())?;
+    let frames = telling.list.words.numbers.frames;
+    let order = order_to(
+        alloc,
+        telling.script,
+        frames,
+        ending,
+        history.steps.as_slice(),
+    )?;
     let told = history_told(alloc, telling.script, telling.form, &history)?;
     add_told_outcome(text, lines, number, told.as_str(), &order)?;
     Ok(())

@@ -77,6 +77,7 @@ fn add_seen_heading(text: &mut String, apart: usize) -> Result<(), AllocError>
 fn shows_lines(
     alloc: Global,
     script: &Script,
+    frames: bool,
     marks: &[bool],
     order: &[PortName],
     lines: &str,
@@ -84,7 +85,7 @@ fn shows_lines(
     ensures { IfOk result (λ shows. shows ≡ true
         → ReplaysShown (fields_of script.now) marks.now lines.now order.now) }
 {
-    match ending_in(alloc, script, order)? {
+    match ending_in(alloc, script, frames, order)? {
         Some(whole) => {
             let rows = rows_of(alloc, &whole)?;
             Ok(observed_lines(alloc, marks, &rows)?.as_str() == lines)
@@ -98,6 +99,7 @@ fn shows_lines(
 fn order_to_lines(
     alloc: Global,
     script: &Script,
+    frames: bool,
     marks: &[bool],
     lines: &str,
     steps: &[HistoryStep],
@@ -106,7 +108,7 @@ fn order_to_lines(
         ReplaysShown (fields_of script.now) marks.now lines.now order.items)) }
 {
     let order = order_of(alloc, script, steps)?;
-    if shows_lines(alloc, script, marks, order.as_slice(), lines)? {
+    if shows_lines(alloc, script, frames, marks, order.as_slice(), lines)? {
         Ok(Some(order))
     } else {
         Ok(None)
@@ -146,7 +148,8 @@ fn add_seen<P: Progress>(
     let word = Vec::from_slice(alloc, shown.words[place].as_slice())?;
     let history = history_by_word(alloc, telling, histories, word, ending)?;
     let steps = history.steps.as_slice();
-    let order = order_to_lines(alloc, telling.script, marks, lines, steps)?;
+    let frames = telling.list.words.numbers.frames;
+    let order = order_to_lines(alloc, telling.script, frames, marks, lines, steps)?;
     let told = history_told(alloc, telling.script, telling.form, &history)?;
     add_told_outcome(text, lines, number, told.as_str(), &order)?;
     Ok(())
@@ -350,16 +353,17 @@ pub fn seen_text<P: Progress>(
     script: &Script,
     names: &str,
     form: HistoryForm,
+    frames: bool,
     most: usize,
     progress: &P,
 ) -> Result<String, LabError>
-    ensures text { IfOk result (λ text. TellsSeen form (names_in names.now) (fields_of script.now)
+    ensures text { IfOk result (λ text. TellsSeen frames form (names_in names.now) (fields_of script.now)
         ⟦<Ending as PartialEq>⟧.eq (string_bytes text)) }
     ensures without { IfErr result
-        (HasNoSeenList (names_in names.now) (fields_of script.now)
+        (HasNoSeenList frames (names_in names.now) (fields_of script.now)
         ⟦<AllPorts as PartialEq>⟧.eq most) }
 {
     let marks = marks_of(alloc, script, names)?;
-    let list = list_of(alloc, script, most, progress)?;
+    let list = list_of(alloc, script, frames, most, progress)?;
     seen_of_list(alloc, script, list, marks.as_slice(), form, most, progress)
 }

@@ -67,7 +67,14 @@ pub fn history_by_word<P: Progress>(
     if let Some(history) = found {
         return Ok(history);
     }
-    match searched_history(alloc, script, ending, telling.most, telling.progress)? {
+    match searched_history(
+        alloc,
+        script,
+        words.numbers.frames,
+        ending,
+        telling.most,
+        telling.progress,
+    )? {
         Some(steps) => Ok(without_states(alloc, steps)),
         None => Err(LabError::More(telling.most)),
     }

@@ -1,3 +1,4 @@
+pub mod LineEnd
 pub mod Process
 pub mod LineProcess
 pub mod ProcessLaws

@@ -12,8 +12,11 @@
 //! Nothing in this crate runs: it has definitions and laws, on which a search for all outcomes stands.
 #![tactic(auto)]
 
+pub mod line_end;
 pub mod line_process_laws;
 pub mod machine_laws;
 pub mod process_laws;
 pub mod undisturbed_laws;
 pub mod wait_laws;
+
+pub use line_end::LineEnd;

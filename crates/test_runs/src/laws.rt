@@ -34,11 +34,12 @@ fn laws_of_outcomes_hold() {
     line_process_laws::bus_lines_are_processes();
     line_process_laws::ports_are_processes();
     same::equal_records_are_the_same();
-    same::equal_answers_are_the_same();
+    same::equal_ends_are_the_same();
     machine_laws::all_outcomes_are_reached();
     machine_laws::walks_are_histories();
     undisturbed_laws::no_end_is_lost();
     wait_laws::waits_look_once();
+    wait_laws::waits_end_alike();
     quiet_laws::hosts_leave_alone();
     quiet_laws::hosts_have_done();
     quiet_laws::bus_leaves_alone();

@@ -1,20 +1,22 @@
 //! The outcomes of scripts in which two hosts race, worked by hand. Lists of outcomes are held to what can come of a script with
 //! the program that prints them.
-ghost use Rattle.std.specs.Prelude.{◌≡◌, Some, slice_get};
+ghost use Rattle.std.specs.Prelude.{◌≡◌, Some, false, slice_get};
 ghost use Rattle.ccan_line.specs.Script.{fields_of};
 ghost use Rattle.ccan_outcomes.specs.AnswerGraph.{IsOfMachine};
-ghost use Rattle.ccan_outcomes.specs.Ending.{AreOfRuns};
+ghost use Rattle.ccan_outcomes.specs.Ending.{AreAllEnds};
 ghost use Rattle.ccan_outcomes.specs.Observed.{AreImages};
 ghost use Rattle.ccan_outcomes.specs.OutcomeWords.{AreOfLines, endings_in};
 
 use crate::expect::{holds, same};
 use crate::runs::read;
+use ccan_accept::Frame;
 use ccan_object::{ObjectNo, Record};
 use ccan_outcomes::all_ports::AllPorts;
 use ccan_outcomes::{
     AnswerGraph, Ending, Histories, HistoryKind, HistoryStep, Observed, OutcomeWords, all_outcomes,
     answer_graph, history_of, searched_history, words_of_graph,
 };
+use ccan_process::LineEnd;
 use ccan_ram::PortName;
 use ccan_script::{LineAnswer, Script};
 use ccan_search::Untold;
@@ -47,6 +49,13 @@ const WRITE_AND_INIT: &str = r#"{
     "bus":[{"op":"init"}]
 }"#;
 
+/// A host writes object 1 whole, with a frame to be sent, and then its data again. The bus has one round.
+const WRITE_BEFORE_A_ROUND: &str = r#"{
+    "if1":[{"op":"transfer","request":"0001","set":{"cmask":"00B2","arb2":"A48C","ctrl":"0182","dataa1":"1111"}},
+           {"op":"transfer","request":"0001","set":{"cmask":"0082","dataa1":"2222"}}],
+    "bus":[{"op":"round"}]
+}"#;
+
 /// Holds a history to four steps, each of line 1 at object 1, of which the last writes.
 fn writes_at_last(rt: &impl Abort, history: &[HistoryStep]) {
     same(rt, history.len(), 4);
@@ -61,12 +70,12 @@ fn writes_at_last(rt: &impl Abort, history: &[HistoryStep]) {
 
 /// How many outcomes a script has. Each has to have such a history.
 fn races(rt: &impl Abort, alloc: Global, script: &Script) -> usize {
-    let Ok(Some(found)) = all_outcomes(alloc, script, 1000, &Untold) else {
+    let Ok(Some(found)) = all_outcomes(alloc, script, false, 1000, &Untold) else {
         panic!(rt; "not all outcomes")
     };
     let endings = found.listing.endings.len();
     for place in 0..endings {
-        let Ok(history) = history_of(alloc, script, &found, place) else {
+        let Ok(history) = history_of(alloc, script, false, &found, place) else {
             panic!(rt; "no memory")
         };
         writes_at_last(rt, history.as_slice());
@@ -126,18 +135,25 @@ fn finds_who_loses_the_only_try(rt: HostRuntime) {
     same(&rt, ends(&rt, rt.alloc(), ONE_TRY), 4);
 }
 
-/// The outcomes of a script as words.
-fn words(rt: &impl Abort, alloc: Global, text: &str) -> OutcomeWords
+/// The outcomes of a script as words, told apart by the frames that won the bus or not.
+fn words_with(rt: &impl Abort, alloc: Global, text: &str, frames: bool) -> OutcomeWords
     ensures { AreOfLines result }
 {
     let script = read(rt, alloc, text);
     match answer_graph(alloc, &script, 1000, &Untold) {
-        Ok(Some(graph)) => match words_of_graph(alloc, &script, &graph, 1000) {
+        Ok(Some(graph)) => match words_of_graph(alloc, &script, &graph, frames, 1000) {
             Ok(Some(words)) => words,
             Ok(None) | Err(_) => panic!(rt; "not all words"),
         },
         Ok(None) | Err(_) => panic!(rt; "not all outcomes"),
     }
+}
+
+/// The outcomes of a script as words.
+fn words(rt: &impl Abort, alloc: Global, text: &str) -> OutcomeWords
+    ensures { AreOfLines result }
+{
+    words_with(rt, alloc, text, false)
 }
 
 /// The outcome with this number.
@@ -158,9 +174,19 @@ fn first_byte(record: &Record) -> u8 {
 /// What the two reads of IF2 show, and what the first object holds at the end, by the first data byte.
 fn read_and_left(rt: &impl Abort, ending: &Ending) -> (u8, u8, u8) {
     match (ending.if2.as_slice(), ending.records.as_slice().first()) {
-        ([LineAnswer::Read(_, first), LineAnswer::Read(_, second)], Some(left)) => {
-            (first_byte(first), first_byte(second), first_byte(left))
-        }
+        (
+            [
+                LineEnd {
+                    answer: LineAnswer::Read(_, first),
+                    ..
+                },
+                LineEnd {
+                    answer: LineAnswer::Read(_, second),
+                    ..
+                },
+            ],
+            Some(left),
+        ) => (first_byte(first), first_byte(second), first_byte(left)),
         _ => panic!(rt; "not two reads"),
     }
 }
@@ -186,8 +212,8 @@ fn says_each_outcome_by_its_number(rt: HostRuntime) {
     holds(&rt, matches!(words.ending(rt.alloc(), 3), Ok(None)));
 }
 
-/// How many answers a line of a port has in the outcomes.
-fn answers(
+/// In how many ways a line of a port ends in the outcomes.
+fn ends_at(
     rt: &impl Abort,
     words: &OutcomeWords,
     alloc: Global,
@@ -196,8 +222,8 @@ fn answers(
 ) -> usize
     requires { AreOfLines words.now }
 {
-    match words.answers_at(alloc, port, line) {
-        Ok(answers) => answers.len(),
+    match words.ends_at(alloc, port, line) {
+        Ok(ends) => ends.len(),
         Err(_) => panic!(rt; "memory"),
     }
 }
@@ -216,12 +242,12 @@ fn memories(rt: &impl Abort, words: &OutcomeWords, alloc: Global) -> usize
 fn says_what_each_line_may_answer(rt: HostRuntime) {
     // IF1 writes once. Each read of IF2 shows what stood before the write, or what it left, and so ends each outcome.
     let words = words(&rt, rt.alloc(), TWO_READS);
-    same(&rt, answers(&rt, &words, rt.alloc(), PortName::If1, 0), 1);
-    same(&rt, answers(&rt, &words, rt.alloc(), PortName::If2, 0), 2);
-    same(&rt, answers(&rt, &words, rt.alloc(), PortName::If2, 1), 2);
+    same(&rt, ends_at(&rt, &words, rt.alloc(), PortName::If1, 0), 1);
+    same(&rt, ends_at(&rt, &words, rt.alloc(), PortName::If2, 0), 2);
+    same(&rt, ends_at(&rt, &words, rt.alloc(), PortName::If2, 1), 2);
     // There are no such lines.
-    same(&rt, answers(&rt, &words, rt.alloc(), PortName::If2, 2), 0);
-    same(&rt, answers(&rt, &words, rt.alloc(), PortName::Bus, 0), 0);
+    same(&rt, ends_at(&rt, &words, rt.alloc(), PortName::If2, 2), 0);
+    same(&rt, ends_at(&rt, &words, rt.alloc(), PortName::Bus, 0), 0);
     same(&rt, memories(&rt, &words, rt.alloc()), 1);
 }
 
@@ -248,7 +274,10 @@ fn says_the_memory_and_what_is_answered_at_once(rt: HostRuntime) {
     let alone = words(&rt, rt.alloc(), WRITE_AND_INIT);
     same(&rt, alone.count(), 1);
     let ending = numbered(&rt, rt.alloc(), &alone, 0);
-    holds(&rt, ending.bus.as_slice() == [LineAnswer::Init].as_slice());
+    holds(
+        &rt,
+        ending.bus.as_slice() == [LineEnd::unframed(LineAnswer::Init)].as_slice(),
+    );
 }
 
 /// What can be told apart of these outcomes by these marks: for IF1's lines, IF2's, the bus's, and then for the objects.
@@ -342,7 +371,7 @@ fn hold_histories(
     words: &OutcomeWords,
 )
     requires machine { IsOfMachine (fields_of script.now) graph.now }
-    requires runs { AreOfRuns (fields_of script.now) (endings_in words.now) }
+    requires ends { AreAllEnds false (fields_of script.now) (endings_in words.now) }
 {
     let mut histories = Histories::new(alloc);
     for number in 0..words.count() {
@@ -358,7 +387,7 @@ fn hold_histories(
             }
             Ok(None) | Err(_) => panic!(rt; "no history along the graph"),
         }
-        match searched_history(alloc, script, &ending, 1000, &Untold) {
+        match searched_history(alloc, script, false, &ending, 1000, &Untold) {
             Ok(Some(history)) => same(rt, history.len(), 4),
             Ok(None) | Err(_) => panic!(rt; "no history"),
         }
@@ -369,7 +398,7 @@ fn hold_histories(
 fn told(rt: &impl Abort, alloc: Global, text: &str) -> u64 {
     let script = read(rt, alloc, text);
     match answer_graph(alloc, &script, 1000, &Untold) {
-        Ok(Some(graph)) => match words_of_graph(alloc, &script, &graph, 1000) {
+        Ok(Some(graph)) => match words_of_graph(alloc, &script, &graph, false, 1000) {
             Ok(Some(words)) => {
                 hold_histories(rt, alloc, &script, &graph, &words);
                 words.count()
@@ -384,4 +413,59 @@ fn told(rt: &impl Abort, alloc: Global, text: &str) -> u64 {
 fn finds_histories_along_the_graph(rt: HostRuntime) {
     // A look and a write of each host.
     same(&rt, told(&rt, rt.alloc(), TWO_WRITES), 2);
+}
+
+/// The first data byte of the frame that won the bus in the round of this outcome, if there was one and it is told.
+fn sent(rt: &impl Abort, alloc: Global, words: &OutcomeWords, number: u64) -> Option<u8> {
+    match numbered(rt, alloc, words, number).bus.as_slice() {
+        [LineEnd { frame, .. }] => frame.map(|frame| frame.bytes()[0]),
+        _ => panic!(rt; "not one round"),
+    }
+}
+
+/// Whether one of so many outcomes has this frame.
+fn is_sent(
+    rt: &impl Abort,
+    alloc: Global,
+    words: &OutcomeWords,
+    count: u64,
+    wanted: Option<u8>,
+) -> bool {
+    for number in 0..count {
+        if sent(rt, alloc, words, number) == wanted {
+            return true;
+        }
+    }
+    false
+}
+
+#[test]
+fn tells_the_frames_that_are_asked_for(rt: HostRuntime) {
+    // The round is before the first write, between both, or behind them: no frame, one with the data of the first write, or one with
+    // those of the second. The last two answer alike and leave the same.
+    let framed = words_with(&rt, rt.alloc(), WRITE_BEFORE_A_ROUND, true);
+    same(&rt, framed.count(), 3);
+    holds(&rt, is_sent(&rt, rt.alloc(), &framed, 3, None));
+    holds(&rt, is_sent(&rt, rt.alloc(), &framed, 3, Some(0x11)));
+    holds(&rt, is_sent(&rt, rt.alloc(), &framed, 3, Some(0x22)));
+    let unframed = words_with(&rt, rt.alloc(), WRITE_BEFORE_A_ROUND, false);
+    same(&rt, unframed.count(), 2);
+    holds(&rt, sent(&rt, rt.alloc(), &unframed, 0).is_none());
+    holds(&rt, sent(&rt, rt.alloc(), &unframed, 1).is_none());
+}
+
+#[test]
+fn tells_an_end_with_its_frame_or_without(rt: HostRuntime) {
+    let Ok(frame) = Frame::new(0x123, false, false, 1, [0x11, 0, 0, 0, 0, 0, 0, 0]) else {
+        panic!(rt; "no frame")
+    };
+    let ended = LineEnd {
+        answer: LineAnswer::Init,
+        frame: Some(frame),
+    };
+    holds(&rt, ended.told(true) == ended);
+    holds(
+        &rt,
+        ended.told(false) == LineEnd::unframed(LineAnswer::Init),
+    );
 }

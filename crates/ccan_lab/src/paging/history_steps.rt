@@ -4,7 +4,7 @@ ghost use Rattle.ccan_lab.specs.Paging.{line_of, line_stepped};
 
 use crate::history::{add_object, kind_text};
 use crate::moved::{Moved, moved_at, winner_at};
-use crate::outcome_rows::{add_answers, answers_of, behind, next_line};
+use crate::outcome_rows::{add_ended_lines, behind, ends_of, next_line};
 use ccan_object::{MOST_OBJECTS, ObjectNo, Record};
 use ccan_outcomes::all_ports::AllPorts;
 use ccan_outcomes::step::record_of;
@@ -77,10 +77,10 @@ fn told_behind(
     later: &[HistoryStep],
     ending: &Ending,
 ) -> Result<String, AllocError> {
-    let answers = answers_of(ending, step.port);
+    let ends = ends_of(ending, step.port);
     let mut told = String::new(alloc);
-    let to = next_line(later, step.port, answers);
-    add_answers(&mut told, step.port, answers, step.line, to)?;
+    let to = next_line(later, step.port, ends);
+    add_ended_lines(&mut told, step.port, ends, step.line, to)?;
     Ok(told)
 }
 
@@ -170,9 +170,9 @@ pub(crate) fn opening_of(
 ) -> Result<String, AllocError> {
     let mut opening = String::new(alloc);
     for port in [PortName::If1, PortName::If2, PortName::Bus] {
-        let answers = answers_of(ending, port);
-        let to = next_line(steps, port, answers);
-        add_answers(&mut opening, port, answers, 1, to)?;
+        let ends = ends_of(ending, port);
+        let to = next_line(steps, port, ends);
+        add_ended_lines(&mut opening, port, ends, 1, to)?;
     }
     Ok(opening)
 }

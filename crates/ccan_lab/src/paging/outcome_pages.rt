@@ -38,10 +38,11 @@ struct Ordered {
 fn ordered_of(
     alloc: Global,
     script: &Script,
+    frames: bool,
     ending: &Ending,
     steps: &[HistoryStep],
 ) -> Result<Ordered, AllocError> {
-    match order_to(alloc, script, ending, steps)? {
+    match order_to(alloc, script, frames, ending, steps)? {
         Some(order) => {
             let run = ordered_steps(alloc, script, order.as_slice())?;
             Ok(Ordered {
@@ -90,7 +91,8 @@ fn outcome_at<P: Progress>(
     let script = telling.script;
     let history = history_to(alloc, telling, histories, place, ending)?;
     let steps = history.steps.as_slice();
-    let Ordered { order, run } = ordered_of(alloc, script, ending, steps)?;
+    let frames = telling.list.words.numbers.frames;
+    let Ordered { order, run } = ordered_of(alloc, script, frames, ending, steps)?;
     Ok(Outcome {
         number: place + 1,
         lines: different_lines(alloc, choices, ending)?,
@@ -165,17 +167,18 @@ pub(crate) fn listed_page<'a, P: Progress>(
     alloc: Global,
     script: &Script,
     limit: usize,
+    frames: bool,
     most: usize,
     page: Page<'a>,
     progress: &P,
 ) -> Result<Page<'a>, LabError>
     ensures file { IfOk result (λ made. made.file.now ≡ page.entry.file.now) }
-    ensures outcomes { IfOk result (ShowsList (fields_of script.now)
+    ensures outcomes { IfOk result (ShowsList frames (fields_of script.now)
         ⟦<Ending as PartialEq>⟧.eq limit) }
     ensures without { IfErr result
-        (IsWithout (fields_of script.now) ⟦<AllPorts as PartialEq>⟧.eq most) }
+        (IsWithout frames (fields_of script.now) ⟦<AllPorts as PartialEq>⟧.eq most) }
 {
-    let list = list_of(alloc, script, most, progress)?;
+    let list = list_of(alloc, script, frames, most, progress)?;
     let telling = Telling {
         script,
         list: &list,
@@ -191,14 +194,15 @@ pub(crate) fn outcomes_page<'a, P: Progress>(
     alloc: Global,
     script: Script,
     limit: usize,
+    frames: bool,
     most: usize,
     page: Page<'a>,
     progress: &P,
 ) -> Result<Page<'a>, LabError>
     ensures file { IfOk result (λ made. made.file.now ≡ page.entry.file.now) }
-    ensures outcomes { IfOk result (ShowsOutcomes (fields_of script)
+    ensures outcomes { IfOk result (ShowsOutcomes frames (fields_of script)
         ⟦<Ending as PartialEq>⟧.eq limit) }
 {
     let script = looking_once(alloc, script)?;
-    listed_page(alloc, &script, limit, most, page, progress)
+    listed_page(alloc, &script, limit, frames, most, page, progress)
 }

@@ -8,5 +8,5 @@ loop-line-init c = port_none (endings_in c.args.words.now) c.args.port c.args.al
 pub loop-line-preserved : goal.loop-line-preserved
 loop-line-preserved c =
     port_more (endings_in c.args.words.now) c.args.port c.loop-line.line c.args.all.now.items c.loop-line.all.items
-    c.push.new.self.items c.in_ok-answer_rows.field-0 c.loop-line.invariant c.in_ok-answer_rows.ensures
+    c.push.new.self.items c.in_ok-end_rows.field-0 c.loop-line.invariant c.in_ok-end_rows.ensures
     c.in_ok-push.ensures.items

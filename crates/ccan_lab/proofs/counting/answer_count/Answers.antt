@@ -6,8 +6,9 @@ use Rattle.ccan_lab.proofs.counting.answer_count.Goals as goal
 
 pub returns-clause-answered : goal.returns-clause-answered
 returns-clause-answered g c =
+    let frames = c.args.question.now.frames in
     let most = c.args.question.now.most in
     IfOk-weaker c.answer_each.result _ _ (λ status are.
-    answered_so _ (λ name. IsCounted most) (λ name answered returns. search rules)
+    answered_so _ (λ name. IsCounted frames most) (λ name answered returns. search rules)
     false false refl _ _ c.as_slice-files.ensures.value _ _ status are)
     c.answer_each.ensures.answered

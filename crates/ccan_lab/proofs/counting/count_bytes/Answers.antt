@@ -14,8 +14,8 @@ returns-clause-counted g c =
     record {
       script = it.script;
       read = it.read;
-      tells = subst (TellsCount it.script ending_is.eq) same
-          (counts_so it.script searched (ap (λ (script : ScriptFields). script.profile) it.once) it.same_outcomes
-          ending_is.eq text c.in_ok-text.ensures.counted);
+      tells = subst (TellsCount c.args.frames it.script ending_is.eq) same
+          (counts_so it.script searched (ap (λ (script : ScriptFields). script.profile) it.once) it.same_outcomes it.same_ends
+          c.args.frames ending_is.eq text c.in_ok-text.ensures.counted);
       ends = refl;
     }

@@ -1,4 +1,7 @@
-use Rattle.std.proofs.Common.{◌≡◌, Option, Some, None, IfSome, IfNone, refl, subst}
+use Rattle.std.proofs.Common.{◌≡◌, Bool, Option, Some, None, IfSome, IfNone, refl, subst, sym}
+use Rattle.ccan_line.specs.Script.{fields_of}
+use Rattle.ccan_outcomes.specs.Ending.{AreAllEnds}
+use Rattle.ccan_outcomes.specs.OutcomeWords.{endings_in}
 use Rattle.ccan_lab.proofs.outcome_words.list_of.Goals as goal
 
 of_some : {T : Type 0} (P : T → Type 0) (o : Option T) (found : T) → o ≡ Some found → IfSome o P → P found
@@ -17,3 +20,19 @@ returns-in-None-clause-without g c = (
     of_none _ _ c.in-None.is c.in_ok-words.ensures.large,
   ),
 )
+
+-- what stands of the words, by whether they have frames
+pub returns-in-Some-2-clause-told : goal.returns-in-Some-2-clause-told
+returns-in-Some-2-clause-told g c =
+    let script = fields_of c.args.script.now in
+    let words = c.in-Some-2.words in
+    let is = c.in-Some-2.is in
+    let so : words.numbers.frames ≡ c.args.frames = of_some _ _ _ is c.in_ok-words.ensures.told in
+    record {
+      machine = of_some _ _ _ c.in-Some.is c.in_ok-graph.ensures.machine;
+      ends = subst (λ (frames : Bool). AreAllEnds frames script (endings_in words)) (sym so)
+          (of_some _ _ _ is c.in_ok-words.ensures.ends);
+      runs = of_some _ _ _ is c.in_ok-words.ensures.runs;
+      complete = of_some _ _ _ is c.in_ok-words.ensures.complete;
+      letters = of_some _ _ _ is c.in_ok-words.ensures.letters;
+    }

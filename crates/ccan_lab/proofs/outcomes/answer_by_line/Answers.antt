@@ -15,6 +15,7 @@ returns-in_ok-text-in-Found-clause-told g c =
     inr (
       record {
         outcomes = endings_in c.args.telling.now.list.now.words;
+        ends = c.requires.can.ends;
         are = c.requires.all;
         runs = c.requires.can.runs;
         once = c.requires.distinct;
@@ -30,6 +31,7 @@ returns-in-NotFound-clause-told g c =
     inl (
       record {
         outcomes = endings_in c.args.telling.now.list.now.words;
+        ends = c.requires.can.ends;
         are = c.requires.all;
         runs = c.requires.can.runs;
         once = c.requires.distinct;
@@ -42,12 +44,14 @@ returns-in-NotFound-clause-told g c =
 pub returns-in_err-number-clause-without : goal.returns-in_err-number-clause-without
 returns-in_err-number-clause-without g c =
     let script = fields_of c.args.telling.now.script.now in
+    let frames = c.args.telling.now.list.now.words.numbers.frames in
     IfErr-weaker c.from_residual.result (λ why. why ≡ fault.Memory) _
-    (λ why is. subst (IsUnanswered script (texts_of c.args.begins.now) ports_are.eq c.args.telling.now.most) (sym is) (inl tt))
+    (λ why is. subst (IsUnanswered frames script (texts_of c.args.begins.now) ports_are.eq c.args.telling.now.most) (sym is) (inl tt))
     (search rules)
 
 pub returns-in_err-text-in-Found-clause-without : goal.returns-in_err-text-in-Found-clause-without
 returns-in_err-text-in-Found-clause-without g c =
     let script = fields_of c.args.telling.now.script.now in
+    let frames = c.args.telling.now.list.now.words.numbers.frames in
     IfErr-weaker c.from_residual-in_err-text-in-Found.result (HasNoHistory script ports_are.eq c.args.telling.now.most) _
-    (no_history script (texts_of c.args.begins.now) ports_are.eq c.args.telling.now.most) (search rules)
+    (no_history frames script (texts_of c.args.begins.now) ports_are.eq c.args.telling.now.most) (search rules)

@@ -1,6 +1,6 @@
-use Rattle.std.proofs.Common.{◌≡◌, ap, List, ℕ, string_bytes, subst}
+use Rattle.std.proofs.Common.{List, ℕ, string_bytes, subst}
 use Rattle.std.proofs.lemmas.Result.{IfOk-weaker}
-use Rattle.ccan_line.specs.Script.{ScriptFields, fields_of}
+use Rattle.ccan_line.specs.Script.{fields_of}
 use Rattle.ccan_lab.specs.Answered.{AnswersAsked, IsSearchedFor}
 use Rattle.ccan_lab.specs.Sorted.{texts_of}
 use Rattle.ccan_lab.proofs.Allowed.{ends_so}
@@ -18,7 +18,6 @@ returns-clause-answered g c =
       is_for = it;
       known = c.in_ok-refuse_unknown.ensures.known;
       tells = asked.tells;
-      ends = ends_so it.script searched (ap (λ (script : ScriptFields). script.profile) it.once) it.same_outcomes
-          question.asked (texts_of question.lines.items) answer.status asked.ends;
+      ends = ends_so it.script searched it.same_ends question.frames question.asked (texts_of question.lines.items) answer.status asked.ends;
     })
     c.answered_or_told.ensures.answered

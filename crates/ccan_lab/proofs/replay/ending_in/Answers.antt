@@ -5,7 +5,7 @@ use Rattle.ccan_ram.specs.declared.port.PortName.TheVariants.{If1, If2, Bus}
 use Rattle.ccan_line.specs.declared.script.Script.{Script}
 use Rattle.ccan_line.specs.Order.{times}
 use Rattle.ccan_line.specs.Script.{fields_of}
-use Rattle.ccan_explain.specs.Told.{IsOrderOf, answers_of}
+use Rattle.ccan_explain.specs.Told.{IsOrderOf}
 use Rattle.ccan_lab.specs.Replay.{ending_after}
 use Rattle.ccan_lab.proofs.replay.ending_in.Goals as goal
 
@@ -26,13 +26,15 @@ returns c =
     let script = fields_of c.args.script.now in
     let ran = c.in_ok-told.ensures.ran in
     let shown = c.in_ok-ending_of.ensures in
-    let answers = answers_of c.in_ok-told.told.steps.items in
-    let after : c.in_ok-ending_of.field-0 ≡ ending_after script ran.history answers =
+    let steps = c.in_ok-told.told.steps.items in
+    let after : c.in_ok-ending_of.field-0 ≡ ending_after c.args.frames script ran.history steps =
     λ i. record { if1 = shown.if1 i; if2 = shown.if2 i; bus = shown.bus i; records = shown.records ran.history ran.seen i } in
     record {
       is_order = order_of c.args.script.now c.args.order.now (names.if1 refl) (names.if2 refl) (names.bus refl);
+      frames = c.args.frames;
       history = ran.history;
-      answers = answers;
+      steps = steps;
       runs = ran.runs;
+      tell = ran.tell;
       ends = after;
     }

@@ -16,8 +16,8 @@ loop-index-preserved c =
     let is : c.final_row.result.bytes ≡ row (get_or (enumerate_from 1 xs) i (0, left)) =
     c.final_row.ensures ∙ ap (λ (object : ℕ). final_row object left) here
     ∙ ap row (sym (numbered_at xs i left within c.index-records-index.is)) in
-    let pushed : c.push.new.self ≡ c.loop-index.rows ++ c.final_row.result.bytes ∷ [] = search rules in
-    map_goes_on row c.loop-index.rows c.push.new.self c.args.rows.now (enumerate_from 1 xs) i (0, left)
+    let pushed : c.push_line.new.self ≡ c.loop-index.rows ++ c.final_row.result.bytes ∷ [] = search rules in
+    map_goes_on row c.loop-index.rows c.push_line.new.self c.args.rows.now (enumerate_from 1 xs) i (0, left)
     (numbered_length 1 xs i within) c.loop-index.invariant (pushed ∙ ap (λ (t : List ℕ). c.loop-index.rows ++ t ∷ []) is)
 
 pub returns : goal.returns

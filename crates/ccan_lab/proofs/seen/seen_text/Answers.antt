@@ -17,6 +17,7 @@ returns-clause-text g c =
     IfOk-weaker c.seen_of_list.result _ _
     (λ text lists. record {
       outcomes = endings;
+      ends = c.in_ok-list.ensures.ends;
       are = c.in_ok-list.ensures.all;
       runs = c.in_ok-list.ensures.told.runs;
       once = c.in_ok-list.ensures.distinct;
@@ -30,12 +31,14 @@ returns-clause-without g c =
     let words = c.in_ok-list.list.words in
     let most = c.args.most in
     let names = names_in c.args.names.now in
+    let frames = c.args.frames in
     let marks_are = c.as_slice.ensures.value ∙ c.in_ok-marks.ensures in
     IfErr-weaker c.seen_of_list.result
     (λ why. HasNoImages words c.as_slice.result.now most why ⊎ HasNoHistory script ports_are.eq most why) _
-    (λ why none. elim none as (λ _. HasNoSeenList names script ports_are.eq most why) [
+    (λ why none. elim none as (λ _. HasNoSeenList frames names script ports_are.eq most why) [
       | inl images ↦ inr (
         words,
+        c.in_ok-list.ensures.ends,
         c.in_ok-list.ensures.all,
         subst (λ (marks : List Bool). HasNoImages words marks most why) marks_are images,
       )

@@ -4,5 +4,5 @@ use Rattle.test_runs.proofs.races.hold_histories.Goals as goal
 
 pub searched_history-requires : goal.searched_history-requires
 searched_history-requires g c =
-    c.requires.runs c.numbered-ending.result
+    (c.requires.ends c.numbered-ending.result).0
     (contains_at (endings_in c.args.words.now) c.loop-number.number c.numbered-ending.result c.numbered-ending.ensures)

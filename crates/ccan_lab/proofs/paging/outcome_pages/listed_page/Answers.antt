@@ -10,6 +10,7 @@ pub returns-clause-outcomes : goal.returns-clause-outcomes
 returns-clause-outcomes g c =
     IfOk-weaker c.found_page.result _ _ (λ made shows. record {
       endings = endings_in c.in_ok-list.list.words;
+      ends = c.in_ok-list.ensures.ends;
       complete = c.in_ok-list.ensures.all;
       runs = c.in_ok-list.ensures.told.runs;
       once = c.in_ok-list.ensures.distinct;

@@ -7,6 +7,7 @@ returns-clause-outcomes g c =
     IfOk-weaker c.listed_page.result _ _ (λ made shows. record {
       searched = fields_of c.in_ok-script.script;
       same_outcomes = c.in_ok-script.ensures.same;
+      same_ends = c.in_ok-script.ensures.ends;
       shows = shows;
     })
     c.listed_page.ensures.outcomes
