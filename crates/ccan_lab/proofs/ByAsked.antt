@@ -1,5 +1,5 @@
 -- What is answered of a script, by what is asked.
-use Rattle.std.proofs.Common.{ℕ, ◌≡◌, ◌∙◌, true, false, Bor, List, ap, refl, string_bytes, subst, sym}
+use Rattle.std.proofs.Common.{ℕ, ◌≡◌, ◌∙◌, true, false, Bor, List, ap, string_bytes, subst, sym}
 use Rattle.ccan_line.specs.Script.{ScriptFields}
 use Rattle.ccan_outcomes.specs.contracts.ending.EndingPartialEq.TheImpl.{ghosts as ending_is}
 use Rattle.ccan_lab.specs.declared.answer.Answer.{Answer}

@@ -1,5 +1,5 @@
 -- What `ccan-lab outcomes` and `ccan-lab count` answer for the script in a file. Source: this project's own.
-use Rattle.std.specs.Prelude.{ℕ, ◌≡◌, ◌+◌, ◌⊎◌, Bool, true, false, not, List, Option, Some, None, Result, Ok, Err, map, option_map, position}
+use Rattle.std.specs.Prelude.{ℕ, ◌≡◌, ◌+◌, ◌⊎◌, Bool, true, false, not, List, Some, Result, Ok, Err, map, option_map, position}
 use Rattle.ccan_script.specs.Reader as reader
 use Rattle.ccan_line.specs.Script.{ScriptFields}
 use Rattle.ccan_process.specs.WaitLaws.{looking_once}
