@@ -1,5 +1,5 @@
 -- What leads to an outcome: orders that were found, and equal endings.
-use Rattle.std.proofs.Common.{◌≡◌, List, Option, None, Some, Vec, Global, IfSome, true, sym, subst}
+use Rattle.std.proofs.Common.{◌≡◌, Bool, List, Option, None, Some, Vec, Global, IfSome, true, sym, subst}
 use Rattle.std.specs.Option.{option_map}
 use Rattle.ccan_ram.specs.declared.port.PortName.{PortName}
 use Rattle.ccan_line.specs.Script.{ScriptFields}
@@ -18,7 +18,7 @@ names_lead LeadsTo None h = h
 names_lead LeadsTo (Some order) h = h
 
 -- the run has the outcome that is equal to what is shown of it
-pub replays_equal : (script : ScriptFields) (ending shown : Ending) (order : List PortName) → ending_is.eq ending shown ≡ true
-    → Replays script shown order → Replays script ending order
-replays_equal script ending shown order equal replays =
-    subst (λ (e : Ending). Replays script e order) (sym (same_ending ending shown equal)) replays
+pub replays_equal : (frames : Bool) (script : ScriptFields) (ending shown : Ending) (order : List PortName) → ending_is.eq ending shown ≡ true
+    → Replays frames script shown order → Replays frames script ending order
+replays_equal frames script ending shown order equal replays =
+    subst (λ (e : Ending). Replays frames script e order) (sym (same_ending ending shown equal)) replays

@@ -1,5 +1,5 @@
 -- What is printed of all outcomes of a script, each with a history, and of one of them. Source: this project's own.
-use Rattle.std.specs.Prelude.{ℕ, zero, suc, ◌≡◌, ◌++◌, nat_lt, List, [], Some, length, map, min, slice_get, if◌then◌else◌}
+use Rattle.std.specs.Prelude.{ℕ, zero, suc, ◌≡◌, ◌++◌, nat_lt, Bool, List, [], Some, length, map, min, slice_get, if◌then◌else◌}
 use Rattle.ccan_line.specs.Script.{ScriptFields}
 use Rattle.ccan_outcomes.specs.declared.ending.Ending.{Ending}
 use Rattle.ccan_lab.specs.declared.history_form.HistoryForm.{HistoryForm}
@@ -25,35 +25,37 @@ abbrev pub different_lines : List (List (List ℕ)) → List (List ℕ) → List
 different_lines choices rows = each (length choices) (different_line choices rows)
 
 -- the text is that of the outcome of this number, from 0, with those lines, and with a history in this form
-abbrev pub IsNumberedText : HistoryForm → ScriptFields → List Ending → List (List (List ℕ)) → ℕ → List ℕ → Type 0
-IsNumberedText form script endings choices number text =
-    IsOutcomeText form script endings (different_lines choices (rows_at (map rows_of endings) number)) number text
+abbrev pub IsNumberedText : Bool → HistoryForm → ScriptFields → List Ending → List (List (List ℕ)) → ℕ → List ℕ → Type 0
+IsNumberedText frames form script endings choices number text =
+    IsOutcomeText frames form script endings (different_lines choices (rows_at (map rows_of endings) number)) number text
 
 -- the text is that of the outcomes before this number, in turn
-abbrev pub AreOutcomeTexts : HistoryForm → ScriptFields → List Ending → List (List (List ℕ)) → ℕ → List ℕ → Type 0
-AreOutcomeTexts form script endings choices zero text = text ≡ []
-AreOutcomeTexts form script endings choices (suc number) text =
+abbrev pub AreOutcomeTexts : Bool → HistoryForm → ScriptFields → List Ending → List (List (List ℕ)) → ℕ → List ℕ → Type 0
+AreOutcomeTexts frames form script endings choices zero text = text ≡ []
+AreOutcomeTexts frames form script endings choices (suc number) text =
     (before : List ℕ) × (last : List ℕ) × (text ≡ before ++ last)
-    × AreOutcomeTexts form script endings choices number before × IsNumberedText form script endings choices number last
+    × AreOutcomeTexts frames form script endings choices number before
+    × IsNumberedText frames form script endings choices number last
 
 -- the number of outcomes, what is the same in all, and each outcome with a history
-pub record IsListing (form : HistoryForm) (script : ScriptFields) (endings : List Ending) (text : List ℕ) : Type 0 where
-  pub choices : List (List (List ℕ))
-  pub has_choices : HasChoices script endings choices
-  pub outcomes : List ℕ
-  pub are : AreOutcomeTexts form script endings choices (length endings) outcomes
-  pub text_is : text ≡ count_text (min (length endings) greatest) ++ (same_parts choices ++ outcomes)
-
--- the number of outcomes, and the one of this number, from 0, with a history
-pub record IsOneText (form : HistoryForm) (script : ScriptFields) (endings : List Ending) (number : ℕ) (text : List ℕ)
+pub record IsListing (frames : Bool) (form : HistoryForm) (script : ScriptFields) (endings : List Ending) (text : List ℕ)
     : Type 0 where
   pub choices : List (List (List ℕ))
   pub has_choices : HasChoices script endings choices
+  pub outcomes : List ℕ
+  pub are : AreOutcomeTexts frames form script endings choices (length endings) outcomes
+  pub text_is : text ≡ count_text (min (length endings) greatest) ++ (same_parts choices ++ outcomes)
+
+-- the number of outcomes, and the one of this number, from 0, with a history
+pub record IsOneText (frames : Bool) (form : HistoryForm) (script : ScriptFields) (endings : List Ending) (number : ℕ)
+    (text : List ℕ) : Type 0 where
+  pub choices : List (List (List ℕ))
+  pub has_choices : HasChoices script endings choices
   pub outcome : List ℕ
-  pub is_one : IsNumberedText form script endings choices number outcome
+  pub is_one : IsNumberedText frames form script endings choices number outcome
   pub text_is : text ≡ count_text (min (length endings) greatest) ++ outcome
 
 -- the number of outcomes, and the first of them that has these lines, with a history
-abbrev pub IsFoundText : HistoryForm → ScriptFields → List Ending → List (List ℕ) → List ℕ → Type 0
-IsFoundText form script endings begins text =
-    (number : ℕ) × (first_with begins endings ≡ Some number) × IsOneText form script endings number text
+abbrev pub IsFoundText : Bool → HistoryForm → ScriptFields → List Ending → List (List ℕ) → List ℕ → Type 0
+IsFoundText frames form script endings begins text =
+    (number : ℕ) × (first_with begins endings ≡ Some number) × IsOneText frames form script endings number text

@@ -20,23 +20,24 @@ IsOfAll Never = ⊥
 IsOfAll (Observed names) = ⊥
 IsOfAll (AllObserved names) = Unit {0}
 
--- the text answers what is asked of the list of all outcomes, with histories in this form
-abbrev pub Answers : HistoryForm → ScriptFields → List Ending → Asked → List ℕ → Type 0
-Answers form script endings Summary text = ⊥
-Answers form script endings All text = IsListing form script endings text
-Answers form script endings Json text = ⊥
-Answers form script endings Can text = ⊥
-Answers form script endings Never text = ⊥
-Answers form script endings (Observed names) text = ⊥
-Answers form script endings (AllObserved names) text = IsObservedListing form (names_in names.now) script endings text
+-- the text answers what is asked of the list of all outcomes, told with frames or without, with histories in this form
+abbrev pub Answers : Bool → HistoryForm → ScriptFields → List Ending → Asked → List ℕ → Type 0
+Answers frames form script endings Summary text = ⊥
+Answers frames form script endings All text = IsListing frames form script endings text
+Answers frames form script endings Json text = ⊥
+Answers frames form script endings Can text = ⊥
+Answers frames form script endings Never text = ⊥
+Answers frames form script endings (Observed names) text = ⊥
+Answers frames form script endings (AllObserved names) text =
+    IsObservedListing frames form (names_in names.now) script endings text
 
 -- the text answers what is asked of a list that has each outcome that the promise allows, once, and no other, with the frames that
 -- won the bus if they are asked for; each is that of a run
-pub record TellsAll (frames : Bool) (form : HistoryForm) (script : ScriptFields) (eq : Ending → Ending → Bool) (asked : Asked) (text : List ℕ)
-    : Type 0 where
+pub record TellsAll (frames : Bool) (form : HistoryForm) (script : ScriptFields) (eq : Ending → Ending → Bool) (asked : Asked)
+    (text : List ℕ) : Type 0 where
   pub outcomes : List Ending
   pub ends : AreAllEnds frames script outcomes
   pub are : AreOutcomes script outcomes
   pub runs : AreOfRuns script outcomes
   pub once : IsDistinct eq outcomes
-  pub text_is : Answers form script outcomes asked text
+  pub text_is : Answers frames form script outcomes asked text

@@ -38,29 +38,29 @@ abbrev pub line_stepped : HistoryStep → PortName × ℕ
 line_stepped step = (step.port, step.line - 1)
 
 -- the outcome has the number of the ending in this place, which is counted from 0, the lines of it that are not the same in
--- all, and a step for each step of a history of it
-pub record IsShown (script : ScriptFields) (endings : List Ending) (choices : List (List (List ℕ))) (place : ℕ)
-    (outcome : Outcome) : Type 0 where
+-- all, and a step for each step of a history of it, as it is told, with frames or without
+pub record IsShown (frames : Bool) (script : ScriptFields) (endings : List Ending) (choices : List (List (List ℕ)))
+    (place : ℕ) (outcome : Outcome) : Type 0 where
   pub number_is : outcome.number ≡ place + 1
   pub lines_are : string_bytes outcome.lines ≡ different_lines choices (rows_at (map rows_of endings) place)
   pub steps : List HistoryStep
-  pub lead_to_it : (ending : Ending) → slice_get endings place ≡ Some ending → IsHistoryOf script ending steps
+  pub lead_to_it : (ending : Ending) → slice_get endings place ≡ Some ending → IsHistoryOf frames script ending steps
   pub are_shown : map line_of outcome.history.items ≡ map line_stepped steps
 
 -- the outcomes are the endings before this place, in turn
-abbrev pub AreShown : ScriptFields → List Ending → List (List (List ℕ)) → ℕ → List Outcome → Type 0
-AreShown script endings choices zero outcomes = outcomes ≡ []
-AreShown script endings choices (suc place) outcomes =
+abbrev pub AreShown : Bool → ScriptFields → List Ending → List (List (List ℕ)) → ℕ → List Outcome → Type 0
+AreShown frames script endings choices zero outcomes = outcomes ≡ []
+AreShown frames script endings choices (suc place) outcomes =
     (before : List Outcome) × (last : Outcome) × (outcomes ≡ before ++ (last ∷ []))
-    × AreShown script endings choices place before × IsShown script endings choices place last
+    × AreShown frames script endings choices place before × IsShown frames script endings choices place last
 
 -- the page says how many outcomes there are, and what is the same in all, and has the first of them, at most so many
-pub record ShowsEndings (script : ScriptFields) (endings : List Ending) (limit : ℕ) (page : Page) : Type 0 where
+pub record ShowsEndings (frames : Bool) (script : ScriptFields) (endings : List Ending) (limit : ℕ) (page : Page) : Type 0 where
   pub count_is : page.count ≡ min (length endings) greatest
   pub choices : List (List (List ℕ))
   pub has_choices : HasChoices script endings choices
   pub same_is : string_bytes page.same ≡ same_parts choices
-  pub are_shown : AreShown script endings choices (min limit (length endings)) page.outcomes.items
+  pub are_shown : AreShown frames script endings choices (min limit (length endings)) page.outcomes.items
 
 -- it does so of a list that has each outcome that the promise allows, once, and no other; each is that of a run
 pub record ShowsList (frames : Bool) (script : ScriptFields) (eq : Ending → Ending → Bool) (limit : ℕ) (page : Page) : Type 0 where
@@ -69,17 +69,19 @@ pub record ShowsList (frames : Bool) (script : ScriptFields) (eq : Ending → En
   pub complete : AreOutcomes script endings
   pub runs : AreOfRuns script endings
   pub once : IsDistinct eq endings
-  pub shows : ShowsEndings script endings limit page
+  pub shows : ShowsEndings frames script endings limit page
 
 -- it does so of such a list of a script that has the same outcomes
-pub record ShowsOutcomes (frames : Bool) (script : ScriptFields) (eq : Ending → Ending → Bool) (limit : ℕ) (page : Page) : Type 0 where
+pub record ShowsOutcomes (frames : Bool) (script : ScriptFields) (eq : Ending → Ending → Bool) (limit : ℕ) (page : Page)
+    : Type 0 where
   pub searched : ScriptFields
   pub same_outcomes : HaveSameOutcomes script searched
   pub same_ends : HaveSameEnds script searched
   pub shows : ShowsList frames searched eq limit page
 
 -- the text is the data of a page that shows all outcomes, with the name of the script's file, and a line feed
-pub record TellsJson (frames : Bool) (name : List ℕ) (script : ScriptFields) (eq : Ending → Ending → Bool) (text : List ℕ) : Type 0 where
+pub record TellsJson (frames : Bool) (name : List ℕ) (script : ScriptFields) (eq : Ending → Ending → Bool) (text : List ℕ)
+    : Type 0 where
   pub page : Page
   pub file_is : page.file.now ≡ name
   pub shows : ShowsList frames script eq greatest page

@@ -51,40 +51,42 @@ abbrev pub seen_heading : ℕ → List ℕ
 seen_heading apart = counted_text apart (codes "outcome") ++ codes " as observed\n"
 
 -- the script with this order is one, and its run shows these lines, where these marks are set
-pub record ReplaysShown (script : ScriptFields) (marks : List Bool) (lines : List ℕ) (order : List PortName) : Type 0 where
+pub record ReplaysShown (frames : Bool) (script : ScriptFields) (marks : List Bool) (lines : List ℕ) (order : List PortName)
+    : Type 0 where
   pub whole : Ending
   pub lines_are : observed_lines marks (rows_of whole) ≡ lines
-  pub replays : Replays script whole order
+  pub replays : Replays frames script whole order
 
 -- the text is that of the outcome in this place, with a history of it; its number counts those that show what none before them does
-abbrev pub IsSeenText : HistoryForm → ScriptFields → List Bool → List Ending → List (List ℕ) → List ℕ → ℕ → List ℕ → Type 0
-IsSeenText form script marks shown texts lines place text =
-    IsTextWith (IsHistoryOf script) (IsHistoryText form script) (λ _. ReplaysShown script marks lines) shown place lines
-    (first_count texts place) text
+abbrev pub IsSeenText : Bool → HistoryForm → ScriptFields → List Bool → List Ending → List (List ℕ) → List ℕ → ℕ → List ℕ
+    → Type 0
+IsSeenText frames form script marks shown texts lines place text =
+    IsTextWith (IsHistoryOf frames script) (IsHistoryText form script) (λ _. ReplaysShown frames script marks lines) shown place
+    lines (first_count texts place) text
 
 -- the first line, and of the outcomes that show the same the first, with a history
-pub record IsSeenListing (form : HistoryForm) (script : ScriptFields) (marks : List Bool) (shown : List Ending) (text : List ℕ)
-    : Type 0 where
+pub record IsSeenListing (frames : Bool) (form : HistoryForm) (script : ScriptFields) (marks : List Bool) (shown : List Ending)
+    (text : List ℕ) : Type 0 where
   pub outcomes : List ℕ
-  pub are : AreFirstTexts (IsSeenText form script marks shown (observed_texts marks shown)) (observed_texts marks shown)
+  pub are : AreFirstTexts (IsSeenText frames form script marks shown (observed_texts marks shown)) (observed_texts marks shown)
       (length shown) outcomes
   pub text_is : text ≡ seen_heading (first_count (observed_texts marks shown) (length shown)) ++ outcomes
 
 -- the text lists what can be told apart of these outcomes
-abbrev pub ListsSeen : HistoryForm → ScriptFields → List Bool → List Ending → List ℕ → Type 0
-ListsSeen form script marks endings text =
-    (shown : List Ending) × AreShownOf marks endings shown × IsSeenListing form script marks shown text
+abbrev pub ListsSeen : Bool → HistoryForm → ScriptFields → List Bool → List Ending → List ℕ → Type 0
+ListsSeen frames form script marks endings text =
+    (shown : List Ending) × AreShownOf marks endings shown × IsSeenListing frames form script marks shown text
 
 -- the text lists, where the places of these names are looked at, what can be told apart of a list that has each outcome that the
 -- promise allows, once, and no other; each is that of a run
-pub record TellsSeen (frames : Bool) (form : HistoryForm) (names : List (List ℕ)) (script : ScriptFields) (eq : Ending → Ending → Bool)
-    (text : List ℕ) : Type 0 where
+pub record TellsSeen (frames : Bool) (form : HistoryForm) (names : List (List ℕ)) (script : ScriptFields)
+    (eq : Ending → Ending → Bool) (text : List ℕ) : Type 0 where
   pub outcomes : List Ending
   pub ends : AreAllEnds frames script outcomes
   pub are : AreOutcomes script outcomes
   pub runs : AreOfRuns script outcomes
   pub once : IsDistinct eq outcomes
-  pub lists : ListsSeen form script (marks_of names script) outcomes text
+  pub lists : ListsSeen frames form script (marks_of names script) outcomes text
 
 -- ---- why there is none
 

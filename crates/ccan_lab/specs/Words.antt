@@ -51,7 +51,8 @@ IsSearched script endings begins Refused = are_refused script endings begins ≡
 
 -- the text says that none has the lines, of a list that has each outcome that the promise allows, once, and no other; each is
 -- that of a run
-pub record TellsNone (frames : Bool) (script : ScriptFields) (eq : Ending → Ending → Bool) (begins : List (List ℕ)) (text : List ℕ) : Type 0 where
+pub record TellsNone (frames : Bool) (script : ScriptFields) (eq : Ending → Ending → Bool) (begins : List (List ℕ))
+    (text : List ℕ) : Type 0 where
   pub outcomes : List Ending
   pub ends : AreAllEnds frames script outcomes
   pub are : AreOutcomes script outcomes
@@ -68,14 +69,14 @@ RefusesLine frames script begins =
 
 -- the text shows an outcome that has the lines, of a list that has each outcome that the promise allows, once, and no other;
 -- each is that of a run
-pub record TellsFound (frames : Bool) (form : HistoryForm) (script : ScriptFields) (eq : Ending → Ending → Bool) (begins : List (List ℕ))
-    (text : List ℕ) : Type 0 where
+pub record TellsFound (frames : Bool) (form : HistoryForm) (script : ScriptFields) (eq : Ending → Ending → Bool)
+    (begins : List (List ℕ)) (text : List ℕ) : Type 0 where
   pub outcomes : List Ending
   pub ends : AreAllEnds frames script outcomes
   pub are : AreOutcomes script outcomes
   pub runs : AreOfRuns script outcomes
   pub once : IsDistinct eq outcomes
-  pub says : IsFoundText form script outcomes begins text
+  pub says : IsFoundText frames form script outcomes begins text
   pub taken : are_refused script outcomes begins ≡ false
 
 -- the text answers whether an outcome has all the lines, or, if it is asked so, whether none has

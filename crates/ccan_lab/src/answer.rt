@@ -7,7 +7,7 @@ ghost use Rattle.ccan_lab.specs.Listing.{IsOneText};
 ghost use Rattle.ccan_lab.specs.Outcomes.{Answers, IsOfAll};
 ghost use Rattle.ccan_lab.specs.Sorted.{texts_of};
 ghost use Rattle.ccan_lab.specs.Words.{HasNoHistory};
-ghost use Rattle.ccan_lab.specs.Telling.{CanBeTold};
+ghost use Rattle.ccan_lab.specs.Telling.{CanBeTold, frames_in};
 
 use crate::asked::Asked;
 use crate::choices::all_choices;
@@ -111,8 +111,9 @@ pub fn found_text<P: Progress>(
     requires can { CanBeTold (fields_of telling.now.script.now) telling.now.list.now }
     requires within { number < length (endings_in telling.now.list.now.words) }
     requires few { number < 2 ^ 64 - 1 }
-    ensures text { IfOk result (λ text. IsOneText telling.now.form
-        (fields_of telling.now.script.now) (endings_in telling.now.list.now.words) number (string_bytes text)) }
+    ensures text { IfOk result (λ text. IsOneText (frames_in telling.now.list.now)
+        telling.now.form (fields_of telling.now.script.now)
+        (endings_in telling.now.list.now.words) number (string_bytes text)) }
     ensures without { IfErr result (HasNoHistory (fields_of telling.now.script.now)
         ⟦<AllPorts as PartialEq>⟧.eq telling.now.most) }
 {
@@ -144,7 +145,8 @@ pub fn text_of<P: Progress>(
 ) -> Result<String, LabError>
     requires can { CanBeTold (fields_of telling.now.script.now) telling.now.list.now }
     requires of_all { IsOfAll asked }
-    ensures text { IfOk result (λ text. Answers telling.now.form (fields_of telling.now.script.now)
+    ensures text { IfOk result (λ text. Answers (frames_in telling.now.list.now)
+        telling.now.form (fields_of telling.now.script.now)
         (endings_in telling.now.list.now.words) asked.entry (string_bytes text)) }
     ensures without { IfErr result (HasNoHistory (fields_of telling.now.script.now)
         ⟦<AllPorts as PartialEq>⟧.eq telling.now.most) }

@@ -10,7 +10,7 @@ ghost use Rattle.ccan_lab.specs.OutcomeText.{IsOutcomeText};
 ghost use Rattle.ccan_lab.specs.Observed.{is_observed, is_place, is_repeat, marks_of, names_in, text_at};
 ghost use Rattle.ccan_lab.specs.Observed.{observed_heading, observed_line, observed_lines, places_of};
 ghost use Rattle.ccan_lab.specs.Words.{HasNoHistory};
-ghost use Rattle.ccan_lab.specs.Telling.{CanBeTold};
+ghost use Rattle.ccan_lab.specs.Telling.{CanBeTold, frames_in};
 
 use crate::lab_error::LabError;
 use crate::outcome_words::all_endings;
@@ -184,8 +184,9 @@ fn add_if_first<P: Progress>(
         ≡ not (is_repeat (map string_bytes texts.now.lines.items) number)) }
     ensures text { OnOk result ((added : List ℕ)
         × (string_bytes text.new ≡ string_bytes text.old ++ added)
-        × IsFirstText (IsOutcomeText telling.now.form (fields_of telling.now.script.now)
-        (endings_in telling.now.list.now.words)) (is_repeat (map string_bytes texts.now.lines.items) number)
+        × IsFirstText (IsOutcomeText (frames_in telling.now.list.now) telling.now.form
+        (fields_of telling.now.script.now) (endings_in telling.now.list.now.words))
+        (is_repeat (map string_bytes texts.now.lines.items) number)
         (text_at (map string_bytes texts.now.lines.items) number) number added) }
     ensures without { IfErr result (HasNoHistory (fields_of telling.now.script.now)
         ⟦<AllPorts as PartialEq>⟧.eq telling.now.most) }
@@ -213,8 +214,8 @@ fn add_firsts<P: Progress>(
         ≡ first_count (map string_bytes texts.now.lines.items) (length endings.now)) }
     ensures text { OnOk result ((added : List ℕ)
         × (string_bytes text.new ≡ string_bytes text.old ++ added)
-        × AreFirstTexts
-        (IsOutcomeText telling.now.form (fields_of telling.now.script.now) endings.now)
+        × AreFirstTexts (IsOutcomeText (frames_in telling.now.list.now) telling.now.form
+        (fields_of telling.now.script.now) endings.now)
         (map string_bytes texts.now.lines.items) (length endings.now) added) }
     ensures without { IfErr result (HasNoHistory (fields_of telling.now.script.now)
         ⟦<AllPorts as PartialEq>⟧.eq telling.now.most) }
@@ -282,9 +283,9 @@ pub fn observed_listing<P: Progress>(
     list: &str,
 ) -> Result<String, LabError>
     requires can { CanBeTold (fields_of telling.now.script.now) telling.now.list.now }
-    ensures text { IfOk result (λ text. IsObservedListing telling.now.form (names_in list.now)
-        (fields_of telling.now.script.now) (endings_in telling.now.list.now.words)
-        (string_bytes text)) }
+    ensures text { IfOk result (λ text. IsObservedListing (frames_in telling.now.list.now)
+        telling.now.form (names_in list.now) (fields_of telling.now.script.now)
+        (endings_in telling.now.list.now.words) (string_bytes text)) }
     ensures without { IfErr result (HasNoHistory (fields_of telling.now.script.now)
         ⟦<AllPorts as PartialEq>⟧.eq telling.now.most) }
 {

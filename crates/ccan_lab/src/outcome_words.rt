@@ -23,7 +23,8 @@ pub struct OutcomeList {
     pub graph: AnswerGraph,
 }
 
-/// All outcomes of a script, with the frames that won the bus or without, if their search comes to no more states than `most`, and they need no more nodes.
+/// All outcomes of a script, with the frames that won the bus or without, if their search comes to no more states than `most`, and
+/// they need no more nodes.
 pub fn list_of<P: Progress>(
     alloc: Global,
     script: &Script,

@@ -12,7 +12,7 @@ ghost use Rattle.ccan_lab.specs.Answered.{AnswersAsked, AnswersFile, IsAnswered,
 ghost use Rattle.ccan_lab.specs.Answered.{RefusesNames, RefusesUnknown, names_its_file, status_if};
 ghost use Rattle.ccan_lab.specs.EachFile.{AreAnswered, has_headings};
 ghost use Rattle.ccan_lab.specs.Outcomes.{Answers, IsOfAll, TellsAll};
-ghost use Rattle.ccan_lab.specs.Telling.{CanBeTold};
+ghost use Rattle.ccan_lab.specs.Telling.{CanBeTold, frames_in};
 ghost use Rattle.ccan_lab.specs.Question.{AreKnown, AreKnownNames, AsksAllBy, AsksBy, IsFormBy, IsGivenBy};
 ghost use Rattle.ccan_lab.specs.Observed.{names_in};
 ghost use Rattle.ccan_lab.specs.Question.{AsksFramesBy, asks_frame, begins_with_c, files_named, is_of_frame, lines_given};
@@ -370,7 +370,7 @@ fn text_of_list<P: Progress>(
     requires of_all { IsOfAll asked }
     requires can { CanBeTold (fields_of script.now) list }
     ensures text { IfOk result (λ text.
-        Answers form (fields_of script.now) (endings_in list.words) asked.entry
+        Answers (frames_in list) form (fields_of script.now) (endings_in list.words) asked.entry
         (string_bytes text)) }
     ensures without { IfErr result
         (HasNoHistory (fields_of script.now) ⟦<AllPorts as PartialEq>⟧.eq most) }
@@ -439,13 +439,12 @@ fn answer_by_line<P: Progress>(
         (endings_in telling.now.list.now.words) }
     requires distinct { IsDistinct ⟦<Ending as PartialEq>⟧.eq
         (endings_in telling.now.list.now.words) }
-    ensures told { IfOk result (λ answer. TellsLine telling.now.list.now.words.numbers.frames
-        telling.now.form
-        (fields_of telling.now.script.now) ⟦<Ending as PartialEq>⟧.eq (texts_of begins.now) never
-        (string_bytes answer.text) answer.holds) }
-    ensures without { IfErr result (IsUnanswered
-        telling.now.list.now.words.numbers.frames (fields_of telling.now.script.now)
-        (texts_of begins.now) ⟦<AllPorts as PartialEq>⟧.eq telling.now.most) }
+    ensures told { IfOk result (λ answer. TellsLine (frames_in telling.now.list.now)
+        telling.now.form (fields_of telling.now.script.now) ⟦<Ending as PartialEq>⟧.eq
+        (texts_of begins.now) never (string_bytes answer.text) answer.holds) }
+    ensures without { IfErr result (IsUnanswered (frames_in telling.now.list.now)
+        (fields_of telling.now.script.now) (texts_of begins.now)
+        ⟦<AllPorts as PartialEq>⟧.eq telling.now.most) }
 {
     match search_among(alloc, telling.script, &telling.list.words, begins)? {
         LineSearch::Found(number) => {
@@ -474,11 +473,11 @@ fn answer_of_list<P: Progress>(
     requires can { CanBeTold (fields_of script.now) list }
     requires all { AreOutcomes (fields_of script.now) (endings_in list.words) }
     requires distinct { IsDistinct ⟦<Ending as PartialEq>⟧.eq (endings_in list.words) }
-    ensures told { IfOk result (λ answer. TellsLine list.words.numbers.frames form (fields_of script.now)
+    ensures told { IfOk result (λ answer. TellsLine (frames_in list) form (fields_of script.now)
         ⟦<Ending as PartialEq>⟧.eq (texts_of begins.now) never
         (string_bytes answer.text) answer.holds) }
-    ensures without { IfErr result (IsUnanswered list.words.numbers.frames (fields_of script.now) (texts_of begins.now)
-        ⟦<AllPorts as PartialEq>⟧.eq most) }
+    ensures without { IfErr result (IsUnanswered (frames_in list) (fields_of script.now)
+        (texts_of begins.now) ⟦<AllPorts as PartialEq>⟧.eq most) }
 {
     let telling = Telling {
         script,
@@ -523,8 +522,8 @@ fn answer_of_observed<P: Progress>(
     most: usize,
     progress: &P,
 ) -> Result<Answer, LabError>
-    ensures told { IfOk result (λ answer. TellsSeen frames form (names_in names.now) (fields_of script.now)
-        ⟦<Ending as PartialEq>⟧.eq (string_bytes answer.text)) }
+    ensures told { IfOk result (λ answer. TellsSeen frames form (names_in names.now)
+        (fields_of script.now) ⟦<Ending as PartialEq>⟧.eq (string_bytes answer.text)) }
     ensures holds { IfOk result (λ answer. answer.holds ≡ true) }
     ensures without { IfErr result
         (HasNoSeenList frames (names_in names.now) (fields_of script.now)

@@ -157,7 +157,7 @@ pub fn ending_in(
     order: &[PortName],
 ) -> Result<Option<Ending>, AllocError>
     ensures { IfOk result (λ found. IfSome found (λ ending.
-        Replays (fields_of script.now) ending order.now)) }
+        Replays frames (fields_of script.now) ending order.now)) }
 {
     if !is_order(script, order) {
         return Ok(None);
@@ -176,7 +176,7 @@ fn leads_to(
     ending: &Ending,
 ) -> Result<bool, AllocError>
     ensures { IfOk result (λ leads. leads ≡ true
-        → Replays (fields_of script.now) ending.now order.now) }
+        → Replays frames (fields_of script.now) ending.now order.now) }
 {
     match ending_in(alloc, script, frames, order)? {
         Some(shown) => Ok(*ending == shown),
@@ -194,7 +194,7 @@ pub fn order_to(
     steps: &[HistoryStep],
 ) -> Result<Option<Vec<PortName>>, AllocError>
     ensures { IfOk result (λ found. IfSome found (λ order.
-        Replays (fields_of script.now) ending.now order.items)) }
+        Replays frames (fields_of script.now) ending.now order.items)) }
 {
     let order = order_of(alloc, script, steps)?;
     if leads_to(alloc, script, frames, order.as_slice(), ending)? {

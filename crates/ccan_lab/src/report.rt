@@ -9,7 +9,7 @@ ghost use Rattle.ccan_lab.specs.Report.{later_names, names_text, order_text, quo
 ghost use Rattle.ccan_lab.specs.Rows.{rows_of};
 ghost use Rattle.ccan_lab.specs.Sorted.{all_texts};
 ghost use Rattle.ccan_lab.specs.Words.{HasNoHistory};
-ghost use Rattle.ccan_lab.specs.Telling.{CanBeTold};
+ghost use Rattle.ccan_lab.specs.Telling.{CanBeTold, frames_in};
 
 use crate::brief::history_told;
 use crate::choices::all_choices;
@@ -159,8 +159,9 @@ pub fn add_outcome<P: Progress>(
     requires few { number + 1 < 2 ^ 64 }
     ensures text { OnOk result ((added : List ℕ)
         × (string_bytes text.new ≡ string_bytes text.old ++ added)
-        × IsOutcomeText telling.now.form (fields_of telling.now.script.now)
-        (endings_in telling.now.list.now.words) lines.now number added) }
+        × IsOutcomeText (frames_in telling.now.list.now) telling.now.form
+        (fields_of telling.now.script.now) (endings_in telling.now.list.now.words)
+        lines.now number added) }
     ensures without { IfErr result (HasNoHistory (fields_of telling.now.script.now)
         ⟦<AllPorts as PartialEq>⟧.eq telling.now.most) }
 {
@@ -188,8 +189,9 @@ fn add_outcomes<P: Progress>(
     requires can { CanBeTold (fields_of telling.now.script.now) telling.now.list.now }
     ensures text { OnOk result ((added : List ℕ)
         × (string_bytes text.new ≡ string_bytes text.old ++ added)
-        × AreOutcomeTexts telling.now.form (fields_of telling.now.script.now)
-        (endings_in telling.now.list.now.words) (all_texts choices.now) (length (endings_in telling.now.list.now.words)) added) }
+        × AreOutcomeTexts (frames_in telling.now.list.now) telling.now.form
+        (fields_of telling.now.script.now) (endings_in telling.now.list.now.words)
+        (all_texts choices.now) (length (endings_in telling.now.list.now.words)) added) }
     ensures without { IfErr result (HasNoHistory (fields_of telling.now.script.now)
         ⟦<AllPorts as PartialEq>⟧.eq telling.now.most) }
 {
@@ -216,8 +218,9 @@ fn add_outcomes<P: Progress>(
 /// The list of all outcomes of a script, each with a history that leads to it.
 pub fn listing<P: Progress>(alloc: Global, telling: &Telling<'_, P>) -> Result<String, LabError>
     requires can { CanBeTold (fields_of telling.now.script.now) telling.now.list.now }
-    ensures text { IfOk result (λ text. IsListing telling.now.form
-        (fields_of telling.now.script.now) (endings_in telling.now.list.now.words) (string_bytes text)) }
+    ensures text { IfOk result (λ text. IsListing (frames_in telling.now.list.now)
+        telling.now.form (fields_of telling.now.script.now)
+        (endings_in telling.now.list.now.words) (string_bytes text)) }
     ensures without { IfErr result (HasNoHistory (fields_of telling.now.script.now)
         ⟦<AllPorts as PartialEq>⟧.eq telling.now.most) }
 {

@@ -10,9 +10,10 @@ ghost use Rattle.ccan_lab.specs.Brief.{IsHistoryText};
 ghost use Rattle.ccan_lab.specs.Observed.{AreFirstTexts, IsFirstText, first_count, is_repeat, marks_of, names_in};
 ghost use Rattle.ccan_lab.specs.Observed.{observed_lines, observed_texts, text_at};
 ghost use Rattle.ccan_lab.specs.Report.{IsTextWith};
-ghost use Rattle.ccan_lab.specs.Seen.{AreShown, AreShownOf, HasNoImages, HasNoSeenList, IsSeenListing, IsSeenText, ListsSeen, ReplaysShown, TellsSeen};
+ghost use Rattle.ccan_lab.specs.Seen.{AreShown, AreShownOf, HasNoImages, HasNoSeenList};
+ghost use Rattle.ccan_lab.specs.Seen.{IsSeenListing, IsSeenText, ListsSeen, ReplaysShown, TellsSeen};
 ghost use Rattle.ccan_lab.specs.Seen.{seen_heading};
-ghost use Rattle.ccan_lab.specs.Telling.{CanBeTold};
+ghost use Rattle.ccan_lab.specs.Telling.{CanBeTold, frames_in};
 ghost use Rattle.ccan_lab.specs.Words.{HasNoHistory, HasNoWords};
 
 use crate::brief::history_told;
@@ -83,7 +84,7 @@ fn shows_lines(
     lines: &str,
 ) -> Result<bool, AllocError>
     ensures { IfOk result (λ shows. shows ≡ true
-        → ReplaysShown (fields_of script.now) marks.now lines.now order.now) }
+        → ReplaysShown frames (fields_of script.now) marks.now lines.now order.now) }
 {
     match ending_in(alloc, script, frames, order)? {
         Some(whole) => {
@@ -105,7 +106,7 @@ fn order_to_lines(
     steps: &[HistoryStep],
 ) -> Result<Option<Vec<PortName>>, AllocError>
     ensures { IfOk result (λ found. IfSome found (λ order.
-        ReplaysShown (fields_of script.now) marks.now lines.now order.items)) }
+        ReplaysShown frames (fields_of script.now) marks.now lines.now order.items)) }
 {
     let order = order_of(alloc, script, steps)?;
     if shows_lines(alloc, script, frames, marks, order.as_slice(), lines)? {
@@ -137,9 +138,11 @@ fn add_seen<P: Progress>(
     requires few { number ≤ place }
     ensures text { OnOk result ((added : List ℕ)
         × (string_bytes text.new ≡ string_bytes text.old ++ added)
-        × IsTextWith (IsHistoryOf (fields_of telling.now.script.now))
+        × IsTextWith
+        (IsHistoryOf (frames_in telling.now.list.now) (fields_of telling.now.script.now))
         (IsHistoryText telling.now.form (fields_of telling.now.script.now))
-        (λ _. ReplaysShown (fields_of telling.now.script.now) marks.now lines.now)
+        (λ _. ReplaysShown (frames_in telling.now.list.now) (fields_of telling.now.script.now)
+        marks.now lines.now)
         shown.now.endings.items place lines.now number added) }
     ensures without { IfErr result (HasNoHistory (fields_of telling.now.script.now)
         ⟦<AllPorts as PartialEq>⟧.eq telling.now.most) }
@@ -178,10 +181,11 @@ fn add_if_new<P: Progress>(
         ≡ not (is_repeat (map string_bytes texts.now.lines.items) place)) }
     ensures text { OnOk result ((added : List ℕ)
         × (string_bytes text.new ≡ string_bytes text.old ++ added)
-        × IsFirstText (IsSeenText telling.now.form (fields_of telling.now.script.now) marks.now
+        × IsFirstText (IsSeenText (frames_in telling.now.list.now) telling.now.form
+        (fields_of telling.now.script.now) marks.now
         shown.now.endings.items (map string_bytes texts.now.lines.items))
-        (is_repeat (map string_bytes texts.now.lines.items) place) (text_at (map string_bytes texts.now.lines.items) place)
-        place added) }
+        (is_repeat (map string_bytes texts.now.lines.items) place)
+        (text_at (map string_bytes texts.now.lines.items) place) place added) }
     ensures without { IfErr result (HasNoHistory (fields_of telling.now.script.now)
         ⟦<AllPorts as PartialEq>⟧.eq telling.now.most) }
 {
@@ -212,7 +216,8 @@ fn add_all_seen<P: Progress>(
         ≡ first_count (map string_bytes texts.now.lines.items) (length shown.now.endings.items)) }
     ensures text { OnOk result ((added : List ℕ)
         × (string_bytes text.new ≡ string_bytes text.old ++ added)
-        × AreFirstTexts (IsSeenText telling.now.form (fields_of telling.now.script.now) marks.now
+        × AreFirstTexts (IsSeenText (frames_in telling.now.list.now) telling.now.form
+        (fields_of telling.now.script.now) marks.now
         shown.now.endings.items (map string_bytes texts.now.lines.items))
         (map string_bytes texts.now.lines.items) (length shown.now.endings.items) added) }
     ensures without { IfErr result (HasNoHistory (fields_of telling.now.script.now)
@@ -267,8 +272,9 @@ fn seen_listing<P: Progress>(
     requires can { CanBeTold (fields_of telling.now.script.now) telling.now.list.now }
     requires listed { (ending : Ending) → Contains shown.now.endings.items ending
         → Contains (endings_in telling.now.list.now.words) ending }
-    ensures text { IfOk result (λ text. IsSeenListing telling.now.form
-        (fields_of telling.now.script.now) marks.now shown.now.endings.items (string_bytes text)) }
+    ensures text { IfOk result (λ text. IsSeenListing (frames_in telling.now.list.now)
+        telling.now.form (fields_of telling.now.script.now) marks.now
+        shown.now.endings.items (string_bytes text)) }
     ensures without { IfErr result (HasNoHistory (fields_of telling.now.script.now)
         ⟦<AllPorts as PartialEq>⟧.eq telling.now.most) }
 {
@@ -305,9 +311,9 @@ fn seen_of<P: Progress>(
     marks: &[bool],
 ) -> Result<String, LabError>
     requires can { CanBeTold (fields_of telling.now.script.now) telling.now.list.now }
-    ensures text { IfOk result (λ text. ListsSeen telling.now.form
-        (fields_of telling.now.script.now) marks.now (endings_in telling.now.list.now.words)
-        (string_bytes text)) }
+    ensures text { IfOk result (λ text. ListsSeen (frames_in telling.now.list.now)
+        telling.now.form (fields_of telling.now.script.now) marks.now
+        (endings_in telling.now.list.now.words) (string_bytes text)) }
     ensures without { IfErr result (λ why.
         HasNoImages telling.now.list.now.words marks.now telling.now.most why
         ⊎ HasNoHistory (fields_of telling.now.script.now) ⟦<AllPorts as PartialEq>⟧.eq
@@ -328,8 +334,8 @@ fn seen_of_list<P: Progress>(
     progress: &P,
 ) -> Result<String, LabError>
     requires can { CanBeTold (fields_of script.now) list }
-    ensures text { IfOk result (λ text. ListsSeen form (fields_of script.now) marks.now
-        (endings_in list.words) (string_bytes text)) }
+    ensures text { IfOk result (λ text. ListsSeen (frames_in list) form (fields_of script.now)
+        marks.now (endings_in list.words) (string_bytes text)) }
     ensures without { IfErr result (λ why. HasNoImages list.words marks.now most why
         ⊎ HasNoHistory (fields_of script.now) ⟦<AllPorts as PartialEq>⟧.eq most why) }
 {
@@ -357,8 +363,8 @@ pub fn seen_text<P: Progress>(
     most: usize,
     progress: &P,
 ) -> Result<String, LabError>
-    ensures text { IfOk result (λ text. TellsSeen frames form (names_in names.now) (fields_of script.now)
-        ⟦<Ending as PartialEq>⟧.eq (string_bytes text)) }
+    ensures text { IfOk result (λ text. TellsSeen frames form (names_in names.now)
+        (fields_of script.now) ⟦<Ending as PartialEq>⟧.eq (string_bytes text)) }
     ensures without { IfErr result
         (HasNoSeenList frames (names_in names.now) (fields_of script.now)
         ⟦<AllPorts as PartialEq>⟧.eq most) }

@@ -4,7 +4,7 @@ ghost use Rattle.ccan_line.specs.Script.{fields_of};
 ghost use Rattle.ccan_outcomes.specs.History.{IsHistoryOf};
 ghost use Rattle.ccan_outcomes.specs.OutcomeWords.{endings_in};
 ghost use Rattle.ccan_lab.specs.Brief.{AreAllOrNone};
-ghost use Rattle.ccan_lab.specs.Telling.{CanBeTold};
+ghost use Rattle.ccan_lab.specs.Telling.{CanBeTold, frames_in};
 ghost use Rattle.ccan_lab.specs.Words.{HasNoHistory};
 
 use crate::history_form::HistoryForm;
@@ -55,7 +55,8 @@ pub fn history_by_word<P: Progress>(
     requires can { CanBeTold (fields_of telling.now.script.now) telling.now.list.now }
     requires listed { Contains (endings_in telling.now.list.now.words) ending.now }
     ensures history { IfOk result (λ history.
-        IsHistoryOf (fields_of telling.now.script.now) ending.now history.steps.items) }
+        IsHistoryOf (frames_in telling.now.list.now) (fields_of telling.now.script.now)
+        ending.now history.steps.items) }
     ensures states { IfOk result (λ history. AreAllOrNone (fields_of telling.now.script.now)
         history.steps.items history.states.items) }
     ensures without { IfErr result (HasNoHistory (fields_of telling.now.script.now)
@@ -91,7 +92,8 @@ pub fn history_to<P: Progress>(
     requires can { CanBeTold (fields_of telling.now.script.now) telling.now.list.now }
     requires at { slice_get (endings_in telling.now.list.now.words) number ≡ Some ending.now }
     ensures history { IfOk result (λ history.
-        IsHistoryOf (fields_of telling.now.script.now) ending.now history.steps.items) }
+        IsHistoryOf (frames_in telling.now.list.now) (fields_of telling.now.script.now)
+        ending.now history.steps.items) }
     ensures states { IfOk result (λ history. AreAllOrNone (fields_of telling.now.script.now)
         history.steps.items history.states.items) }
     ensures without { IfErr result (HasNoHistory (fields_of telling.now.script.now)

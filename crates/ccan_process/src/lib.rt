@@ -9,7 +9,8 @@
 //! a line ─ line_process_laws ─ its process ─ process_laws ─ steps of a port ─ machine_laws ─ outcomes of three ports
 //! ```
 //!
-//! Nothing in this crate runs: it has definitions and laws, on which a search for all outcomes stands.
+//! It has definitions and laws, on which a search for all outcomes stands. What runs of it is [`LineEnd`](line_end::LineEnd) alone,
+//! the answer of a line with the frame of a round.
 #![tactic(auto)]
 
 pub mod line_end;

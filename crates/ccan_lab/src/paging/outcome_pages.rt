@@ -5,7 +5,7 @@ ghost use Rattle.ccan_outcomes.specs.OutcomeWords.{endings_in};
 ghost use Rattle.ccan_lab.specs.Paging.{AreShown, IsShown, ShowsEndings, ShowsList, ShowsOutcomes};
 ghost use Rattle.ccan_lab.specs.Paging.{line_of, line_stepped};
 ghost use Rattle.ccan_lab.specs.Sorted.{all_texts};
-ghost use Rattle.ccan_lab.specs.Telling.{CanBeTold};
+ghost use Rattle.ccan_lab.specs.Telling.{CanBeTold, frames_in};
 ghost use Rattle.ccan_lab.specs.Words.{HasNoHistory, IsWithout};
 
 use crate::choices::all_choices;
@@ -83,8 +83,9 @@ fn outcome_at<P: Progress>(
     requires can { CanBeTold (fields_of telling.now.script.now) telling.now.list.now }
     requires at { slice_get (endings_in telling.now.list.now.words) place ≡ Some ending.now }
     requires few { place + 1 < 2 ^ 64 }
-    ensures shown { IfOk result (IsShown (fields_of telling.now.script.now)
-        (endings_in telling.now.list.now.words) (all_texts choices.now) place) }
+    ensures shown { IfOk result (IsShown (frames_in telling.now.list.now)
+        (fields_of telling.now.script.now) (endings_in telling.now.list.now.words)
+        (all_texts choices.now) place) }
     ensures without { IfErr result (HasNoHistory (fields_of telling.now.script.now)
         ⟦<AllPorts as PartialEq>⟧.eq telling.now.most) }
 {
@@ -119,8 +120,9 @@ fn outcomes_shown<P: Progress>(
     limit: usize,
 ) -> Result<Vec<Outcome>, LabError>
     requires can { CanBeTold (fields_of telling.now.script.now) telling.now.list.now }
-    ensures shown { IfOk result (λ shown. AreShown (fields_of telling.now.script.now)
-        (endings_in telling.now.list.now.words) (all_texts choices.now)
+    ensures shown { IfOk result (λ shown. AreShown (frames_in telling.now.list.now)
+        (fields_of telling.now.script.now) (endings_in telling.now.list.now.words)
+        (all_texts choices.now)
         (min limit (length (endings_in telling.now.list.now.words))) shown.items) }
     ensures without { IfErr result (HasNoHistory (fields_of telling.now.script.now)
         ⟦<AllPorts as PartialEq>⟧.eq telling.now.most) }
@@ -146,8 +148,8 @@ fn found_page<'a, P: Progress>(
 ) -> Result<Page<'a>, LabError>
     requires can { CanBeTold (fields_of telling.now.script.now) telling.now.list.now }
     ensures file { IfOk result (λ made. made.file.now ≡ page.entry.file.now) }
-    ensures shows { IfOk result (ShowsEndings (fields_of telling.now.script.now)
-        (endings_in telling.now.list.now.words) limit) }
+    ensures shows { IfOk result (ShowsEndings (frames_in telling.now.list.now)
+        (fields_of telling.now.script.now) (endings_in telling.now.list.now.words) limit) }
     ensures without { IfErr result (HasNoHistory (fields_of telling.now.script.now)
         ⟦<AllPorts as PartialEq>⟧.eq telling.now.most) }
 {

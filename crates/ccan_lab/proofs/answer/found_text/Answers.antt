@@ -6,6 +6,7 @@ use Rattle.ccan_lab.specs.Listing.{different_lines}
 use Rattle.ccan_lab.specs.OutcomeText.{IsOutcomeText}
 use Rattle.ccan_lab.specs.Rows.{rows_of}
 use Rattle.ccan_lab.specs.Sorted.{AreAllInOrder, all_texts}
+use Rattle.ccan_lab.specs.Telling.{frames_in}
 use Rattle.ccan_lab.proofs.Listed.{has_choices, past_all, rows_there}
 use Rattle.ccan_lab.proofs.Parts.{Lines}
 use Rattle.ccan_lab.proofs.answer.found_text.Goals as goal
@@ -21,6 +22,7 @@ unreachable-requires g c =
 pub returns-clause-text : goal.returns-clause-text
 returns-clause-text g c =
     let script = fields_of c.args.telling.now.script.now in
+    let frames = frames_in c.args.telling.now.list.now in
     let form = c.args.telling.now.form in
     let endings = endings_in c.args.telling.now.list.now.words in
     let rows = c.in_ok-rows.rows.items in
@@ -39,7 +41,7 @@ returns-clause-text g c =
       choices = choices;
       has_choices = has_choices script endings rows choices c.in_ok-rows.ensures.places c.in_ok-rows.ensures.lines ordered;
       outcome = added;
-      is_one = subst (λ (lines : List ℕ). IsOutcomeText form script endings lines c.args.number added) lines_are
+      is_one = subst (λ (lines : List ℕ). IsOutcomeText frames form script endings lines c.args.number added) lines_are
           c.in_ok-add_outcome.ensures.text.2;
       text_is = c.in_ok-add_outcome.ensures.text.1 ∙ (λ i. c.in_ok-text.ensures i ++ added)
           ∙ (λ i. count_text (number i) ++ added);

@@ -3,6 +3,7 @@ use Rattle.ccan_line.specs.Script.{fields_of}
 use Rattle.ccan_outcomes.specs.declared.ending.Ending.{Ending}
 use Rattle.ccan_lab.specs.Observed.{AreFirstTexts, IsFirstText, is_repeat, text_at}
 use Rattle.ccan_lab.specs.OutcomeText.{IsOutcomeText}
+use Rattle.ccan_lab.specs.Telling.{frames_in}
 use Rattle.ccan_lab.proofs.Apart.{count_by, count_none}
 use Rattle.ccan_lab.proofs.Texts.{part_more}
 use Rattle.ccan_lab.proofs.observed.add_firsts.Goals as goal
@@ -19,6 +20,7 @@ pub loop-number-preserved : goal.loop-number-preserved
 loop-number-preserved g c =
     let texts = map string_bytes c.args.texts.now.lines.items in
     let script = fields_of c.args.telling.now.script.now in
+    let frames = frames_in c.args.telling.now.list.now in
     let form = c.args.telling.now.form in
     let keys = c.args.endings.now in
     let number = c.loop-number.number in
@@ -26,8 +28,8 @@ loop-number-preserved g c =
     let first = c.in_ok-add_if_first.field-0 in
     let so_far = c.loop-number.invariant.2 in
     let last = c.in_ok-add_if_first.ensures.text.0 in
-    let told : IsFirstText (IsOutcomeText form script keys) (is_repeat texts number) (text_at texts number) number last =
-    subst (λ (es : List Ending). IsFirstText (IsOutcomeText form script es) (is_repeat texts number) (text_at texts number) number last)
+    let told : IsFirstText (IsOutcomeText frames form script keys) (is_repeat texts number) (text_at texts number) number last =
+    subst (λ (es : List Ending). IsFirstText (IsOutcomeText frames form script es) (is_repeat texts number) (text_at texts number) number last)
     (sym c.requires.endings) c.in_ok-add_if_first.ensures.text.2 in
     let counted : c.if-branch.count ≡ (if first then count + 1 else count) =
     elim c.if-branch.branch [
@@ -42,7 +44,7 @@ loop-number-preserved g c =
         so_far.0 ++ last,
         part_more (string_bytes c.loop-number.text) (string_bytes c.add_if_first.new.text) (string_bytes c.args.text.now)
             so_far.0 last so_far.1 c.in_ok-add_if_first.ensures.text.1,
-        subst (λ (n : ℕ). AreFirstTexts (IsOutcomeText form script keys) texts n (so_far.0 ++ last)) (sym (add-one number))
+        subst (λ (n : ℕ). AreFirstTexts (IsOutcomeText frames form script keys) texts n (so_far.0 ++ last)) (sym (add-one number))
             (so_far.0, last, refl, so_far.2, told),
       ),
     )
@@ -51,6 +53,7 @@ pub returns-clause-text : goal.returns-clause-text
 returns-clause-text g c =
     let texts = map string_bytes c.args.texts.now.lines.items in
     let script = fields_of c.args.telling.now.script.now in
+    let frames = frames_in c.args.telling.now.list.now in
     let form = c.args.telling.now.form in
     let keys = c.args.endings.now in
     let number = c.loop-number.number in
@@ -60,5 +63,5 @@ returns-clause-text g c =
     let so_far = c.loop-number.invariant.2 in (
       so_far.0,
       so_far.1,
-      subst (λ (n : ℕ). AreFirstTexts (IsOutcomeText form script keys) texts n so_far.0) all so_far.2,
+      subst (λ (n : ℕ). AreFirstTexts (IsOutcomeText frames form script keys) texts n so_far.0) all so_far.2,
     )

@@ -7,12 +7,14 @@ use Rattle.ccan_outcomes.specs.declared.ending.Ending.{Ending}
 use Rattle.ccan_outcomes.specs.OutcomeWords.{endings_in}
 use Rattle.ccan_lab.specs.OutcomeText.{IsOutcomeText}
 use Rattle.ccan_lab.specs.Rows.{rows_of}
+use Rattle.ccan_lab.specs.Telling.{frames_in}
 use Rattle.ccan_lab.proofs.Apart.{texts_by_rows}
 use Rattle.ccan_lab.proofs.observed.observed_listing.Goals as goal
 
 pub returns-clause-text : goal.returns-clause-text
 returns-clause-text g c =
     let script = fields_of c.args.telling.now.script.now in
+    let frames = frames_in c.args.telling.now.list.now in
     let form = c.args.telling.now.form in
     let keys = endings_in c.args.telling.now.list.now.words in
     let marks = marks_of (names_in c.args.list.now) script in
@@ -21,7 +23,7 @@ returns-clause-text g c =
     let texts = map string_bytes c.in_ok-texts.texts.lines.items in
     let kept = ap (λ (lines : Vec (String Global)). map string_bytes lines.items) c.in_ok-texts.ensures in
     let is_told : List (List ℕ) → List ℕ → Type 0 =
-    λ told added. AreFirstTexts (IsOutcomeText form script keys) told count added in
+    λ told added. AreFirstTexts (IsOutcomeText frames form script keys) told count added in
     let all = c.in_ok-endings.ensures in
     let texts_are : texts ≡ observed_texts marks keys =
     kept ∙ c.in_ok-lines.ensures ∙ ap (map (observed_lines marks)) (c.as_slice-2.ensures.value ∙ c.in_ok-rows.ensures
@@ -29,7 +31,7 @@ returns-clause-text g c =
     let endings_are : c.as_slice-3.result.now ≡ keys = c.as_slice-3.ensures.value ∙ all in
     let added = c.in_ok-apart.ensures.text.0 in
     let are : is_told texts added =
-    subst (λ (es : List Ending). AreFirstTexts (IsOutcomeText form script es) texts (length es) added) endings_are
+    subst (λ (es : List Ending). AreFirstTexts (IsOutcomeText frames form script es) texts (length es) added) endings_are
     c.in_ok-apart.ensures.text.2 in
     let apart : c.in_ok-apart.apart ≡ first_count (observed_texts marks keys) count =
     c.in_ok-apart.ensures.count

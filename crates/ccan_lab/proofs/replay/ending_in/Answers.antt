@@ -31,7 +31,6 @@ returns c =
     λ i. record { if1 = shown.if1 i; if2 = shown.if2 i; bus = shown.bus i; records = shown.records ran.history ran.seen i } in
     record {
       is_order = order_of c.args.script.now c.args.order.now (names.if1 refl) (names.if2 refl) (names.bus refl);
-      frames = c.args.frames;
       history = ran.history;
       steps = steps;
       runs = ran.runs;

@@ -5,5 +5,5 @@ use Rattle.ccan_lab.proofs.replay.leads_to.Goals as goal
 
 pub returns-in-Some : goal.returns-in-Some
 returns-in-Some c equal =
-    replays_equal (fields_of c.args.script.now) c.args.ending.now c.in-Some.shown c.args.order.now (sym c.eq.ensures ∙ equal)
-    (rw c.in-Some.is at c.in_ok-shown.ensures)
+    replays_equal c.args.frames (fields_of c.args.script.now) c.args.ending.now c.in-Some.shown c.args.order.now
+    (sym c.eq.ensures ∙ equal) (rw c.in-Some.is at c.in_ok-shown.ensures)

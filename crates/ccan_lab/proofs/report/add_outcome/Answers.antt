@@ -6,6 +6,7 @@ use Rattle.ccan_outcomes.specs.History.{IsHistoryOf}
 use Rattle.ccan_outcomes.specs.OutcomeWords.{endings_in}
 use Rattle.ccan_lab.specs.Replay.{Replays}
 use Rattle.ccan_lab.specs.Report.{outcome_text}
+use Rattle.ccan_lab.specs.Telling.{frames_in}
 use Rattle.ccan_lab.proofs.Told.{names_in, names_lead}
 use Rattle.ccan_lab.proofs.report.add_outcome.Goals as goal
 
@@ -13,14 +14,15 @@ pub returns-clause-text : goal.returns-clause-text
 returns-clause-text g c =
     let lines = c.args.lines.now in
     let script = fields_of c.args.telling.now.script.now in
+    let frames = frames_in c.args.telling.now.list.now in
     let number = c.args.number in
     let ending = c.args.ending.now in
     let keys = endings_in c.args.telling.now.list.now.words in
     let steps = c.in_ok-history.history.steps.items in
     let told = string_bytes c.in_ok-told.told in
     let order = names_in c.in_ok-order.order in
-    let found : IfSome order (Replays script ending) =
-    names_lead (Replays script ending) c.in_ok-order.order c.in_ok-order.ensures in
+    let found : IfSome order (Replays frames script ending) =
+    names_lead (Replays frames script ending) c.in_ok-order.order c.in_ok-order.ensures in
     let added = c.in_ok-add_told_outcome.ensures
     ∙ ap (λ (words : List ℕ). string_bytes c.args.text.now ++ outcome_text lines number words order)
     c.as_str.ensures.value in (
@@ -32,8 +34,8 @@ returns-clause-text g c =
         order,
         (λ shown is.
             let same : ending ≡ shown = same_some ending shown (sym c.requires.at ∙ is) in (
-              subst (λ (e : Ending). IsHistoryOf script e steps) same c.in_ok-history.ensures.history,
-              subst (λ (e : Ending). IfSome order (Replays script e)) same found,
+              subst (λ (e : Ending). IsHistoryOf frames script e steps) same c.in_ok-history.ensures.history,
+              subst (λ (e : Ending). IfSome order (Replays frames script e)) same found,
             )),
         (c.in_ok-history.history.states.items, c.in_ok-history.ensures.states, c.in_ok-told.ensures),
         refl,

@@ -3,6 +3,7 @@ use Rattle.ccan_line.specs.Script.{fields_of}
 use Rattle.ccan_outcomes.specs.OutcomeWords.{endings_in}
 use Rattle.ccan_lab.specs.Listing.{AreOutcomeTexts}
 use Rattle.ccan_lab.specs.Sorted.{all_texts}
+use Rattle.ccan_lab.specs.Telling.{frames_in}
 use Rattle.ccan_lab.proofs.report.add_outcomes.Given as goal
 
 -- the outcomes so far
@@ -10,6 +11,6 @@ abbrev pub invariant-loop-number : goal.invariant-loop-number
 invariant-loop-number g l = record {
   within : l.number ≤ length (endings_in l.telling.list.now.words);
   told : (added : List ℕ) × (string_bytes l.text ≡ string_bytes l.initial.text ++ added)
-      × AreOutcomeTexts l.telling.form (fields_of l.telling.script.now) (endings_in l.telling.list.now.words) (all_texts l.choices) l.number
+      × AreOutcomeTexts (frames_in l.telling.list.now) l.telling.form (fields_of l.telling.script.now) (endings_in l.telling.list.now.words) (all_texts l.choices) l.number
       added;
 }

@@ -5,6 +5,7 @@ use Rattle.ccan_lab.specs.Counting.{count_text, greatest}
 use Rattle.ccan_lab.specs.Listing.{AreOutcomeTexts}
 use Rattle.ccan_lab.specs.Sorted.{AreAllInOrder, all_texts}
 use Rattle.ccan_lab.specs.Summary.{same_parts}
+use Rattle.ccan_lab.specs.Telling.{frames_in}
 use Rattle.ccan_lab.proofs.Listed.{has_choices}
 use Rattle.ccan_lab.proofs.Parts.{Lines}
 use Rattle.ccan_lab.proofs.report.listing.Goals as goal
@@ -12,6 +13,7 @@ use Rattle.ccan_lab.proofs.report.listing.Goals as goal
 pub returns-clause-text : goal.returns-clause-text
 returns-clause-text g c =
     let script = fields_of c.args.telling.now.script.now in
+    let frames = frames_in c.args.telling.now.list.now in
     let form = c.args.telling.now.form in
     let endings = endings_in c.args.telling.now.list.now.words in
     let rows = c.in_ok-rows.rows.items in
@@ -26,7 +28,7 @@ returns-clause-text g c =
       choices = choices;
       has_choices = has_choices script endings rows choices c.in_ok-rows.ensures.places c.in_ok-rows.ensures.lines ordered;
       outcomes = added;
-      are = subst (λ (l : List Lines). AreOutcomeTexts form script endings (all_texts l) (length endings) added)
+      are = subst (λ (l : List Lines). AreOutcomeTexts frames form script endings (all_texts l) (length endings) added)
           c.as_slice-3.ensures.value c.in_ok-add_outcomes.ensures.text.2;
       text_is =
           c.in_ok-add_outcomes.ensures.text.1

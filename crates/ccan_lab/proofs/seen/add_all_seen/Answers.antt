@@ -2,6 +2,7 @@ use Rattle.std.proofs.Common.{◌≡◌, ◌≤◌, ◌+◌, ◌++◌, ℕ, Bool
 use Rattle.ccan_line.specs.Script.{fields_of}
 use Rattle.ccan_lab.specs.Observed.{AreFirstTexts}
 use Rattle.ccan_lab.specs.Seen.{IsSeenText}
+use Rattle.ccan_lab.specs.Telling.{frames_in}
 use Rattle.ccan_lab.proofs.Apart.{count_by, count_none}
 use Rattle.ccan_lab.proofs.Texts.{part_more}
 use Rattle.ccan_lab.proofs.seen.add_all_seen.Goals as goal
@@ -19,6 +20,7 @@ loop-place-preserved g c =
     let texts = map string_bytes c.args.texts.now.lines.items in
     let marks = c.args.marks.now in
     let script = fields_of c.args.telling.now.script.now in
+    let frames = frames_in c.args.telling.now.list.now in
     let form = c.args.telling.now.form in
     let keys = c.args.shown.now.endings.items in
     let place = c.loop-place.place in
@@ -39,7 +41,7 @@ loop-place-preserved g c =
         so_far.0 ++ last,
         part_more (string_bytes c.loop-place.text) (string_bytes c.add_if_new.new.text) (string_bytes c.args.text.now)
             so_far.0 last so_far.1 c.in_ok-add_if_new.ensures.text.1,
-        subst (λ (n : ℕ). AreFirstTexts (IsSeenText form script marks keys texts) texts n (so_far.0 ++ last)) (sym (add-one place))
+        subst (λ (n : ℕ). AreFirstTexts (IsSeenText frames form script marks keys texts) texts n (so_far.0 ++ last)) (sym (add-one place))
             (so_far.0, last, refl, so_far.2, c.in_ok-add_if_new.ensures.text.2),
       ),
     )

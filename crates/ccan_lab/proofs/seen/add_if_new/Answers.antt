@@ -5,6 +5,7 @@ use Rattle.ccan_lab.specs.Brief.{IsHistoryText}
 use Rattle.ccan_lab.specs.Observed.{is_repeat, text_at}
 use Rattle.ccan_lab.specs.Report.{IsTextWith}
 use Rattle.ccan_lab.specs.Seen.{IsSeenText, ReplaysShown}
+use Rattle.ccan_lab.specs.Telling.{frames_in}
 use Rattle.ccan_lab.proofs.Apart.{first_text, text_in}
 use Rattle.ccan_lab.proofs.seen.add_if_new.Goals as goal
 
@@ -14,6 +15,7 @@ returns-clause-text g c =
     let place = c.args.place in
     let marks = c.args.marks.now in
     let script = fields_of c.args.telling.now.script.now in
+    let frames = frames_in c.args.telling.now.list.now in
     let form = c.args.telling.now.form in
     let keys = c.args.shown.now.endings.items in
     let repeat = is_repeat (map string_bytes texts) place in
@@ -26,12 +28,12 @@ returns-clause-text g c =
     c.as_str-lines.ensures.value ∙ ap string_bytes c.index.ensures ∙ sym (text_in texts place shown within) in
     let is_text : List ℕ → ℕ → Type 0 =
     λ shown_lines number.
-    IsTextWith (IsHistoryOf script) (IsHistoryText form script) (λ _. ReplaysShown script marks shown_lines) keys place shown_lines
+    IsTextWith (IsHistoryOf frames script) (IsHistoryText form script) (λ _. ReplaysShown frames script marks shown_lines) keys place shown_lines
     number added in
-    let told : IsSeenText form script marks keys (map string_bytes texts) lines place added =
+    let told : IsSeenText frames form script marks keys (map string_bytes texts) lines place added =
     subst (λ (n : ℕ). is_text lines n) c.requires.counts
     (subst (λ (l : List ℕ). is_text l c.args.number) lines_are c.in_ok-add_seen.ensures.text.2) in (
       added,
       c.in_ok-add_seen.ensures.text.1,
-      first_text (IsSeenText form script marks keys (map string_bytes texts)) repeat lines place added first told,
+      first_text (IsSeenText frames form script marks keys (map string_bytes texts)) repeat lines place added first told,
     )

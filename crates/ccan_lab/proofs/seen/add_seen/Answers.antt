@@ -5,6 +5,7 @@ use Rattle.ccan_outcomes.specs.declared.ending.Ending.{Ending}
 use Rattle.ccan_outcomes.specs.History.{IsHistoryOf}
 use Rattle.ccan_lab.specs.Report.{outcome_text}
 use Rattle.ccan_lab.specs.Seen.{ReplaysShown}
+use Rattle.ccan_lab.specs.Telling.{frames_in}
 use Rattle.ccan_lab.proofs.Told.{names_in, names_lead}
 use Rattle.ccan_lab.proofs.seen.add_seen.Goals as goal
 
@@ -12,6 +13,7 @@ pub returns-clause-text : goal.returns-clause-text
 returns-clause-text g c =
     let lines = c.args.lines.now in
     let script = fields_of c.args.telling.now.script.now in
+    let frames = frames_in c.args.telling.now.list.now in
     let number = c.args.number in
     let place = c.args.place in
     let marks = c.args.marks.now in
@@ -20,8 +22,8 @@ returns-clause-text g c =
     let told = string_bytes c.in_ok-told.told in
     let order = names_in c.in_ok-order.order in
     let shown = c.index-ending.result.now in
-    let found : IfSome order (ReplaysShown script marks lines) =
-    names_lead (ReplaysShown script marks lines) c.in_ok-order.order c.in_ok-order.ensures in
+    let found : IfSome order (ReplaysShown frames script marks lines) =
+    names_lead (ReplaysShown frames script marks lines) c.in_ok-order.order c.in_ok-order.ensures in
     let it_is : (ending : Ending) → slice_get keys place ≡ Some ending → shown ≡ ending =
     λ ending is. c.index-ending.ensures ∙ get_or_from_slice_get keys place ending _ is in
     let added = c.in_ok-add_told_outcome.ensures
@@ -34,7 +36,7 @@ returns-clause-text g c =
         told,
         order,
         (λ ending is. (
-          subst (λ (e : Ending). IsHistoryOf script e steps) (it_is ending is) c.in_ok-history.ensures.history,
+          subst (λ (e : Ending). IsHistoryOf frames script e steps) (it_is ending is) c.in_ok-history.ensures.history,
           found,
         )),
         (c.in_ok-history.history.states.items, c.in_ok-history.ensures.states, c.in_ok-told.ensures),

@@ -3,18 +3,20 @@ use Rattle.std.specs.Global.{Vec}
 use Rattle.ccan_line.specs.Script.{fields_of}
 use Rattle.ccan_lab.specs.Observed.{AreFirstTexts, first_count}
 use Rattle.ccan_lab.specs.Seen.{IsSeenText, seen_heading}
+use Rattle.ccan_lab.specs.Telling.{frames_in}
 use Rattle.ccan_lab.proofs.seen.seen_listing.Goals as goal
 
 pub returns-clause-text : goal.returns-clause-text
 returns-clause-text g c =
     let script = fields_of c.args.telling.now.script.now in
+    let frames = frames_in c.args.telling.now.list.now in
     let form = c.args.telling.now.form in
     let marks = c.args.marks.now in
     let keys = c.args.shown.now.endings.items in
     let count = length keys in
     let texts = map string_bytes c.in_ok-texts.texts.lines.items in
     let is_told : List (List ℕ) → List ℕ → Type 0 =
-    λ told added. AreFirstTexts (IsSeenText form script marks keys told) told count added in
+    λ told added. AreFirstTexts (IsSeenText frames form script marks keys told) told count added in
     let texts_are = ap (λ (lines : Vec (String Global)). map string_bytes lines.items) c.in_ok-texts.ensures ∙ c.in_ok-lines.ensures in
     let added = c.in_ok-apart.ensures.text.0 in
     let are : is_told texts added = c.in_ok-apart.ensures.text.2 in

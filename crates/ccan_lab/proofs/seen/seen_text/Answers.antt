@@ -3,15 +3,17 @@ use Rattle.std.proofs.lemmas.Result.{IfErr-weaker, IfOk-weaker}
 use Rattle.ccan_line.specs.Script.{fields_of}
 use Rattle.ccan_outcomes.specs.OutcomeWords.{endings_in}
 use Rattle.ccan_outcomes.specs.contracts.all_ports.AllPortsPartialEq.TheImpl.{ghosts as ports_are}
-use Rattle.ccan_lab.specs.Observed.{names_in}
+use Rattle.ccan_lab.specs.Observed.{marks_of, names_in}
 use Rattle.ccan_lab.specs.Seen.{HasNoImages, HasNoSeenList, ListsSeen}
+use Rattle.ccan_lab.specs.Telling.{frames_in}
 use Rattle.ccan_lab.specs.Words.{HasNoHistory}
 use Rattle.ccan_lab.proofs.seen.seen_text.Goals as goal
 
 pub returns-clause-text : goal.returns-clause-text
 returns-clause-text g c =
     let script = fields_of c.args.script.now in
-    let endings = endings_in c.in_ok-list.list.words in
+    let list = c.in_ok-list.list in
+    let endings = endings_in list.words in
     let form = c.args.form in
     let marks_are = c.as_slice.ensures.value ∙ c.in_ok-marks.ensures in
     IfOk-weaker c.seen_of_list.result _ _
@@ -21,7 +23,9 @@ returns-clause-text g c =
       are = c.in_ok-list.ensures.all;
       runs = c.in_ok-list.ensures.told.runs;
       once = c.in_ok-list.ensures.distinct;
-      lists = subst (λ (marks : List Bool). ListsSeen form script marks endings (string_bytes text)) marks_are lists;
+      lists = subst (λ (it : Bool). ListsSeen it form script (marks_of (names_in c.args.names.now) script) endings (string_bytes text))
+          c.in_ok-list.ensures.frames
+          (subst (λ (marks : List Bool). ListsSeen (frames_in list) form script marks endings (string_bytes text)) marks_are lists);
     })
     c.seen_of_list.ensures.text
 

@@ -1,8 +1,9 @@
-use Rattle.std.proofs.Common.{inr}
+use Rattle.std.proofs.Common.{Bool, inr, subst}
 use Rattle.std.proofs.lemmas.Result.{IfErr-weaker, IfOk-weaker}
 use Rattle.ccan_line.specs.Script.{fields_of}
 use Rattle.ccan_outcomes.specs.OutcomeWords.{endings_in}
 use Rattle.ccan_outcomes.specs.contracts.all_ports.AllPortsPartialEq.TheImpl.{ghosts as ports_are}
+use Rattle.ccan_lab.specs.Paging.{ShowsEndings}
 use Rattle.ccan_lab.specs.Words.{HasNoHistory}
 use Rattle.ccan_lab.proofs.paging.outcome_pages.listed_page.Goals as goal
 
@@ -14,7 +15,8 @@ returns-clause-outcomes g c =
       complete = c.in_ok-list.ensures.all;
       runs = c.in_ok-list.ensures.told.runs;
       once = c.in_ok-list.ensures.distinct;
-      shows = shows;
+      shows = subst (λ (it : Bool). ShowsEndings it (fields_of c.args.script.now) (endings_in c.in_ok-list.list.words) c.args.limit made)
+          c.in_ok-list.ensures.frames shows;
     })
     c.found_page.ensures.shows
 
