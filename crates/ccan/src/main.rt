@@ -4,9 +4,8 @@
 //! each port in a thread of its own, all three over one memory without a lock, whatever the script's order says; the
 //! answers of IF1 come first then, and after them those of IF2 and those of the bus.
 //!
-//! A fault is one line on standard error, and the exit status: 1 where the input is no script or too long, 2 where the
-//! words of the command line are no mode, 3 where memory ran out, 4 where a read or a write failed or a thread could not
-//! be started.
+//! A fault is one line on standard error, and the exit status: 1 if the input is not a script or too long, 2 if the words of
+//! the command line are not a mode, 3 if memory ran out, 4 if a read or a write failed or a thread could not be started.
 #![tactic(auto)]
 
 use ccan_run::{
@@ -22,7 +21,7 @@ use std::sync::Wait;
 use std::thread::Threads;
 use std::{env, io};
 
-/// Tells a fault, and gives its exit status.
+/// Reports a fault, and gives its exit status.
 fn refuse(rt: &impl Eprint, fault: &(impl Display + Drop), status: u8) -> ExitCode {
     let _told = rt.eprintln(fault);
     ExitCode::from(status)

@@ -1,4 +1,4 @@
--- Where the first fault of a line stands, by the order of the checks. That a line has a fault is what its reader says
+-- Where the first fault of a line is, by the order of the checks. That a line has a fault is what its reader says
 -- (`host_fault` and `bus_fault` of `ccan_script`). Source: this project's own.
 use Rattle.std.specs.Prelude.{ℕ, ◌-◌, ◌^◌, ◌==◌, ◌&&◌, Bool, false, not, List, [], ◌∷◌, Option, Some, None, codes}
 use Rattle.std.specs.Prelude.{is_some, length, map, nat_le, option_and_then, slice_get, unwrap_or}
@@ -35,7 +35,7 @@ use Rattle.ccan_check.specs.LinePath.{name_text}
 use Rattle.ccan_check.specs.Member.{name_of, kind_of, is_needed, is_set, range_in, host_members, bus_members}
 use Rattle.ccan_check.specs.Member.{frame_members, frame_numbers}
 
--- what a check finds: nothing where it holds, else the part at fault
+-- what a check finds: nothing if it holds, else the part at fault
 abbrev pub unless : Bool → Part → Option Part
 unless holds at = if holds then None else Some at
 
@@ -70,7 +70,7 @@ has_shape d v kind.Frames = are_few v
 has_shape d v kind.Data = is_some (data_in d)
 has_shape d v (kind.Number r) = is_some (whole v)
 
--- a member is there, unless it may be left out, and is of its shape; of `set` each register is, too
+-- a member is there, unless it may be left out, and is of its shape; so is each register of `set`
 unfoldable pub shape_found : Data → Member → Option Part
 shape_found d m =
     option_map_or
@@ -108,14 +108,14 @@ part_found context members numbers d =
     option_or (unless (has_only (map (λ m. name_text (name_of m)) members) d) part.Whole)
     (option_or (first_found (shape_found d) members) (first_found (range_found context d) numbers))
 
--- the operation of a line that has no known one: `op` where it is there, else the line
+-- the operation of a line that has no known one: `op` if it is there, else the line
 abbrev pub operation_part : Data → Part
 operation_part d = option_map_or (λ v. part.Member Op) (get (codes "op") d) part.Whole
 
 abbrev pub in_line : Part → LinePath
 in_line at = record { frame = None; part = at }
 
--- what is wrong with a frame behind its members is the length of its data
+-- what is wrong with a frame after its members is the length of its data
 abbrev pub frame_place : LineContext → Data → ℕ → LinePath
 frame_place context d index =
     record {
@@ -124,7 +124,7 @@ frame_place context d index =
           (slice_get (frames_in d) index) part.Whole;
     }
 
--- behind the members of a round comes its first frame at fault, and then that a node sends twice
+-- after the members of a round comes its first frame at fault, and then that a node sends twice
 unfoldable pub round_place : LineContext → Data → LinePath
 round_place context d =
     option_map_or (frame_place context d) (position (λ frame. is_some (frame_fault context.nodes frame)) (frames_in d))
@@ -144,7 +144,7 @@ bus_place_by context None d = in_line (operation_part d)
 bus_place_by context (Some op) d =
     option_map_or in_line (part_found context (bus_members op) (bus_members op) d) (behind_members context op d)
 
--- where the first fault of a line at fault stands
+-- where the first fault of a line at fault is
 abbrev pub host_place : LineContext → Data → LinePath
 host_place context d = host_place_by context (host_op d) d
 

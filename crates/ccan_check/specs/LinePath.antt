@@ -1,4 +1,4 @@
--- Where in a line of a script a fault stands, and how that is written. Source: this project's own; paths are written as jq
+-- Where in a line of a script a fault is, and how that is written. Source: this project's own; paths are written as jq
 -- writes them, without their first dot.
 use Rattle.std.specs.Prelude.{ℕ, ◌++◌, List, Option, Some, None, codes, decimal}
 use Rattle.ccan_script.specs.RegisterSet.{register_name}

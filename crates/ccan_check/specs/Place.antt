@@ -1,4 +1,4 @@
--- Where a byte of a text stands: in which line, and in which column of it. Source: this project's own.
+-- Where a byte of a text is: in which line, and in which column of it. Source: this project's own.
 use Rattle.std.specs.Prelude.{ℕ, ◌+◌, ◌==◌, Bool, List, not, take}
 use Rattle.std.specs.List.{count_by, suffix_len}
 
@@ -6,7 +6,7 @@ use Rattle.std.specs.List.{count_by, suffix_len}
 abbrev pub is_line_feed : ℕ → Bool
 is_line_feed byte = byte == 10
 
--- below, so many bytes of the text stand before the byte
+-- below, this many bytes of the text come before the byte
 module _ (text : List ℕ) (offset : ℕ) where
   -- lines count from 1, and each line feed before the byte ends one
   abbrev pub line_of : ℕ

@@ -1,4 +1,5 @@
--- What a report of a script has first: the fault that reading the script answers, told at its place. Source: this project's own.
+-- What a report of a script has first: the fault that reading the script answers, reported at its place. Source: this project's
+-- own.
 use Rattle.std.specs.Prelude.{ℕ, ◌≡◌, ◌≢◌, ◌++◌, List, [], ◌∷◌, Option, Some, None, Ok, IsTrue, IsUtf8, codes}
 use Rattle.std.specs.Prelude.{decimal}
 use Rattle.std.specs.Prelude.{nat_eq, slice_get, string_bytes}
@@ -27,7 +28,7 @@ use Rattle.ccan_check.specs.LinePath.{path_text}
 
 -- ---- what the ranges of lines follow from
 
--- the number of a member, and the greatest where that is at fault
+-- the number of a member, or the greatest if that is at fault
 abbrev pub number_or_greatest : ℕ → ℕ → ℕ → Option Data → ℕ
 number_or_greatest least greatest default o =
     option_map_or (λ fault. greatest) (number_fault least greatest o) (number_or default o)
@@ -49,7 +50,7 @@ place_in list.If2 context line = host_place context line
 place_in list.Bus context line = bus_place context line
 place_in list.Order context line = in_line Whole
 
--- a list and the index of a line in it, and the place in the line; the list alone where it has no such line
+-- a list and the index of a line in it, and the place in the line; only the list if it has no such line
 abbrev pub line_path : Data → ListName → ℕ → List ℕ
 line_path d name index =
     option_map_or
@@ -85,7 +86,7 @@ BeginsWithPath bytes fault =
     (d : Data) → IsUtf8 bytes → read bytes ≡ Some d
     → IsTrue (starts_with nat_eq (string_bytes fault.remark.text) (fault_path d fault.error))
 
--- there is no first fault where the bytes are a script; else it is the refusal of the bytes, and told with its path
+-- if the bytes are a script, there is no first fault; otherwise it is the refusal of the bytes, reported with its path
 abbrev pub IsFirstOf : List ℕ → Option Fault → Type 0
 IsFirstOf bytes None = (script : ScriptFields) × Shows bytes (Ok script)
 IsFirstOf bytes (Some fault) = (fault.error ≢ Memory) × RefusesText bytes fault.error × BeginsWithPath bytes fault

@@ -17,7 +17,7 @@ use ccan_script::{
 use serde_json::Value;
 use std::alloc::{AllocError, Global};
 
-/// The number of a member of the script, and the greatest where that is at fault.
+/// The number of a member of the script, or the greatest if that is at fault.
 fn number_or_greatest(value: &Value, name: &str, least: u64, greatest: u64, default: u64) -> u64
     requires default_least { least ≤ default }
     requires default_greatest { default ≤ greatest }
@@ -31,8 +31,8 @@ fn number_or_greatest(value: &Value, name: &str, least: u64, greatest: u64, defa
     }
 }
 
-/// What the ranges of the lines follow from. Where `profile` or `nodes` is at fault it is the greatest, so that no fault of a
-/// line comes of it.
+/// What the ranges of the lines follow from. If `profile` or `nodes` is at fault, it is the greatest, so that it causes no
+/// fault of a line.
 pub(crate) fn context_of(value: &Value) -> LineContext
     ensures context { result ≡ context_of (view value.now) }
     ensures nodes { result.nodes ≤ most_nodes }
@@ -58,7 +58,7 @@ fn list_text(list: ListName) -> &'static str
     }
 }
 
-/// The place in a line of a list at which its first fault stands.
+/// The place of the first fault in a line of a list.
 fn place_in(list: ListName, context: LineContext, line: &Value) -> LinePath
     requires { context.nodes ≤ most_nodes }
     ensures { result ≡ place_in list context (view line.now) }
@@ -114,7 +114,7 @@ fn line_path(
     }
 }
 
-/// The path of the fault that reading a script answers, empty where it is one of the script itself or none.
+/// The path of the fault that reading a script answers, empty if it is one of the script itself or none.
 pub(crate) fn fault_path(
     alloc: Global,
     value: &Value,

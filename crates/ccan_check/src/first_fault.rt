@@ -1,4 +1,4 @@
-//! Where the first fault of a line stands, by the order of the checks. Whether a line has a fault is what the readers of
+//! Where the first fault of a line is, by the order of the checks. Whether a line has a fault is what the readers of
 //! `ccan_script` say.
 
 ghost use Rattle.std.specs.Prelude.{◌≡◌, ◌≤◌, map, is_some, None, unwrap_or};
@@ -21,7 +21,7 @@ use ccan_script::frame_line::read_frame;
 use ccan_script::host_op::host_op;
 use serde_json::Value;
 
-/// The part of a line without a known operation at which that shows.
+/// The part at fault in a line without a known operation.
 fn operation_part(line: &Value) -> Part
     ensures { result ≡ operation_part (view line.now) }
 {
@@ -46,7 +46,7 @@ fn is_frame_at_fault(frame: &Value, nodes: u8) -> bool
     read_frame(frame, nodes).is_err()
 }
 
-/// The values of the list that a member is, none where it is no list.
+/// The values of the list that a member is, none if it is not a list.
 #[tactic(auto, using(ccan_script::proofs::ListFaults::lines_are), unfolding(ccan_script::specs::Json::lines_in))]
 pub(crate) fn items_in<'a>(value: &'a Value, name: &str) -> &'a [Value]
     ensures { map view result.now ≡ lines_in (get name.now (view value.now)) }
@@ -70,7 +70,7 @@ fn frame_at_fault(frames: &[Value], nodes: u8) -> Option<usize>
         .position(|frame| is_frame_at_fault(frame, nodes))
 }
 
-/// The part of a frame at fault at which its first fault stands.
+/// The part of a frame at fault that has its first fault.
 fn frame_part(frame: &Value, context: LineContext) -> Part
     ensures { result
         ≡ unwrap_or (part_found context frame_members frame_numbers (view frame.now)) Part.Whole }
@@ -78,7 +78,7 @@ fn frame_part(frame: &Value, context: LineContext) -> Part
     part_found(frame, frame_members(), frame_numbers(), context).unwrap_or(Part::Whole)
 }
 
-/// Where the first fault of a round stands whose members are in order.
+/// Where the first fault is in a round whose members are in order.
 #[tactic(auto, unfolding(crate::specs::FirstFault::round_place))]
 fn round_place(line: &Value, context: LineContext) -> LinePath
     requires { context.nodes ≤ most_nodes }
@@ -100,7 +100,7 @@ fn round_place(line: &Value, context: LineContext) -> LinePath
     }
 }
 
-/// Where the first fault of a host's line stands that is at fault.
+/// Where the first fault is in a host's line that is at fault.
 #[tactic(auto, unfolding(crate::specs::FirstFault::host_place_by))]
 pub(crate) fn host_place(line: &Value, context: LineContext) -> LinePath
     ensures { result ≡ host_place context (view line.now) }
@@ -112,7 +112,7 @@ pub(crate) fn host_place(line: &Value, context: LineContext) -> LinePath
     in_line(part_found(line, members, members, context).unwrap_or(Part::Whole))
 }
 
-/// Where the first fault of a line of the bus stands that is at fault.
+/// Where the first fault is in a line of the bus that is at fault.
 #[tactic(auto, unfolding(crate::specs::FirstFault::bus_place_by, crate::specs::FirstFault::behind_members))]
 pub(crate) fn bus_place(line: &Value, context: LineContext) -> LinePath
     requires { context.nodes ≤ most_nodes }
@@ -128,7 +128,7 @@ pub(crate) fn bus_place(line: &Value, context: LineContext) -> LinePath
     }
 }
 
-/// Where a fault behind the members of a line of the bus stands.
+/// Where a fault is that comes after the members of a line of the bus.
 #[tactic(auto, unfolding(crate::specs::FirstFault::behind_members))]
 fn behind_members(line: &Value, op: BusOp, context: LineContext) -> LinePath
     requires { context.nodes ≤ most_nodes }

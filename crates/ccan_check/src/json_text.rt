@@ -1,7 +1,7 @@
 //! Places in a JSON text. Whether the text is JSON is not checked here: these functions are safe for all bytes, and find the
-//! places where it is.
+//! places if it is.
 
-/// Where a scan of a text stands.
+/// Where a scan of a text is.
 #[derive(Clone, Copy, PartialEq, Eq, Debug)]
 enum Inside {
     Nothing,
@@ -10,12 +10,12 @@ enum Inside {
     Escape,
 }
 
-/// A member of an object or an item of a list, in the text: offsets from the text's begin.
+/// A member of an object or an item of a list, in the text: offsets from the text's beginning.
 #[derive(Clone, Copy, Debug)]
 pub(crate) struct Child {
-    /// Where its name begins, with the quote; of an item where its value does.
+    /// Where its name begins, with the quote; for an item, where its value begins.
     pub(crate) begin: usize,
-    /// Where the name ends; of an item where it begins.
+    /// Where the name ends; for an item, where the item begins.
     pub(crate) name_end: usize,
     /// Where its value begins.
     pub(crate) value: usize,
@@ -27,7 +27,7 @@ fn is_space(byte: u8) -> bool {
     matches!(byte, b' ' | b'\t' | b'\n' | b'\r')
 }
 
-/// Where the next byte stands that is no space, from an offset on.
+/// The offset of the first byte that is not a space, from this offset on.
 pub(crate) fn after_spaces(text: &[u8], offset: usize) -> usize {
     let rest = text.get(offset..).unwrap_or(&[]);
     offset.saturating_add(rest.iter().take_while(|byte| is_space(**byte)).count())
@@ -43,7 +43,7 @@ fn inside_after(inside: Inside, byte: u8) -> Inside {
     }
 }
 
-/// Where the value ends that begins at an offset.
+/// Where the value that begins at an offset ends.
 pub(crate) fn value_end(text: &[u8], offset: usize) -> usize {
     let rest = text.get(offset..).unwrap_or(&[]);
     let mut inside = Inside::Nothing;
@@ -68,7 +68,7 @@ pub(crate) fn value_end(text: &[u8], offset: usize) -> usize {
     text.len()
 }
 
-/// Where the value of the item that follows an offset begins, and where the item ends; the offset for both, where none follows.
+/// Where the value of the item that follows an offset begins, and where the item ends; the offset for both, if none follows.
 pub(crate) fn item_after(text: &[u8], offset: usize) -> (usize, usize) {
     match child_after(text, offset) {
         Some(child) => (child.value, child.end),

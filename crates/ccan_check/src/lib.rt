@@ -1,5 +1,5 @@
-//! The faults of a register script, of each of its lines the first, each with its place and the remedy, and what is taken but
-//! rarely meant.
+//! The faults of a register script, the first of each of its lines, each with its place and the remedy, and what is accepted
+//! but rarely meant.
 //!
 //! ```text
 //!   bytes --> Report { faults, warnings }
@@ -7,9 +7,9 @@
 //!                         +--> file.json:20:18: if1[15].set.cmask: "00g0" is not four hexadecimal digits
 //! ```
 //!
-//! Whether a script has a fault, and which comes first, is what [`ccan_script::read_script`] says, and of each line what its
-//! reader says. Which member of a line is at fault first is proved here, by the order of the checks (`specs/FirstFault.antt`).
-//! The rest finds the place of that member in the text, and words for it.
+//! Whether a script has a fault, and which comes first, is what [`ccan_script::read_script`] says, and for each line it is what
+//! its reader says. Which member of a line is at fault first is proved here, by the order of the checks
+//! (`specs/FirstFault.antt`). The rest finds the place of that member in the text, and words for it.
 #![tactic(auto)]
 
 mod fault_path;

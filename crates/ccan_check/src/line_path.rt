@@ -1,4 +1,4 @@
-//! Where in a line of a script a fault stands.
+//! Where in a line of a script a fault is.
 
 ghost use Rattle.std.specs.Prelude.{◌≡◌, IfOk, Some, string_bytes};
 ghost use Rattle.ccan_script.specs.RegisterSet.{register_name};
@@ -30,7 +30,7 @@ pub(crate) enum MemberName {
     Data,
 }
 
-/// The part of a line, or of a frame, at which a fault stands.
+/// The part of a line, or of a frame, that is at fault.
 #[derive(Clone, Copy, Debug)]
 pub(crate) enum Part {
     /// The line or the frame itself: it has a member too many or too few, or its members don't go together.
@@ -40,12 +40,12 @@ pub(crate) enum Part {
     Register(Reg),
 }
 
-/// Where in a line a fault stands.
+/// Where in a line a fault is.
 #[derive(Clone, Copy, Debug)]
 pub(crate) struct LinePath {
-    /// The index of the frame in `send`, if it stands in one.
+    /// The index of the frame in `send`, if the fault is in one.
     pub(crate) frame: Option<usize>,
-    /// The part of that frame, else of the line.
+    /// The part of that frame, or else of the line.
     pub(crate) part: Part,
 }
 

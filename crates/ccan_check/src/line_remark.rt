@@ -8,7 +8,7 @@ use ccan_script::LineContext;
 use serde_json::Value;
 use std::alloc::{AllocError, Global};
 
-/// That a member is unknown where these are known.
+/// Says that a member is unknown here, and that these are known.
 fn known_names(alloc: Global, members: &[Member]) -> Result<String, AllocError> {
     let mut text = String::new(alloc);
     text.push_str("is unknown here; known:")?;
@@ -52,8 +52,8 @@ fn missing_name(line: &Value, members: &[Member]) -> Option<MemberName> {
     Some(missing.name())
 }
 
-/// A remark on a line or a frame that has a member too many or too few. Where it has neither, the data of a frame hasn't its
-/// length.
+/// A remark on a line or a frame that has a member too many or too few. If it has neither, the data of a frame doesn't have
+/// its length.
 fn whole_remark(
     alloc: Global,
     path: &str,
@@ -118,7 +118,7 @@ fn frame_spot(line: Spot<'_>, index: usize) -> Option<Spot<'_>> {
     })
 }
 
-/// A remark on the place in a line at which its first fault stands; the line's operation has these members.
+/// A remark on the place in a line where its first fault is; the line's operation has these members.
 pub(crate) fn line_remark(
     alloc: Global,
     path: &str,

@@ -1,16 +1,16 @@
-//! Where the lines of a script stand in its text. Names are found as they are written without escapes.
+//! Where the lines of a script are in its text. Names are found as they are written without escapes.
 use crate::json_text::{after_spaces, child_after};
 use crate::spot::member_offset;
 use std::alloc::{AllocError, Global};
 
-/// Where a line of a list stands in the text.
+/// Where a line of a list is in the text.
 #[derive(Clone, Copy, PartialEq, Eq, Debug)]
 pub struct LineSpan {
     /// The line of the text in which it begins, from 1.
     pub row: usize,
-    /// How many bytes stand before it.
+    /// How many bytes come before it.
     pub begin: usize,
-    /// How many bytes stand before its end.
+    /// How many bytes come before its end.
     pub end: usize,
 }
 
@@ -25,7 +25,7 @@ fn rows_between(text: &[u8], from: usize, to: usize) -> usize {
     bytes.iter().filter(|byte| **byte == b'\n').count()
 }
 
-/// Where the lines of the list of this name stand; none where the script has no such list.
+/// Where the lines of the list of this name are; none if the script has no such list.
 pub fn line_spans(alloc: Global, text: &[u8], name: &str) -> Result<Vec<LineSpan>, AllocError> {
     let mut spans = Vec::new(alloc);
     let Some(mut offset) = member_offset(text, after_spaces(text, 0), name) else {

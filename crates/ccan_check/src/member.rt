@@ -1,5 +1,5 @@
 //! The members that the lines of a script have, in the order in which they are checked. Whether a line has a fault is not
-//! decided by these, but by the readers of `ccan_script`; these say where its first fault stands.
+//! decided by these, but by the readers of `ccan_script`; these say where its first fault is.
 
 ghost use Rattle.std.specs.Prelude.{◌≡◌};
 ghost use Rattle.ccan_check.specs.Member.{name_of, kind_of, is_needed, is_set, range_in};
@@ -54,7 +54,7 @@ impl Kind {
         matches!(self, Kind::Registers)
     }
 
-    /// The range of a number, `None` of another kind.
+    /// The range of a number, `None` for another kind.
     pub(crate) fn range(self) -> Option<Range>
         ensures { result ≡ range_in self }
     {

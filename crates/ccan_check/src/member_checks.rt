@@ -75,7 +75,7 @@ fn has_shape(line: &Value, value: &Value, kind: Kind) -> bool
     }
 }
 
-/// What is found at a member of `set`: that it is no register, or that its register has no text of four digits.
+/// What is found at a member of `set`: that it is not a register, or that its register has no text of four digits.
 fn register_found(name: &str, value: &Value) -> Option<Part>
     ensures { result ≡ register_found name.now (view value.now) }
 {

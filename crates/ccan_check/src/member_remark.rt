@@ -120,7 +120,7 @@ fn register_fault(name: &str) -> Option<&'static str> {
     }
 }
 
-/// A remark on the first member of a `set` that is no register.
+/// A remark on the first member of a `set` that is not a register.
 fn set_remark(alloc: Global, path: &str, set: Spot<'_>) -> Result<Option<Remark>, AllocError> {
     let Some(members) = set.value.as_object() else {
         return Ok(None);
@@ -152,7 +152,7 @@ pub(crate) fn register_remark(
     remark_on(alloc, path.as_str(), spot, wrong)
 }
 
-/// What may lift the range.
+/// What may widen the range.
 fn range_hint(range: Range, context: LineContext, greatest: u64) -> &'static str {
     match range {
         Range::Object if context.profile == Profile::One => " (33 to 64 with \"profile\": 2)",

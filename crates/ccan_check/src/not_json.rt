@@ -1,10 +1,10 @@
 use crate::json_text::after_spaces;
 use serde_json::Error;
 
-/// What is said at the end of a text that goes no further.
+/// What is said at the end of a text that ends too early.
 const ENDS: &str = "not JSON: the text ends here; a bracket, a brace or a quote is open";
 
-/// How many bytes stand before a line and column, which count from 1.
+/// How many bytes come before a line and column, which count from 1.
 fn offset_of(text: &[u8], line: usize, column: usize) -> usize {
     let mut lines = 1usize;
     for (place, byte) in text.iter().enumerate() {
@@ -20,7 +20,7 @@ fn offset_of(text: &[u8], line: usize, column: usize) -> usize {
     text.len()
 }
 
-/// The last byte before an offset that is no space.
+/// The last byte before an offset that is not a space.
 fn byte_before(text: &[u8], offset: usize) -> Option<u8> {
     let before = text.get(..offset)?;
     before
@@ -30,7 +30,7 @@ fn byte_before(text: &[u8], offset: usize) -> Option<u8> {
         .copied()
 }
 
-/// What a text that begins so is, where it is no JSON for that.
+/// What a text that begins like this is, if that is why it is not JSON.
 fn fault_of_begin(text: &[u8]) -> Option<&'static str> {
     if after_spaces(text, 0) >= text.len() {
         return Some("not JSON: the file is empty; the least script is {}");
@@ -44,7 +44,7 @@ fn fault_of_begin(text: &[u8]) -> Option<&'static str> {
     }
 }
 
-/// What a number that is no JSON usually is, by its first two bytes.
+/// What a number that is not JSON usually is, by its first two bytes.
 fn number_fault(first: u8, second: Option<u8>) -> Option<&'static str> {
     match (first, second) {
         (b'0', Some(b'x' | b'X')) => Some(
@@ -55,7 +55,7 @@ fn number_fault(first: u8, second: Option<u8>) -> Option<&'static str> {
     }
 }
 
-/// What a byte usually is at which a text stops to be JSON, after this byte that is no space.
+/// What a byte at which a text stops being JSON usually is, after this byte that is not a space.
 fn byte_fault(byte: u8, before: Option<u8>) -> &'static str {
     match (byte, before) {
         (b'}' | b']', Some(b',')) => "not JSON: a comma too many before this bracket",
@@ -71,7 +71,7 @@ fn byte_fault(byte: u8, before: Option<u8>) -> &'static str {
     }
 }
 
-/// What usually stands at an offset where a text stops to be JSON.
+/// What is usually at an offset where a text stops being JSON.
 fn fault_at(text: &[u8], offset: usize) -> &'static str {
     let Some(byte) = text.get(offset).copied() else {
         return ENDS;
@@ -83,7 +83,7 @@ fn fault_at(text: &[u8], offset: usize) -> &'static str {
     }
 }
 
-/// Where a text stops to be JSON by the parser's error, and what it usually is.
+/// Where a text stops being JSON by the parser's error, and what it usually is.
 pub(crate) fn json_fault(text: &[u8], error: &Error) -> (usize, &'static str) {
     if let Some(fault) = fault_of_begin(text) {
         return (0, fault);

@@ -5,13 +5,13 @@ use ccan_accept::{Frame, accepts, ready, stored};
 use ccan_object::{CommandMask, Group, Record, cleared, merged};
 use ccan_ram::{Flag, PortName};
 
-/// NewDat, MsgLst, IntPnd and TxRqst, as they stand in Message Control (User's Manual, section 3.3.4).
+/// NewDat, MsgLst, IntPnd and TxRqst, as they are in Message Control (User's Manual, section 3.3.4).
 pub(crate) const ALL_FLAGS: u16 = 0xe100;
 
 /// IntPnd in Message Control.
 pub(crate) const INTPND: u16 = 0x2000;
 
-/// The bit of a flag in Message Control, 0 of MsgVal, which stands elsewhere.
+/// The bit of a flag in Message Control, 0 for MsgVal, which is elsewhere.
 pub(crate) fn flag_bit(flag: Flag) -> u16 {
     match flag {
         Flag::NewDat => 0x8000,
@@ -51,7 +51,7 @@ impl WriteFinding {
     };
 }
 
-/// The flags of an object, as they stand in Message Control.
+/// The flags of an object, as they are in Message Control.
 fn flags_of(record: &Record) -> u16 {
     record.control() & ALL_FLAGS
 }
@@ -85,7 +85,7 @@ impl ObjectImage {
         }
     }
 
-    /// A port leaves the object so. What it set is unseen by the others.
+    /// A port leaves the object like this. What it set is unseen by the others.
     fn leave(&mut self, port: PortName, record: Record) {
         let flags = flags_of(&record);
         let set = flags & !flags_of(&self.record);

@@ -2,7 +2,7 @@ ghost use Rattle.std.specs.Prelude.{◌≡◌, ◌≤◌, length, take, not};
 ghost use Rattle.std.specs.List.{count_by, suffix_len};
 ghost use Rattle.ccan_check.specs.Place.{is_line_feed, line_of, column_of};
 
-/// Where a byte of a text stands. Lines and columns count from 1, and columns count bytes.
+/// Where a byte of a text is. Lines and columns count from 1, and columns count bytes.
 #[derive(Clone, Copy, PartialEq, Eq, PartialOrd, Ord, Hash, Debug)]
 pub struct Place {
     pub line: usize,
@@ -28,7 +28,7 @@ fn line_feeds(bytes: &[u8]) -> usize
     bytes.iter().filter(|byte| **byte == b'\n').count()
 }
 
-/// How many of these bytes stand after the last line feed.
+/// How many of these bytes come after the last line feed.
 fn last_line_length(bytes: &[u8]) -> usize
     ensures count { result ≡ suffix_len (λ byte. not (is_line_feed byte)) bytes.now }
     ensures few { result ≤ length bytes.now }
@@ -41,7 +41,7 @@ fn last_line_length(bytes: &[u8]) -> usize
 }
 
 impl Place {
-    /// The place of the byte that has so many bytes before it, or of the end of the text.
+    /// The place of the byte that has this many bytes before it, or of the end of the text.
     pub fn of(text: &[u8], offset: usize) -> Place
         ensures { result
             ≡ record { line = line_of text.now offset; column = column_of text.now offset } }

@@ -3,7 +3,7 @@ use ccan_script::ScriptError;
 /// What is said of a place of a script.
 #[derive(Drop)]
 pub struct Remark {
-    /// How many bytes of the text stand before the place.
+    /// How many bytes of the text come before the place.
     pub offset: usize,
     /// The path in the script, the value there, and what is wrong with it or would be right.
     pub text: String,
@@ -12,7 +12,7 @@ pub struct Remark {
 /// A fault of a script.
 #[derive(Drop)]
 pub struct Fault {
-    /// The fault as reading the script tells it.
+    /// The fault as reading the script reports it.
     pub error: ScriptError,
     pub remark: Remark,
 }
@@ -20,8 +20,8 @@ pub struct Fault {
 /// All that is said of a script.
 #[derive(Drop)]
 pub struct Report {
-    /// What makes it no script, in the order of the checks.
+    /// What keeps it from being a script, in the order of the checks.
     pub faults: Vec<Fault>,
-    /// What is taken, but rarely meant.
+    /// What is accepted, but rarely meant.
     pub warnings: Vec<Remark>,
 }

@@ -18,7 +18,7 @@ use ccan_script::{Script, ScriptError, read_script};
 use serde_json::{Error, Value};
 use std::alloc::{AllocError, Global};
 
-/// What is said of bytes that are no JSON.
+/// What is said of bytes that are not JSON.
 fn json_report(alloc: Global, bytes: &[u8], error: &Error) -> Result<Report, AllocError>
     ensures { IfOk result (λ _. ¬ IsMemory error.now) }
 {
@@ -38,7 +38,7 @@ fn json_report(alloc: Global, bytes: &[u8], error: &Error) -> Result<Report, All
     Ok(report)
 }
 
-/// The script's value, where it stands in the bytes.
+/// The script's value, and where it is in the bytes.
 fn top_of<'a>(bytes: &'a [u8], value: &'a Value) -> Spot<'a> {
     Spot {
         value,
@@ -81,7 +81,7 @@ fn refused(alloc: Global, error: ScriptError, path: &str) -> Result<Fault, Alloc
     })
 }
 
-/// The faults, this one first, and told with this path.
+/// The faults, this one first, and reported with this path.
 fn told_first(
     alloc: Global,
     error: ScriptError,
@@ -92,7 +92,7 @@ fn told_first(
 {
     match faults.first() {
         Some(fault) if is_told(fault, error, path) => Ok(faults),
-        // The walk finds the fault that the reader tells, but that is not proved here: so what is told rests on the reader.
+        // The walk finds the fault that the reader reports, but that is not proved here: so what is reported rests on the reader.
         _ => {
             let mut told = Vec::new(alloc);
             told.push(refused(alloc, error, path)?)?;
@@ -122,7 +122,7 @@ fn value_report(
     })
 }
 
-/// What is said of bytes that are no JSON, and that reading refuses with this fault.
+/// What is said of bytes that are not JSON, and that reading refuses with this fault.
 fn text_report(
     alloc: Global,
     bytes: &[u8],
@@ -168,10 +168,10 @@ fn warnings_of(alloc: Global, bytes: &[u8], script: &Script) -> Result<Vec<Remar
     Ok(warnings)
 }
 
-/// The faults of a script, of each of its lines the first, and what is taken but rarely meant.
+/// The faults of a script, the first of each of its lines, and what is accepted but rarely meant.
 ///
-/// It has no faults exactly when [`read_script`] answers a script. Else the first is the fault that `read_script` answers, and
-/// what is said of it begins with its path: the list, the index of the line, and the member that the order of the checks
+/// It has no faults exactly when [`read_script`] answers a script. Otherwise the first is the fault that `read_script` answers,
+/// and what is said of it begins with its path: the list, the index of the line, and the member that the order of the checks
 /// names first.
 pub fn check(alloc: Global, bytes: &[u8]) -> Result<Report, AllocError>
     ensures { IfOk result (λ report. IsFirstOf bytes.now (first_fault report.faults.items)) }

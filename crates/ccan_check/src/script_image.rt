@@ -22,12 +22,12 @@ pub(crate) struct ScriptImage {
 #[derive(Clone, Copy)]
 pub(crate) struct TransferFinding {
     pub(crate) object: ObjectNo,
-    /// The first register of `set` that the read writes over.
+    /// The first register of `set` that the read overwrites.
     pub(crate) overwritten: Option<Reg>,
     pub(crate) write: WriteFinding,
 }
 
-/// The group of an object's fields that a register shows, `None` of the Command Mask.
+/// The group of an object's fields that a register shows, `None` for the Command Mask.
 fn group_of(register: Reg) -> Option<Group> {
     match register {
         Reg::CMask => None,
@@ -47,7 +47,7 @@ fn moves(command: CommandMask, register: Reg) -> bool {
     }
 }
 
-/// The first register of a set that a read with this command writes over.
+/// The first register of a set that a read with this command overwrites.
 fn overwritten(command: CommandMask, set: &RegisterSet) -> Option<Reg> {
     let setting = set.iter().find(|setting| moves(command, setting.0))?;
     Some(setting.0)
@@ -120,7 +120,7 @@ impl ScriptImage {
         finding
     }
 
-    /// Puts an object at its place.
+    /// Puts an object at its index.
     fn put(&mut self, place: usize, image: ObjectImage) {
         if place < self.objects.len() {
             self.objects[place] = image;
@@ -144,7 +144,7 @@ impl ScriptImage {
         }
     }
 
-    /// A host's line that looks only.
+    /// A host's line that only looks.
     pub(crate) fn host_look(&mut self, port: PortName, line: &HostLine) {
         match line {
             HostLine::Transfer { .. } => {}
@@ -161,7 +161,7 @@ impl ScriptImage {
         }
     }
 
-    /// The place of the first object that accepts the one frame of a round.
+    /// The index of the first object that accepts the one frame of a round.
     fn storing_place(&self, round: &RoundLine) -> Option<usize> {
         match round.sends() {
             [(_node, frame)] => self.objects.iter().position(|image| image.accepts(frame)),

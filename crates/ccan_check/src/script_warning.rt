@@ -29,7 +29,7 @@ struct ScriptText<'a> {
     if2: PortText<'a>,
 }
 
-/// The lines of the list that a member of the script is, none where there is no such member.
+/// The lines of the list that a member of the script is, none if there is no such member.
 fn port_text<'a>(alloc: Global, top: Spot<'a>, name: &str) -> Result<PortText<'a>, AllocError> {
     let mut offsets = Vec::new(alloc);
     let list = top.member(name).unwrap_or(top);
@@ -66,7 +66,7 @@ impl<'a> ScriptText<'a> {
     }
 }
 
-/// Adds a warning of a line of a port.
+/// Adds a warning about a line of a port.
 fn warn_of_line(
     alloc: Global,
     text: &ScriptText<'_>,
@@ -86,7 +86,7 @@ fn warn_of_line(
     Ok(())
 }
 
-/// Adds a warning of a register that a line sets, though its read writes it over.
+/// Adds a warning about a register that a line sets, though its read overwrites it.
 fn warn_of_overwritten(
     alloc: Global,
     text: &ScriptText<'_>,
@@ -109,7 +109,7 @@ fn warn_of_overwritten(
     Ok(())
 }
 
-/// The names of these flags, as they stand in Message Control.
+/// The names of these flags, as they are in Message Control.
 fn flag_names(alloc: Global, flags: u16) -> Result<String, AllocError> {
     let mut names = String::new(alloc);
     let known = [
@@ -205,7 +205,7 @@ fn warn_of_lines(
     Ok(())
 }
 
-/// Adds a warning for each valid object that is left without EoB, though no FIFO buffer goes on behind it.
+/// Adds a warning for each valid object that is left without EoB, though no FIFO buffer goes on after it.
 fn warn_of_buffers(
     alloc: Global,
     text: &ScriptText<'_>,

@@ -5,12 +5,12 @@ use std::alloc::{AllocError, Global};
 /// The most bytes of a value that are shown.
 const MAX_SHOWN: usize = 40;
 
-/// A value of a script, and where it stands in the script's text.
+/// A value of a script, and where it is in the script's text.
 #[derive(Clone, Copy)]
 pub(crate) struct Spot<'a> {
     pub(crate) value: &'a Value,
     pub(crate) text: &'a [u8],
-    /// How many bytes of the text stand before the value.
+    /// How many bytes of the text come before the value.
     pub(crate) offset: usize,
 }
 
@@ -39,7 +39,7 @@ pub(crate) fn member_offset(text: &[u8], object: usize, name: &str) -> Option<us
 }
 
 impl<'a> Spot<'a> {
-    /// The member of this name. Where its name is written with escapes, its offset is that of the object.
+    /// The member of this name. If its name is written with escapes, its offset is that of the object.
     pub(crate) fn member(self, name: &str) -> Option<Spot<'a>> {
         let value = self.value.get(name)?;
         let offset = member_offset(self.text, self.offset, name).unwrap_or(self.offset);
@@ -50,7 +50,7 @@ impl<'a> Spot<'a> {
         })
     }
 
-    /// The value as its text has it, where that is short, else what kind of value it is.
+    /// The value as its text has it, if that is short, or else what kind of value it is.
     pub(crate) fn shown(self) -> &'a str {
         if self.value.is_object() {
             return "an object";

@@ -14,9 +14,9 @@ use ccan_script::host_op::host_op;
 use ccan_script::{BusLine, HostLine, LineContext, ScriptLine};
 use std::alloc::{AllocError, Global};
 
-/// A line of a script, of which something can be said.
+/// A line of a script, about which something can be said.
 pub(crate) trait ToldLine: ScriptLine {
-    /// A remark on a value that is no such line.
+    /// A remark on a value that is not such a line.
     fn remark(
         alloc: Global,
         path: &str,

@@ -126,7 +126,7 @@ fn add_lines<L: ToldLine>(
     Ok(())
 }
 
-/// Adds the faults of a list of at most so many lines, if the script has it.
+/// Adds the faults of a list of at most this many lines, if the script has it.
 fn add_list<L: ToldLine>(
     alloc: Global,
     list: ListName,
@@ -170,7 +170,7 @@ fn lines_in(top: Spot<'_>, name: &str) -> usize {
     }
 }
 
-/// Adds a fault where the order doesn't name a port as often as it has lines.
+/// Adds a fault if the order doesn't name a port as often as it has lines.
 fn add_times(
     alloc: Global,
     top: Spot<'_>,
@@ -243,7 +243,7 @@ fn has_sends(top: Spot<'_>) -> bool {
     }
 }
 
-/// Adds a warning where two ports that depend on each other run one after the other, since no order is given.
+/// Adds a warning if two ports that depend on each other run one after the other, since no order is given.
 fn warn_of_default(alloc: Global, top: Spot<'_>, report: &mut Report) -> Result<(), AllocError> {
     let hosts = usize::from(lines_in(top, "if1") > 0) + usize::from(lines_in(top, "if2") > 0);
     if hosts == 2 || hosts == 1 && has_sends(top) {

@@ -6,7 +6,7 @@ use ccan_object::{ObjectNo, Reg};
 use ccan_script::{LineContext, RegisterSet};
 use std::alloc::{AllocError, Global};
 
-/// The most members of an object among which one is looked for that is named twice.
+/// The most members of an object that are searched for one that is named twice.
 const MOST_COMPARED: usize = 64;
 
 /// Whether a word of Arbitration 2 is that of a standard identifier, and has a bit of an extended one.
@@ -14,7 +14,7 @@ fn forgets_shift(word: u16) -> bool {
     word & 0x4000 == 0 && word & 0x0003 != 0
 }
 
-/// Adds a warning of a value that stands in a member, or in a member of a member, of what has this path.
+/// Adds a warning about a value that is in a member, or in a member of a member, of what has this path.
 fn warn_of_member(
     alloc: Global,
     path: &str,
@@ -29,7 +29,7 @@ fn warn_of_member(
     Ok(())
 }
 
-/// Adds a warning where the request means an object of another number.
+/// Adds a warning if the request means an object of another number.
 fn warn_of_request(
     alloc: Global,
     path: &str,
@@ -49,7 +49,7 @@ fn warn_of_request(
     warn_of_member(alloc, path, "request", spot, means.as_str(), warnings)
 }
 
-/// Adds a warning where a standard identifier wasn't shifted to its place.
+/// Adds a warning if a standard identifier wasn't shifted to its place.
 fn warn_of_shift(
     alloc: Global,
     path: &str,

@@ -1,8 +1,8 @@
--- The bars of a flag, by whether it is set behind each row. Source: this project's own.
+-- The bars of a flag, by whether it is set after each row. Source: this project's own.
 use Rattle.std.specs.Prelude.{ℕ, ◌≡◌, ◌≤◌, ◌<◌, ◌-◌, ◌==◌, ◌||◌, List, Bool, true, false, not, ◌&&◌, length, slice_get, unwrap_or}
 use Rattle.ccan_draw.specs.declared.bar.Bar.{Bar}
 
--- whether the flag is set behind a row; behind the last it is not
+-- whether the flag is set after a row; after the last it is not
 abbrev pub is_set : List Bool → ℕ → Bool
 is_set shown row = unwrap_or (slice_get shown row) false
 
@@ -10,7 +10,7 @@ is_set shown row = unwrap_or (slice_get shown row) false
 abbrev pub begins : List Bool → ℕ → Bool
 begins shown row = is_set shown row && (row == 0 || not (is_set shown (row - 1)))
 
--- the flag stays set from one row up to another, which clears it, or is behind the last
+-- the flag stays set from one row up to another, which clears it, or is after the last
 pub record EndsAt (shown : List Bool) (from to : ℕ) : Type 0 where
   pub stays : (row : ℕ) → from ≤ row → row < to → is_set shown row ≡ true
   pub clears : is_set shown to ≡ false

@@ -1,4 +1,4 @@
--- A flag of an object behind each step of a run. Source: this project's own.
+-- A flag of an object after each step of a run. Source: this project's own.
 use Rattle.std.specs.Prelude.{ℕ, ◌≡◌, ◌==◌, ◌||◌, All, Bool, false, List, [], ◌∷◌, filter, Option, None, Some, if◌then◌else◌}
 use Rattle.std.specs.List.{list_any, range_with_len}
 use Rattle.ccan_object.specs.declared.profile.Profile.TheVariants.{Two}
@@ -10,7 +10,7 @@ use Rattle.ccan_draw.specs.declared.column.Column.{Column}
 use Rattle.ccan_explain.specs.declared.step.Step.{Step}
 use Rattle.ccan_explain.specs.declared.step.Touched.{Touched}
 
--- a flag of an object where a step has left what it touches, if that is the object; else as it was
+-- a flag of an object as a step has left what it touches, if that is the object; else as it was
 abbrev pub left_by : ℕ → Flag → Option Touched → Bool → Bool
 left_by object flag None was = was
 left_by object flag (Some touched) was = if touched.object == object then flag_of flag touched.after else was
@@ -19,7 +19,7 @@ left_by object flag (Some touched) was = if touched.object == object then flag_o
 abbrev pub flag_behind : ℕ → Flag → Step → Bool → Bool
 flag_behind object flag step was = left_by object flag step.stored (left_by object flag step.own was)
 
--- the flag behind each of these steps, by what it was before the first
+-- the flag after each of these steps, by what it was before the first
 abbrev pub flags_behind : ℕ → Flag → List Step → Bool → List Bool
 flags_behind object flag [] was = []
 flags_behind object flag (step ∷ later) was =
@@ -49,7 +49,7 @@ touched_of_first count steps = filter (λ object. list_any (touches object) step
 abbrev pub objects_touched : List Step → List ℕ
 objects_touched steps = touched_of_first (objects_in Two) steps
 
--- each column shows its flag of its object behind each of these steps; no flag is set before the first
+-- each column shows its flag of its object after each of these steps; no flag is set before the first
 abbrev pub AreColumns : List Step → List Column → Type 0
 AreColumns steps columns =
     All (λ column. column.shown.items ≡ flags_behind column.object column.flag steps false) columns

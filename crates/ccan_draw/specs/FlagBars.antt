@@ -6,7 +6,7 @@ use Rattle.ccan_draw.specs.declared.column.Column.{Column}
 use Rattle.ccan_draw.specs.declared.flag_bars.FlagBar.{FlagBar}
 use Rattle.ccan_draw.specs.Bar.{EndsAt, begins}
 
--- the rows that set a flag, which is set behind these rows; each row stands there once
+-- the rows that set a flag, by whether it is set after each row; each is there once
 abbrev pub rows_setting : List Bool → List ℕ
 rows_setting shown = filter (begins shown) (range_with_len 0 (length shown))
 

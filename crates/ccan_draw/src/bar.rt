@@ -10,7 +10,7 @@ pub struct Bar {
     pub to: usize,
 }
 
-/// Whether the flag is set behind a row.
+/// Whether the flag is set after a row.
 fn is_set(shown: &[bool], row: usize) -> bool
     ensures { result ≡ is_set shown.now row }
 {

@@ -16,11 +16,11 @@ pub struct Column {
     pub object: ObjectNo,
     /// The flag.
     pub flag: Flag,
-    /// Whether it is set behind each row.
+    /// Whether it is set after each row.
     pub shown: Vec<bool>,
 }
 
-/// Whether the flag is set behind a step that touches these, where it was so before.
+/// Whether the flag is set after a step that touches these, by whether it was before.
 #[tactic(auto, unfolding(crate::specs::Column::left_by))]
 fn shown_of(touched: &Option<Touched>, object: ObjectNo, flag: Flag, was: bool) -> bool
     ensures { result ≡ left_by object flag touched.now was }
@@ -31,7 +31,7 @@ fn shown_of(touched: &Option<Touched>, object: ObjectNo, flag: Flag, was: bool) 
     }
 }
 
-/// The flag of an object behind each step of a run, which begins with no flag set.
+/// The flag of an object after each step of a run, which begins with no flag set.
 pub fn column_of(
     alloc: Global,
     steps: &[Step],

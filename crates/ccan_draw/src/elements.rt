@@ -3,7 +3,7 @@ use crate::escape::push_escaped;
 use ccan_explain::push_decimal;
 use std::alloc::AllocError;
 
-/// Where an element stands, and how large it is.
+/// Where an element is, and how large it is.
 #[derive(Clone, Copy, PartialEq, Eq, Debug)]
 pub struct Area {
     /// Its left.
@@ -37,7 +37,7 @@ pub fn push_area(text: &mut String, class: &str, area: &Area) -> Result<(), Allo
     text.push_str("/>\n")
 }
 
-/// Appends a line of text; `y` is where its glyphs stand.
+/// Appends a line of text; `y` is its baseline.
 pub fn push_words(
     text: &mut String,
     class: &str,

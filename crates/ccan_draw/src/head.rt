@@ -1,4 +1,4 @@
-//! What stands above the rows: how things look, the legend, and the headings of the lanes.
+//! What is above the rows: how things look, the legend, and the headings of the lanes.
 use crate::column::{Column, FLAGS};
 use crate::elements::{Area, push_area, push_number, push_words};
 use crate::layout::{

@@ -1,4 +1,4 @@
-//! What stands in the lane of a step.
+//! What is in the lane of a step.
 use ccan_bus::{Decision, LoadAnswer, RoundAnswer, RoundReport};
 use ccan_explain::{Step, push_decimal};
 use ccan_object::ObjectNo;
@@ -22,7 +22,7 @@ fn push_sender(text: &mut String, node: u8) -> Result<(), AllocError> {
     push_decimal(text, u64::from(node))
 }
 
-/// What came of the frame of a round, where no object has to do with it.
+/// What came of the frame of a round, if no object has to do with it.
 fn fate(report: &RoundReport) -> &'static str {
     match report.decision {
         None => "no frame: load given up",

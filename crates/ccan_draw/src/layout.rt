@@ -1,4 +1,4 @@
-//! Where things stand in a picture, in its units: a glyph of its texts is 7 wide, and a line 15 high.
+//! Where things are in a picture, in its units: a glyph of its texts is 7 wide, and a line 15 high.
 use crate::picture::Row;
 use ccan_ram::PortName;
 use std::alloc::{AllocError, Global};
@@ -13,7 +13,7 @@ pub const HOST_GLYPHS: usize = 18;
 pub const BUS_GLYPHS: usize = 36;
 /// The most glyphs of a line of words.
 pub const WORDS_GLYPHS: usize = 76;
-/// Where the numbers of the steps stand.
+/// Where the numbers of the steps are.
 pub const NUMBER_X: u64 = 8;
 /// Where the flags begin.
 pub const FLAGS_X: u64 = 620;
@@ -25,9 +25,9 @@ pub const BAR_PITCH: u64 = 13;
 pub const BAR_WIDTH: u64 = 8;
 /// The height of the headings of the lanes.
 pub const HEADING_HEIGHT: u64 = 36;
-/// Where the first headings stand, below the legend.
+/// Where the first headings are, below the legend.
 pub const HEADING_Y: u64 = 30;
-/// The headings stand again before each row whose number, from 0, is a multiple of this.
+/// The headings are repeated before each row whose number, from 0, is a multiple of this.
 pub const HEADING_ROWS: usize = 40;
 /// From the top of a row to the line at which its bars begin and end.
 pub const MARK: u64 = 11;
@@ -63,7 +63,7 @@ pub fn column_x(place: usize) -> u64 {
         .saturating_add(FLAGS_X + flag * BAR_PITCH)
 }
 
-/// Where the words begin, behind the flags of so many objects.
+/// Where the words begin, after the flags of so many objects.
 pub fn words_x(objects: u64) -> u64 {
     objects
         .saturating_mul(OBJECT_WIDTH)
@@ -75,7 +75,7 @@ pub fn width_of(objects: u64) -> u64 {
     words_x(objects).saturating_add(WORDS_GLYPHS as u64 * GLYPH + GLYPH)
 }
 
-/// The lines that a text has; none where it is empty.
+/// The lines that a text has; none if it is empty.
 fn line_count(words: &str) -> u64 {
     words.lines().fold(0u64, |count, _| count.saturating_add(1))
 }
@@ -95,7 +95,7 @@ pub fn row_height(row: &Row) -> u64 {
         .saturating_add(9)
 }
 
-/// Whether the headings stand again above the row of this number, from 0.
+/// Whether the headings are repeated above the row of this number, from 0.
 pub fn has_heading(row: usize) -> bool {
     row > 0 && row % HEADING_ROWS == 0
 }
@@ -115,7 +115,7 @@ pub fn tops_of(alloc: Global, rows: &[Row]) -> Result<Vec<u64>, AllocError> {
     Ok(tops)
 }
 
-/// The top of a row, or the bottom of the picture for the number behind the last.
+/// The top of a row, or the bottom of the picture for the number after the last.
 pub fn top_of(tops: &[u64], row: usize) -> u64 {
     tops.get(row).copied().unwrap_or(0)
 }

@@ -6,9 +6,9 @@
 //!   another history   --> a Picture of the caller's own --^
 //! ```
 //!
-//! A text stands on lines of fixed width: a glyph takes [`layout::GLYPH`] units, and what is longer than its place is broken.
-//! Heights add up without overflow, since the additions stop at the greatest number. A script has at most 6,000 lines, and a
-//! row some 1,000 units at most, so a run is far below that.
+//! A text is in lines of fixed width: a glyph takes [`layout::GLYPH`] units, and what is longer than its place is broken. Heights
+//! add up without overflow, since the additions stop at the greatest number. A script has at most 6,000 lines, and a row some
+//! 1,000 units at most, so a run is far below that.
 #![tactic(auto)]
 
 pub mod bar;

@@ -6,13 +6,13 @@ use ccan_ram::PortName;
 /// One row of a picture: what a port did in one step, or in some of one kind without a break.
 #[derive(Drop)]
 pub struct Row {
-    /// The number of the step, from 1; of the first, where there are more. It is 0 for lines that stand before the first step.
+    /// The number of the step, from 1; of the first, if there are more. It is 0 for lines that come before the first step.
     pub number: usize,
     /// The lane.
     pub port: PortName,
     /// The frame that was on the bus in this step.
     pub frame: Option<Frame>,
-    /// What stands in the lane, below the frame: lines of at most [`crate::layout::HOST_GLYPHS`] characters, on the bus of
+    /// What is in the lane, below the frame: lines of at most [`crate::layout::HOST_GLYPHS`] characters, on the bus of
     /// [`crate::layout::BUS_GLYPHS`].
     pub label: String,
     /// The object whose flags a line leads to.

@@ -41,7 +41,7 @@ fn is_touched(steps: &[Step], object: ObjectNo) -> bool
     steps.iter().any(|step| is_of(&step.own, object) || is_of(&step.stored, object))
 }
 
-/// The object that a step leads to: that which stored a frame, or else its own.
+/// The object that a step leads to: the one that stored a frame, or else its own.
 fn object_of(step: &Step) -> Option<ObjectNo> {
     match (&step.stored, &step.own) {
         (Some(stored), _) => Some(stored.object),

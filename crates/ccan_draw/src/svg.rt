@@ -42,7 +42,7 @@ fn push_lines(
     Ok(())
 }
 
-/// What stands in the second field of a frame: its data, that it asks for them, and its length code where it is above 8.
+/// What is in the second field of a frame: its data, or that it asks for them, and its length code if that is above 8.
 fn data_text(alloc: Global, frame: &Frame) -> Result<String, AllocError> {
     let mut text = String::new(alloc);
     let length = frame.dlc();
@@ -104,7 +104,7 @@ fn push_frame(alloc: Global, text: &mut String, frame: &Frame, y: u64) -> Result
     Ok(())
 }
 
-/// Appends what stands in the lane of a row.
+/// Appends what is in the lane of a row.
 fn push_lane(alloc: Global, text: &mut String, row: &Row, y: u64) -> Result<(), AllocError> {
     let x = lane_x(row.port);
     let place = Area {
@@ -146,7 +146,7 @@ fn reach_end(columns: &[Column], object: ObjectNo) -> Option<u64> {
     Some(column_x(place))
 }
 
-/// Appends the ground of a row: a stripe below each other one, and a line that leads to the flags of its object.
+/// Appends the ground of a row: a stripe below every other one, and a line that leads to the flags of its object.
 fn push_ground(
     text: &mut String,
     columns: &[Column],
@@ -189,7 +189,7 @@ fn bar_end(tops: &[u64], row: usize, rows: usize) -> u64 {
     }
 }
 
-/// Where a bar stands in a picture of so many rows.
+/// Where a bar is in a picture of so many rows.
 fn bar_area(tops: &[u64], drawn: &FlagBar, rows: usize) -> Area {
     let y = top_of(tops, drawn.bar.from).saturating_add(MARK);
     Area {
@@ -213,7 +213,7 @@ fn push_bars(
     Ok(())
 }
 
-/// Appends what stands below the rows' texts: their ground, the bars, and the headings.
+/// Appends what is below the rows' texts: their ground, the bars, and the headings.
 fn push_below(
     alloc: Global,
     text: &mut String,

@@ -1,10 +1,10 @@
 //! Words in lines that are not too long.
 use std::alloc::{AllocError, Global};
 
-/// How far a line that goes on stands in.
+/// How far a line that goes on is indented.
 const INDENT: usize = 4;
 
-/// Appends one line of words as lines of at most this many glyphs; a longer word stands alone.
+/// Appends one line of words as lines of at most this many glyphs; a longer word has a line of its own.
 fn push_broken(text: &mut String, line: &str, most: usize) -> Result<(), AllocError> {
     let mut used = 0usize;
     if line.starts_with("  ") {
@@ -29,7 +29,7 @@ fn push_broken(text: &mut String, line: &str, most: usize) -> Result<(), AllocEr
     text.push_str("\n")
 }
 
-/// Words broken between two of them, so that no line has more than this many glyphs. A word that is longer stands alone.
+/// Words broken between two of them, so that no line has more than this many glyphs. A word that is longer has a line of its own.
 pub fn wrapped(alloc: Global, words: &str, most: usize) -> Result<String, AllocError> {
     let mut text = String::new(alloc);
     for line in words.lines() {

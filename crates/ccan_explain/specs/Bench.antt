@@ -52,7 +52,7 @@ pub record TakesTurn (before after : Passes) (script : ScriptFields) (old new : 
       × PortLineMeans (terms_of script) script.tries line three seen added (port, reply) left
       × ReportsTurn (terms_of script) script.tries line three seen added reply report left
 
--- the same, as a step tells it
+-- the same, as a step reports it
 pub record TakesStep (before after : Passes) (script : ScriptFields) (old new : Bench) (step : Step) : Type 0 where
   pub line : PortLine
   pub next : (order : List PortName) → rest script old (step.port ∷ order) ≡ line ∷ rest script new order

@@ -12,11 +12,11 @@ unfoldable pub capital_hex : ℕ → ℕ → List ℕ
 capital_hex zero n = []
 capital_hex (suc place) n = digit_glyph true (n / 16 ^ place % 16) ∷ capital_hex place n
 
--- three digits, or eight where the identifier is extended
+-- three digits, or eight if the identifier is extended
 abbrev pub id_text : ℕ → Bool → List ℕ
 id_text id xtd = if xtd then capital_hex 8 id else capital_hex 3 id
 
--- a remote frame: the length of the data that it asks for, where it asks for some
+-- a remote frame: the length of the data that it asks for, if it asks for some
 abbrev pub remote_text : ℕ → List ℕ
 remote_text dlc = codes "R" ++ (if nat_lt 0 dlc then decimal (min dlc 8) else [])
 

@@ -8,7 +8,7 @@ use Rattle.ccan_object.specs.DataLength.{byte_count}
 use Rattle.ccan_accept.specs.Send.{number_of}
 use Rattle.ccan_explain.specs.FrameText.{capital_hex, id_text}
 
--- the mask at the places of the identifier: all its bits, or of a standard one bits 28 to 18
+-- the mask at the bits of the identifier: all its bits, or bits 28 to 18 for a standard one
 abbrev pub mask_number : Record → ℕ
 mask_number r = if r.xtd then r.mask else part r.mask 18 11
 
@@ -21,7 +21,7 @@ abbrev pub part_text : Record → List ℕ
 part_text r =
     (if r.dir then codes ", transmit" else codes ", receive") ++ (if r.valid then codes ", valid" else codes ", not valid")
 
--- the mask, where acceptance uses it, and whether it compares Xtd and Dir
+-- the mask, if acceptance uses it, and whether it compares Xtd and Dir
 abbrev pub mask_text : Record → List ℕ
 mask_text r =
     if r.umask then codes ", mask " ++ (id_text (mask_number r) r.xtd ++ ((if r.mxtd then codes " MXtd" else [])
@@ -34,7 +34,7 @@ enables_text r =
     (if r.txie then codes ", TxIE" else []) ++ ((if r.rxie then codes ", RxIE" else [])
     ++ ((if r.rmten then codes ", RmtEn" else []) ++ (if r.eob then codes ", EoB" else [])))
 
--- a flag with its mark: nothing before it where it stayed set, `+` where it was set, `-` where it was cleared
+-- a flag with its mark: nothing before it if it stayed set, `+` if it was set, `-` if it was cleared
 abbrev pub flag_text : Bool → Bool → List ℕ → List ℕ
 flag_text false false name = []
 flag_text true true name = codes " " ++ name
@@ -51,7 +51,7 @@ flags_text before after =
     ++ (flag_text before.newdat after.newdat (codes "NewDat") ++ (flag_text before.msglst after.msglst (codes "MsgLst")
     ++ (flag_text before.intpnd after.intpnd (codes "IntPnd") ++ flag_text before.txrqst after.txrqst (codes "TxRqst"))))
 
--- each byte in two digits, behind a space
+-- each byte in two digits, after a space
 abbrev pub spaced_text : List ℕ → List ℕ
 spaced_text bytes = flat_map (λ byte. codes " " ++ capital_hex 2 byte) bytes
 

@@ -20,7 +20,7 @@ pub record IsReportOf (terms : Terms) (tries : ℕ) (line : BusLine) (past : Bus
   pub told : reply ≡ answer.Round report.end.answer
   pub steps : RunsSteps terms round tries seen added past after report
 
--- a round has a report, and where there is one it is that of this line
+-- a round has a report, and if there is one it is that of this line
 pub record HasReport (terms : Terms) (tries : ℕ) (line : BusLine) (past : BusPast) (seen added : List Event)
     (reply : LineAnswer) (report : Option RoundReport) (after : BusPast) : Type 0 where
   pub of_round : (round : RoundLine) → line ≡ bus.Round round → IsSome report

@@ -1,4 +1,4 @@
--- What a step says of the line that it tells, beside the line's answer: the report of a round, the objects that the line
+-- What a step says of the line that it reports, besides the line's answer: the report of a round, the objects that the line
 -- concerns, with their records before the line and after it, and which nodes were bus off as it began. Source: this project's
 -- own, over the definitions of lines, of rounds and of histories.
 use Rattle.std.specs.Prelude.{ℕ, ◌≡◌, ◌≤◌, List, ◌++◌, slice_get, slice_index_or, Option, Some, None, Bool, IsNone}
@@ -50,7 +50,7 @@ object_named answer.Init = None
 object_named (answer.Recessive _) = None
 object_named (answer.LoopBack _) = None
 
--- the object that the controller was about to send in a round, or else that the answer names
+-- the object that the controller was about to send in a round, or else the one that the answer names
 abbrev pub own_object : Option RoundReport → LineAnswer → Option ℕ
 own_object (Some report) reply = object_loaded report.loading
 own_object None reply = object_named reply
@@ -80,7 +80,7 @@ touched_of before after None = None
 touched_of before after (Some object) =
     Some (record { object = object; before = before object; after = after object })
 
--- the record at the place of an object, by its number, and zero where there is none
+-- the record at the place of an object, by its number, and zero if there is none
 abbrev pub at_number : List Record → ℕ → Record
 at_number records object = slice_index_or records object zero_record
 
@@ -103,7 +103,7 @@ ReportsTurn terms tries (of_bus line) three seen added reply report left =
 abbrev pub AreOff : BusPast → List Bool → Type 0
 AreOff past off = (node : ℕ) → node ≤ past.others → slice_get off node ≡ Some (is_off (levels_at past node))
 
--- a step tells this line, which stands for the added events after those that were seen: its number, its answer, its report, and
+-- a step reports this line, which stands for the added events after those that were seen: its number, its answer, its report, and
 -- the records as these histories leave them
 pub record TellsLine (script : ScriptFields) (line : PortLine) (three : Three) (seen added : List Event) (step : Step)
     (left : Three) : Type 0 where

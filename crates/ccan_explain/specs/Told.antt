@@ -1,4 +1,4 @@
--- What is told of a script: the lines in their order, over a plain memory. Source: this project's own, over the meaning of a
+-- What is reported of a script: the lines in their order, over a plain memory. Source: this project's own, over the meaning of a
 -- script.
 use Rattle.std.specs.Prelude.{◌≡◌, List, [], map}
 use Rattle.ccan_ram.specs.declared.port.PortName.{PortName}
@@ -36,12 +36,12 @@ IsOrderOf script order = (port : PortName) → times port order ≡ count_of scr
 abbrev pub answers_of : List Step → List (PortName × LineAnswer)
 answers_of steps = map (λ step. (step.port, step.answer)) steps
 
--- the steps tell the lines of the script, one after another in their order, which stand for this history
+-- the steps report the lines of the script, one after another in their order, which stand for this history
 abbrev pub TellLines : ScriptFields → List Event → List Step → Type 0
 TellLines script history steps = Run (TellsLine script) (opening script.nodes) (lines_of script) [] history steps
 
--- the lines of the script have run in their order with the answers of these steps, which tell them, and the memory has seen just
--- what they stand for
+-- the lines of the script have run in their order with the answers of these steps, which report them, and the memory has seen
+-- exactly what they stand for
 pub record AreStepsOf (script : ScriptFields) (steps : List Step) (memory : Passes) : Type 0 where
   pub history : List Event
   pub runs : RunsInOrder script history (answers_of steps)

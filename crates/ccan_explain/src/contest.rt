@@ -42,7 +42,7 @@ pub(crate) fn winner_of(report: &RoundReport) -> Option<(u8, Frame)>
     }
 }
 
-/// Whether the frames of the other nodes were on the bus: not where the load was refused, and not in loop back mode.
+/// Whether the frames of the other nodes were on the bus: not if the load was refused, and not in loop back mode.
 pub(crate) fn are_heard(report: &RoundReport) -> bool {
     !matches!(
         report.decision,

@@ -7,14 +7,14 @@ use crate::digits::{push_decimal, push_hex};
 use ccan_accept::Frame;
 use std::alloc::AllocError;
 
-/// Appends an identifier: three hexadecimal digits, or eight where it is extended.
+/// Appends an identifier: three hexadecimal digits, or eight if it is extended.
 pub fn push_id(text: &mut String, id: u32, xtd: bool) -> Result<(), AllocError>
     ensures { OnOk result (string_bytes text.new ≡ string_bytes text.old ++ id_text id xtd) }
 {
     push_hex(text, if xtd { 8 } else { 3 }, u64::from(id))
 }
 
-/// Appends what a remote frame has behind its identifier: `R`, and the length of the data that it asks for, except 0.
+/// Appends what a remote frame has after its identifier: `R`, and the length of the data that it asks for, except 0.
 fn push_remote(text: &mut String, dlc: u8) -> Result<(), AllocError>
     ensures { OnOk result
         (string_bytes text.new ≡ string_bytes text.old ++ remote_text dlc) }
@@ -62,8 +62,8 @@ fn push_code(text: &mut String, dlc: u8) -> Result<(), AllocError>
     Ok(())
 }
 
-/// Appends a frame in the compact form of can-utils: `123#1122`, `00000123#`, `123#R`. A data length code above 8 stands
-/// behind the data as one digit, `123#1122334455667788_9`, and behind a remote frame's 8 in the same way.
+/// Appends a frame in the compact form of can-utils: `123#1122`, `00000123#`, `123#R`. A data length code above 8 comes after the
+/// data as one digit, `123#1122334455667788_9`, and after a remote frame's 8 in the same way.
 #[tactic(auto, unfolding(crate::specs::FrameText::frame_text))]
 pub fn push_frame(text: &mut String, frame: &Frame) -> Result<(), AllocError>
     ensures { OnOk result

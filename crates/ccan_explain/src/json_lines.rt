@@ -41,7 +41,7 @@ fn round_word(answer: &RoundAnswer) -> &'static str {
     }
 }
 
-/// The name of what a line was answered, as a run prints it where it prints a word.
+/// The name of a line's answer, as a run prints it if it prints a word.
 fn answer_word(answer: &LineAnswer) -> &'static str {
     match answer {
         LineAnswer::Write(_, _) => "write",
@@ -77,7 +77,7 @@ fn push_objects(text: &mut String, word: u64) -> Result<(), AllocError> {
     text.push_str("]")
 }
 
-/// Appends what an answer tells beside objects and frames.
+/// Appends what an answer says besides objects and frames.
 fn push_told(text: &mut String, answer: &LineAnswer) -> Result<(), AllocError> {
     match answer {
         LineAnswer::Write(_, shown) => push_record(text, "registers", shown),
@@ -198,7 +198,7 @@ fn push_step(text: &mut String, script: &Script, step: &Step) -> Result<(), Allo
     text.push_str("}\n")
 }
 
-/// Appends the line of an object at the end, where a run prints it: not one that is all zero.
+/// Appends the line of an object at the end, if a run prints it: not one that is all zero.
 fn push_final(text: &mut String, object: ObjectNo, left: &Record) -> Result<(), AllocError> {
     if print_final(object, left).is_none() {
         return Ok(());

@@ -1,5 +1,5 @@
-//! A run of a script, told line by line for the writers of drivers: the records decoded, and of each round the frame that
-//! was on the bus.
+//! A run of a script, reported line by line for the writers of drivers: the records decoded, and the frame that was on the bus in
+//! each round.
 //!
 //! ```text
 //!   Script --> tell: the lines in their order, over a plain memory --> Told { steps, ram }

@@ -36,7 +36,7 @@ struct Identifier {
     xtd: bool,
 }
 
-/// What stands behind an identifier.
+/// What comes after an identifier.
 #[derive(Clone, Copy)]
 struct Payload {
     rtr: bool,
@@ -68,7 +68,7 @@ fn number_in(digits: &[u8]) -> Option<u32> {
     Some(number)
 }
 
-/// The identifier of three digits, or of eight where it is extended. An error frame has bit 29 in it.
+/// The identifier of three digits, or of eight if it is extended. An error frame has bit 29 in it.
 fn identifier_in(digits: &str) -> Result<Identifier, LeftOut> {
     let xtd = digits.len() == 8;
     if !xtd && digits.len() != 3 {
@@ -81,7 +81,7 @@ fn identifier_in(digits: &str) -> Result<Identifier, LeftOut> {
     Ok(Identifier { number, xtd })
 }
 
-/// The frame of these parts, where its identifier fits its kind.
+/// The frame of these parts, if its identifier fits its kind.
 fn frame_of(identifier: Identifier, payload: Payload) -> Result<Frame, LeftOut> {
     let Identifier { number, xtd } = identifier;
     let Payload { rtr, dlc, bytes } = payload;
@@ -106,7 +106,7 @@ fn data_in(digits: &[u8]) -> Option<Payload> {
     })
 }
 
-/// What stands behind the `R` of a remote frame: nothing, or its length.
+/// What comes after the `R` of a remote frame: nothing, or its length.
 fn remote_in(digits: &[u8]) -> Option<Payload> {
     let dlc = match digits {
         [] => 0,
@@ -120,7 +120,7 @@ fn remote_in(digits: &[u8]) -> Option<Payload> {
     })
 }
 
-/// The same with a data length code above 8, as it stands behind an underscore.
+/// The same with a data length code above 8, which comes after an underscore.
 fn with_length(payload: Payload, digits: &[u8]) -> Option<Payload> {
     match digits {
         [glyph] if payload.dlc == 8 => Some(Payload {
@@ -131,7 +131,7 @@ fn with_length(payload: Payload, digits: &[u8]) -> Option<Payload> {
     }
 }
 
-/// What stands behind the `#` of a compact frame.
+/// What comes after the `#` of a compact frame.
 fn payload_in(text: &str) -> Option<Payload> {
     let (front, length) = match text.split_once("_") {
         Some((front, length)) => (front, Some(length)),
@@ -147,7 +147,7 @@ fn payload_in(text: &str) -> Option<Payload> {
     }
 }
 
-/// What a compact frame of CAN FD is left out as, by the digit behind `##`: bit 0 is the switch of the bit rate.
+/// What a compact frame of CAN FD is left out as, by the digit after `##`: bit 0 is the switch of the bit rate.
 fn flexible(text: &str) -> LeftOut {
     match text.as_bytes().first() {
         Some(glyph) => match digit_in(*glyph) {
@@ -158,7 +158,7 @@ fn flexible(text: &str) -> LeftOut {
     }
 }
 
-/// A frame in the compact form, `123#1122`, parted at its first `#`.
+/// A frame in the compact form, `123#1122`, split at its first `#`.
 fn compact(front: &str, back: &str) -> Result<Frame, LeftOut> {
     if let Some(rest) = back.strip_prefix("#") {
         return Err(flexible(rest));

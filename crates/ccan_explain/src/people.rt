@@ -9,7 +9,7 @@ use ccan_ram::Access;
 use ccan_script::{Script, print_final};
 use std::alloc::{AllocError, Global};
 
-/// Appends an object at the end, where a run prints it: not one that is all zero.
+/// Appends an object at the end, if a run prints it: not one that is all zero.
 fn push_final(text: &mut String, object: ObjectNo, left: &Record) -> Result<(), AllocError> {
     if print_final(object, left).is_none() {
         return Ok(());

@@ -10,7 +10,7 @@ use crate::step::Touched;
 use ccan_object::{DataLength, Record};
 use std::alloc::AllocError;
 
-/// The number of an object's identifier: of 29 bits where it is extended, and else of the 11 in ID28 to ID18.
+/// The number of an object's identifier: of 29 bits if it is extended, and else of the 11 in ID28 to ID18.
 pub(crate) fn id_of(object: &Record) -> u32
     ensures { result ≡ number_of object.now }
 {
@@ -21,7 +21,7 @@ pub(crate) fn id_of(object: &Record) -> u32
     }
 }
 
-/// The part of an object's mask that stands at the places of its identifier.
+/// The part of an object's mask that is at the bits of its identifier.
 pub(crate) fn mask_of(object: &Record) -> u32
     ensures { result ≡ mask_number object.now }
 {
@@ -32,7 +32,7 @@ pub(crate) fn mask_of(object: &Record) -> u32
     }
 }
 
-/// Appends a word where it is so.
+/// Appends a word if it is so.
 pub(crate) fn push_if(text: &mut String, is: bool, word: &str) -> Result<(), AllocError>
     ensures { OnOk result
         (string_bytes text.new ≡ string_bytes text.old ++ (if is then word.now else [])) }
@@ -48,7 +48,7 @@ fn push_either(text: &mut String, is: bool, yes: &str, no: &str) -> Result<(), A
     text.push_str(if is { yes } else { no })
 }
 
-/// Appends the mask, where acceptance uses it, and whether it compares Xtd and Dir.
+/// Appends the mask, if acceptance uses it, and whether it compares Xtd and Dir.
 fn push_mask(text: &mut String, object: &Record) -> Result<(), AllocError>
     ensures { OnOk result
         (string_bytes text.new ≡ string_bytes text.old ++ mask_text object.now) }
@@ -62,7 +62,7 @@ fn push_mask(text: &mut String, object: &Record) -> Result<(), AllocError>
     Ok(())
 }
 
-/// Appends two digits for each byte, behind a space.
+/// Appends two digits for each byte, after a space.
 fn push_spaced(text: &mut String, bytes: &[u8]) -> Result<(), AllocError>
     ensures { OnOk result
         (string_bytes text.new ≡ string_bytes text.old ++ spaced_text bytes.now) }
@@ -116,7 +116,7 @@ fn push_enables(text: &mut String, object: &Record) -> Result<(), AllocError>
     push_if(text, object.eob, ", EoB")
 }
 
-/// Appends what a record says of an object, but for its four flags: `id 123 std, transmit, valid, EoB, 2 bytes 11 22`.
+/// Appends what a record says of an object, except its four flags: `id 123 std, transmit, valid, EoB, 2 bytes 11 22`.
 pub(crate) fn push_record(text: &mut String, object: &Record) -> Result<(), AllocError>
     ensures { OnOk result
         (string_bytes text.new ≡ string_bytes text.old ++ record_text object.now) }
@@ -129,8 +129,8 @@ pub(crate) fn push_record(text: &mut String, object: &Record) -> Result<(), Allo
     push_bytes(text, object.dlc, &object.bytes)
 }
 
-/// Appends a flag behind its mark: `+` where it was set, `-` where it was cleared, a space alone where it stayed set. Nothing
-/// where it is not set, and was not.
+/// Appends a flag after its mark: `+` if it was set, `-` if it was cleared, a space alone if it stayed set. Nothing if it is not
+/// set, and was not.
 fn push_flag(text: &mut String, name: &str, before: bool, after: bool) -> Result<(), AllocError>
     ensures { OnOk result
         (string_bytes text.new ≡ string_bytes text.old ++ flag_text before after name.now) }
@@ -151,8 +151,8 @@ fn has_flag(object: &Record) -> bool
     object.newdat || object.msglst || object.intpnd || object.txrqst
 }
 
-/// Appends the flags of an object, those that changed with a mark: ` | NewDat +MsgLst -TxRqst`. Nothing where none is set and
-/// none was.
+/// Appends the flags of an object, those that changed with a mark: ` | NewDat +MsgLst -TxRqst`. Nothing if none is set and none
+/// was.
 pub(crate) fn push_flags(
     text: &mut String,
     before: &Record,
@@ -168,7 +168,7 @@ pub(crate) fn push_flags(
     push_flag(text, "TxRqst", before.txrqst, after.txrqst)
 }
 
-/// Appends what a record became, behind a colon: `: id 123 std, receive, valid, 1 byte 11 | +NewDat`. A flag that was set has a
+/// Appends what a record became, after a colon: `: id 123 std, receive, valid, 1 byte 11 | +NewDat`. A flag that was set has a
 /// `+`, and one that was cleared a `-`.
 #[tactic(auto, unfolding(crate::specs::RecordWords::left_text))]
 pub fn push_left(text: &mut String, before: &Record, after: &Record) -> Result<(), AllocError>
@@ -180,7 +180,7 @@ pub fn push_left(text: &mut String, before: &Record, after: &Record) -> Result<(
     push_flags(text, before, after)
 }
 
-/// Appends an object as a line left it, with its flags, behind some words.
+/// Appends an object as a line left it, with its flags, after some words.
 pub(crate) fn push_touched(
     text: &mut String,
     words: &str,

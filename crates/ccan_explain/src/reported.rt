@@ -11,7 +11,7 @@ use ccan_ram::{Access, Tries};
 use ccan_run::Side;
 use ccan_script::{BusLine, LineAnswer};
 
-/// What a line of the bus was answered, and of a round what came of its steps.
+/// The answer to a line of the bus, and for a round what came of its steps.
 #[derive(Clone, Copy, PartialEq, Eq, Debug)]
 pub struct Reported {
     pub answer: LineAnswer,

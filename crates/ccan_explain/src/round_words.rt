@@ -38,7 +38,7 @@ pub fn push_winner(text: &mut String, winner: u8, frame: &Frame) -> Result<(), A
     push_node(text, winner)
 }
 
-/// What a round came to, where no frame was on the bus alone.
+/// What a round came to, if no frame was on the bus alone.
 fn no_winner(report: &RoundReport) -> &'static str {
     match report.decision {
         None => "no frame, the load was given up",
@@ -53,7 +53,7 @@ fn no_winner(report: &RoundReport) -> &'static str {
     }
 }
 
-/// What came of the frame beside its objects.
+/// What came of the frame, apart from its objects.
 fn fate(report: &RoundReport) -> &'static str {
     match report.decision {
         Some(Decision::NoAck(_, _)) => ", not acknowledged: no other node is on",
@@ -90,7 +90,7 @@ fn push_head(text: &mut String, round: &RoundLine, report: &RoundReport) -> Resu
     text.push_str("\n")
 }
 
-/// What the frame of a node came to that is no winner.
+/// What the frame of a node that did not win came to.
 fn loser_word(report: &RoundReport, is_off: bool) -> &'static str {
     if is_off {
         return "  not sent, bus off: ";

@@ -24,11 +24,11 @@ pub struct Step {
     pub port: PortName,
     /// The line's number among those of its port, from 0.
     pub line: usize,
-    /// What it was answered.
+    /// Its answer.
     pub answer: LineAnswer,
-    /// Of a round: what came of its steps.
+    /// For a round: what came of its steps.
     pub report: Option<RoundReport>,
-    /// Which nodes were bus off as the line began, node 0 being the controller. Only a round tells it.
+    /// Which nodes were bus off as the line began, node 0 being the controller. Only a round shows it.
     pub off: [bool; 9],
     /// The object that a transfer or a wait names, or that the controller was about to send.
     pub own: Option<Touched>,

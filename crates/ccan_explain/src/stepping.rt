@@ -56,7 +56,7 @@ fn object_named(answer: &LineAnswer) -> Option<ObjectNo>
     }
 }
 
-/// The object that the controller was about to send in a round, or else that the line's answer names.
+/// The object that the controller was about to send in a round, or else the one that the line's answer names.
 fn own_object(reported: &Reported) -> Option<ObjectNo>
     ensures { result ≡ own_object reported.now.report reported.now.answer }
 {
@@ -112,10 +112,10 @@ fn stored_object(answer: &LineAnswer) -> Option<ObjectNo>
 /// How many numbers an array needs that has each object at its own.
 const NUMBERS: usize = MOST_OBJECTS + 1;
 
-/// The records of all objects that a memory can have, each at its number; at 0 stands zero.
+/// The records of all objects that a memory can have, each at its number; at 0 there is zero.
 type Records = [Record; NUMBERS];
 
-/// The records of a memory, and zero for the objects that it has not.
+/// The records of a memory, and zero for the objects that it doesn't have.
 fn all_records(ram: &Array) -> Records
     ensures { (object : ℕ) → Leaves (⟦<Array as Access>⟧.passes ram.now) object
         (at_number result object) }
@@ -149,7 +149,7 @@ fn touched(before: &Records, after: &Records, object: Option<ObjectNo>) -> Optio
     }
 }
 
-/// The record of an object in a memory; zero where the memory has no such object.
+/// The record of an object in a memory; zero if the memory has no such object.
 pub(crate) fn record_of(ram: &Array, object: ObjectNo) -> Record
     ensures { Leaves (⟦<Array as Access>⟧.passes ram.now) object result }
 {

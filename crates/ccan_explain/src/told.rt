@@ -51,7 +51,7 @@ fn run_all(
 
 /// Runs the lines of a script in an order of the caller's, over a plain memory, and keeps what came of each line.
 ///
-/// The order names each port as often as the script has lines of it; the script's own order is not asked.
+/// The order names each port as often as the script has lines of it; the script's own order is not looked at.
 pub fn tell_in(alloc: Global, script: &Script, order: &[PortName]) -> Result<Told, AllocError>
     requires order { IsOrderOf (fields_of script.now) order.now }
     ensures ran { IfOk result (λ told. AreStepsOf (in_order (fields_of script.now) order.now)

@@ -1,4 +1,4 @@
-//! Names that all forms of telling share.
+//! Names that all forms of a report share.
 use ccan_bus::Fault;
 use ccan_confine::NodeState;
 use ccan_ram::{Flag, PortName};

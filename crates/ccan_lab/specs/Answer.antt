@@ -39,7 +39,7 @@ abbrev pub is_refused : ScriptFields → List Ending → List ℕ → Bool
 is_refused script endings begin =
     (length begin == 0) || (is_none_so (first_with (begin ∷ []) endings) && not (can_begin script begin))
 
--- of several lines one is refused
+-- one of several lines is refused
 abbrev pub are_refused : ScriptFields → List Ending → List (List ℕ) → Bool
 are_refused script endings begins = list_any (is_refused script endings) begins
 

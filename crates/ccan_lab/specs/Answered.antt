@@ -28,7 +28,7 @@ use Rattle.ccan_lab.specs.Words.{HasNoWords, IsUnanswered, IsWithout, TellsLine}
 
 -- ---- the script that is searched
 
--- it is the script in these bytes, but that each wait looks once; both have the same outcomes, by the same frames
+-- it is the script in these bytes, except that each wait looks once; both have the same outcomes, by the same frames
 pub record IsSearchedFor (bytes : List ℕ) (searched : ScriptFields) : Type 0 where
   pub script : ScriptFields
   pub read : reader.Shows bytes (Ok script)
@@ -53,7 +53,7 @@ IsUnread _ = ⊥
 
 -- ---- the exit status
 
--- the ports can come to an end that, as it is told, has for each of these beginnings a line that begins so
+-- the ports can come to an end that, as it is reported, has for each of these beginnings a line that begins so
 abbrev pub CanHave : Bool → ScriptFields → List (List ℕ) → Type 0
 CanHave frames script begins =
     (told : Ending) × IsOfEnd frames script told × (has_lines begins (lines_of told) ≡ true)
@@ -126,7 +126,7 @@ RefusesNames script list (fault.NoPlace number) =
 RefusesNames script list fault.Memory = Unit {0}
 RefusesNames script list _ = ⊥
 
--- so it is of the names of what is to be looked at
+-- the same of the names of what is to be looked at
 abbrev pub RefusesUnknown : ScriptFields → Asked → LabError → Type 0
 RefusesUnknown script (Observed names) why = RefusesNames script names.now why
 RefusesUnknown script (AllObserved names) why = RefusesNames script names.now why

@@ -41,6 +41,6 @@ can_begin_among script objects text =
     || (list_any (bus_begins text script.profile objects) script.bus
     || list_any (λ object. begins text (shown_form (codes "final") object)) objects))
 
--- the same of what stands before the first `*`
+-- the same of what is before the first `*`
 abbrev pub can_begin : ScriptFields → List ℕ → Bool
 can_begin script text = can_begin_among script (transferred_objects script) (before_first (λ byte. byte == star) text)

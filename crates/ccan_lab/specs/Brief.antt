@@ -18,7 +18,7 @@ use Rattle.ccan_lab.specs.History.{kind_text, line_name, object_text}
 use Rattle.ccan_lab.specs.Moved.{IsWonAt}
 use Rattle.ccan_lab.specs.Report.{each, history_text}
 
--- ---- which steps stand in one line
+-- ---- which steps are in one line
 
 -- a look that leaves its line under way
 abbrev pub is_look : HistoryKind → Bool
@@ -34,7 +34,7 @@ is_change kind.Stores = true
 is_change kind.Resets = true
 is_change other = false
 
--- the second is the object behind the first
+-- the second is the object after the first
 abbrev pub is_next : Option ℕ → Option ℕ → Bool
 is_next (Some object) (Some next) = next == object + 1
 is_next object next = false
@@ -44,7 +44,7 @@ abbrev pub is_same : Option ℕ → Option ℕ → Bool
 is_same (Some object) (Some next) = next == object
 is_same object next = false
 
--- of one line, a look stands before a look at the next object, or before a change of the same one
+-- of one line of a script, a look comes before a look at the next object, or before a change of the same one
 abbrev pub goes_on : HistoryStep → HistoryStep → Bool
 goes_on step next =
     is_look step.kind && (port_is.eq step.port next.port && (step.line == next.line
@@ -54,11 +54,11 @@ abbrev pub both_go_on : Option HistoryStep → Option HistoryStep → Bool
 both_go_on (Some step) (Some next) = goes_on step next
 both_go_on step next = false
 
--- so does the step of this place, from 0, before the next one: both stand in one line
+-- the step of this place, from 0, does so before the next one: both are in one line
 unfoldable pub goes_on_at : List HistoryStep → ℕ → Bool
 goes_on_at steps place = both_go_on (slice_get steps place) (slice_get steps (place + 1))
 
--- the place of the first step that stands in one line with the step of this place
+-- the place of the first step that is in one line with the step of this place
 unfoldable pub first_at : List HistoryStep → ℕ → ℕ
 first_at steps zero = zero
 first_at steps (suc place) = if goes_on_at steps place then first_at steps place else suc place
@@ -96,8 +96,7 @@ abbrev pub group_between : Option HistoryStep → Option HistoryStep → ℕ →
 group_between (Some begin) (Some step) first place more = group_line begin first place step more
 group_between begin step first place more = []
 
--- the line of the steps of which that of this place is the last, with what is written of it; nothing if the next one stands there
--- too
+-- the line of the steps that end with that of this place, with what is written of it; nothing if the next one is there too
 unfoldable pub group_text : List HistoryStep → List (List ℕ) → ℕ → List ℕ
 group_text steps details place =
     if goes_on_at steps place then []
@@ -108,7 +107,7 @@ group_text steps details place =
 abbrev pub brief_text : List HistoryStep → List (List ℕ) → List ℕ
 brief_text steps details = each (length steps) (group_text steps details)
 
--- ---- what is written of a step beside this
+-- ---- what is written of a step besides this
 
 -- `: can0 123#11 from node 1`
 abbrev pub winner_shown : Option (ℕ × Frame) → List ℕ

@@ -121,7 +121,7 @@ recessive_begins text =
     begins text (codes "bus recessive active\n")
     || (begins text (codes "bus recessive passive\n") || begins text (codes "bus recessive off\n"))
 
--- the answer to this line of the bus can begin so, where the transfers name these objects
+-- the answer to this line of the bus can begin so, if the transfers name these objects
 abbrev pub bus_begins : List ℕ → Profile → List ℕ → BusLine → Bool
 bus_begins text profile objects bus.Load = loads_begin text objects
 bus_begins text profile objects (bus.Round line) = rounds_begin text objects

@@ -8,7 +8,7 @@ abbrev pub end_by_counts : ℕ → ℕ → CheckEnd
 end_by_counts faults warnings =
     if faults == 0 then (if warnings == 0 then Clean else Warned) else Faulty
 
--- 1 for faults; 8 for a run that is not as expected; 7 for warnings alone, where they are asked for
+-- 1 for faults; 8 for a run that is not as expected; 7 for warnings alone, if they are asked for
 abbrev pub check_status : Bool → CheckEnd → ℕ
 check_status strict Clean = 0
 check_status strict Warned = if strict then 7 else 0

@@ -14,7 +14,7 @@ pub record AreLinesOf (endings : List Ending) (port : PortName) (line : ℕ) (te
       → (end : LineEnd) × EndsSo endings port line end × (row_text port end ≡ text)
   pub complete : (end : LineEnd) → EndsSo endings port line end → Contains texts (row_text port end)
 
--- behind what was there stand those of each of the first so many lines of a port
+-- after what was there come those of each of the first so many lines of a port
 pub record HasPort (endings : List Ending) (port : PortName) (count : ℕ) (old new : List (List (List ℕ))) : Type 0 where
   pub more : List (List (List ℕ))
   pub new_is : new ≡ old ++ more
@@ -25,7 +25,7 @@ pub record HasPort (endings : List Ending) (port : PortName) (count : ℕ) (old 
 abbrev pub final_of : ℕ → List Record → List ℕ
 final_of object records = line_at (final_rows records) (object - 1)
 
--- behind what was there stand those of each of the first so many objects
+-- after what was there come those of each of the first so many objects
 pub record HasObjects (memories : List (List Record)) (count : ℕ) (old new : List (List (List ℕ))) : Type 0 where
   pub more : List (List (List ℕ))
   pub new_is : new ≡ old ++ more

@@ -1,10 +1,10 @@
--- What is told where a script's run does not print what is expected. Source: this project's own.
+-- What is reported if a script's run does not print what is expected. Source: this project's own.
 use Rattle.std.specs.Prelude.{ℕ, ◌≡◌, ◌≢◌, ◌<◌, ◌≤◌, List, [], Option, None, Some, length, slice_index, take}
 use Rattle.ccan_line.specs.Script.{ScriptFields}
 use Rattle.ccan_run.specs.Ordered.{HasText}
 use Rattle.ccan_check.specs.Print.{told_text}
 
--- so many bytes are the same in both texts. Where both have one more, it is not the same; where one ends, the other goes on
+-- so many bytes are the same in both texts. If both have one more, it is not the same; if one ends, the other goes on
 pub record IsFirstDifference (expected printed : List ℕ) (offset : ℕ) : Type 0 where
   pub within : offset ≤ length expected
   pub within_printed : offset ≤ length printed
@@ -20,7 +20,7 @@ pub record TellsDifference (file expected printed told : List ℕ) : Type 0 wher
   pub words : List ℕ
   pub told_is : told ≡ told_text file expected offset [] words
 
--- nothing is told just where both texts are the same
+-- nothing is reported exactly if both texts are the same
 abbrev pub TellsOf : List ℕ → List ℕ → List ℕ → Option (List ℕ) → Type 0
 TellsOf file expected printed None = printed ≡ expected
 TellsOf file expected printed (Some told) = TellsDifference file expected printed told

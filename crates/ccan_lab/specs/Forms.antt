@@ -28,7 +28,7 @@ is_decimal byte = is_between 48 57 byte
 abbrev pub is_hexadecimal : ℕ → Bool
 is_hexadecimal byte = is_decimal byte || is_between 97 102 byte
 
--- what stands behind `bus counters`: decimal digits, spaces, the letters of a node's state, and the line feed
+-- what comes after `bus counters`: decimal digits, spaces, the letters of a node's state, and the line feed
 abbrev pub is_of_counters : ℕ → Bool
 is_of_counters byte = is_decimal byte || (is_between 97 122 byte || (byte == 32 || byte == 10))
 
@@ -43,7 +43,7 @@ stands_for mark byte =
     if mark == 35 then is_hexadecimal byte else (if mark == 126 then is_of_counters byte
     else (if mark == 94 then is_capital byte else (if mark == 61 then byte == 35 else mark == byte)))
 
--- a byte may stand in a place of a line of this form
+-- a byte may be in a place of a line of this form
 abbrev pub is_marked : Option ℕ → ℕ → Bool
 is_marked (Some mark) byte = stands_for mark byte
 is_marked None byte = false

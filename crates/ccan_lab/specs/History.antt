@@ -21,16 +21,16 @@ kind_text kind.ReadsAndClears = codes "read"
 kind_text kind.IsSpent = codes "spent"
 kind_text kind.IsBusy = codes "busy"
 
--- the object in two digits, behind a space
+-- the object in two digits, after a space
 abbrev pub object_text : Option ℕ → List ℕ
 object_text None = []
 object_text (Some object) = codes " " ++ (decimal (object / 10) ++ decimal (object % 10))
 
--- `if2[0]`: a port and its line of this number, from 1. Lines are printed from 0, as jq counts them and as `ccan` tells faults
+-- `if2[0]`: a port and its line of this number, from 1. Lines are printed from 0, as jq counts them and as `ccan` reports faults
 unfoldable pub line_name : PortName → ℕ → List ℕ
 line_name port line = port_text port ++ (codes "[" ++ (decimal (line - 1) ++ codes "]"))
 
--- `  4 if2[0] look 01`: the step's number, the port and its line, what it did, and the object, where it has one
+-- `  4 if2[0] look 01`: the step's number, the port and its line, what it did, and the object, if it has one
 abbrev pub step_text : ℕ → HistoryStep → List ℕ
 step_text number step =
     codes "  " ++ (decimal number ++ (codes " " ++ (line_name step.port step.line ++ (codes " " ++ (kind_text step.kind

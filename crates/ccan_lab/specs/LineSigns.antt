@@ -1,4 +1,4 @@
--- The lines that a letter of a word tells, and which of the lines that are sought are among them. Source: this project's own.
+-- The lines that a letter of a word shows, and which of the lines that are sought are among them. Source: this project's own.
 use Rattle.std.specs.Prelude.{ℕ, ◌+◌, nat_lt, Bool, false, List, [], Option, Some, None, get_or, slice_get, if◌then◌else◌}
 use Rattle.ccan_language.specs.declared.letter.Letter.{Letter}
 use Rattle.ccan_line.specs.declared.line_answer.LineAnswer.TheVariants as answer
@@ -8,18 +8,18 @@ use Rattle.ccan_process.specs.LineEnd.{unframed}
 use Rattle.ccan_outcomes.specs.declared.words.OutcomeWords.{OutcomeWords}
 use Rattle.ccan_lab.specs.Rows.{end_lines, final_rows, has_line}
 
--- the port of whose line the letter at this place tells; behind the lines it tells of the objects at the end
+-- the port whose line the letter at this place is about; after the lines it is about the objects at the end
 abbrev pub port_at : OutcomeWords → ℕ → Option PortName
 port_at words place =
     if nat_lt place words.if1 then Some If1 else (if nat_lt place (words.if1 + words.if2) then Some If2
     else (if nat_lt place (words.if1 + words.if2 + words.bus) then Some Bus else None))
 
--- the printed lines of how a line ended so, or of the objects
+-- the printed lines for a line that ended so, or for the objects
 abbrev pub lines_told : OutcomeWords → Option PortName → ℕ → List (List ℕ)
 lines_told words (Some port) number = end_lines port (get_or words.numbers.answers.keys number (unframed answer.Init))
 lines_told words None number = final_rows (get_or words.numbers.memories.keys number [])
 
--- the printed lines that a letter tells
+-- the printed lines that a letter shows
 abbrev pub lines_of_letter : OutcomeWords → Letter → List (List ℕ)
 lines_of_letter words letter = lines_told words (port_at words letter.place) letter.answer
 
@@ -28,6 +28,6 @@ abbrev pub is_told : OutcomeWords → Option (List ℕ) → Letter → Bool
 is_told words (Some begin) letter = has_line begin (lines_of_letter words letter)
 is_told words None letter = false
 
--- the one of this number of the lines that are sought is among those of the letter
+-- the line of this number, of those that are sought, is among those of the letter
 abbrev pub tells_line : OutcomeWords → List (List ℕ) → Letter → ℕ → Bool
 tells_line words begins letter sign = is_told words (slice_get begins sign) letter

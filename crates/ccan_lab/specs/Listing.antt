@@ -16,7 +16,7 @@ pub record HasChoices (script : ScriptFields) (endings : List Ending) (choices :
   pub as_many : length choices ≡ places_of script
   pub are : (place : ℕ) (lines : List (List ℕ)) → slice_get choices place ≡ Some lines → AreChoices endings place lines
 
--- the line of an outcome in a place, if several may stand there
+-- the line of an outcome in a place, if several may be there
 unfoldable pub different_line : List (List (List ℕ)) → List (List ℕ) → ℕ → List ℕ
 different_line choices rows place = if nat_lt 1 (length (choices_at choices place)) then line_at rows place else []
 

@@ -29,7 +29,7 @@ WinsRound bus round winner =
     (decision : Decision) × (after : Bus)
     × GoesOn bus after (λ past next. Decides (hears_itself past) round past next decision) × (winner ≡ winner_of decision)
 
--- the same where the line is a round; else there is none
+-- the same if the line is a round; else there is none
 abbrev pub IsWonBy : Option RoundLine → Bus → Option (ℕ × Frame) → Type 0
 IsWonBy (Some round) bus winner = WinsRound bus round winner
 IsWonBy None bus winner = winner ≡ None

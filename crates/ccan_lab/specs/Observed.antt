@@ -22,7 +22,7 @@ names_in list = slice_split (λ byte. byte == 44) list
 unfoldable pub is_named : List (List ℕ) → List ℕ → Bool
 is_named names name = list_any (λ word. bytes_eq word name) names
 
--- a place is looked at where its name is among these, or the word for all of its port's lines, or for all objects
+-- a place is looked at if its name is among these, or the word for all of its port's lines, or for all objects
 abbrev pub is_observed : List (List ℕ) → ℕ → ℕ → ℕ → ℕ → Bool
 is_observed names if1 if2 bus place =
     is_named names (place_kind if1 if2 bus place) || is_named names (place_name if1 if2 bus place)
@@ -38,7 +38,7 @@ marks_of names script =
 
 -- ---- what is shown of an outcome
 
--- the line in a place, where it is looked at
+-- the line in a place, if it is looked at
 unfoldable pub observed_line : List Bool → List (List ℕ) → ℕ → List ℕ
 observed_line marks rows place = if unwrap_or (slice_get marks place) false then line_at rows place else []
 

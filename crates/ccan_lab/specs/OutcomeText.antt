@@ -8,8 +8,8 @@ use Rattle.ccan_lab.specs.Brief.{IsHistoryText}
 use Rattle.ccan_lab.specs.Replay.{Replays}
 use Rattle.ccan_lab.specs.Report.{IsTextWith}
 
--- the text is that of the outcome of this number, told with frames or without, with a history in this form, and an order is one in
--- which whole lines give it
+-- the text is that of the outcome of this number, reported with frames or without, with a history in this form, and an order is
+-- one in which whole lines give it
 abbrev pub IsOutcomeText : Bool → HistoryForm → ScriptFields → List Ending → List ℕ → ℕ → List ℕ → Type 0
 IsOutcomeText frames form script endings lines number text =
     IsTextWith (IsHistoryOf frames script) (IsHistoryText form script) (Replays frames script) endings number lines number text

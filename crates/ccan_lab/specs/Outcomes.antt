@@ -20,7 +20,7 @@ IsOfAll Never = ⊥
 IsOfAll (Observed names) = ⊥
 IsOfAll (AllObserved names) = Unit {0}
 
--- the text answers what is asked of the list of all outcomes, told with frames or without, with histories in this form
+-- the text answers what is asked of the list of all outcomes, reported with frames or without, with histories in this form
 abbrev pub Answers : Bool → HistoryForm → ScriptFields → List Ending → Asked → List ℕ → Type 0
 Answers frames form script endings Summary text = ⊥
 Answers frames form script endings All text = IsListing frames form script endings text

@@ -29,7 +29,7 @@ page_name (Some path) = if bytes_eq path (codes "-") then [] else path
 abbrev pub line_of : shown.Step → PortName × ℕ
 line_of step = (step.port, step.line)
 
--- the same of a step that a run is told by
+-- the same of a step that a run is reported by
 abbrev pub line_told : told.Step → PortName × ℕ
 line_told step = (step.port, step.line)
 
@@ -38,7 +38,7 @@ abbrev pub line_stepped : HistoryStep → PortName × ℕ
 line_stepped step = (step.port, step.line - 1)
 
 -- the outcome has the number of the ending in this place, which is counted from 0, the lines of it that are not the same in
--- all, and a step for each step of a history of it, as it is told, with frames or without
+-- all, and a step for each step of a history of it, reported with frames or without
 pub record IsShown (frames : Bool) (script : ScriptFields) (endings : List Ending) (choices : List (List (List ℕ)))
     (place : ℕ) (outcome : Outcome) : Type 0 where
   pub number_is : outcome.number ≡ place + 1

@@ -30,7 +30,7 @@ IsObservingAll list Can = ⊥
 IsObservingAll list Never = ⊥
 IsObservingAll list (Observed names) = ⊥
 
--- a number of states is the one that is given, however large; that it is a number is seen to before
+-- a number of states is the one that is given, however large; that it is a number is checked before
 abbrev pub IsGivenBy : Option (List ℕ) → ℕ → Type 0
 IsGivenBy word most = (n : ℕ) → n < 2 ^ 64 → word ≡ Some (decimal n) → most ≡ n
 
@@ -45,12 +45,12 @@ begins_with_c (byte ∷ rest) = byte == 99
 unfoldable pub asks_frame : List ℕ → Bool
 asks_frame line = begins_with_c line || list_any is_of_frame line
 
--- frames are told if the flag stands there, or if a LINE asks for one
+-- frames are reported if the flag is there, or if a LINE asks for one
 abbrev pub AsksFramesBy : Option (List ℕ) → List (Bor (List ℕ)) → Bool → Type 0
 AsksFramesBy word lines frames =
     (word ≡ Some (codes "true") → frames ≡ true) × (word ≡ Some (codes "false") → frames ≡ list_any (λ line. asks_frame line.now) lines)
 
--- histories are written in few lines if the flag stands there, and else step by step
+-- histories are written in few lines if the flag is there, and else step by step
 abbrev pub IsFormBy : Option (List ℕ) → HistoryForm → Type 0
 IsFormBy word form = (word ≡ Some (codes "true") → form ≡ Brief) × (word ≡ Some (codes "false") → form ≡ EachStep)
 

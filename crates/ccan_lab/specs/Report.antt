@@ -22,7 +22,7 @@ counted_text count name =
 
 -- ---- what is the same in all
 
--- a label before a line, nothing where the line is empty
+-- a label before a line, nothing if the line is empty
 unfoldable pub labelled : List ℕ → List ℕ → List ℕ
 labelled label [] = []
 labelled label (byte ∷ rest) = label ++ byte ∷ rest
@@ -47,19 +47,18 @@ abbrev pub names_text : List PortName → List ℕ
 names_text [] = []
 names_text (first ∷ later) = quoted first ++ later_names later
 
--- the member of a script that says the order; nothing where there is none
+-- the member of a script that says the order; nothing if there is none
 abbrev pub order_text : Option (List PortName) → List ℕ
 order_text None = []
 order_text (Some order) = codes "  \"order\": [" ++ (names_text order ++ codes "]\n")
 
--- the outcome of a number from 0, of which these lines are shown: its head, the lines, the history as it is told, and an order, if
--- there is one
+-- the outcome of a number from 0: its head, these lines of it, the history as it is reported, and an order, if there is one
 abbrev pub outcome_text : List ℕ → ℕ → List ℕ → Option (List PortName) → List ℕ
 outcome_text lines number told order =
     codes "outcome " ++ (decimal (number + 1) ++ (codes "\n" ++ (lines ++ (told ++ order_text order))))
 
--- the text is that of the ending in this place, with these lines and under this number, with a history of it as it is told, and with
--- no order, or one that leads to it
+-- the text is that of the ending in this place, with these lines and under this number, with a history of it as it is reported,
+-- and with no order, or one that leads to it
 abbrev pub IsTextWith : (Ending → List HistoryStep → Type 0) → (List HistoryStep → List ℕ → Type 0)
     → (Ending → List PortName → Type 0) → List Ending → ℕ → List ℕ → ℕ → List ℕ → Type 0
 IsTextWith IsHistory IsTold LeadsTo endings place lines number text =

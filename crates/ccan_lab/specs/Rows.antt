@@ -1,5 +1,5 @@
--- The lines of an outcome, each in its place. In the outcomes of one script the same thing stands in the same place.
--- Source: this project's own.
+-- The lines of an outcome, each in its place. In the outcomes of one script the same thing is in the same place. Source: this
+-- project's own.
 use Rattle.std.specs.Prelude.{ℕ, ◌++◌, ◌∷◌, ◌==◌, ◌&&◌, ◌||◌, nat_lt, Bool, true, false, List, [], Option, Some, None, codes, map, take, length, slice_get, unwrap_or, if◌then◌else◌}
 use Rattle.std.specs.List.{enumerate_from, flat_map, list_all, list_any}
 use Rattle.ccan_object.specs.declared.profile.Profile.TheVariants.{Two}
@@ -19,12 +19,12 @@ use Rattle.ccan_outcomes.specs.declared.ending.Ending.{Ending}
 abbrev pub frame_line : FrameFields → List ℕ
 frame_line frame = codes "can0 " ++ (frame_text frame ++ codes "\n")
 
--- it stands below the line of its round, behind four spaces
+-- it is below the line of its round, after four spaces
 abbrev pub frame_row : Option FrameFields → List ℕ
 frame_row None = []
 frame_row (Some frame) = codes "    " ++ frame_line frame
 
--- the line of the answer, and below it the frame that won the bus, if one did and it is told
+-- the line of the answer, and below it the frame that won the bus, if one did and it is reported
 abbrev pub row_text : PortName → LineEnd → List ℕ
 row_text port end = line_text port end.answer ++ frame_row end.frame
 
@@ -47,7 +47,7 @@ end_lines port end = line_text port end.answer ∷ frame_lines end.frame
 
 -- ---- the rows of an outcome
 
--- the line of an object, empty where the object is all zero
+-- the line of an object, empty if the object is all zero
 abbrev pub final_row : ℕ → Record → List ℕ
 final_row object left = unwrap_or (final_line object left) []
 
@@ -69,7 +69,7 @@ lines_of ending =
 
 -- ---- the rows of all outcomes
 
--- the line in a place, empty where there is none
+-- the line in a place, empty if there is none
 unfoldable pub line_at : List (List ℕ) → ℕ → List ℕ
 line_at rows place = unwrap_or (slice_get rows place) []
 

@@ -38,7 +38,7 @@ pub record AreShown (words : OutcomeWords) (observed : Observed) (shown : List E
   pub as_many : length shown ≡ length (observed_words words observed)
   pub are : (number : ℕ) (ending : Ending) → slice_get shown number ≡ Some ending → IsShownAt words observed number ending
 
--- each of these is an outcome, and each outcome shows the same as one of them, where these marks are set
+-- each of these is an outcome, and in the places where these marks are set each outcome shows the same as one of them
 pub record AreShownOf (marks : List Bool) (endings shown : List Ending) : Type 0 where
   pub right : (ending : Ending) → Contains shown ending → Contains endings ending
   pub complete : (ending : Ending) → Contains endings ending → (other : Ending) × Contains shown other
@@ -50,7 +50,7 @@ pub record AreShownOf (marks : List Bool) (endings shown : List Ending) : Type 0
 abbrev pub seen_heading : ℕ → List ℕ
 seen_heading apart = counted_text apart (codes "outcome") ++ codes " as observed\n"
 
--- the script with this order is one, and its run shows these lines, where these marks are set
+-- the script with this order is one, and in the places where these marks are set its run shows these lines
 pub record ReplaysShown (frames : Bool) (script : ScriptFields) (marks : List Bool) (lines : List ℕ) (order : List PortName)
     : Type 0 where
   pub whole : Ending
@@ -77,7 +77,7 @@ abbrev pub ListsSeen : Bool → HistoryForm → ScriptFields → List Bool → L
 ListsSeen frames form script marks endings text =
     (shown : List Ending) × AreShownOf marks endings shown × IsSeenListing frames form script marks shown text
 
--- the text lists, where the places of these names are looked at, what can be told apart of a list that has each outcome that the
+-- the text lists what can be told apart, if the places of these names are looked at, of a list that has each outcome that the
 -- promise allows, once, and no other; each is that of a run
 pub record TellsSeen (frames : Bool) (form : HistoryForm) (names : List (List ℕ)) (script : ScriptFields)
     (eq : Ending → Ending → Bool) (text : List ℕ) : Type 0 where
@@ -90,13 +90,13 @@ pub record TellsSeen (frames : Bool) (form : HistoryForm) (names : List (List �
 
 -- ---- why there is none
 
--- images of the words that tell what these marks have looked at need so many nodes, or memory ran out
+-- images of the words that show what is looked at by these marks need so many nodes, or memory ran out
 abbrev pub HasNoImages : OutcomeWords → List Bool → ℕ → LabError → Type 0
 HasNoImages words marks most (fault.Nodes told) = (told ≡ most) × HasManyImages words marks most
 HasNoImages words marks most fault.Memory = Unit {0}
 HasNoImages words marks most _ = ⊥
 
--- so it is of the words of all outcomes of the script, or there is no list of them, or there is one without a history
+-- the same of the words of all outcomes of the script, or there is no list of them, or there is one without a history
 abbrev pub HasNoSeenList : Bool → List (List ℕ) → ScriptFields → (AllPorts → AllPorts → Bool) → ℕ → LabError → Type 0
 HasNoSeenList frames names script eq most why =
     IsWithout frames script eq most why

@@ -12,7 +12,7 @@ texts_of lines = map (λ line. line.now) lines
 abbrev pub all_texts : List (Vec (Bor (List ℕ))) → List (List (List ℕ))
 all_texts all = map (λ lines. texts_of lines.items) all
 
--- in each place stand the lines that stood there, each once and in order
+-- in each place are the lines that were there, each once and in order
 pub record AreAllInOrder (all sorted : List (List (List ℕ))) : Type 0 where
   pub as_many : length sorted ≡ length all
   pub are : (place : ℕ) (rows lines : List (List ℕ)) → slice_get all place ≡ Some rows

@@ -13,7 +13,7 @@ use Rattle.ccan_lab.specs.Place.{place_name}
 use Rattle.ccan_lab.specs.Report.{each, labelled}
 use Rattle.ccan_lab.specs.Rows.{line_at, rows_of}
 
--- ---- what may stand in a place
+-- ---- what may be in a place
 
 -- these are the lines that the outcomes have in a place, and no others
 pub record AreLinesAt (endings : List Ending) (place : ℕ) (lines : List (List ℕ)) : Type 0 where
@@ -34,13 +34,13 @@ pub record AreChoices (endings : List Ending) (place : ℕ) (lines : List (List 
 
 -- ---- what is printed of a place
 
--- the one line that may stand there, if it is one alone
+-- the one line that may be there, if it is one alone
 unfoldable pub same_part : List (List ℕ) → List ℕ
 same_part [] = []
 same_part (line ∷ []) = labelled (codes "same in all: ") line
 same_part (line ∷ other ∷ more) = []
 
--- a line of several that may stand there; the empty line is that of an object that is all zero
+-- a line of several that may be there; the empty line is that of an object that is all zero
 unfoldable pub choice_text : List ℕ → List ℕ
 choice_text [] = codes "  may be: all zero\n"
 choice_text (byte ∷ rest) = codes "  may be: " ++ byte ∷ rest
@@ -65,7 +65,7 @@ choices_at all place = unwrap_or (slice_get all place) []
 abbrev pub same_parts : List (List (List ℕ)) → List ℕ
 same_parts all = flat_map same_part all
 
--- what may stand in each other place, each below its name
+-- what may be in each other place, each below its name
 abbrev pub choice_parts : List (List (List ℕ)) → (ℕ → List ℕ) → List ℕ
 choice_parts all name = each (length all) (λ place. choice_part (name place) (choices_at all place))
 
@@ -73,7 +73,7 @@ choice_parts all name = each (length all) (λ place. choice_part (name place) (c
 abbrev pub name_in : ScriptFields → ℕ → List ℕ
 name_in script = place_name (length script.if1) (length script.if2) (length script.bus)
 
--- the number of outcomes, what is the same in all, what may stand in each other place, and the last line
+-- the number of outcomes, what is the same in all, what may be in each other place, and the last line
 pub record IsSummary (script : ScriptFields) (endings : List Ending) (text : List ℕ) : Type 0 where
   pub choices : List (List (List ℕ))
   pub as_many : length choices ≡ places_of script

@@ -1,4 +1,4 @@
--- What stands of the outcomes of a script when they are told. Source: this project's own.
+-- What holds of the outcomes of a script when they are reported. Source: this project's own.
 use Rattle.std.specs.Prelude.{Bool}
 use Rattle.ccan_line.specs.Script.{ScriptFields}
 use Rattle.ccan_outcomes.specs.AnswerGraph.{IsOfMachine}
@@ -6,7 +6,7 @@ use Rattle.ccan_outcomes.specs.Ending.{AreAllEnds, AreOfRuns}
 use Rattle.ccan_outcomes.specs.OutcomeWords.{AreComplete, AreOfLines, endings_in}
 use Rattle.ccan_lab.specs.declared.outcome_words.OutcomeList.{OutcomeList}
 
--- whether the outcomes are told with the frames that won the bus
+-- whether the outcomes are reported with the frames that won the bus
 abbrev pub frames_in : OutcomeList → Bool
 frames_in list = list.words.numbers.frames
 

@@ -87,7 +87,7 @@ fn finals_begin(text: &str, objects: &[ObjectNo]) -> bool
         .any(|object| shown_begins(text, "", "final", *object))
 }
 
-/// Whether a printed line of a script can begin so, where its transfers name these objects.
+/// Whether a printed line of a script can begin so, if its transfers name these objects.
 #[tactic(auto, unfolding(crate::specs::Beginnings::can_begin_among))]
 fn can_begin_among(script: &Script, objects: &[ObjectNo], text: &str) -> bool
     ensures { result ≡ can_begin_among (fields_of script.now) objects.now text.now }
@@ -156,7 +156,7 @@ const KINDS: [&str; 36] = [
     "final",
 ];
 
-/// Adds the kinds of lines that a script can print, in quotes, where its transfers name these objects.
+/// Adds the kinds of lines that a script can print, in quotes, if its transfers name these objects.
 fn add_kinds(text: &mut String, script: &Script, objects: &[ObjectNo]) -> Result<(), AllocError> {
     for kind in KINDS {
         if can_begin_among(script, objects, kind) {
@@ -168,7 +168,7 @@ fn add_kinds(text: &mut String, script: &Script, objects: &[ObjectNo]) -> Result
     Ok(())
 }
 
-/// Adds objects in two digits, each behind a space.
+/// Adds objects in two digits, each after a space.
 fn add_objects(text: &mut String, objects: &[ObjectNo]) -> Result<(), AllocError> {
     for object in objects {
         add_object(text, Some(*object))?;
@@ -176,7 +176,7 @@ fn add_objects(text: &mut String, objects: &[ObjectNo]) -> Result<(), AllocError
     Ok(())
 }
 
-/// Adds what lines begin with, where transfers name these objects.
+/// Adds what lines begin with, if transfers name these objects.
 fn add_beginnings(
     text: &mut String,
     script: &Script,

@@ -7,8 +7,8 @@
 //! ```
 //!
 //! Looks of one line at one object after the other share a line, and so do the look of an attempt and its change, if no step of
-//! another port comes between. Behind a change is what its object became, and behind the decision of a round the frame that
-//! was on the bus.
+//! another port comes between. After a change is what its object became, and after the decision of a round the frame that was on
+//! the bus.
 ghost use Rattle.std.specs.Prelude.{◌≡◌, ◌+◌, ◌^◌, ◌<◌, ◌++◌, false, IfOk, OnOk, length, map, slice_get, string_bytes};
 ghost use Rattle.ccan_line.specs.Script.{fields_of};
 ghost use Rattle.ccan_lab.specs.Brief.{AreDetails, IsBriefText, IsDetail, IsDetailOf, IsTextOf, IsWinnerText, brief_text};
@@ -72,7 +72,7 @@ fn is_change(kind: HistoryKind) -> bool
     }
 }
 
-/// Whether the second is the object behind the first.
+/// Whether the second is the object after the first.
 fn is_next(object: Option<ObjectNo>, next: Option<ObjectNo>) -> bool
     ensures { result ≡ is_next object next }
 {
@@ -204,7 +204,7 @@ fn add_group_line(
     text.push_str("\n")
 }
 
-/// Adds the line of the steps of which that of this place is the last, by the place of the first.
+/// Adds the line of the steps that end with that of this place, by the place of the first.
 #[tactic(auto, unfolding(crate::specs::Brief::group_text))]
 fn add_group(
     text: &mut String,

@@ -244,7 +244,7 @@ fn recessive_begins(text: &str) -> bool
         || begins(text, "bus recessive off\n")
 }
 
-/// Whether the answer to a line of the bus can begin so, where the transfers name these objects.
+/// Whether the answer to a line of the bus can begin so, if the transfers name these objects.
 pub(crate) fn bus_begins(text: &str, profile: Profile, objects: &[ObjectNo], line: &BusLine) -> bool
     ensures { result ≡ bus_begins text.now profile objects.now line.now }
 {

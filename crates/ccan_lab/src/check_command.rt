@@ -26,7 +26,7 @@ use std::{fs, io};
 pub struct CheckQuestion<'a> {
     /// Whether warnings have an exit status of their own.
     pub is_strict: bool,
-    /// The file with what a run of the script must print, where that is asked for. There is one script then.
+    /// The file with what a run of the script must print, if that is asked for. There is one script then.
     pub expected: Option<&'a str>,
     /// The files: `-` means standard input.
     pub files: Vec<&'a str>,
@@ -87,7 +87,7 @@ fn bytes_in<T: AllocGlobal + Files>(rt: &T, file: &str) -> Result<Vec<u8>, LabEr
     }
 }
 
-/// All bytes of a file, or for `-` of standard input. Where they come from a terminal, a word on standard error says so.
+/// All bytes of a file, or for `-` of standard input. If they come from a terminal, a word on standard error says so.
 fn bytes_of<T: AllocGlobal + Input + Files + Eprint>(
     rt: &T,
     file: &str,
@@ -147,7 +147,7 @@ fn has_difference<T: AllocGlobal + Files + Print>(
     }
 }
 
-/// Prints what is said of a file, and of its run, of which this text is expected.
+/// Prints what is said of a file, and of its run, which must print this text.
 fn check_expected<T: AllocGlobal + Input + Files + Print + Eprint>(
     rt: &T,
     file: &str,

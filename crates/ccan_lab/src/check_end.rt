@@ -15,7 +15,7 @@ impl CheckEnd {
     ghost use Rattle.std.specs.Prelude.{◌≡◌};
     ghost use Rattle.ccan_lab.specs.CheckCommand.{check_status};
 
-    /// The exit status: 8 where a run is not as expected, and 7 for warnings where they are asked for by `--strict`.
+    /// The exit status: 8 if a run is not as expected, and 7 for warnings if they are asked for by `--strict`.
     pub fn status(self, is_strict: bool) -> u8
         ensures { result ≡ check_status is_strict self }
     {

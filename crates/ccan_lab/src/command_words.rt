@@ -22,7 +22,7 @@ pub fn over<'a>(command: Command<'a>, subcommand: Command<'a>) -> Result<Command
     command.subcommand(subcommand)
 }
 
-/// The option, beside which the one of this name can't be given.
+/// The option, which can't be given together with the one of this name.
 pub fn apart_from<'a>(option: Arg<'a>, other: &'a str) -> Result<Arg<'a>, AllocError> {
     option.conflicts_with(other)
 }

@@ -27,7 +27,7 @@ use std::alloc::{AllocError, Global};
 use std::fs::Files;
 use std::io::{Input, IsTerminal, Write};
 
-/// Of which scripts the outcomes are counted.
+/// The scripts whose outcomes are counted.
 #[derive(Drop)]
 pub struct CountQuestion<'a> {
     /// How many states the search keeps at most, and how many nodes the words of the outcomes have. If a script needs more, it is

@@ -22,13 +22,13 @@ use std::alloc::{AllocError, Global};
 use std::fs::Files;
 use std::io::Input;
 
-/// Of what a picture is asked.
+/// What is asked of a picture.
 #[derive(Clone, Copy)]
 pub struct DrawQuestion<'a> {
     /// The number of the outcome, from 1. None: the run in the script's order.
     pub outcome: Option<usize>,
-    /// How many states the search keeps at most, and how many nodes the words of the outcomes have, if one is asked. If the script
-    /// needs more, nothing is drawn.
+    /// How many states the search keeps at most, and how many nodes the words of the outcomes have, if one is asked for. If the
+    /// script needs more, nothing is drawn.
     pub most: usize,
     /// Whether the outcome is one of those that are told apart by the frames that won the bus.
     pub frames: bool,
@@ -42,13 +42,13 @@ fn outcome_option<'a>(alloc: Global) -> Arg<'a> {
     number(alloc, "outcome", help)
 }
 
-/// The option that a number of states is given by, where an outcome is asked.
+/// The option that a number of states is given by, if an outcome is asked for.
 fn most_option<'a>(alloc: Global) -> Result<Arg<'a>, AllocError> {
     let help = "How many states and nodes to keep at most [default: 1000000]";
     number(alloc, "most", help).requires_arg("outcome")
 }
 
-/// The flag that asks for the outcomes with frames, where an outcome is asked.
+/// The flag that asks for the outcomes with frames, if an outcome is asked for.
 fn frames_option<'a>(alloc: Global) -> Result<Arg<'a>, AllocError> {
     let help = "Number the outcomes as outcomes --all --frames does";
     switch(alloc, "frames", help).requires_arg("outcome")
@@ -141,7 +141,7 @@ fn run_drawn(alloc: Global, script: &Script) -> Result<Picture, AllocError> {
     picture_of_run(alloc, script, &told)
 }
 
-/// The picture that is asked of a script.
+/// The picture that is asked for of a script.
 fn drawn<P: Progress>(
     alloc: Global,
     script: Script,

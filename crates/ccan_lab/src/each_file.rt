@@ -81,7 +81,7 @@ fn write_answer<W: Write>(
     }
 }
 
-/// Tells on standard error why a file is refused, and which if there are several.
+/// Reports on standard error why a file is refused, and which if there are several.
 fn tell_refusal<T: Eprint>(
     rt: &T,
     are_several: bool,

@@ -21,7 +21,7 @@ fn text_of_run(alloc: Global, script: &Script) -> Result<Vec<u8>, LabError>
     let mut text = Vec::new(alloc);
     match run_ordered(alloc, script, &mut text) {
         Ok(()) => Ok(text),
-        // A write to memory fails where memory runs out.
+        // A write to memory fails if memory runs out.
         Err(RunError::Write) => Err(LabError::Memory),
         Err(fault) => Err(LabError::Input(fault)),
     }
@@ -46,7 +46,7 @@ fn same_bytes(expected: &[u8], printed: &[u8]) -> usize
     expected.len()
 }
 
-/// How many bytes are the same before the first that is not; `None` where both texts are the same.
+/// How many bytes are the same before the first that is not; `None` if both texts are the same.
 #[tactic(auto, using(crate::proofs::Differ::all_same))]
 fn first_difference(expected: &[u8], printed: &[u8]) -> Option<usize>
     ensures same { IfNone result (printed.now ≡ expected.now) }
@@ -69,7 +69,7 @@ fn rest_from_line(text: &[u8], offset: usize) -> &[u8] {
     }
 }
 
-/// Adds a byte as it is shown: as itself, or, where it is no printed character, a quote or a backslash, in hexadecimal.
+/// Adds a byte as it is shown: as itself, or, if it is no printed character, a quote or a backslash, in hexadecimal.
 fn add_shown(text: &mut String, byte: u8) -> Result<(), AllocError> {
     match byte {
         b' '..=b'~' if byte != b'"' && byte != b'\\' => text.push(char::from(byte)),

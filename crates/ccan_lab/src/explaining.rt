@@ -83,7 +83,7 @@ fn form_asked(words: &ArgMatches<'_>) -> Form {
     }
 }
 
-/// What is reported if a form is asked of several scripts that is of one.
+/// What is reported if a form that is for one script is asked of several.
 fn one_script_told(alloc: Global, message: &str) -> Result<Error, Error> {
     Ok(explain_command(alloc)?.error(WordsFault::TooManyValues, message)?)
 }
@@ -173,7 +173,7 @@ fn read_log<R: Read>(alloc: Global, reader: &mut R) -> Result<Vec<u8>, LabError>
     }
 }
 
-/// Reads the log that was asked about: of standard input, where no file is named.
+/// Reads the log that was asked about: of standard input, if no file is named.
 fn log_asked<T: AllocGlobal + Input + Files>(
     rt: &T,
     file: Option<&str>,

@@ -46,7 +46,7 @@ fn is_capital(byte: u8) -> bool
     is_decimal(byte) || is_between(b'A', b'F', byte)
 }
 
-/// Whether it may come behind `bus counters`: in a number, in the state of a node, between them, or at the end of the line.
+/// Whether it may come after `bus counters`: in a number, in the state of a node, between them, or at the end of the line.
 fn is_of_counters(byte: u8) -> bool
     ensures { result ≡ is_of_counters byte }
 {

@@ -40,7 +40,7 @@ pub fn kind_text(kind: HistoryKind) -> &'static str
     }
 }
 
-/// Adds an object in two digits, with a space before it; nothing where it is none's.
+/// Adds an object in two digits, with a space before it; nothing if there is none.
 pub fn add_object(text: &mut String, object: Option<ObjectNo>) -> Result<(), AllocError>
     ensures { OnOk result
         (string_bytes text.new ≡ string_bytes text.old ++ object_text object) }
@@ -66,8 +66,7 @@ pub fn add_line_name(text: &mut String, port: PortName, line: usize) -> Result<(
     Ok(())
 }
 
-/// Adds the line of one step: its number, the port, its line, what it did, and the object in two digits, where it has
-/// one.
+/// Adds the line of one step: its number, the port, its line, what it did, and the object in two digits, if it has one.
 fn add_step(text: &mut String, number: usize, step: &HistoryStep) -> Result<(), AllocError>
     ensures { OnOk result
         (string_bytes text.new ≡ string_bytes text.old ++ step_text number step.now) }

@@ -14,7 +14,7 @@ use std::fs;
 use std::fs::Files;
 use std::io::{Input, IsTerminal};
 
-/// Says on standard error that this is awaited, where standard input is read and is a terminal.
+/// Says on standard error that this is awaited, if standard input is read and is a terminal.
 pub fn tell_terminal<T: Input + Eprint>(rt: &T, what: &str, file: Option<&str>)
 where
     T::Reader: IsTerminal,
@@ -24,7 +24,7 @@ where
     }
 }
 
-/// Reads the script that was asked about: of standard input, where no file is named.
+/// Reads the script that was asked about: of standard input, if no file is named.
 pub fn script_asked<T: AllocGlobal + Input + Files>(
     rt: &T,
     file: Option<&str>,
@@ -38,7 +38,7 @@ pub fn script_asked<T: AllocGlobal + Input + Files>(
     }
 }
 
-/// Reads all bytes of the script that was asked about: of standard input, where no file is named.
+/// Reads all bytes of the script that was asked about: of standard input, if no file is named.
 pub fn bytes_asked<T: AllocGlobal + Input + Files>(
     rt: &T,
     file: Option<&str>,

@@ -30,7 +30,7 @@ struct LineSigns<'a> {
     ghost frames_are: { map string_bytes frames.now ≡ map told_frame words.now.numbers.answers.keys },
 }
 
-/// The port to whose line the letter at this place is an answer. Behind the lines it is what the objects are at the end.
+/// The port to whose line the letter at this place is an answer. After the lines it says what the objects are at the end.
 fn port_at(words: &OutcomeWords, place: usize) -> Option<PortName>
     ensures { result ≡ port_at words.now place }
 {

@@ -15,12 +15,12 @@
 //! Outcomes, checks and runs are asked of several scripts as well as of one: each is answered in turn, and the exit status is the
 //! worst.
 //!
-//! The exit status is 0 where it is as asked, and 6 where no outcome has the lines of `--can`, or one has those of
-//! `--never`. A check ends with 1 where a script has faults, and else with 7 where there are warnings and `--strict` asks
-//! for that, and with 8 where a run is not as expected. A fault is reported on standard error, and by the exit status: 1 where the
-//! script or the log is refused, 2 where the words of the command line ask no question or search for a line that no printed
-//! line can begin with, 3 where memory ran out, 4 where a stream or a file failed, 5 where the ports can come to more states, or
-//! the outcomes need more nodes, than were allowed, 9 where there is no outcome of the number that is to be drawn.
+//! The exit status is 0 if it is as asked, and 6 if no outcome has the lines of `--can`, or one has those of `--never`. A check
+//! ends with 1 if a script has faults, and else with 7 if there are warnings and `--strict` asks for that, and with 8 if a run is
+//! not as expected. A fault is reported on standard error, and by the exit status: 1 if the script or the log is refused, 2 if
+//! the words of the command line ask no question or search for a line that no printed line can begin with, 3 if memory ran out, 4
+//! if a stream or a file failed, 5 if the ports can come to more states, or the outcomes need more nodes, than were allowed, 9 if
+//! there is no outcome of the number that is to be drawn.
 #![tactic(auto)]
 
 pub mod answer;
@@ -121,7 +121,7 @@ where
     }
 }
 
-/// Tells help, the version or a fault of the words.
+/// Prints help, the version or a fault of the words.
 fn tell_words(rt: &(impl Print + Eprint), error: &clap::Error) -> ExitCode {
     let told = error.print(rt);
     let status = match error.kind() {
@@ -133,7 +133,7 @@ fn tell_words(rt: &(impl Print + Eprint), error: &clap::Error) -> ExitCode {
     ExitCode::from(status)
 }
 
-/// Tells a fault, and gives its exit status.
+/// Reports a fault, and gives its exit status.
 fn refuse(rt: &impl Eprint, fault: &LabError) -> ExitCode {
     let _told = rt.eprintln(fault);
     ExitCode::from(fault.status())

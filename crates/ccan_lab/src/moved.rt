@@ -1,4 +1,4 @@
-//! What the states before a step of a history and behind it show of the step.
+//! What the states before and after a step of a history show of the step.
 ghost use Rattle.std.specs.Prelude.{◌≡◌, ◌+◌, IfNone, IfSome, None, Some, option_map, slice_get};
 ghost use Rattle.ccan_line.specs.Script.{fields_of};
 ghost use Rattle.ccan_lab.specs.Moved.{IsWonAt, WinsRound, round_at, round_of};
@@ -8,12 +8,12 @@ use ccan_bus::{Bus, RoundLine};
 use ccan_outcomes::all_ports::AllPorts;
 use ccan_script::{BusLine, Script};
 
-/// The states before a step and behind it.
+/// The states before and after a step.
 #[derive(Clone, Copy)]
 pub struct Moved<'a> {
     /// That before it.
     pub before: &'a AllPorts,
-    /// That behind it.
+    /// That after it.
     pub after: &'a AllPorts,
 }
 
@@ -59,7 +59,7 @@ pub fn winner_at(script: &Script, line: usize, before: &AllPorts) -> Option<(u8,
     }
 }
 
-/// The states before the step of this place and behind it. There is one state more than there are steps, the first before any.
+/// The states before and after the step of this place. There is one state more than there are steps, the first before any.
 pub fn moved_at(states: &[AllPorts], place: usize) -> Option<Moved<'_>>
     ensures some { IfSome result (λ moved. (slice_get states.now place ≡ Some moved.before.now)
         × (slice_get states.now (place + 1) ≡ Some moved.after.now)) }

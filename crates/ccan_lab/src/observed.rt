@@ -112,7 +112,7 @@ pub fn marks_of(alloc: Global, script: &Script, list: &str) -> Result<Vec<bool>,
     Ok(marks)
 }
 
-/// Adds the line in a place, where it is looked at.
+/// Adds the line in a place, if it is looked at.
 #[tactic(auto, unfolding(crate::specs::Observed::observed_line))]
 fn add_observed_line(
     text: &mut String,
@@ -275,8 +275,8 @@ fn below_heading(
 /// The list of the outcomes that can be told apart by the lines and objects of these names: of each kind the first, with these
 /// lines, and with a history that leads to it.
 ///
-/// A name is that of a line, as `if1[1]`, of an object at the end, as `final 01`, or a port's or `final` for all of them; names
-/// have commas between them. An outcome has the number that it has in the list of all.
+/// A name is that of a line, such as `if1[1]`, of an object at the end, such as `final 01`, or a port's or `final` for all of
+/// them; names have commas between them. An outcome has the number that it has in the list of all.
 pub fn observed_listing<P: Progress>(
     alloc: Global,
     telling: &Telling<'_, P>,

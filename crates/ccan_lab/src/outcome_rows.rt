@@ -25,7 +25,7 @@ pub(crate) fn ends_of(ending: &Ending, port: PortName) -> &[LineEnd] {
     }
 }
 
-/// The line of a port's next step among these, from 1; where it has none, the number behind that of its last line.
+/// The line of a port's next step among these, from 1; if it has none, the number after that of its last line.
 pub(crate) fn next_line(steps: &[HistoryStep], port: PortName, ends: &[LineEnd]) -> usize {
     for step in steps {
         if step.port == port {
@@ -35,7 +35,8 @@ pub(crate) fn next_line(steps: &[HistoryStep], port: PortName, ends: &[LineEnd])
     ends.len().saturating_add(1)
 }
 
-/// Adds how the lines of a port ended, from a line of this number, from 1, up to another: a line each, and one for a told frame.
+/// Adds how the lines of a port ended, from a line of this number, from 1, up to another: a line each, and one for a reported
+/// frame.
 pub(crate) fn add_ended_lines(
     text: &mut String,
     port: PortName,
@@ -116,8 +117,8 @@ fn add_deed(text: &mut String, run: &Run) -> Result<(), AllocError> {
     Ok(())
 }
 
-/// The words beside a row: its port and its line, what it did, and behind the last step of a line its answer, and those of
-/// the lines behind it that make no step.
+/// The words beside a row: its port and its line, what it did, and after the last step of a line its answer, and those of the
+/// lines after it that make no step.
 fn words_of(
     alloc: Global,
     run: &Run,

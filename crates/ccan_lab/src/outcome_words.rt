@@ -19,7 +19,7 @@ use std::alloc::{AllocError, Global};
 pub struct OutcomeList {
     /// The outcomes.
     pub words: OutcomeWords,
-    /// The graph of which they are made.
+    /// The graph that they are made of.
     pub graph: AnswerGraph,
 }
 

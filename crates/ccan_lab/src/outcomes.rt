@@ -52,7 +52,7 @@ use std::io::{Input, IsTerminal, Write};
 /// How many states are kept at most, and how many nodes the words of outcomes have, if the command line doesn't say.
 pub const DEFAULT_MOST: usize = 1_000_000;
 
-/// The exit status where it is not as asked.
+/// The exit status if it is not as asked.
 pub const NOT_SO: u8 = 6;
 
 /// What is asked about the outcomes of scripts.
@@ -231,7 +231,7 @@ fn form_of(words: &ArgMatches<'_>) -> HistoryForm
     }
 }
 
-/// Whether a byte is of no printed line but that of a frame.
+/// Whether a byte is in no printed line except that of a frame.
 #[tactic(auto, unfolding(crate::specs::Question::is_of_frame))]
 fn is_of_frame(byte: u8) -> bool
     ensures { result ≡ is_of_frame byte }
@@ -250,7 +250,7 @@ fn begins_with_c(line: &[u8]) -> bool
     }
 }
 
-/// Whether one of these bytes is of no printed line but that of a frame.
+/// Whether one of these bytes is in no printed line except that of a frame.
 fn any_of_frame(line: &[u8]) -> bool
     ensures { result ≡ list_any is_of_frame line.now }
 {
@@ -273,7 +273,7 @@ fn any_asks_frame(lines: &[&str]) -> bool
     lines.iter().any(|line| asks_frame(line))
 }
 
-/// Whether frames are told, by the words of that command and its LINEs.
+/// Whether frames are reported, by the words of that command and its LINEs.
 fn frames_of(words: &ArgMatches<'_>, lines: &[&str]) -> bool
     ensures { AsksFramesBy (one_text (found_of words.now) (codes "frames")) lines.now result }
 {
@@ -334,7 +334,7 @@ pub fn outcomes_question<'a>(
     })
 }
 
-/// Refuses names of which one is that of no line and no object of the script.
+/// Refuses names if one of them is that of no line and no object of the script.
 #[tactic(auto, using(crate::proofs::Apart::none_found))]
 fn refuse_names(alloc: Global, script: &Script, names: &str) -> Result<(), LabError>
     ensures known { IfOk result (λ done. AreKnownNames (fields_of script.now) names.now) }
@@ -346,7 +346,7 @@ fn refuse_names(alloc: Global, script: &Script, names: &str) -> Result<(), LabEr
     }
 }
 
-/// Refuses names to be observed of which one is that of no line and no object of the script.
+/// Refuses names to be observed if one of them is that of no line and no object of the script.
 fn refuse_unknown(alloc: Global, script: &Script, asked: Asked<'_>) -> Result<(), LabError>
     ensures known { IfOk result (λ done. AreKnown (fields_of script.now) asked.entry) }
     ensures refused { IfErr result (RefusesUnknown (fields_of script.now) asked.entry) }
@@ -589,8 +589,8 @@ fn tell_beginnings<T: AllocGlobal + Eprint>(rt: &T, script: &Script) -> Result<(
     Ok(())
 }
 
-/// What is answered to a question about the outcomes of the script of this source. Where a line is refused that is to be searched
-/// for, standard error says what would be right.
+/// What is answered to a question about the outcomes of the script of this source. If a line that is to be searched for is
+/// refused, standard error says what would be right.
 fn answered_or_told<T: AllocGlobal + Eprint>(
     rt: &T,
     script: &Script,

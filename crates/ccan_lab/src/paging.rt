@@ -32,7 +32,7 @@ const DEFAULT_LIMIT: usize = 100;
 /// What a page is to show of a script.
 #[derive(Clone, Copy)]
 pub enum PageKind {
-    /// Its run in order where it has an order, and else its outcomes.
+    /// Its run in order if it has an order, and else its outcomes.
     ByOrder,
     /// Its run in order.
     Run,

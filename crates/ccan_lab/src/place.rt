@@ -29,7 +29,7 @@ fn add_final_name(text: &mut String, object: usize) -> Result<(), AllocError>
     Ok(())
 }
 
-/// Adds the name of a place behind the answers of the hosts, where the bus has so many lines.
+/// Adds the name of a place after the answers of the hosts, if the bus has so many lines.
 fn add_late_name(text: &mut String, bus: usize, place: usize) -> Result<(), AllocError>
     requires { place + 1 < 2 ^ 64 }
     ensures { OnOk result
@@ -61,7 +61,7 @@ pub fn add_place_name(
     }
 }
 
-/// Whose place it is behind the answers of the hosts, where the bus has so many lines.
+/// Whose place it is after the answers of the hosts, if the bus has so many lines.
 fn late_kind(bus: usize, place: usize) -> &'static str
     ensures { result.now ≡ late_kind bus place }
 {
@@ -72,7 +72,7 @@ fn late_kind(bus: usize, place: usize) -> &'static str
     }
 }
 
-/// Whose place it is: a port's, or `final`, where it is an object's.
+/// Whose place it is: a port's, or `final`, if it is an object's.
 pub fn place_kind(counts: &LineCounts, place: usize) -> &'static str
     ensures { result.now ≡ place_kind counts.now.if1 counts.now.if2 counts.now.bus place }
 {

@@ -34,7 +34,7 @@ fn is_last(step: &HistoryStep, later: &[HistoryStep]) -> bool {
 }
 
 /// The order in which the lines of a history take their last steps. A line without a step of its own, such as `status`, comes
-/// right before the next one of its port, or behind all where none is left.
+/// right before the next one of its port, or after all if none is left.
 pub fn order_of(
     alloc: Global,
     script: &Script,
@@ -85,7 +85,7 @@ fn end_of(step: &Step) -> LineEnd
     }
 }
 
-/// How the lines of one port ended, as it is told.
+/// How the lines of one port ended, as it is reported.
 #[tactic(auto, unfolding(crate::specs::Replay::ends_at))]
 fn ends_at(
     alloc: Global,
@@ -166,7 +166,7 @@ pub fn ending_in(
     Ok(Some(ending_of(alloc, frames, &told, script.profile)?))
 }
 
-/// Whether the lines, run whole one after another in this order, have the outcome, as it is told.
+/// Whether the lines, run whole one after another in this order, have the outcome, as it is reported.
 #[tactic(auto, using(crate::proofs::Told::replays_equal))]
 fn leads_to(
     alloc: Global,
@@ -184,8 +184,8 @@ fn leads_to(
     }
 }
 
-/// An order of whole lines with which a run of the script has the outcome of this history, where the last steps of the
-/// history's lines are in such an order. If the outcome is told with frames, the run has the same.
+/// An order of whole lines with which a run of the script has the outcome of this history, if the last steps of the history's
+/// lines are in such an order. If the outcome is reported with frames, the run has the same.
 pub fn order_to(
     alloc: Global,
     script: &Script,

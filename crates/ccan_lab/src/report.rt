@@ -106,7 +106,7 @@ fn add_names(text: &mut String, order: &[PortName]) -> Result<(), AllocError>
     add_later_names(text, &order[1..])
 }
 
-/// Adds an order as the member of a script that says it; nothing where there is none.
+/// Adds an order as the member of a script that says it; nothing if there is none.
 fn add_order(text: &mut String, order: &Option<Vec<PortName>>) -> Result<(), AllocError>
     ensures { OnOk result (string_bytes text.new
         ≡ string_bytes text.old ++ order_text (option_map (λ order. order.items) order.now)) }
@@ -141,8 +141,8 @@ pub fn add_told_outcome(
     add_order(text, order)
 }
 
-/// Adds an outcome: its head, these lines of it, a history that leads to it, and an order of whole lines that does, where one
-/// was found.
+/// Adds an outcome: its head, these lines of it, a history that leads to it, and an order of whole lines that does, if one was
+/// found.
 ///
 /// The number is from 0.
 pub fn add_outcome<P: Progress>(

@@ -21,8 +21,8 @@ use std::marker::Model;
 pub const MAX_OBJECTS: usize = 64;
 
 /// Printed lines. Those of an outcome are each in its place: the answers of IF1, those of IF2, those of the bus, and a line for
-/// each object, which is empty if the object is all zero. In the outcomes of one script the same thing is in the same place. Below
-/// the line of a round is that of the frame that won the bus, if it is told.
+/// each object, which is empty if the object is all zero. In the outcomes of one script the same thing is in the same place.
+/// Below the line of a round is that of the frame that won the bus, if it is reported.
 ///
 /// Contracts see the list of the lines' texts.
 #[derive(Drop)]
@@ -70,7 +70,7 @@ impl Rows {
         self.lines.len()
     }
 
-    /// The line in a place, empty where there is none.
+    /// The line in a place, empty if there is none.
     #[tactic(auto, unfolding(crate::specs::Rows::line_at))]
     pub fn line(&self, place: usize) -> &str
         ensures { result.now ≡ line_at self.now place }
@@ -151,7 +151,7 @@ fn texts<'a>(alloc: Global, lines: &'a [String]) -> Result<Vec<&'a str>, AllocEr
     Ok(all)
 }
 
-/// The line of an object, which is empty where the object is all zero.
+/// The line of an object, which is empty if the object is all zero.
 pub fn final_row(object: ObjectNo, left: &Record) -> PrintedLine
     ensures { result.bytes ≡ final_row object left.now }
 {
@@ -180,7 +180,7 @@ fn frame_line(alloc: Global, frame: &Frame) -> Result<String, AllocError>
     Ok(text)
 }
 
-/// The line of the frame that won the bus, empty if there is none or it is not told.
+/// The line of the frame that won the bus, empty if there is none or it is not reported.
 pub fn told_frame(alloc: Global, end: &LineEnd) -> Result<String, AllocError>
     ensures { IfOk result (λ text. string_bytes text ≡ told_frame end.now) }
 {
@@ -202,7 +202,8 @@ fn push_frame_row(text: &mut String, frame: &Option<Frame>) -> Result<(), AllocE
     Ok(())
 }
 
-/// Appends how a line of a port ended, as it is printed: its answer, and below it the frame that won the bus, if that is told.
+/// Appends how a line of a port ended, as it is printed: its answer, and below it the frame that won the bus, if that is
+/// reported.
 pub fn push_row(text: &mut String, port: PortName, end: &LineEnd) -> Result<(), AllocError>
     ensures { OnOk result
         (string_bytes text.new ≡ string_bytes text.old ++ row_text port end.now) }

@@ -35,7 +35,7 @@ use ccan_script::Script;
 use ccan_search::Progress;
 use std::alloc::{AllocError, Global};
 
-/// Outcomes of which each other one shows what one of them does, and their words.
+/// Some outcomes, and their words. Each other outcome shows what one of these does.
 #[derive(Drop)]
 pub struct Shown {
     /// The words.
@@ -95,8 +95,8 @@ fn shows_lines(
     }
 }
 
-/// An order of whole lines with which a run of the script shows these lines, by the marks of all places, where the last steps of
-/// the lines of this history are in such an order.
+/// An order of whole lines with which a run of the script shows these lines, by the marks of all places, if the last steps of the
+/// lines of this history are in such an order.
 fn order_to_lines(
     alloc: Global,
     script: &Script,
@@ -117,7 +117,7 @@ fn order_to_lines(
 }
 
 /// Adds the outcome in this place: its head, these lines, a history that leads to it, and an order of whole lines that shows the
-/// same lines, where one was found.
+/// same lines, if one was found.
 ///
 /// The number is from 0.
 fn add_seen<P: Progress>(
@@ -285,7 +285,7 @@ fn seen_listing<P: Progress>(
     Ok(below_heading(alloc, apart, told.as_str())?)
 }
 
-/// Outcomes of which each other one shows what one of them does, by the marks of all places.
+/// Some outcomes, such that each other one shows what one of these does, by the marks of all places.
 fn shown_of<P: Progress>(
     alloc: Global,
     telling: &Telling<'_, P>,
@@ -352,8 +352,8 @@ fn seen_of_list<P: Progress>(
 /// The list of what can be told apart of the outcomes of a script by the lines and objects of these names, each with a history
 /// that leads to such an outcome.
 ///
-/// A name is that of a line, as `if1[1]`, of an object at the end, as `final 01`, or a port's or `final` for all of them; names
-/// have commas between them.
+/// A name is that of a line, such as `if1[1]`, of an object at the end, such as `final 01`, or a port's or `final` for all of
+/// them; names have commas between them.
 pub fn seen_text<P: Progress>(
     alloc: Global,
     script: &Script,

@@ -32,7 +32,7 @@ pub struct Telling<'a, P: Progress> {
     pub form: HistoryForm,
 }
 
-/// A history of which the states are not known.
+/// A history whose states are not known.
 fn without_states(alloc: Global, steps: Vec<HistoryStep>) -> History
     ensures steps { result.steps.items ≡ steps.items }
     ensures states { result.states.items ≡ [] }
@@ -43,8 +43,8 @@ fn without_states(alloc: Global, steps: Vec<HistoryStep>) -> History
     }
 }
 
-/// A history that leads to this outcome, which has this word: one that is found along the graph, or else, by a search of all
-/// states. Of the latter the states on its way are not known.
+/// A history that leads to this outcome, which has this word: one that is found along the graph, or else one by a search of all
+/// states. The states on the way of the latter are not known.
 pub fn history_by_word<P: Progress>(
     alloc: Global,
     telling: &Telling<'_, P>,

@@ -18,7 +18,7 @@ has_signs bears signs word = list_all (has_sign bears word) signs
 abbrev pub first_with : (Letter → ℕ → Bool) → List ℕ → List (List Letter) → Option ℕ
 first_with bears signs words = position (has_signs bears signs) words
 
--- the signs that a word still has to have behind this letter
+-- the signs that a word still has to have after this letter
 abbrev pub signs_left : (Letter → ℕ → Bool) → List ℕ → Letter → List ℕ
 signs_left bears signs letter = filter (λ sign. not (bears letter sign)) signs
 

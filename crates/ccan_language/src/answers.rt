@@ -6,7 +6,7 @@ use crate::node::Node;
 use std::alloc::{AllocError, Global};
 use std::collections::BTreeSet;
 
-/// Marks for the nodes up to this one, of which this one alone is marked.
+/// Marks for the nodes up to this one, of which only this one is marked.
 fn first_marks(alloc: Global, index: usize) -> Result<Vec<bool>, AllocError>
     ensures { IfOk result (λ marks. IsMarkedAlone marks.items index) }
 {

@@ -98,8 +98,8 @@ fn states_of(
 
 /// For each node of a graph up to this one a node of another graph, with the images of its words.
 ///
-/// They are made node by node. `NoRoom::Bound` comes only if each graph that has a node of the images of each of these has as many
-/// nodes as the other graph may have.
+/// They are made node by node. `NoRoom::Bound` comes only if each graph that has a node of the images of each of these has at
+/// least as many nodes as the other graph may have.
 pub fn images_of_each(
     into: &mut Graph,
     alloc: Global,

@@ -1,14 +1,14 @@
 ghost use Rattle.std.specs.Prelude.{◌≡◌};
 ghost use Rattle.ccan_language.specs.Words.{precedes};
 
-/// One letter of a word: which of the answers stands at this place.
+/// One letter of a word: which of the answers is at this place.
 ///
-/// Letters go by their places, and those of one place by their answers.
+/// Letters are ordered by their places, and those of one place by their answers.
 #[derive(Clone, Copy, PartialEq, Eq, Hash, Debug, Drop)]
 pub struct Letter {
     /// The place, counted as the caller counts places.
     pub place: usize,
-    /// The answer, as the caller numbers the answers that can stand there.
+    /// The answer, as the caller numbers the answers that can be there.
     pub answer: usize,
 }
 

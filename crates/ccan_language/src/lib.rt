@@ -1,8 +1,8 @@
 //! Finite languages: sets of words, each from a node of one graph that only grows, and the words that a machine can say on its
 //! ways to an end.
 //!
-//! A word has a letter for each place at which something was answered, in the order of the places, whatever the order in which
-//! the letters were said. Nodes that are equal are one.
+//! A word has a letter for each place at which something was answered, in the order of the places, no matter in which order the
+//! letters were said. Nodes that are equal are one.
 #![tactic(auto)]
 
 pub mod answers;

@@ -14,6 +14,6 @@ pub struct Pair {
 pub struct Longer {
     /// The index of the node.
     pub index: usize,
-    /// The letter that its words get.
+    /// The letter that is added to its words.
     pub letter: Letter,
 }

@@ -1,6 +1,6 @@
 use crate::letter::Letter;
 
-/// An edge from one node to another, on which a letter stands, and what stands beside it.
+/// An edge from one node to another, which has a letter, and what is beside it.
 #[derive(Clone, Copy, PartialEq, Eq, Hash, Debug, Drop)]
 pub struct Edge {
     /// The letter.
@@ -13,12 +13,12 @@ pub struct Edge {
 
 /// A node: a set of words.
 ///
-/// The edges of a fork are its own, that of the others' node if this is a fork, and so on, in the order of their letters.
+/// The edges of a fork are its own, that of the others' node if that is a fork, and so on, in the order of their letters.
 #[derive(Clone, Copy, PartialEq, Eq, Hash, Debug, Drop)]
 pub enum Node {
     /// No word.
     Nothing,
-    /// The empty word alone.
+    /// Only the empty word.
     End,
     /// The words that go on by an edge, and those beside it.
     Fork(Edge),

@@ -125,7 +125,7 @@ fn first_from<S: Signs>(
 /// The number of the first word from the node that has each of these signs, counted from 0 in the order of the list, or none if no
 /// word has them. A number that 64 bits can't hold is answered as if memory was refused.
 ///
-/// A node is gone through once for all that is sought from there, so it takes time by the nodes and not by the words.
+/// A node is gone through once for all that is sought from there, so the time depends on the nodes and not on the words.
 pub fn first_with<S: Signs>(
     graph: &Graph,
     alloc: Global,

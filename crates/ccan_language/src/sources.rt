@@ -1,4 +1,4 @@
-//! Words of which another word is the image.
+//! Words that have another word as their image.
 ghost use Rattle.std.specs.Prelude.{◌+◌, ◌≡◌, ◌≢◌, ◌<◌, List, IfNone, IfOk, IfSome, length, slice_get};
 ghost use Rattle.ccan_language.specs.declared.letter.Letter.{Letter};
 ghost use Rattle.ccan_language.specs.Images.{HaveImages, IsImageFrom, image_of, without_letter, word_image};
@@ -10,7 +10,7 @@ use crate::letter::Letter;
 use crate::node::{Edge, Node};
 use std::alloc::{AllocError, Global};
 
-/// The word with this letter more.
+/// The word with this letter added.
 fn with_letter(alloc: Global, word: &[Letter], letter: Letter) -> Result<Vec<Letter>, AllocError>
     ensures { IfOk result (λ longer. longer.items ≡ with_letter letter word.now) }
 {
@@ -45,7 +45,7 @@ fn without_letter(alloc: Global, word: &[Letter], letter: Letter) -> Result<Vec<
     Ok(shorter)
 }
 
-/// The word that this one is with a letter more, if it is one.
+/// The word that becomes this one with a letter added, if there is one.
 fn shorter(
     alloc: Global,
     word: &[Letter],
@@ -64,7 +64,7 @@ fn shorter(
     }
 }
 
-/// The word that this one is with these letters more, if it is one.
+/// The word that becomes this one with these letters added, if there is one.
 fn shorter_by(
     alloc: Global,
     word: &[Letter],
@@ -87,7 +87,7 @@ fn shorter_by(
     Ok(Some(left))
 }
 
-/// What is left of an image behind what stands for an edge's letter, if that is the image of a word from where the edge leads.
+/// What is left of an image without what stands for an edge's letter, if that is the image of a word from where the edge leads.
 fn left_behind(
     alloc: Global,
     graph: &Graph,
@@ -119,7 +119,7 @@ fn left_behind(
     }
 }
 
-/// A word from a node of which this one is the image. `into` and `made` have the images of the words of each node up to it.
+/// A word from a node that has this one as its image. `into` and `made` have the images of the words of each node up to it.
 pub fn source_of(
     alloc: Global,
     graph: &Graph,

@@ -18,7 +18,7 @@ use Rattle.ccan_page.specs.declared.page.Step.{Step}
 
 -- ---- records and frames
 
--- the mask at the places of the identifier: all its bits, or of a standard one bits 28 to 18
+-- the mask at the bits of the identifier: all its bits, or bits 28 to 18 for a standard one
 abbrev pub mask_number : Record → ℕ
 mask_number r = if r.xtd then r.mask else part r.mask 18 11
 
@@ -57,7 +57,7 @@ change_text change =
 unfoldable pub object_text : ObjectChange → List ℕ
 object_text object = codes "{\"number\":" ++ (decimal object.object ++ (codes "," ++ (change_text object.change ++ codes "}")))
 
--- the bytes that a frame carries; none where it is remote
+-- the bytes that a frame carries; none if it is remote
 abbrev pub carried : FrameFields → List ℕ
 carried frame = if frame.rtr then data_member [] else data_member (take (byte_count frame.dlc) frame.bytes)
 
@@ -104,7 +104,7 @@ words_text step =
 unfoldable pub things_text : Step → List ℕ
 things_text step = object_named step.object ++ (frame_shown step.frame ++ registers_shown step.registers)
 
--- the objects that it is told of
+-- the objects that are shown with it
 unfoldable pub objects_shown : List ObjectChange → List ℕ
 objects_shown objects = named (codes "objects") ++ (codes "[" ++ (objects_text objects ++ codes "]}"))
 
@@ -116,7 +116,7 @@ unfoldable pub later_steps : List Step → List ℕ
 later_steps [] = []
 later_steps (step ∷ later) = codes ",\n" ++ (step_text step ++ later_steps later)
 
--- the same, with a comma between two: each step stands there once, in its place
+-- the same, with a comma between two: each step is there once, in its place
 unfoldable pub steps_text : List Step → List ℕ
 steps_text [] = []
 steps_text (first ∷ later) = step_text first ++ later_steps later

@@ -8,7 +8,7 @@ use Rattle.std.specs.List.{flat_map}
 abbrev pub hex_text : ℕ → List ℕ
 hex_text byte = digit_glyph false (byte / 16) ∷ (digit_glyph false (byte % 16) ∷ [])
 
--- a byte of a string: `"` and `\` behind a `\`, a control character by its number, and each other byte as it is
+-- a byte of a string: `"` and `\` after a `\`, a control character by its number, and each other byte as it is
 abbrev pub string_glyph : ℕ → List ℕ
 string_glyph byte =
     if byte == 34 then codes "\\\"" else (if byte == 92 then codes "\\\\" else (if nat_lt byte 32
@@ -17,7 +17,7 @@ string_glyph byte =
 abbrev pub string_text : List ℕ → List ℕ
 string_text words = codes "\"" ++ (flat_map string_glyph words ++ codes "\"")
 
--- ---- members, each behind a comma
+-- ---- members, each after a comma
 
 abbrev pub named : List ℕ → List ℕ
 named name = codes ",\"" ++ (name ++ codes "\":")

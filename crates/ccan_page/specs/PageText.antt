@@ -3,7 +3,7 @@
 use Rattle.std.specs.Prelude.{ℕ, ◌==◌, ◌++◌, ◌∷◌, List, [], Bool, not, codes, if◌then◌else◌}
 use Rattle.std.specs.List.{flat_map}
 
--- a byte of JSON, in place of a `<` its escape
+-- a byte of JSON, or its escape if it is a `<`
 abbrev pub shielded_byte : ℕ → List ℕ
 shielded_byte byte = if byte == 60 then codes "\\u003c" else byte ∷ []
 

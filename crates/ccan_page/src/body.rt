@@ -1,6 +1,6 @@
 //! What the page has before its data.
 
-/// The body up to the element with the data, that element's tag among it.
+/// The body up to the element with the data, including that element's tag.
 pub(crate) const BODY: &str = "<body>
 <header>
 <h1 id='title'>Steps of a script</h1>

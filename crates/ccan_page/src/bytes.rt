@@ -184,7 +184,7 @@ impl Bytes {
         self.push_str("\"")
     }
 
-    /// Appends a byte of JSON, in place of a `<` its escape.
+    /// Appends a byte of JSON, or its escape if it is a `<`.
     #[tactic(auto, unfolding(crate::specs::PageText::shielded_byte))]
     fn push_shielded_byte(&mut self, byte: u8) -> Result<(), AllocError>
         ensures { OnOk result (self.new ≡ self.old ++ shielded_byte byte) }
@@ -196,7 +196,7 @@ impl Bytes {
         }
     }
 
-    /// Appends JSON, in place of each `<` its escape. It means the same, since a `<` stands in strings alone.
+    /// Appends JSON, with the escape in place of each `<`. It means the same, since only strings have a `<`.
     #[tactic(auto, using(crate::proofs::NoLess::none_is_less))]
     pub fn push_shielded(&mut self, json: &[u8]) -> Result<(), AllocError>
         ensures pushed { OnOk result (self.new ≡ self.old ++ shielded json.now) }

@@ -4,9 +4,9 @@
 //!   Page { outcomes, lines of the script } --> data_of: JSON --> page_of: head, data, script --> text
 //! ```
 //!
-//! All that differs from page to page is the data. It stands in an element that the browser doesn't read as HTML, and no byte
-//! of it is a `<`, so nothing in it can end that element. The head, the body and the script that shows the steps are constant
-//! texts. The script computes none of what it shows: it only lays out the steps of the data.
+//! All that differs from page to page is the data. It is in an element that the browser doesn't read as HTML, and no byte of it
+//! is a `<`, so nothing in it can end that element. The head, the body and the script that shows the steps are constant texts.
+//! The script computes none of what it shows: it only lays out the steps of the data.
 #![tactic(auto)]
 
 mod body;

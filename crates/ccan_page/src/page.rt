@@ -44,9 +44,9 @@ pub struct Step {
     pub object: Option<ObjectNo>,
     /// The frame that was on the bus in it.
     pub frame: Option<SentFrame>,
-    /// The interface registers of its port, where they are known.
+    /// The interface registers of its port, if they are known.
     pub registers: Option<Change>,
-    /// The objects that it is told of, each before and after.
+    /// The objects that are shown with it, each before and after.
     pub objects: Vec<ObjectChange>,
 }
 
@@ -57,13 +57,13 @@ pub struct Outcome {
     pub number: usize,
     /// The lines that tell it apart from the others, or the objects at the end.
     pub lines: String,
-    /// An order of whole lines that leads to it, where one is known.
+    /// An order of whole lines that leads to it, if one is known.
     pub order: Option<Vec<PortName>>,
-    /// The answers to lines that make no step and stand before the first.
+    /// The answers to lines that make no step and come before the first.
     pub opening: String,
     /// The steps of a history that leads to it; none for a run in order.
     pub history: Vec<Step>,
-    /// The lines run whole in that order, a step each; none where no order is known.
+    /// The lines run whole in that order, a step each; none if no order is known.
     pub run: Vec<Step>,
 }
 
@@ -81,7 +81,7 @@ pub struct LineText<'a> {
 pub struct Page<'a> {
     /// The name of the script's file; empty for standard input.
     pub file: &'a str,
-    /// How many outcomes the script has in all; 0 where the page shows a run in order.
+    /// How many outcomes the script has in all; 0 if the page shows a run in order.
     pub count: usize,
     /// The lines of text that are the same in all outcomes.
     pub same: String,

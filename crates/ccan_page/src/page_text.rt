@@ -21,7 +21,7 @@ fn push_page(alloc: Global, text: &mut Bytes, page: &Page<'_>) -> Result<(), All
     text.push_shielded(json.as_slice())
 }
 
-/// The text of a page in these parts, the last of which stands behind its data.
+/// The text of a page in these parts, the last of which comes after its data.
 #[tactic(auto, unfolding(crate::specs::PageText::page_text))]
 fn page_in(
     alloc: Global,

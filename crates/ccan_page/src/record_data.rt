@@ -10,7 +10,7 @@ use ccan_accept::Frame;
 use ccan_object::Record;
 use std::alloc::AllocError;
 
-/// The number of an object's identifier: of 29 bits where it is extended, and else of the 11 in ID28 to ID18.
+/// The number of an object's identifier: of 29 bits if it is extended, and else of the 11 in ID28 to ID18.
 fn id_of(object: &Record) -> u32
     ensures { result ≡ number_of object.now }
 {
@@ -21,7 +21,7 @@ fn id_of(object: &Record) -> u32
     }
 }
 
-/// The part of an object's mask that stands at the places of its identifier.
+/// The part of an object's mask that is at the bits of its identifier.
 fn mask_of(object: &Record) -> u32
     ensures { result ≡ mask_number object.now }
 {
@@ -32,7 +32,7 @@ fn mask_of(object: &Record) -> u32
     }
 }
 
-/// Appends the identifier and what stands beside it, after the opening brace.
+/// Appends the identifier and what is beside it, after the opening brace.
 fn push_heading(data: &mut Bytes, object: &Record) -> Result<(), AllocError>
     ensures { OnOk result (data.new ≡ data.old ++ heading_text object.now) }
 {
@@ -110,7 +110,7 @@ pub fn push_object(data: &mut Bytes, object: &ObjectChange) -> Result<(), AllocE
     data.push_str("}")
 }
 
-/// Appends the bytes that a frame carries, as a member: none where it is remote.
+/// Appends the bytes that a frame carries, as a member: none if it is remote.
 fn push_carried(data: &mut Bytes, frame: &Frame) -> Result<(), AllocError>
     ensures { OnOk result (data.new ≡ data.old ++ carried frame.now) }
 {

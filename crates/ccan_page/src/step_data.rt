@@ -83,7 +83,7 @@ fn push_objects(data: &mut Bytes, objects: &[ObjectChange]) -> Result<(), AllocE
     push_later_objects(data, &objects[1..])
 }
 
-/// Appends the objects that a step is told of.
+/// Appends the objects that are shown with a step.
 #[tactic(auto, unfolding(crate::specs::Data::objects_shown))]
 fn push_shown_objects(data: &mut Bytes, objects: &[ObjectChange]) -> Result<(), AllocError>
     ensures { OnOk result (data.new ≡ data.old ++ objects_shown objects.now) }

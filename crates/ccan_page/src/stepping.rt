@@ -1,4 +1,4 @@
-//! What the page has behind its data: the script that shows its steps.
+//! What the page has after its data: the script that shows its steps.
 
 /// From the end of the data to the last byte.
 pub(crate) const STEPPING: &str = "

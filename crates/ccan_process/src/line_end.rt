@@ -10,7 +10,8 @@ use ccan_line::LineAnswer;
 pub struct LineEnd {
     /// What the line answers.
     pub answer: LineAnswer,
-    /// The frame that won the bus in a round, whatever came of it then. A round without a winner has none, nor has any other line.
+    /// The frame that won the bus in a round, whatever came of it afterwards. A round without a winner has none, and no other
+    /// line has one.
     pub frame: Option<Frame>,
 }
 
@@ -25,7 +26,7 @@ impl LineEnd {
         }
     }
 
-    /// The end as it is told, with its frame or without.
+    /// The end as it is reported, with its frame or without.
     pub fn told(&self, frames: bool) -> LineEnd
         ensures { result ≡ told_end frames self.now }
     {

@@ -1,4 +1,4 @@
--- What the answers of a run without an order tell, as steps of one history: whose step it is, at which object, what
+-- What the answers of a run without an order say, as steps of one history: whose step it is, at which object, what
 -- it did, what it found and what it left. Source: C_CAN User's Manual 1.2, section 4.2.1 for what a transfer moves,
 -- and section 3.4 for the Interrupt Register and the flags of all objects; that each answer is of its line and has steps
 -- of its own, in its port's order, is this project's own.
@@ -49,7 +49,7 @@ HasStep port object operation before after events =
 
 -- ---- looks
 
--- a look at the object showed the flag so
+-- a look at the object showed this value of the flag
 abbrev pub FlagWasShown : PortName → ℕ → Flag → Bool → List Event → Type 0
 FlagWasShown port object flag is events =
     (shown : Record) × HasStep port object Look shown shown events × (flag_of flag shown ≡ is)
@@ -104,7 +104,7 @@ turns_of (host.Until object flag turns) = turns
 turns_of line = 0
 
 -- these steps show the answer to this line of a host whose registers were set so. An answer that is not named here
--- tells of no transfer that was made, and of no flag that was looked for
+-- reports no transfer that was made, and no flag that was looked for
 abbrev pub HostShownBy : Profile → PortName → HostLine → Registers → LineAnswer → List Event → Type 0
 HostShownBy profile port line registers (answer.Write object left) events = WasWritten port registers object left events
 HostShownBy profile port line registers (answer.Read object shown) events = WasRead port registers object shown events
@@ -115,14 +115,14 @@ HostShownBy profile port line registers (answer.Interrupt value) events = NamesP
 HostShownBy profile port line registers (answer.Flags flag word objects) events = WordWasShown port objects flag word events
 HostShownBy profile port line registers reply events = Unit {0}
 
--- how many changes the answer tells
+-- how many changes the answer reports
 abbrev pub changes_told : Registers → LineAnswer → ℕ
 changes_told registers (answer.Write object left) = 1
 changes_told registers (answer.Read object shown) = if is_pure_read registers.command then 0 else 1
 changes_told registers reply = 0
 
--- a part of the history in which this line of a host was run: its steps show the answer, and the host made no other
--- changes in it than the answer tells
+-- a part of the history in which this line of a host was run: its steps show the answer, and the host made no changes in
+-- it other than those that the answer reports
 pub record IsHostPart (profile : Profile) (port : PortName) (line : HostLine) (registers : Registers)
     (reply : LineAnswer) (events : List Event) : Type 0 where
   pub shown : HostShownBy profile port line registers reply events
@@ -243,8 +243,8 @@ BusMakes (answer.Round ended) made =
     × IsAtMost change.Start first × RoundMakes ended last
 BusMakes reply made = made ≡ []
 
--- a part of the history in which this line of the bus was run: its steps show the answer, and the bus made no other
--- changes in it than the line's
+-- a part of the history in which this line of the bus was run: its steps show the answer, and the bus made no changes in
+-- it other than the line's
 pub record IsBusPart (profile : Profile) (line : BusLine) (reply : LineAnswer) (before events : List Event) : Type 0 where
   pub shown : BusShownBy profile line reply before events
   pub changes : BusMakes reply (changes_in Bus events)
@@ -275,7 +275,7 @@ BusInOrder profile lines replies before history = ⊥
 
 -- ---- a run
 
--- the history stands behind the outcome: it is legal, shows each answer of each port by steps of that answer's own, in the
+-- the history accounts for the outcome: it is legal, shows each answer of each port by steps of that answer's own, in the
 -- port's order, and leaves the objects as they are at the end
 pub record IsAnsweredBy (script : ScriptFields) (outcome : Outcome) (history : List Event) : Type 0 where
   pub legal : IsLegal script.profile history

@@ -7,7 +7,7 @@ use Rattle.clap.specs.declared.error.ErrorKind.TheVariants.{OutOfMemory}
 use Rattle.ccan_run.specs.declared.cli_error.CliError.{CliError}
 use Rattle.ccan_run.specs.declared.cli_error.CliError.TheVariants.{Words, Memory}
 
--- every refusal but want of memory, help included, is a fault of the words
+-- every refusal except lack of memory, help included, is a fault of the words
 abbrev pub error_of_kind : ErrorKind → CliError
 error_of_kind OutOfMemory = Memory
 error_of_kind _ = Words
@@ -15,7 +15,7 @@ error_of_kind _ = Words
 abbrev pub error_from : Error → CliError
 error_from e = error_of_kind (kind_of e)
 
--- 2 for the words, 3 where memory ran out
+-- 2 for the words, 3 if memory ran out
 abbrev pub cli_status : CliError → ℕ
 cli_status Words = 2
 cli_status Memory = 3

@@ -14,7 +14,7 @@ pub record MeansMode (words : List (List ℕ)) (mode : RunMode) : Type 0 where
 abbrev pub AreRefused : List (List ℕ) → Type 0
 AreRefused words = (program : List ℕ) (mode : RunMode) → Answers (program ∷ words) mode → ⊥
 
--- no word runs the lines in their order, and so does the word `run`; the word `threads` runs them in threads
+-- a command line without words runs the lines in their order, and so does the word `run`; the word `threads` runs them in threads
 abbrev pub NoWordRuns : Type 0
 NoWordRuns = MeansMode [] Run
 

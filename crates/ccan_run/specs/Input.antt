@@ -38,7 +38,7 @@ pub record RefusesScript (old new : Option (List ℕ)) (e : ScriptError) : Type 
   pub whole : ReadsWhole old new input
   pub refuses : RefusesText input e
 
--- when each error of the input comes: it is no script, or was not taken
+-- when each error of the input comes: it is not a script, or was not taken
 abbrev pub StopsInput : Option (List ℕ) → Option (List ℕ) → RunError → Type 0
 StopsInput old new (Script e) = RefusesScript old new e
 StopsInput old new e = RefusesInput old e

@@ -41,7 +41,7 @@ HasNoBusyLine =
     → 1 ≤ script.tries → LinesRun script history answers → All (λ reply. IsNotBusy reply.1) answers
 
 -- whatever a run without an order comes to, the history by which it is one shows each of its answers by steps of that
--- answer's own. Any history will do by which it is one
+-- answer's own. Any history by which it is one will do
 abbrev pub AnswersHaveEvents : Type 0
 AnswersHaveEvents =
     (contends : ℕ → ℕ → Bool) (script : ScriptFields) (outcome : Outcome)

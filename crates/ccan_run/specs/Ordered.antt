@@ -1,4 +1,4 @@
--- The meaning of a script in its order: its lines run one after another over a one-thread memory, and its text tells their
+-- The meaning of a script in its order: its lines run one after another over a one-thread memory, and its text shows their
 -- answers and what they left. Source: this project's own.
 use Rattle.std.specs.Prelude.{ℕ, ◌≡◌, List, [], ◌∷◌, ◌++◌, Option, map, unwrap_or}
 use Rattle.std.specs.List.{concat, flat_map, range_with_len}
@@ -65,7 +65,7 @@ answers_text answers = flat_map (λ reply. line_text reply.0 reply.1) answers
 unfoldable pub final_part : ℕ → Record → List ℕ
 final_part object r = unwrap_or (final_line object r) []
 
--- the lines of so many objects from object 1 on, with their records after the history
+-- the lines of this many objects from object 1 on, with their records after the history
 unfoldable pub final_parts : List Event → ℕ → List ℕ
 final_parts history count = concat (map (λ object. final_part object (record_at object history)) (range_with_len 1 count))
 
@@ -94,7 +94,7 @@ pub record PrintsPart (script : ScriptFields) (old new : Option (List ℕ)) : Ty
   pub has_text : HasText script text
   pub written : WritesPart old new text
 
--- a run stops where memory runs out, before it writes anything, or where a write fails
+-- a run stops if memory runs out, before it writes anything, or if a write fails
 abbrev pub StopsRun : ScriptFields → Option (List ℕ) → Option (List ℕ) → RunError → Type 0
 StopsRun script old new Memory = Keeps old new
 StopsRun script old new Write = PrintsPart script old new

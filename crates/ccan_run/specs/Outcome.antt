@@ -14,7 +14,7 @@ use Rattle.ccan_run.specs.Ordered.{answers_text, final_part}
 unfoldable pub port_lines : PortName → List LineAnswer → List ℕ
 port_lines port answers = answers_text (map (λ answer. (port, answer)) answers)
 
--- the lines of so many objects, with these records from object 1 on
+-- the lines of this many objects, with these records from object 1 on
 unfoldable pub object_lines : ℕ → List Record → List ℕ
 object_lines count records =
     flat_map (λ object. final_part object.0 object.1) (take count (enumerate_from 1 records))

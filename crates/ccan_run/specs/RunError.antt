@@ -6,7 +6,7 @@ use Rattle.ccan_run.specs.declared.run_error.RunError.{RunError}
 use Rattle.ccan_run.specs.declared.run_error.RunError.TheVariants.{Read, TooLong, Script, Quota, Memory, Spawn, Held, Write}
 use Rattle.ccan_script.specs.declared.script_error.ScriptError.TheVariants as script
 
--- 1 where the input is too long or no script, or its quota too large, 3 where memory ran out, 4 where a read or a write
+-- 1 if the input is too long or not a script, or its quota is too large, 3 if memory ran out, 4 if a read or a write
 -- failed, a thread could not be started, or a gate held a port
 abbrev pub exit_status : RunError → ℕ
 exit_status Read = 4

@@ -5,7 +5,7 @@ use thiserror::Error;
 /// Why the command line says no mode. It prints as the line that the program writes on standard error.
 #[derive(Clone, Copy, PartialEq, Eq, PartialOrd, Ord, Hash, Debug, Error)]
 pub enum CliError {
-    /// The words are not those of a mode. A question for help is none either.
+    /// The words are not those of a mode. A request for help is not one either.
     #[error("ccan: command line")]
     Words,
     /// Memory ran out.

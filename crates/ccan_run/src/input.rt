@@ -11,7 +11,7 @@ use std::io::Read;
 /// The most bytes that the input may have.
 pub const MAX_INPUT: usize = 4_194_304;
 
-/// Reads up to the first read of 0 bytes. Each error of a read is a fault, one of kind Interrupted too.
+/// Reads up to the first read of 0 bytes. Each error of a read is a fault, even one of kind Interrupted.
 pub fn read_all<R: Read>(alloc: Global, reader: &mut R) -> Result<Vec<u8>, RunError>
     ensures whole { IfOk result (λ input.
         ReadsWhole (R.remaining reader.old) (R.remaining reader.new) input.items) }

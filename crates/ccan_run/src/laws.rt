@@ -18,29 +18,29 @@ pub fn no_line_is_busy()
     ensures { HasNoBusyLine }
 {}
 
-/// The history by which an outcome is that of a run without an order, whichever it is, shows the answers. Each line of each
-/// port has an answer of the line's kind, and each answer a part of the history for its own, in the port's order, whose
-/// steps show what the answer tells: the write that was made, the record that a read found, the flag that a look showed,
-/// the object that was started, finished or stored; for the number of an object as interrupt value, a look at it that
-/// showed IntPnd, and of each lower object one that did not; for 0, such a look at every object. Where a wait for a flag
-/// ended without it, the host looked at the object once for each turn of the line, did nothing else, and no look showed
-/// the flag.
+/// Whichever history makes an outcome that of a run without an order, it shows the answers. Each line of each port has an
+/// answer of the line's kind. Each answer has a part of the history of its own, in the port's order, and the steps of that
+/// part show what the answer says: the write that was made, the record that a read found, the flag that a look showed, the
+/// object that was started, finished or stored. For the number of an object as interrupt value, they show a look at it that
+/// showed IntPnd, and a look at each lower object that did not; for 0, they show such a look at every object. If a wait for
+/// a flag ended without it, the host looked at the object once for each turn of the line, did nothing else, and no look
+/// showed the flag.
 ///
 /// A frame that was stored is one that the round's line gave to another node, or in loop back mode that of the record with
-/// which the object that was sent was started. What was sent was started in the same part or before it. In a part no other
-/// changes of its port stand than the line's: a host's are those that its answer tells; the bus's are the start of what was
+/// which the object that was sent was started. What was sent was started in the same part or before it. A part has no
+/// changes of its port except the line's: a host's are those that its answer reports; the bus's are the start of what was
 /// loaded, and then what the round came to, or none. No port has a step after its last line, and the objects at the end
 /// are those that the history leaves.
 pub fn answers_have_events()
     ensures { AnswersHaveEvents }
 {}
 
-/// The objects at the end are told alike by an outcome and by an ordered run.
+/// An outcome and an ordered run report the objects at the end alike.
 pub fn last_lines_are_finals()
     ensures { LastLinesAreFinals }
 {}
 
-/// No word on the command line is taken, and means to run the lines in their order.
+/// A command line without a word is accepted, and means to run the lines in their order.
 pub fn no_word_runs()
     ensures { NoWordRuns }
 {}
@@ -50,13 +50,13 @@ pub fn run_runs()
     ensures { RunRuns }
 {}
 
-/// The word `threads` is taken, and means threads.
+/// The word `threads` is accepted, and means threads.
 pub fn threads_means_threads()
     ensures { ThreadsMeansThreads }
 {}
 
 /// Another word is refused, be it a flag or empty, and so are two words or more. The first `--`, which ends the options,
-/// is not counted among the words: no word, `run` and `threads` are all that is left, each with a `--` or without.
+/// is not counted among the words. Only no word at all, `run` and `threads` are accepted, each with a `--` or without.
 pub fn other_words_are_refused()
     ensures { OtherWordsAreRefused }
 {}

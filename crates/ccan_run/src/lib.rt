@@ -14,13 +14,13 @@
 //!
 //! The memory of an ordered run is one that three threads could share with no lock, with its three ports in one thread.
 //! Before each of its lines a port meets both others, so that it has seen all that any of them has. That is why no
-//! other events stand between those of a line, and why each line is answered as by a one-thread memory. Nothing at run
+//! other events are between those of a line, and why each line is answered as by a one-thread memory. Nothing at run
 //! time tests it: the one history that the memory's end gives has no room for another event.
 //!
 //! What a line stands for is said once, for hosts and for the bus, over any access: which events it adds, what it answers,
 //! and how it leaves what the next line of its port finds ([`Side`], [`run_lines`]). The text of a script is a relation
 //! between a script and a text, over a one-thread memory, in which the program does not appear; [`laws`] say that a script
-//! has at most one text, and that a run which ended well has written it. [`run_ordered`] and [`run_stream`] are proved to
+//! has at most one text, and that a run that ended well has written it. [`run_ordered`] and [`run_stream`] are proved to
 //! write a text of their script.
 //!
 //! Without an order the three ports run at once. [`read_input`] gives the script, [`run_threads`] the [`Outcome`], which

@@ -57,9 +57,9 @@ fn count_lines(script: &Script) -> usize
 /// Runs a script in its order over a lock-free memory, with its three ports in this one thread, and writes the answers
 /// to its lines and then the final objects.
 ///
-/// All memory is taken before the first byte is written. The text is gathered on the stack and goes out in few writes: where
-/// the writer takes all that it is given, there is at most one `write` for each 65,457 bytes of it, and one for the rest. After
-/// a failed write what was written is a prefix of the text.
+/// All memory is taken before the first byte is written. The text is gathered on the stack and goes out in few writes: if the
+/// writer takes all that it is given, there is at most one `write` for each 65,457 bytes of it, and one for the rest. After a
+/// failed write, what was written is a prefix of the text.
 pub fn run_ordered<W: Write>(alloc: Global, script: &Script, writer: &mut W) -> Result<(), RunError>
     ensures ok { OnOk result
         (Prints (fields_of script.now) (W.contents writer.old) (W.contents writer.new)) }

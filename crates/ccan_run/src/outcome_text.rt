@@ -91,9 +91,9 @@ pub(crate) fn print_finals<W: Write>(
 
 /// Writes the answers of IF1, of IF2 and of the bus, and then the objects at the end.
 ///
-/// It takes no memory of the allocator. Lines are gathered on the stack and go out many at a time: where the writer takes
+/// It takes no memory from the allocator. Lines are gathered on the stack and go out many at a time: if the writer takes
 /// all that it is given, there is at most one `write` for each 65,457 bytes of the text, and one for the rest. After a
-/// failed write what was written is a prefix of the text.
+/// failed write, what was written is a prefix of the text.
 pub fn print_outcome<W: Write>(outcome: &Outcome, writer: &mut W) -> Result<(), RunError>
     ensures ok { OnOk result
         (Appends (W.contents writer.old) (W.contents writer.new) (outcome_text outcome.now)) }

@@ -5,7 +5,7 @@ ghost use Rattle.ccan_run.specs.Output.{WritesPart};
 use crate::run_error::RunError;
 use std::io::Write;
 
-/// Writes the whole text. A write of 0 bytes is a fault, and so is each error of a write, one of kind Interrupted too.
+/// Writes the whole text. A write of 0 bytes is a fault, and so is each error of a write, even one of kind Interrupted.
 pub(crate) fn write_text<W: Write>(writer: &mut W, text: &[u8]) -> Result<(), RunError>
     ensures ok { OnOk result
         (Appends (W.contents writer.old) (W.contents writer.new) text.now) }

@@ -23,7 +23,7 @@ pub(crate) struct Ports {
 }
 
 impl Ports {
-    /// As a run of this script begins: registers that read 0, and a bus to which nothing happened.
+    /// As a run of this script begins: registers that read 0, and a bus to which nothing has happened.
     pub(crate) fn new(script: &Script) -> Ports
         ensures opened { HaveLedTo (opening script.now.nodes) result }
         ensures can_run { CanRun (fields_of script.now) result }

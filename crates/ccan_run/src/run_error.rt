@@ -12,7 +12,7 @@ pub enum RunError {
     /// The input has more bytes than it may have.
     #[error("ccan: input too long")]
     TooLong,
-    /// The input is no script.
+    /// The input is not a script.
     #[error(transparent)]
     Script(ScriptError),
     /// The quota is more than the memory's form can number for a port.

@@ -29,7 +29,7 @@ fn command<'a>(alloc: Global) -> Result<Command<'a>, AllocError>
     Command::new(alloc, "ccan").arg(mode)
 }
 
-/// The mode with this name. No word means to run the lines in their order.
+/// The mode with this name. Without a word, the lines run in their order.
 fn mode_named(word: Option<&str>) -> RunMode
     ensures { result ≡ mode_of (option_map (λ name. name.now) word.entry) }
 {

@@ -81,7 +81,7 @@ fn start<'s, E: 's, R: SharedRam + Sync, G: Gate + Copy + Sync>(
     }
 }
 
-/// Starts a thread of the scope for each port, and joins the three. Where one could not be started, those before it are
+/// Starts a thread of the scope for each port, and joins the three. If one could not be started, those before it are
 /// joined all the same, which gives back what they answered.
 fn join_all<'s, E: 's, R: SharedRam + Sync, G: Gate + Copy + Sync, T: Threads>(
     scope: &Scope<'s, E>,
@@ -146,7 +146,7 @@ fn run_at_once<R: SharedRam + Sync, G: Gate + Copy + Sync, T: Threads + Wait + S
     )
 }
 
-/// All three, if each ran all its lines. Else the first one, in the order IF1, IF2, bus, that its gate held.
+/// All three, if each ran all its lines. Otherwise the first one, in the order IF1, IF2, bus, that its gate held.
 fn unless_held<P: Drop>(runs: PerPort<PortRun<P>>) -> Result<PerPort<PortRun<P>>, RunError>
     ensures ok { IfOk result (λ all. (all ≡ runs) × AllRan all) }
     ensures err { IfErr result (IsFirstHeld runs) }
@@ -164,8 +164,8 @@ fn unless_held<P: Drop>(runs: PerPort<PortRun<P>>) -> Result<PerPort<PortRun<P>>
 /// a gate of its own, a copy of this one, once before each of its lines, and for nothing else.
 ///
 /// A quota that is more than the memory numbers is found before anything is asked for, and all memory is taken before a
-/// thread starts. In every case each thread that was started has ended when this returns; a thread that could not be started
-/// is told before a port that its gate held, and of these the first in the order IF1, IF2, bus.
+/// thread starts. In every case each thread that was started has ended when this returns. A thread that could not be started
+/// is reported rather than a port that its gate held, and of these the first in the order IF1, IF2, bus is.
 pub fn run_threads<R: SharedRam + Sync + Drop, G: Gate + Copy + Sync, T: Threads + Wait + Sync>(
     rt: &T,
     alloc: Global,

@@ -26,7 +26,7 @@ pub(crate) struct Trio<R: SharedRam> {
 }
 
 impl<R: SharedRam> Trio<R> {
-    /// A memory that is all zero, in which each port may make so many changes.
+    /// A memory that is all zero, in which each port may make this many changes.
     pub(crate) fn open(alloc: Global, profile: Profile, quota: u64) -> Result<Trio<R>, RunError>
         requires least { 1 ≤ quota }
         requires greatest { quota ≤ R.MAX_QUOTA }

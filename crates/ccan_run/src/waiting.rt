@@ -14,7 +14,7 @@ const MAX_LINE: usize = 80;
 /// The most bytes that wait to be written.
 const MOST_WAITING: usize = 65_536;
 
-/// Text that waits to be written, so that many lines go out in one write. It takes no memory of the allocator.
+/// Text that waits to be written, so that many lines go out in one write. It takes no memory from the allocator.
 pub(crate) type Waiting = ArrayVec<u8, MOST_WAITING>;
 
 /// Writes out all that waits.
@@ -31,7 +31,7 @@ fn write_out<W: Write>(waiting: &mut Waiting, writer: &mut W) -> Result<(), RunE
     Ok(())
 }
 
-/// Lets a line wait after the rest, which is written out before where the line has no place beside it.
+/// Lets a line wait after the rest, which is written out first if there is no room for the line beside it.
 pub(crate) fn add_line<W: Write>(
     waiting: &mut Waiting,
     line: &PrintedLine,

@@ -17,6 +17,6 @@ fault_named word =
     else (if bytes_eq word (codes "bit0") then Some Bit0
     else (if bytes_eq word (codes "crc") then Some Crc else None)))))
 
--- what the member `fault` names; nothing spoils the frame where there is no such member
+-- what the member `fault` names; nothing spoils the frame if there is no such member
 unfoldable pub fault_in : Data → Option Fault
 fault_in d = option_map_or (λ member. option_and_then fault_named (as_str member)) (get (codes "fault") d) (Some Quiet)

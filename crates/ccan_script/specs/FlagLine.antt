@@ -1,4 +1,4 @@
--- The line that asks for a flag of all objects, which hosts and the bus have alike. Source: this project's own.
+-- The line that asks for a flag of all objects, which hosts and the bus both have. Source: this project's own.
 use Rattle.std.specs.Prelude.{◌&&◌, Bool, [], ◌∷◌, codes, is_some, unwrap_or}
 use Rattle.serde_json.specs.Data.{Data}
 use Rattle.ccan_ram.specs.declared.flag.Flag.{Flag}

@@ -28,7 +28,7 @@ data_bytes (high ∷ low ∷ rest) = (digit_value high * 16 + digit_value low) �
 unfoldable pub eight_bytes : List ℕ → List ℕ
 eight_bytes text = data_bytes text ++ replicate (8 - length (data_bytes text)) 0
 
--- the text of the member `data`, empty where there is no such member
+-- the text of the member `data`, empty if there is no such member
 unfoldable pub data_in : Data → Option (List ℕ)
 data_in d =
     option_map_or (λ member. option_and_then (λ text. if is_data_text text then Some text else None) (as_str member))
@@ -67,7 +67,7 @@ words_of d =
       digits = unwrap_or (data_in d) [];
     }
 
--- the sender is one of so many nodes, and each number of the frame fits: the identifier has 29 bits or 11, the data length
+-- the sender is one of this many nodes, and each number of the frame fits: the identifier has 29 bits or 11, the data length
 -- code four
 abbrev pub is_in_range : ℕ → FrameWords → Bool
 is_in_range nodes words =
@@ -78,7 +78,7 @@ is_in_range nodes words =
 abbrev pub has_its_length : FrameWords → Bool
 has_its_length words = length words.digits == 2 * data_count (words.rtr == 1) words.dlc
 
--- a frame is checked in whole: its shape, its numbers, and then the length of its data
+-- a frame is checked as a whole: its shape, its numbers, and then the length of its data
 unfoldable pub frame_fault : ℕ → Data → Option LineFault
 frame_fault nodes d =
     first_fault (shape_check (is_frame d) ∷ range_check (is_in_range nodes (words_of d))

@@ -28,7 +28,7 @@ use Rattle.ccan_script.specs.RegisterSet.{settings_in}
 unfoldable pub request_in : Data → Option ℕ
 request_in d = option_and_then word_in (get (codes "request") d)
 
--- what the member `set` sets, nothing where there is no such member
+-- what the member `set` sets, nothing if there is no such member
 unfoldable pub settings_of : Data → Option (List (Reg × ℕ))
 settings_of d = option_map_or settings_in (get (codes "set") d) (Some [])
 

@@ -30,11 +30,11 @@ whole d = option_and_then as_u64 (as_number d)
 unfoldable pub whole_in : List ℕ → Data → Option ℕ
 whole_in name d = option_and_then whole (get name d)
 
--- the same, and 0 where there is no such member
+-- the same, and 0 if there is no such member
 unfoldable pub whole_or_zero : List ℕ → Data → Option ℕ
 whole_or_zero name d = option_map_or whole (get name d) (Some 0)
 
--- a number that is there lies in the range
+-- the number, if there is one, lies in the range
 abbrev pub is_within : ℕ → ℕ → Option ℕ → Bool
 is_within least greatest n = nat_le least (unwrap_or n 0) && nat_le (unwrap_or n 0) greatest
 
@@ -69,7 +69,7 @@ has_only known d = option_map_or (λ ms. list_all (is_among known) (names_in ms)
 
 -- ---- the members of lines
 
--- a line with no member but its operation
+-- a line with no member except its operation
 abbrev pub is_bare : Data → Bool
 is_bare d = has_only (codes "op" ∷ []) d
 

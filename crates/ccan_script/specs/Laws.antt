@@ -12,8 +12,8 @@ use Rattle.ccan_script.specs.Script.{Means}
 abbrev pub HasOneMeaning : Type 0
 HasOneMeaning = (d : Data) (r s : Result ScriptFields ScriptError) → Means d r → Means d s → r ≡ s
 
--- and bytes that were read do mean one: where reading answers a script, or a fault that is neither want of memory nor that
--- the bytes are no JSON, their value has a meaning, and no other
+-- and bytes that were read do mean one: if reading answers a script, or a fault that is neither lack of memory nor that
+-- the bytes are not JSON, their value has a meaning, and no other
 abbrev pub WhatWasReadHasAMeaning : Type 0
 WhatWasReadHasAMeaning =
     (bytes : List ℕ) (r : Result Script ScriptError) → ReadsScript bytes r → r ≢ Err Memory → r ≢ Err NotJson

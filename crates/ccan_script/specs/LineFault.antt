@@ -1,4 +1,4 @@
--- The fault of a line, and how it is told. Source: this project's own.
+-- The fault of a line, and how it is reported. Source: this project's own.
 use Rattle.std.specs.Prelude.{◌≡◌, ℕ, Bool, List, [], ◌∷◌, Option, Some, None, Result, Ok, Err, if◌then◌else◌}
 use Rattle.ccan_script.specs.declared.list_name.ListName.{ListName}
 use Rattle.ccan_script.specs.declared.line_fault.LineFault.{LineFault}
@@ -29,7 +29,7 @@ abbrev pub refusal_at : ListName → ℕ → LineFault → ScriptError
 refusal_at list index line.Shape = Shape list index
 refusal_at list index line.Range = Range list index
 
--- what is read is what the value says where it has no fault, and else the fault is told
+-- if the value has no fault, what is read is what the value says, and otherwise the fault is reported
 abbrev pub ReadsLine : {L : Type 0} → Option LineFault → (L → Type 0) → Result L LineFault → Type 0
 ReadsLine fault Says (Ok read) = (fault ≡ None) × Says read
 ReadsLine fault Says (Err e) = fault ≡ Some e

@@ -20,7 +20,7 @@ number_in_list list = 0 ∷ []
 number_in_list count = 1 ∷ []
 number_in_list (line index) = 2 ∷ index ∷ []
 
--- the faults of a list of at most so many lines, from those of its lines
+-- the faults of a list of at most this many lines, from those of its lines
 unfoldable pub list_fault : ListName → ℕ → (Data → Option LineFault) → Option Data → ListPlace → Option ScriptError
 list_fault name most fault o list = if can_be_list o then None else Some (Shape name 0)
 list_fault name most fault o count = if nat_lt most (length (lines_in o)) then Some (TooMany name) else None

@@ -1,5 +1,5 @@
--- In which order the ports of a script run: what its member `order` names, what stands where there is none, and what is wrong
--- with it. Source: this project's own.
+-- The order in which the ports of a script run: what its member `order` names, what the order is if there is none, and what is
+-- wrong with it. Source: this project's own.
 use Rattle.std.specs.Prelude.{ℕ, ◌≡◌, ◌≢◌, ◌<◌, ◌==◌, ◌++◌, List, [], ◌∷◌, Option, Some, None}
 use Rattle.std.specs.Prelude.{Result, Ok, Err, map, replicate, if◌then◌else◌}
 use Rattle.serde_json.specs.Data.{Data}
@@ -19,7 +19,7 @@ use Rattle.ccan_script.specs.ListPlace.{ListPlace, list_fault, number_in_list}
 abbrev pub named_ports : Option Data → List PortName
 named_ports o = map port_of (lines_in o)
 
--- below, a port has so many lines
+-- below, a port has this many lines
 module _ (lines : PortName → ℕ) where
   -- all lines of IF1, then all of IF2, then all of the bus
   abbrev pub default_order : List PortName
@@ -49,7 +49,7 @@ abbrev pub order_fault : (PortName → ℕ) → Option Data → OrderPlace → O
 order_fault lines o (names place) = list_fault Order most_names port_fault o place
 order_fault lines o (share name) = times_fault lines o name
 
--- the first port that an order doesn't name as often as it has lines is told
+-- the first port that an order doesn't name as often as it has lines is reported
 abbrev pub ChecksTimes : (PortName → ℕ) → List PortName → Result (Unit {0}) ScriptError → Type 0
 ChecksTimes lines order (Ok done) = (name : PortName) → times name order ≡ lines name
 ChecksTimes lines order (Err (error.Order name)) =

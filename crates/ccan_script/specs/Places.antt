@@ -1,4 +1,4 @@
--- Faults at places. The checks of a value stand at numbered places, and the fault of least place is the one that is told.
+-- Faults at places. The checks of a value have numbered places, and the fault of the least place is the one that is reported.
 -- Source: this project's own.
 use Rattle.std.specs.Prelude.{◌≡◌, ℕ, List, Option, Some, None}
 use Rattle.std.specs.Ordering.{nat_cmp}
@@ -6,7 +6,7 @@ use Rattle.std.specs.Cmp.Lexicographic.{slice_cmp}
 use Rattle.std.specs.declared.cmp.Ordering.TheVariants.{Less}
 use Rattle.ccan_script.specs.declared.script_error.ScriptError.{ScriptError}
 
--- a place has a number of several parts, as a section of a document has, and an earlier place has a lesser one
+-- a place has a number of several parts, as a section of a document has, and an earlier place has a smaller number
 abbrev pub Precedes : List ℕ → List ℕ → Type 0
 Precedes a b = slice_cmp nat_cmp a b ≡ Less
 
@@ -16,7 +16,7 @@ module _ {P : Type 0} (number : P → List ℕ) (fault : P → Option ScriptErro
   abbrev pub IsFaultless : Type 0
   IsFaultless = (place : P) → fault place ≡ None
 
-  -- the fault of least place
+  -- the fault of the least place
   pub record IsFirst (e : ScriptError) : Type 0 where
     pub place : P
     pub is : fault place ≡ Some e

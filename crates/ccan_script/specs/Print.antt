@@ -95,7 +95,7 @@ line_text port answer = port_text port ++ answer_text answer ++ 10 ∷ []
 unfoldable pub is_all_zero : Record → Bool
 is_all_zero r = arbitration r == 0 && masks r == 0 && control r == 0 && list_all (λ byte. byte == 0) r.bytes
 
--- the line of an object at the end, with its end; there is none where the object is all zero
+-- the line of an object at the end, with its end; there is none if the object is all zero
 unfoldable pub final_line : ℕ → Record → Option (List ℕ)
 final_line object r =
     if is_all_zero r then None else Some (shown_text (codes "final") object r ++ 10 ∷ [])

@@ -8,7 +8,7 @@ use Rattle.ccan_object.specs.Register.{arbitration, masks, control}
 
 -- ---- numbers
 
--- a number in hexadecimal with so many digits, that of the highest place first
+-- a number in hexadecimal with this many digits, the most significant digit first
 unfoldable pub hex : ℕ → ℕ → List ℕ
 hex zero n = []
 hex (suc place) n = digit_glyph false (n / 16 ^ place % 16) ∷ hex place n

@@ -17,7 +17,7 @@ use Rattle.ccan_script.specs.ListPlace.{list_fault, number_in_list}
 use Rattle.ccan_line.specs.Script.{ScriptFields, fields_of}
 use Rattle.ccan_script.specs.Script.{Means, number_fault, number_or}
 
--- it holds of each refusal but want of memory
+-- it holds for each refusal except lack of memory
 abbrev pub UnlessMemory : ScriptError → Type 0 → Type 0
 UnlessMemory Memory P = Unit {0}
 UnlessMemory _ P = P
@@ -35,7 +35,7 @@ module _ {L : Type 0} (name : ListName) (most : ℕ) (fault : Data → Option Li
       IsFaultless number_in_list (list_fault name most fault o) × AreLines LineSays (lines_in o) lines.items
   ReadsList (Err e) = UnlessMemory e (IsFirst number_in_list (list_fault name most fault o) e)
 
--- the order of ports that have so many lines
+-- the order of ports that have this many lines
 abbrev pub ReadsOrder : (PortName → ℕ) → Option Data → Result (Vec PortName Global) ScriptError → Type 0
 ReadsOrder lines o (Ok order) = IsFaultless number_in_order (order_fault lines o) × (order.items ≡ order_by lines o)
 ReadsOrder lines o (Err e) = UnlessMemory e (IsFirst number_in_order (order_fault lines o) e)
@@ -55,7 +55,7 @@ pub record Shows (bytes : List ℕ) (r : Result ScriptFields ScriptError) : Type
   pub read : read bytes ≡ Some value
   pub means : Means value r
 
--- a refusal is of the value's fault, or of bytes that are no UTF-8 or no JSON
+-- a refusal is for the value's fault, or for bytes that are not UTF-8 or not JSON
 abbrev pub RefusesText : List ℕ → ScriptError → Type 0
 RefusesText bytes NotJson = IsUtf8 bytes → read bytes ≡ None
 RefusesText bytes e = UnlessMemory e (Shows bytes (Err e))

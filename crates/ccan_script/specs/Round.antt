@@ -18,7 +18,7 @@ use Rattle.ccan_script.specs.FrameLine.{frame_fault, sending_of, words_of}
 unfoldable pub frames_in : Data → List Data
 frames_in d = lines_in (get (codes "send") d)
 
--- the member `send` is a list of not too many values, where it stands
+-- the member `send`, if there is one, is a list of not too many values
 unfoldable pub can_send : Data → Bool
 can_send d = can_be_list (get (codes "send") d) && nat_le (length (frames_in d)) most_frames
 
@@ -27,11 +27,11 @@ unfoldable pub is_round : Data → Bool
 is_round d =
     has_only (codes "op" ∷ codes "send" ∷ codes "fault" ∷ []) d && (is_some (fault_in d) && can_send d)
 
--- the first fault of the frames, each of which is checked in whole before the next
+-- the first fault of the frames, each of which is checked as a whole before the next
 unfoldable pub frames_fault : ℕ → List Data → Option LineFault
 frames_fault nodes frames = first_fault (map (frame_fault nodes) frames)
 
--- no number stands there twice
+-- no number is there twice
 abbrev pub are_distinct : List ℕ → Bool
 are_distinct [] = true
 are_distinct (n ∷ ns) = not (list_any (λ m. m == n) ns) && are_distinct ns

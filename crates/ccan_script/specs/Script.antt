@@ -1,5 +1,5 @@
 -- Which faults a JSON value has as a script, each at its place in the order of the checks, and what the value means: its
--- script where it has no fault, and else the fault of least place. Source: this project's own.
+-- script if it has no fault, and otherwise the fault of the least place. Source: this project's own.
 use Rattle.std.specs.Prelude.{◌≡◌, ℕ, ◌==◌, ◌&&◌, List, [], ◌∷◌, Option, Some, None, Result, Ok, Err}
 use Rattle.std.specs.Prelude.{codes, length, nat_le, option_and_then, unwrap_or, if◌then◌else◌}
 use Rattle.std.specs.Option.{option_map_or}
@@ -28,7 +28,7 @@ use Rattle.ccan_script.specs.ListPlace.{ListPlace, list_fault, number_in_list}
 
 -- ---- numbers
 
--- a whole number in a range: first its shape, then its range; where there is no such member, no fault
+-- a whole number in a range: first its shape, then its range; if there is no such member, no fault
 unfoldable pub number_fault : ℕ → ℕ → Option Data → Option ScriptError
 number_fault least greatest None = None
 number_fault least greatest (Some d) =
@@ -105,7 +105,7 @@ pub record Says (d : Data) (script : ScriptFields) : Type 0 where
   pub bus_lines : AreLines BusSays (lines_in (get (codes "bus") d)) script.bus
   pub order_is : script.order ≡ order_by (count_of script) (get (codes "order") d)
 
--- what a value means: its script where it has no fault, else its fault of least place
+-- what a value means: its script if it has no fault, else its fault of the least place
 abbrev pub Means : Data → Result ScriptFields ScriptError → Type 0
 Means d (Ok script) = IsFaultless number_of (fault_at d) × Says d script
 Means d (Err e) = IsFirst number_of (fault_at d) e

@@ -41,7 +41,7 @@ fn control_line(line: &Value) -> Result<BusLine, LineFault>
     })
 }
 
-/// A line that has no member but its operation.
+/// A line that has no member except its operation.
 fn bare_line(line: &Value, meant: BusLine) -> Result<BusLine, LineFault>
     ensures { ReadsLine (shape_check (is_bare (view line.now))) (λ read. read ≡ meant) result }
 {
@@ -49,7 +49,7 @@ fn bare_line(line: &Value, meant: BusLine) -> Result<BusLine, LineFault>
     Ok(meant)
 }
 
-/// A line that asks for the error counters of one of so many nodes, or of the controller.
+/// A line that asks for the error counters of one of this many nodes, or of the controller.
 fn counters_line(line: &Value, nodes: u8) -> Result<BusLine, LineFault>
     ensures reads { let d = view line.now in ReadsLine (number_fault_of (codes "node") 0 nodes d)
         (λ read. read ≡ BusLine.Counters (number_in (codes "node") d)) result }

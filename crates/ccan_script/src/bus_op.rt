@@ -19,7 +19,7 @@ pub enum BusOp {
     LoopBack,
 }
 
-/// What the member `op` of a line names, `None` where it names nothing that the bus does.
+/// What the member `op` of a line names, `None` if it names nothing that the bus does.
 #[tactic(auto, unfolding(crate::specs::BusOp::bus_op, crate::specs::BusOp::bus_op_named))]
 pub fn bus_op(line: &Value) -> Option<BusOp>
     ensures { result ≡ bus_op (view line.now) }

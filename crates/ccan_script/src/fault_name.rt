@@ -21,7 +21,7 @@ fn fault_named(word: &str) -> Option<Fault>
     }
 }
 
-/// What the member `fault` of a round names, nothing where there is no such member.
+/// What the member `fault` of a round names, nothing if there is no such member.
 #[tactic(auto, unfolding(crate::specs::FaultName::fault_in))]
 pub fn fault_in(line: &Value) -> Option<Fault>
     ensures { result ≡ fault_in (view line.now) }

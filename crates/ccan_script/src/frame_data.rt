@@ -15,7 +15,7 @@ fn is_data_text(text: &str) -> bool
     text.len() % 2 == 0 && are_hexadecimal(text.as_bytes())
 }
 
-/// The text, where it is data.
+/// The text, if it is data.
 fn data_text(text: &str) -> Option<&str>
     ensures value { option_map (λ digits. digits.now) result
         ≡ (if is_data_text text.now then Some text.now else None) }
@@ -24,7 +24,7 @@ fn data_text(text: &str) -> Option<&str>
     if is_data_text(text) { Some(text) } else { None }
 }
 
-/// The text of the member `data` of a frame, empty where there is no such member, `None` where it is no data.
+/// The text of the member `data` of a frame, empty if there is no such member, `None` if it is not data.
 #[tactic(auto, unfolding(crate::specs::FrameLine::data_in, crate::specs::FrameLine::is_data_text))]
 pub fn data_in(frame: &Value) -> Option<&str>
     ensures value { option_map (λ digits. digits.now) result ≡ data_in (view frame.now) }

@@ -24,7 +24,7 @@ pub(crate) struct FrameParts<'a> {
     digits: &'a str,
 }
 
-/// The parts of a frame, `None` where the value isn't of that shape.
+/// The parts of a frame, `None` if the value isn't of that shape.
 #[tactic(auto, unfolding(crate::specs::FrameLine::is_frame))]
 fn frame_parts(value: &Value) -> Option<FrameParts<'_>>
     ensures none { IfNone result (is_frame (view value.now) ≡ false) }
@@ -45,7 +45,7 @@ fn frame_parts(value: &Value) -> Option<FrameParts<'_>>
     })
 }
 
-/// Whether the sender is one of so many nodes, and each number of the frame fits.
+/// Whether the sender is one of this many nodes, and each number of the frame fits.
 fn is_in_range(parts: FrameParts, nodes: u8) -> bool
     ensures { result ≡ is_in_range nodes (words_in parts.entry) }
 {
@@ -89,7 +89,7 @@ fn frame_of(parts: FrameParts) -> Frame
     .unwrap()
 }
 
-/// A frame with its sender, one of so many nodes: its shape first, then its numbers, then the length of its data.
+/// A frame with its sender, one of this many nodes: its shape first, then its numbers, then the length of its data.
 #[tactic(auto, unfolding(crate::specs::FrameLine::frame_fault, crate::specs::FrameLine::sending_of))]
 pub fn read_frame(value: &Value, nodes: u8) -> Result<(u8, Frame), LineFault>
     requires { nodes ≤ most_nodes }

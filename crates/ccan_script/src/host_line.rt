@@ -27,7 +27,7 @@ fn request_in(line: &Value) -> Option<u16>
     word_in(line.get("request")?)
 }
 
-/// What a line sets, nothing where it has no member for that.
+/// What a line sets, nothing if it has no member for that.
 #[tactic(auto, unfolding(crate::specs::HostLine::settings_of))]
 fn settings_of(line: &Value) -> Option<RegisterSet>
     ensures { option_map (λ set. set.items) result ≡ settings_of (view line.now) }
@@ -38,7 +38,7 @@ fn settings_of(line: &Value) -> Option<RegisterSet>
     }
 }
 
-/// A transfer, `None` where the line isn't of that shape.
+/// A transfer, `None` if the line isn't of that shape.
 #[tactic(auto, unfolding(crate::specs::HostLine::is_transfer))]
 fn transfer_line(line: &Value) -> Option<HostLine>
     ensures none { IfNone result (is_transfer (view line.now) ≡ false) }

@@ -13,7 +13,7 @@ pub enum HostOp {
     Flags,
 }
 
-/// What the member `op` of a line names, `None` where it names nothing that a host port does.
+/// What the member `op` of a line names, `None` if it names nothing that a host port does.
 #[tactic(auto, unfolding(crate::specs::HostOp::host_op, crate::specs::HostOp::host_op_named))]
 pub fn host_op(line: &Value) -> Option<HostOp>
     ensures { result ≡ host_op (view line.now) }

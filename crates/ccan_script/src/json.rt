@@ -76,7 +76,7 @@ pub(crate) fn whole_in(line: &Value, name: &str) -> Option<u64>
     line.get(name)?.as_u64()
 }
 
-/// The same, and 0 where there is no such member.
+/// The same, and 0 if there is no such member.
 #[tactic(auto, unfolding(crate::specs::Json::whole_or_zero))]
 pub(crate) fn whole_or_zero(line: &Value, name: &str) -> Option<u64>
     ensures { result ≡ whole_or_zero name.now (view line.now) }
@@ -112,7 +112,7 @@ pub(crate) fn has_only(value: &Value, known: &[&str]) -> bool
     }
 }
 
-/// Checks that a line has no member but its operation.
+/// Checks that a line has no member except its operation.
 pub(crate) fn check_bare(line: &Value) -> Result<(), LineFault>
     ensures { ReadsLine (shape_check (is_bare (view line.now))) (λ _. Unit {0}) result }
 {

@@ -6,7 +6,7 @@ pub fn one_meaning()
     ensures { HasOneMeaning }
 {}
 
-/// Bytes that were read mean one script or one fault, where memory didn't run out and they are JSON.
+/// Bytes that were read mean one script or one fault, if memory didn't run out and they are JSON.
 pub fn what_was_read_has_a_meaning()
     ensures { WhatWasReadHasAMeaning }
 {}

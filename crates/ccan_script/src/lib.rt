@@ -5,14 +5,14 @@
 //! ```text
 //!   bytes --> JSON value --> Script { profile, quota, tries, nodes, if1, if2, bus, order }
 //!                |
-//!                +--> the first fault in the order of the checks, with the list and the line where it stands
+//!                +--> the first fault in the order of the checks, with the list and the line where it is
 //!
 //!   LineAnswer --> one printed line        Record --> the final line of an object
 //! ```
 //!
-//! What a value means is defined apart from the reader, in `specs/`: its faults are a set, each at a place, and the fault
-//! of least place is told; where there is none, the value says what the script is. A [`Script`] holds all that its lines
-//! have to keep as an invariant, so that a run checks none of it again.
+//! What a value means is defined apart from the reader, in `specs/`. Its faults are a set, each at a place, and the fault
+//! of the least place is reported. If there is none, the value says what the script is. A [`Script`] holds all that its
+//! lines have to keep as an invariant, so that a run checks none of it again.
 #![tactic(auto)]
 
 pub mod bus_line;

@@ -12,7 +12,7 @@ use ccan_line::MAX_LINES;
 use serde_json::Value;
 use std::alloc::Global;
 
-/// The lines of a list of at most so many, none where there is no such member.
+/// The lines of a list of at most this many, none if there is no such member.
 pub(crate) fn lines_of<L: ScriptLine>(
     alloc: Global,
     list: ListName,
@@ -45,7 +45,7 @@ pub(crate) fn lines_of<L: ScriptLine>(
     Ok(lines)
 }
 
-/// The lines of a port, none where a script has no such member.
+/// The lines of a port, none if a script has no such member.
 pub(crate) fn port_lines<L: ScriptLine>(
     alloc: Global,
     list: ListName,

@@ -21,7 +21,7 @@ const TOP_RANGE: ScriptError = ScriptError::Range {
     index: 0,
 };
 
-/// A whole number in a range, or the default where there is no such member.
+/// A whole number in a range, or the default if there is no such member.
 #[tactic(auto, unfolding(crate::specs::Script::number_fault, crate::specs::Script::number_or))]
 pub fn number_member(
     value: &Value,

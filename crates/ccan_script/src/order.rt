@@ -19,7 +19,7 @@ use ccan_ram::PortName;
 use serde_json::Value;
 use std::alloc::Global;
 
-/// Names a port so many times.
+/// Names a port this many times.
 fn push_times(order: &mut Vec<PortName>, port: PortName, count: usize) -> Result<(), ScriptError>
     ensures items { MatchResult result
         (λ _. order.new.items ≡ order.old.items ++ replicate count port)

@@ -70,7 +70,7 @@ fn push_loop_back(line: &mut PrintedLine, on: bool)
     push_bit(line, on);
 }
 
-/// Appends what an answer tells.
+/// Appends what an answer says.
 #[tactic(auto, unfolding(crate::specs::Print::answer_text))]
 pub(crate) fn push_answer(line: &mut PrintedLine, answer: &LineAnswer)
     requires { array_string_len line.old ≤ 3 }

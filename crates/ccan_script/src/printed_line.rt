@@ -21,7 +21,7 @@ fn digit(value: u32) -> char
     }
 }
 
-/// Appends a number in hexadecimal, with so many digits.
+/// Appends a number in hexadecimal, with this many digits.
 #[tactic(auto, unfolding(crate::specs::PrintedLine::hex))]
 pub(crate) fn push_hex(line: &mut PrintedLine, digits: u32, value: u64)
     requires digits { digits ≤ 16 }

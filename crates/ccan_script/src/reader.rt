@@ -53,8 +53,8 @@ fn script_of(alloc: Global, value: &Value) -> Result<Script, ScriptError>
     })
 }
 
-/// The script that the bytes of a JSON text are, or why they are none: want of memory, or the first fault in the order
-/// of the checks.
+/// The script that the bytes of a JSON text are, or why they are not a script: lack of memory, or the first fault in the
+/// order of the checks.
 pub fn read_script(alloc: Global, bytes: &[u8]) -> Result<Script, ScriptError>
     ensures { ReadsScript bytes.now result }
 {

@@ -48,7 +48,7 @@ fn settings(members: &Map<String, Value>) -> Option<RegisterSet>
     Some(set)
 }
 
-/// What an object sets, `None` where a member of it isn't a register with its number.
+/// What an object sets, `None` if a member of it isn't a register with its number.
 #[tactic(auto, unfolding(crate::specs::RegisterSet::settings_in))]
 pub(crate) fn settings_in(value: &Value) -> Option<RegisterSet>
     ensures { option_map (λ set. set.items) result ≡ settings_in (view value.now) }

@@ -19,7 +19,7 @@ use serde_json::Value;
 /// The frames of a round, each with the node that sends it.
 type Sends = ArrayVec<(u8, Frame), 8>;
 
-/// The values of the frames of a round, `None` where they are no list, or too many.
+/// The values of the frames of a round, `None` if they are not a list, or too many.
 #[tactic(auto, unfolding(crate::specs::Round::can_send, crate::specs::Round::frames_in))]
 fn frame_values(line: &Value) -> Option<&[Value]>
     ensures none { IfNone result (can_send (view line.now) ≡ false) }

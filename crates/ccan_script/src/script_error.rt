@@ -3,10 +3,10 @@ use ccan_ram::PortName;
 use std::alloc::{AllocError, AllocFailed};
 use thiserror::Error;
 
-/// Why bytes are no script. It prints as the line that the program writes on standard error.
+/// Why bytes are not a script. It prints as the line that the program writes on standard error.
 #[derive(Clone, Copy, PartialEq, Eq, PartialOrd, Ord, Hash, Debug, Error)]
 pub enum ScriptError {
-    /// The bytes are no JSON value, or no UTF-8.
+    /// The bytes are not a JSON value, or not UTF-8.
     #[error("ccan: script: not JSON")]
     NotJson,
     /// A value isn't of its shape. The index is that of the line in its list, from 0.
@@ -18,7 +18,7 @@ pub enum ScriptError {
     /// A list has more lines than a script may have.
     #[error("ccan: script: too many, {list}")]
     TooMany { list: ListName },
-    /// The order names a port oftener or seldomer than it has lines.
+    /// The order names a port more or less often than it has lines.
     #[error("ccan: script: order, {port}")]
     Order { port: PortName },
     /// Memory ran out.

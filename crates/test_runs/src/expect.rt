@@ -1,5 +1,5 @@
 //! What a test expects, asserted by calls that promise nothing: what a test itself asserts stays known up to its end, and makes
-//! the proof of a test of many lines long. Where a test fails, the two values tell which line it was.
+//! the proof of a test of many lines long. If a test fails, the two values show which line it was.
 use std::fmt::Debug;
 use std::process::Abort;
 

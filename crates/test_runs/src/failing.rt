@@ -9,7 +9,7 @@ use ccan_script::ScriptError;
 use std::alloc::Global;
 use std::process::Abort;
 
-/// What is told where a reader meets this fault within a script.
+/// What is reported if a reader meets this fault within a script.
 fn told(fault: Fault) -> RunError {
     match fault {
         Fault::Nothing => RunError::Script(ScriptError::NotJson),
@@ -17,7 +17,7 @@ fn told(fault: Fault) -> RunError {
     }
 }
 
-/// Runs a script whose reader meets a fault after so many calls. The fault is told and not met again, and nothing is written;
+/// Runs a script whose reader meets a fault after so many calls. The fault is reported and not met again, and nothing is written;
 /// one that comes after the last byte and gives nothing is the end of the input. Up to the fault each call works, so with one
 /// that comes last, the whole script is read in steps of so many bytes.
 fn fails_to_read(
@@ -48,7 +48,7 @@ fn fails_to_read_anywhere(
 )
     requires { 1 ≤ step }
 {
-    // So many calls give the bytes and tell their end.
+    // So many calls give the bytes and show their end.
     let enough = row.0.len().div_ceil(step).saturating_add(1);
     for calls in 0..enough {
         fails_to_read(rt, alloc, row, step, calls, fault);
@@ -66,8 +66,8 @@ fn stops_where_a_read_fails(rt: HostRuntime) {
     }
 }
 
-/// Runs a script that begins with two million spaces, and whose reader meets a fault behind them. The fault is told and not met
-/// again, and nothing is written.
+/// Runs a script that begins with two million spaces, and whose reader meets a fault after them. The fault is reported and not
+/// met again, and nothing is written.
 fn fails_to_read_late(rt: &impl Abort, alloc: Global, fault: Fault) {
     let mut out = new_sheet(4096);
     let mut reader = Late {
@@ -131,7 +131,7 @@ fn fails_to_write_anywhere(
     }
 }
 
-/// A write that fails or takes nothing is told and not tried again.
+/// A write that fails or takes nothing is reported and not tried again.
 #[test]
 fn writes_a_prefix_where_a_write_fails(rt: HostRuntime) {
     for fault in FAULTS {

@@ -8,9 +8,9 @@ use std::io::{ErrorKind, Read, Write};
 /// What goes wrong once.
 #[derive(Clone, Copy)]
 pub enum Fault {
-    /// No byte is given or taken, and no error is told.
+    /// No byte is given or taken, and no error is reported.
     Nothing,
-    /// An error is told.
+    /// An error is reported.
     Fails(ErrorKind),
 }
 

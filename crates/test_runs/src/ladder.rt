@@ -1,4 +1,4 @@
-//! A machine most of whose states one alone follows.
+//! A machine in which most states are followed by one alone.
 use ccan_search::Machine;
 use std::alloc::{AllocError, Global};
 

@@ -1,4 +1,4 @@
-//! A machine with states that one move alone follows.
+//! A machine with states that only one move follows.
 use ccan_search::{Labelled, Move};
 use std::alloc::{AllocError, Global};
 

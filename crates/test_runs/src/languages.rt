@@ -1,7 +1,7 @@
-//! The words of a machine with two places, worked by hand. Its states stand from the end on: 0 ends. From 1 one says answer 0 at
-//! place 1, from 2 answer 1 at place 0, and from 3 answer 0 at place 0. Two steps leave 4: with answer 0 at place 0 to 1, and with
-//! answer 1 at place 1 to 2. So its words are 0 0 and 1 1, and 0 1 and 1 0 are none. Two steps leave 5, which come to the same
-//! word in either order: with answer 0 at place 0 to 1, and with answer 0 at place 1 to 3.
+//! The words of a machine with two places, worked by hand. Its states are listed from the end on: 0 ends. From 1 one says answer
+//! 0 at place 1, from 2 answer 1 at place 0, and from 3 answer 0 at place 0. Two steps leave 4: with answer 0 at place 0 to 1,
+//! and with answer 1 at place 1 to 2. So its words are 0 0 and 1 1, and 0 1 and 1 0 are none. Two steps leave 5, which come to
+//! the same word in either order: with answer 0 at place 0 to 1, and with answer 0 at place 1 to 3.
 use crate::expect::holds;
 use ccan_language::{Graph, Letter, NoRoom, State, Step, steps_lead_back, words_of_each};
 use std::alloc::{AllocError, Global};
@@ -145,7 +145,7 @@ fn has_word(
     }
 }
 
-/// Two words go from state 4, in the order of their letters, and both answers stand at place 1.
+/// Two words go from state 4, in the order of their letters, and both answers are at place 1.
 #[test]
 fn counts_and_numbers_words(rt: HostRuntime) {
     let alloc = rt.alloc();
@@ -179,7 +179,7 @@ fn counts_and_numbers_words(rt: HostRuntime) {
     );
 }
 
-/// A word of one letter takes three nodes: the end, no word beside it, and its own. What stands already takes none.
+/// A word of one letter takes three nodes: the end, no word beside it, and its own. What is there already takes none.
 #[test]
 fn stops_at_its_bound(rt: HostRuntime) {
     let alloc = rt.alloc();

@@ -1,6 +1,6 @@
 //! A script of as many lines as one may have, in order and in threads. Each host writes an object of its own, so it comes to one
-//! text. Where a writer takes all that it is given, there is at most one `write` for each 65,457 bytes, and one for the rest: 4
-//! for this text of 244,098 bytes.
+//! text. If a writer takes all that it is given, there is at most one `write` for each 65,457 bytes, and one for the rest: 4 for
+//! this text of 244,098 bytes.
 use crate::expect::{holds, same};
 use crate::faulty::Counting;
 use crate::runs::{repeated, run};
@@ -76,7 +76,7 @@ fn text_of(rt: &impl Abort, alloc: Global, outcome: &Outcome) -> Vec<u8> {
     text
 }
 
-/// Where there is nothing to print, nothing is written.
+/// If there is nothing to print, nothing is written.
 #[test]
 fn six_thousand_lines_run_in_threads(rt: HostRuntime) {
     let script = repeated(&rt, rt.alloc(), &SCRIPT);

@@ -25,7 +25,7 @@ fn fails_to_print(
     }
 }
 
-/// A write that fails or takes nothing is told and not tried again, wherever it comes. Where it would come after the text, the
+/// A write that fails or takes nothing is reported and not tried again, wherever it comes. If it would come after the text, the
 /// text is whole.
 #[test]
 fn prints_a_prefix_where_a_write_fails(rt: HostRuntime) {

@@ -104,7 +104,7 @@ fn shown(object: &Record) -> (u32, u16) {
     (object.arbitration(), object.control())
 }
 
-/// Spends a port's quota. What is refused then is told, and every look still answers.
+/// Spends a port's quota. What is refused then is reported, and every look still answers.
 fn spends<A: Access>(rt: &impl Abort, access: &mut A, quota: u64, first: u64) {
     spend(rt, access, quota, first);
     scans_are_spent(rt, access);

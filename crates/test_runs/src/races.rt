@@ -56,7 +56,7 @@ const WRITE_BEFORE_A_ROUND: &str = r#"{
     "bus":[{"op":"round"}]
 }"#;
 
-/// Holds a history to four steps, each of line 1 at object 1, of which the last writes.
+/// Holds a history to four steps, each of line 1 at object 1, the last of which writes.
 fn writes_at_last(rt: &impl Abort, history: &[HistoryStep]) {
     same(rt, history.len(), 4);
     let mut is_write = false;
@@ -114,7 +114,7 @@ fn ends(rt: &impl Abort, alloc: Global, text: &str) -> usize {
 fn has_no_more_ends_than_states_differ(rt: HostRuntime) {
     // Either host may write last.
     same(&rt, ends(&rt, rt.alloc(), TWO_WRITES), 2);
-    // All three outcomes leave the same object, and behind its last line no host needs what its reads have left in its registers.
+    // All three outcomes leave the same object, and after its last line no host needs what its reads have left in its registers.
     same(&rt, ends(&rt, rt.alloc(), TWO_READS), 1);
 }
 
@@ -203,7 +203,7 @@ fn is_shown(rt: &impl Abort, alloc: Global, words: &OutcomeWords, wanted: (u8, u
 
 #[test]
 fn says_each_outcome_by_its_number(rt: HostRuntime) {
-    // The two reads show what stood before the write, what it left, or one of each; the object holds what it left.
+    // The two reads show what was there before the write, what it left, or one of each; the object holds what it left.
     let words = words(&rt, rt.alloc(), TWO_READS);
     same(&rt, words.count(), 3);
     holds(&rt, is_shown(&rt, rt.alloc(), &words, (0, 0, 0x11)));
@@ -240,7 +240,7 @@ fn memories(rt: &impl Abort, words: &OutcomeWords, alloc: Global) -> usize
 
 #[test]
 fn says_what_each_line_may_answer(rt: HostRuntime) {
-    // IF1 writes once. Each read of IF2 shows what stood before the write, or what it left, and so ends each outcome.
+    // IF1 writes once. Each read of IF2 shows what was there before the write, or what it left, and so ends each outcome.
     let words = words(&rt, rt.alloc(), TWO_READS);
     same(&rt, ends_at(&rt, &words, rt.alloc(), PortName::If1, 0), 1);
     same(&rt, ends_at(&rt, &words, rt.alloc(), PortName::If2, 0), 2);
@@ -313,8 +313,8 @@ fn second_read(
 
 #[test]
 fn tells_apart_what_is_looked_at(rt: HostRuntime) {
-    // The second read shows what stood before the write, or what it left. By nothing that is looked at all outcomes are one, and so
-    // they are by the object, which holds at the end what the write left.
+    // The second read shows what was there before the write, or what it left. If nothing is looked at, all outcomes are one, and
+    // so they are by the object, which holds at the end what the write left.
     let words = words(&rt, rt.alloc(), TWO_READS);
     let second = observed(&rt, rt.alloc(), &words, &[false, false, true]);
     let one = second_read(&rt, rt.alloc(), &words, &second, 0);
@@ -394,7 +394,7 @@ fn hold_histories(
     }
 }
 
-/// How many outcomes a script has, of which each has to have such histories.
+/// How many outcomes a script has. Each has to have such histories.
 fn told(rt: &impl Abort, alloc: Global, text: &str) -> u64 {
     let script = read(rt, alloc, text);
     match answer_graph(alloc, &script, 1000, &Untold) {
@@ -415,7 +415,7 @@ fn finds_histories_along_the_graph(rt: HostRuntime) {
     same(&rt, told(&rt, rt.alloc(), TWO_WRITES), 2);
 }
 
-/// The first data byte of the frame that won the bus in the round of this outcome, if there was one and it is told.
+/// The first data byte of the frame that won the bus in the round of this outcome, if there was one and it is reported.
 fn sent(rt: &impl Abort, alloc: Global, words: &OutcomeWords, number: u64) -> Option<u8> {
     match numbered(rt, alloc, words, number).bus.as_slice() {
         [LineEnd { frame, .. }] => frame.map(|frame| frame.bytes()[0]),
@@ -441,8 +441,8 @@ fn is_sent(
 
 #[test]
 fn tells_the_frames_that_are_asked_for(rt: HostRuntime) {
-    // The round is before the first write, between both, or behind them: no frame, one with the data of the first write, or one with
-    // those of the second. The last two answer alike and leave the same.
+    // The round is before the first write, between both, or after them: no frame, one with the data of the first write, or one
+    // with those of the second. The last two answer alike and leave the same.
     let framed = words_with(&rt, rt.alloc(), WRITE_BEFORE_A_ROUND, true);
     same(&rt, framed.count(), 3);
     holds(&rt, is_sent(&rt, rt.alloc(), &framed, 3, None));

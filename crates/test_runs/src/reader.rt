@@ -1,5 +1,5 @@
 //! The reader of scripts and the texts of answers, each call once, with what no run in an order shows: there no try is lost, so
-//! neither how many there are nor Busy is seen, and a look more finds nothing new, so how often a wait looks isn't.
+//! neither how many there are nor Busy is seen, and another look finds nothing new, so how often a wait looks isn't seen.
 use crate::expect::{holds, same};
 use crate::runs::{object_no, read};
 use ccan_bus::{LoadAnswer, RoundAnswer};

@@ -11,7 +11,7 @@ use std::cell::Cell;
 use std::collections::VecDeque;
 use std::process::Abort;
 
-/// Holds the rungs that a search keeps to these, where it may keep so many.
+/// Holds the rungs that a search keeps to these, if it may keep so many.
 fn keeps(rt: &impl Abort, alloc: Global, ahead: usize, most: usize, want: &[u64]) {
     let Ok(Some(reached)) = reachable(&Ladder, alloc, 0, ahead, most, &Untold) else {
         panic!(rt; "not all rungs")
@@ -33,7 +33,7 @@ fn finds_rungs(rt: HostRuntime) {
     holds(&rt, has_more(rt.alloc(), 6, &Untold));
 }
 
-/// What it was told of a search last: the number of the state that was followed next, from 1, and how many were kept.
+/// What was last reported to it of a search: the number of the state that was followed next, from 1, and how many were kept.
 #[derive(Drop)]
 struct LastTold {
     number: Cell<usize>,
@@ -82,7 +82,7 @@ fn answers_a_shortest_way(rt: HostRuntime) {
     }
 }
 
-/// Holds what is told of the moves to a rung to this, where a search looks so many moves ahead.
+/// Holds what is reported of the moves to a rung to this, if a search looks so many moves ahead.
 fn tells(rt: &impl Abort, alloc: Global, ahead: usize, rung: u64, want: &[u64]) {
     let Ok(Some(reached)) = reachable(&Ladder, alloc, 0, ahead, 7, &Untold) else {
         panic!(rt; "not all rungs")
@@ -110,7 +110,7 @@ fn stairs_below(rt: &impl Abort, alloc: Global, stair: u64) -> GraphFrom<u64, u6
     found
 }
 
-/// The graph of the stairs below this one, with stair 3 as the landing, where the search passes so many at most at a time.
+/// The graph of the stairs below this one, with stair 3 as the landing, if the search passes so many at most at a time.
 fn below_with_landing(
     rt: &impl Abort,
     alloc: Global,
@@ -134,7 +134,7 @@ fn sums(edges: &[Edge<u64>]) -> (u64, usize) {
     (down, to)
 }
 
-/// Holds a graph to these stairs, of which the last is the start, and to the sums of the edges of each.
+/// Holds a graph to these stairs, the last of which is the start, and to the sums of the edges of each.
 fn is_graph(rt: &impl Abort, found: &GraphFrom<u64, u64>, stairs: &[u64], edges: &[(u64, usize)]) {
     same(rt, found.graph.states.as_slice(), stairs);
     same(rt, found.start.saturating_add(1), stairs.len());
@@ -143,8 +143,8 @@ fn is_graph(rt: &impl Abort, found: &GraphFrom<u64, u64>, stairs: &[u64], edges:
     }
 }
 
-/// Each stair stands behind those to which one goes down from it: so those below stair 3 stand in their order. One move alone
-/// follows stair 1, but these stairs don't let it be passed.
+/// Each stair comes after those to which one goes down from it: so those below stair 3 are in their order. One move alone follows
+/// stair 1, but these stairs don't let it be passed.
 #[test]
 fn finds_edges_with_labels(rt: HostRuntime) {
     let found = stairs_below(&rt, rt.alloc(), 3);
@@ -157,7 +157,7 @@ fn finds_edges_with_labels(rt: HostRuntime) {
 }
 
 /// From stair 5 one goes down by stair 4 to the landing, stair 3, and from there in two ways to the ground: by stairs 2 and 1, or
-/// by stair 1. No other stair is kept where the search passes as many as it can.
+/// by stair 1. No other stair is kept if the search passes as many as it can.
 #[test]
 fn passes_stairs_that_one_move_follows(rt: HostRuntime) {
     let found = below_with_landing(&rt, rt.alloc(), 5, 10);

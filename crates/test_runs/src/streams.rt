@@ -72,7 +72,7 @@ fn runs_a_script_in_order(rt: HostRuntime) {
     crate::runs::holds(&rt, text, got, &out, Ok(()), want.as_bytes());
 }
 
-/// Holds too where any one allocation fails: then nothing is written.
+/// Holds too if any one allocation fails: then nothing is written.
 #[test]
 fn writes_nothing_without_memory(rt: HostRuntime) {
     let (script, text) = spent();

@@ -16,7 +16,7 @@ fn flag_in(state: &AllPorts, object: ObjectNo, flag: Flag) -> bool {
     }
 }
 
-/// A flag of an object behind each row, up to which there are so many steps. There is one state more than there are steps, the
+/// A flag of an object after each row, up to which there are so many steps. There is one state more than there are steps, the
 /// first before any.
 fn column_of(
     alloc: Global,

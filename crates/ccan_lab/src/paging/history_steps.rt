@@ -24,7 +24,7 @@ fn if_changed(before: Record, after: Record) -> Option<Change> {
     }
 }
 
-/// The registers of a step's port before and behind it, if they differ.
+/// The registers of a step's port before and after it, if they differ.
 fn registers_of(moved: &Moved<'_>, port: PortName) -> Option<Change> {
     match port {
         PortName::If1 => if_changed(
@@ -69,8 +69,8 @@ fn deed_of(alloc: Global, step: &HistoryStep) -> Result<String, AllocError> {
     Ok(deed)
 }
 
-/// What is behind a step: the answer to its line where the step is the last of it, and those to the lines behind it that
-/// make no step.
+/// What comes after a step: the answer to its line if the step is the last of it, and those to the lines after it that make no
+/// step.
 fn told_behind(
     alloc: Global,
     step: &HistoryStep,
@@ -84,7 +84,7 @@ fn told_behind(
     Ok(told)
 }
 
-/// What the states before a step and behind it show of it.
+/// What the states before and after a step show of it.
 #[derive(Drop)]
 struct Seen {
     frame: Option<SentFrame>,
@@ -92,7 +92,7 @@ struct Seen {
     objects: Vec<ObjectChange>,
 }
 
-/// What the states before a step and behind it show of it; nothing where one of them is not known.
+/// What the states before and after a step show of it; nothing if one of them is not known.
 fn seen_of(
     alloc: Global,
     script: &Script,
@@ -113,7 +113,7 @@ fn seen_of(
     }
 }
 
-/// A step of a history, as a page shows it, by the steps behind it and the states about it.
+/// A step of a history, as a page shows it, by the steps after it and the states around it.
 fn shown_step(
     alloc: Global,
     script: &Script,

@@ -27,7 +27,7 @@ use ccan_script::Script;
 use ccan_search::Progress;
 use std::alloc::{AllocError, Global};
 
-/// An order of whole lines that leads to an outcome, and the steps of its run; none where no order is known.
+/// An order of whole lines that leads to an outcome, and the steps of its run; none if no order is known.
 #[derive(Drop)]
 struct Ordered {
     order: Option<Vec<PortName>>,

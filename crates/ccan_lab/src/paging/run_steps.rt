@@ -30,7 +30,7 @@ impl Known {
         }
     }
 
-    /// These, of one port others.
+    /// These, with others for one port.
     fn with(self, port: PortName, left: Record) -> Known {
         match port {
             PortName::If1 => Known {
@@ -76,7 +76,7 @@ fn registers_of(step: &Step, known: &Known) -> Option<Change> {
     })
 }
 
-/// What is known of the registers behind a step.
+/// What is known of the registers after a step.
 fn known_behind(step: &Step, known: Known) -> Known {
     match registers_left(&step.answer) {
         Some(left) => known.with(step.port, left),
@@ -122,7 +122,7 @@ fn add_touched(
     Ok(())
 }
 
-/// The object that a step leads to: that which stored a frame, or else its own.
+/// The object that a step leads to: the one that stored a frame, or else its own.
 fn object_of(step: &Step) -> Option<ObjectNo> {
     match (&step.stored, &step.own) {
         (Some(stored), _) => Some(stored.object),
@@ -189,7 +189,7 @@ pub(crate) fn ordered_steps(
     shown_steps(alloc, script, told.steps.as_slice())
 }
 
-/// Adds the line of an object at the end, where a run prints it.
+/// Adds the line of an object at the end, if a run prints it.
 fn add_final(text: &mut String, ram: &Array, object: ObjectNo) -> Result<(), AllocError> {
     if !ram.profile().holds(object) {
         return Ok(());

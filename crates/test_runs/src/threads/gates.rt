@@ -44,8 +44,8 @@ fn meet(own: &AtomicU64, other: &AtomicU64) -> bool {
     comes(other)
 }
 
-/// Lets line 1 of each host pass once both hosts have come there. So no host gets past it who runs before the other has
-/// begun, as on one thread.
+/// Lets line 1 of each host pass once both hosts have come there. So no host gets past it that runs before the other has begun,
+/// as on one thread.
 #[derive(Clone, Copy)]
 pub struct Together<'a> {
     /// Where the hosts meet.
@@ -90,7 +90,7 @@ impl<'a> Gate for AllTogether<'a> {
     }
 }
 
-/// Stops a port, or every port where none is named, from a line on. Where none is named, no line from there on is let through.
+/// Stops a port, or every port if none is named, from a line on. If none is named, no line from there on is let through.
 #[derive(Clone, Copy)]
 pub struct HeldFrom {
     /// The port that is stopped.

@@ -15,7 +15,7 @@ fn room(rt: &impl Abort, alloc: Global, lines: usize) -> Vec<LineAnswer>
     room
 }
 
-/// Where each port was held, and what the lines that ran before came to, where a caller runs the ports in threads.
+/// Where each port was held, and what the lines that ran before came to, if a caller runs the ports in threads.
 fn run_held<R: SharedRam + Sync, G: Gate + Copy + Send + Drop, T: Threads + Abort + Sync>(
     rt: &T,
     alloc: Global,
@@ -48,7 +48,7 @@ fn come_to<R: SharedRam + Sync, G: Gate + Copy + Send + Drop, T: Threads + Abort
     prints(rt, alloc, &outcome, want);
 }
 
-/// What all lines of a script come to, where a caller runs the ports in threads without a gate.
+/// What all lines of a script come to, if a caller runs the ports in threads without a gate.
 fn run_whole<R: SharedRam + Sync, T: Threads + Abort + Sync>(
     rt: &T,
     alloc: Global,
@@ -75,7 +75,7 @@ fn come_to_all<R: SharedRam + Sync, T: Threads + Abort + Sync>(
     prints(rt, alloc, &run_whole::<R, T>(rt, alloc, &script), want);
 }
 
-/// A line more for IF1 and the bus than in the script whose text this comes to where each port is held from its second line on.
+/// A line more for IF1 and the bus than in the script whose text this comes to if each port is held from its second line on.
 const MORE_LINES: &str = r#"{
     "if1":[{"op":"transfer","request":"0001","set":{"cmask":"0090","ctrl":"8000"}},
         {"op":"transfer","request":"0003","set":{"cmask":"0090","ctrl":"8000"}}],

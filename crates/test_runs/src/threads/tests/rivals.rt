@@ -1,5 +1,5 @@
-//! Two hosts and the bus at work on one object for a thousand lines each. The hosts count up, each in a part of its own, and
-//! the bus sends the object and is asked for it. What each saw tells whether a change was lost or done twice.
+//! Two hosts and the bus at work on one object for a thousand lines each. The hosts count up, each in a part of its own, and the
+//! bus sends the object and is asked for it. What each saw shows whether a change was lost or done twice.
 use super::*;
 use crate::runs::push;
 use ccan_bus::RoundAnswer;
@@ -15,7 +15,7 @@ fn digits(value: u16) -> [u8; 4] {
     )])
 }
 
-/// Adds a host's lines that write each number up to the last in turn, each before and behind these texts.
+/// Adds a host's lines that write each number up to the last in turn, with these texts before and after each.
 fn push_counts(rt: &impl Abort, script: &mut Vec<u8>, before: &str, behind: &str) {
     for value in 0..LINES {
         push(rt, script, before.as_bytes());

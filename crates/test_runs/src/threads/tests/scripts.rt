@@ -2,7 +2,7 @@
 use super::*;
 use crate::streams::each_port;
 
-/// Each host sets NewDat in an object of its own, and waits for that of the other; and what it prints where both do.
+/// Each host sets NewDat in an object of its own, and waits for that of the other; and what it prints if both do.
 const WAIT_FOR_EACH_OTHER: (&str, &str) = (
     r#"{"if1":[
     {"op":"transfer","request":"0001","set":{"cmask":"0090","ctrl":"8000"}},
