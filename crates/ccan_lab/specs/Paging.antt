@@ -6,6 +6,7 @@ use Rattle.std.specs.Str.{bytes_eq}
 use Rattle.ccan_ram.specs.declared.port.PortName.{PortName}
 use Rattle.ccan_line.specs.Script.{ScriptFields}
 use Rattle.ccan_explain.specs.declared.step.Step as told
+use Rattle.ccan_process.specs.WaitLaws.{looking_once}
 use Rattle.ccan_outcomes.specs.declared.ending.Ending.{Ending}
 use Rattle.ccan_outcomes.specs.declared.history_step.HistoryStep.{HistoryStep}
 use Rattle.ccan_outcomes.specs.Ending.{AreAllEnds, AreOfRuns, AreOutcomes}
@@ -15,6 +16,8 @@ use Rattle.ccan_page.specs.Data.{data_text}
 use Rattle.ccan_page.specs.declared.page.Outcome.{Outcome}
 use Rattle.ccan_page.specs.declared.page.Page.{Page}
 use Rattle.ccan_page.specs.declared.page.Step as shown
+use Rattle.ccan_lab.specs.declared.paging.PageKind.{PageKind}
+use Rattle.ccan_lab.specs.declared.paging.PageKind.TheVariants.{ByOrder, Run, Outcomes}
 use Rattle.ccan_lab.specs.Counting.{greatest}
 use Rattle.ccan_lab.specs.Listing.{HasChoices, different_lines}
 use Rattle.ccan_lab.specs.Rows.{rows_at, rows_of}
@@ -24,6 +27,13 @@ use Rattle.ccan_lab.specs.Summary.{same_parts}
 abbrev pub page_name : Option (List ℕ) → List ℕ
 page_name None = []
 page_name (Some path) = if bytes_eq path (codes "-") then [] else path
+
+-- a page shows a script's run with --run, its outcomes with --outcomes, and without either what its order asks for
+abbrev pub IsKindBy : Option (List ℕ) → Option (List ℕ) → PageKind → Type 0
+IsKindBy run outcomes kind =
+    (run ≡ Some (codes "true") → kind ≡ Run)
+    × (run ≡ Some (codes "false") → outcomes ≡ Some (codes "true") → kind ≡ Outcomes)
+    × (run ≡ Some (codes "false") → outcomes ≡ Some (codes "false") → kind ≡ ByOrder)
 
 -- the port and the line of a step that is shown, from 0
 abbrev pub line_of : shown.Step → PortName × ℕ
@@ -71,10 +81,11 @@ pub record ShowsList (frames : Bool) (script : ScriptFields) (eq : Ending → En
   pub once : IsDistinct eq endings
   pub shows : ShowsEndings frames script endings limit page
 
--- it does so of such a list of a script that has the same outcomes
+-- it does so of such a list of the script whose waits look once, which has the same outcomes
 pub record ShowsOutcomes (frames : Bool) (script : ScriptFields) (eq : Ending → Ending → Bool) (limit : ℕ) (page : Page)
     : Type 0 where
   pub searched : ScriptFields
+  pub once : searched ≡ looking_once script
   pub same_outcomes : HaveSameOutcomes script searched
   pub same_ends : HaveSameEnds script searched
   pub shows : ShowsList frames searched eq limit page

@@ -1,5 +1,8 @@
 //! The question `ccan-lab draw`: its words, and the picture.
+ghost use Rattle.std.specs.Prelude.{[], codes};
+ghost use Rattle.clap.specs.Words.{found_of, one_text};
 ghost use Rattle.ccan_line.specs.Script.{fields_of};
+ghost use Rattle.ccan_lab.specs.Question.{AsksFramesBy, IsGivenBy};
 ghost use Rattle.ccan_lab.specs.Telling.{CanBeTold};
 
 use crate::command_words::{command, file, number, switch, with};
@@ -9,7 +12,7 @@ use crate::input::script_asked;
 use crate::lab_error::LabError;
 use crate::outcome_rows::picture_of_history;
 use crate::outcome_words::{OutcomeList, list_of};
-use crate::outcomes::DEFAULT_MOST;
+use crate::outcomes::most_of;
 use crate::progress_line::ProgressLine;
 use crate::telling::{Telling, history_to};
 use ccan_draw::{Picture, picture_of_run, svg_of};
@@ -71,10 +74,14 @@ pub fn draw_command<'a>(alloc: Global) -> Result<Command<'a>, AllocError> {
 }
 
 /// The question that the words after `draw` ask.
-pub fn draw_question<'a>(words: &ArgMatches<'a>) -> DrawQuestion<'a> {
+pub fn draw_question<'a>(words: &ArgMatches<'a>) -> DrawQuestion<'a>
+    ensures most { IsGivenBy (one_text (found_of words.entry.now) (codes "most")) result.most }
+    ensures frames { AsksFramesBy
+        (one_text (found_of words.entry.now) (codes "frames")) [] result.frames }
+{
     DrawQuestion {
         outcome: words.get_one::<usize>("outcome"),
-        most: words.get_one::<usize>("most").unwrap_or(DEFAULT_MOST),
+        most: most_of(words),
         frames: words.get_flag("frames"),
         file: words.get_str("file"),
     }

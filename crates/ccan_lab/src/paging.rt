@@ -1,8 +1,10 @@
 //! The question `ccan-lab page`: its words, and the page.
-ghost use Rattle.std.specs.Prelude.{◌≡◌, IfErr, IfOk, string_bytes};
+ghost use Rattle.std.specs.Prelude.{◌≡◌, [], IfErr, IfOk, codes, string_bytes};
 ghost use Rattle.std.specs.Option.{option_map};
+ghost use Rattle.clap.specs.Words.{found_of, one_text};
 ghost use Rattle.ccan_lab.specs.Answered.{IsUnread};
-ghost use Rattle.ccan_lab.specs.Paging.{page_name};
+ghost use Rattle.ccan_lab.specs.Paging.{IsKindBy, page_name};
+ghost use Rattle.ccan_lab.specs.Question.{AsksFramesBy, IsGivenBy};
 
 mod history_steps;
 pub(crate) mod outcome_pages;
@@ -11,7 +13,7 @@ mod run_steps;
 use crate::command_words::{apart_from, command, file, number, switch, with};
 use crate::input::{bytes_asked, script_in};
 use crate::lab_error::LabError;
-use crate::outcomes::{DEFAULT_MOST, frames_flag};
+use crate::outcomes::{frames_flag, most_of};
 use crate::paging::outcome_pages::outcomes_page;
 use crate::paging::run_steps::run_page;
 use crate::progress_line::ProgressLine;
@@ -94,7 +96,10 @@ fn no_outcome_shown(alloc: Global) -> Result<Error, Error> {
 }
 
 /// What the words say that a page is to show.
-fn kind_asked(words: &ArgMatches<'_>) -> PageKind {
+fn kind_asked(words: &ArgMatches<'_>) -> PageKind
+    ensures { IsKindBy (one_text (found_of words.now) (codes "run"))
+        (one_text (found_of words.now) (codes "outcomes")) result }
+{
     if words.get_flag("run") {
         PageKind::Run
     } else if words.get_flag("outcomes") {
@@ -105,7 +110,15 @@ fn kind_asked(words: &ArgMatches<'_>) -> PageKind {
 }
 
 /// The question that the words after `page` ask.
-pub fn page_question<'a>(alloc: Global, words: &ArgMatches<'a>) -> Result<PageQuestion<'a>, Error> {
+pub fn page_question<'a>(alloc: Global, words: &ArgMatches<'a>) -> Result<PageQuestion<'a>, Error>
+    ensures kind { IfOk result (λ question.
+        IsKindBy (one_text (found_of words.entry.now) (codes "run"))
+        (one_text (found_of words.entry.now) (codes "outcomes")) question.kind) }
+    ensures most { IfOk result (λ question.
+        IsGivenBy (one_text (found_of words.entry.now) (codes "most")) question.most) }
+    ensures frames { IfOk result (λ question. AsksFramesBy
+        (one_text (found_of words.entry.now) (codes "frames")) [] question.frames) }
+{
     let limit = words.get_one::<usize>("limit").unwrap_or(DEFAULT_LIMIT);
     if limit == 0 {
         return Err(no_outcome_shown(alloc)?);
@@ -113,7 +126,7 @@ pub fn page_question<'a>(alloc: Global, words: &ArgMatches<'a>) -> Result<PageQu
     Ok(PageQuestion {
         kind: kind_asked(words),
         limit,
-        most: words.get_one::<usize>("most").unwrap_or(DEFAULT_MOST),
+        most: most_of(words),
         frames: words.get_flag("frames"),
         file: words.get_str("file"),
     })

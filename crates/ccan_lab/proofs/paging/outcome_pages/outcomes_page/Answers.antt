@@ -6,6 +6,7 @@ pub returns-clause-outcomes : goal.returns-clause-outcomes
 returns-clause-outcomes g c =
     IfOk-weaker c.listed_page.result _ _ (λ made shows. record {
       searched = fields_of c.in_ok-script.script;
+      once = c.in_ok-script.ensures.is;
       same_outcomes = c.in_ok-script.ensures.same;
       same_ends = c.in_ok-script.ensures.ends;
       shows = shows;
