@@ -1,6 +1,6 @@
 -- Which frames a message object accepts, place by place. Source: C_CAN User's Manual 1.2, sections 3.3.4 (Msk28-0, MXtd,
 -- MDir, UMask) and 4.2 (acceptance filtering of received messages). This project's own: a locked object is passed over for
--- frames of both kinds, a masked object without MDir takes both kinds, and only places 28 to 18 are compared where the
+-- frames of both kinds, a masked object without MDir takes both kinds, and only places 28 to 18 are compared if the
 -- object or the frame is standard.
 use Rattle.std.specs.Prelude.{ℕ, ◌≡◌, ◌<◌, ◌==◌, Bool, false, IsTrue, ◌&&◌, ◌||◌, not, nat_le}
 use Rattle.std.specs.Bool.{beq}
@@ -11,11 +11,11 @@ use Rattle.ccan_object.specs.Bits.{bit}
 use Rattle.ccan_accept.specs.declared.frame.Frame.{Frame}
 use Rattle.ccan_accept.specs.Frame.{identifier_of}
 
--- the object holds new data, whose NewDat was not cleared yet, and a FIFO buffer goes on behind it
+-- the object holds new data, whose NewDat was not cleared yet, and its FIFO buffer goes on after it
 abbrev pub is_locked : Record → Bool
 is_locked r = not r.eob && r.newdat
 
--- an object's mask compares a place of the identifier; without UMask every place
+-- an object's mask compares a place of the identifier; without UMask every place is compared
 abbrev pub is_masked : Record → ℕ → Bool
 is_masked r place = not r.umask || bit r.mask place
 

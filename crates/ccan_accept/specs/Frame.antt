@@ -1,6 +1,6 @@
--- Frames, and where their identifiers stand. Source: CAN Specification 2.0, part B, section 3 (message transfer: data frame,
--- remote frame); C_CAN User's Manual 1.2, section 3.3.4 (a standard identifier stands in ID28 to ID18). That the eight bytes
--- are 0 where no data byte stands is this project's own.
+-- Frames, and the places of their identifiers. Source: CAN Specification 2.0, part B, section 3 (message transfer: data frame,
+-- remote frame); C_CAN User's Manual 1.2, section 3.3.4 (a standard identifier is in ID28 to ID18). That those of the eight
+-- bytes that are not data are 0 is this project's own.
 use Rattle.std.specs.Prelude.{ℕ, Bool, ◌≡◌, ◌≤◌, ◌<◌, ◌-◌, ◌^◌, ◌++◌, List, All, length, take, replicate, if◌then◌else◌}
 use Rattle.ccan_object.specs.Bits.{at}
 use Rattle.ccan_object.specs.DataLength.{byte_count}
@@ -30,12 +30,12 @@ data_count rtr dlc = if rtr then 0 else byte_count dlc
 abbrev pub first_bytes : ℕ → List ℕ → List ℕ
 first_bytes count bytes = take count bytes ++ replicate (8 - count) 0
 
--- the frame of an identifier, a data length code and eight bytes, of which those that are no data become 0
+-- the frame of an identifier, a data length code and eight bytes; the bytes that are not data become 0
 abbrev pub framed : ℕ → Bool → Bool → ℕ → List ℕ → FrameFields
 framed id xtd rtr dlc bytes =
     record { id = id; xtd = xtd; rtr = rtr; dlc = dlc; bytes = first_bytes (data_count rtr dlc) bytes }
 
--- the identifier fits its kind, the code has four bits, and the bytes that are no data are 0
+-- the identifier fits its kind, the code has four bits, and the bytes that are not data are 0
 pub record IsFrame (f : FrameFields) : Type 0 where
   pub id : f.id < 2 ^ identifier_bits f.xtd
   pub dlc : f.dlc ≤ 15

@@ -49,7 +49,7 @@ pub record ShowsFrame (f : Frame) (i : Registers) : Type 0 where
   pub bytes_4_5 : shown DataB1 i ≡ two_bytes f.bytes 4
   pub bytes_6_7 : shown DataB2 i ≡ two_bytes f.bytes 6
 
--- a command is a read of all groups but Mask, which may be selected or not
+-- a command is a read of all groups except Mask, which may be selected or not
 pub record ReadsMessage (command : CommandMask) : Type 0 where
   pub reads : is_write command ≡ false
   pub arb : selects command Arb ≡ true
@@ -85,7 +85,7 @@ StoringKeepsSettings = (r : Record) (f : Frame) → SameSettings r (stored r f)
 abbrev pub StartedOnceIsNotReady : Type 0
 StartedOnceIsNotReady = (r : Record) → is_ready (started_once r) ≡ false
 
--- its start leaves NewDat, so a transmission that fails, which is finished by nothing, leaves it
+-- its start leaves NewDat, and nothing finishes a transmission that fails, so it leaves NewDat too
 abbrev pub FailuresLeaveNewDat : Type 0
 FailuresLeaveNewDat = (r : Record) → (started_once r).newdat ≡ r.newdat
 
@@ -93,6 +93,6 @@ FailuresLeaveNewDat = (r : Record) → (started_once r).newdat ≡ r.newdat
 abbrev pub StartedOnceSendsItsFrame : Type 0
 StartedOnceSendsItsFrame = (r : Record) → frame_of (started_once r) ≡ frame_of r
 
--- a request that a host makes while the frame is under way stands after its end
+-- a request that a host makes while the frame is under way remains after its end
 abbrev pub RequestsMeanwhileStand : Type 0
 RequestsMeanwhileStand = (r : Record) → (finished_once (record (started_once r) { txrqst = true })).txrqst ≡ true

@@ -29,14 +29,14 @@ finished r =
 abbrev pub started_once : Record → Record
 started_once r = record r { txrqst = false }
 
--- the end of a transmission that was tried once: the data were sent, and a request that came meanwhile stands
+-- the end of a transmission that was tried once: the data were sent, and a request that came meanwhile remains
 abbrev pub finished_once : Record → Record
 finished_once r = record r { newdat = false; intpnd = (if r.txie then true else r.intpnd) }
 
--- the number of an object's identifier: all its bits, or of a standard one bits 28 to 18
+-- the number of an object's identifier: all its bits, or bits 28 to 18 of a standard one
 abbrev pub number_of : Record → ℕ
 number_of r = if r.xtd then r.id else part r.id 18 11
 
--- the frame that an object sends: a data frame where Dir is 1, else a remote frame
+-- the frame that an object sends: a data frame if Dir is 1, else a remote frame
 abbrev pub frame_of : Record → Frame
 frame_of r = framed (number_of r) r.xtd (not r.dir) r.dlc r.bytes

@@ -10,7 +10,7 @@ const EXTENDED_PLACES: u32 = (1 << 29) - 1;
 /// ID28 to ID18, the places of a standard identifier.
 const STANDARD_PLACES: u32 = (1 << 29) - (1 << 18);
 
-/// The places that an object's mask compares, as a mask: all of them where it isn't used.
+/// The places that an object's mask compares, as a mask: all of them if it isn't used.
 fn masked_places(object: &Record) -> u32
     ensures places { HasPlaces (is_masked object.now) result }
     ensures within { result < 2 ^ 29 }
@@ -49,7 +49,7 @@ fn compared_places(object: &Record, frame: &Frame) -> u32
     masked_places(object) & places_of(both_extended(object, frame))
 }
 
-/// Whether the identifiers agree in each place that is compared.
+/// Whether the identifiers agree at each place that is compared.
 fn agrees_in_places(object: &Record, frame: &Frame) -> bool
     ensures { result ≡ agrees_in_places object.now frame.now }
 {
@@ -57,21 +57,21 @@ fn agrees_in_places(object: &Record, frame: &Frame) -> bool
     differing & compared_places(object, frame) == 0
 }
 
-/// Whether Xtd agrees, where it is compared.
+/// Whether Xtd agrees, if it is compared.
 fn agrees_in_width(object: &Record, frame: &Frame) -> bool
     ensures { result ≡ agrees_in_width object.now frame.now }
 {
     (object.umask && !object.mxtd) || object.xtd == frame.xtd()
 }
 
-/// Whether Dir agrees, where it is compared: a receiving object takes data frames, a transmitting one remote frames.
+/// Whether Dir agrees, if it is compared: a receiving object takes data frames, a transmitting one remote frames.
 fn agrees_in_kind(object: &Record, frame: &Frame) -> bool
     ensures { result ≡ agrees_in_kind object.now frame.now }
 {
     (object.umask && !object.mdir) || object.dir == frame.rtr()
 }
 
-/// Whether an object holds new data, whose NewDat was not cleared yet, and a FIFO buffer goes on behind it.
+/// Whether an object holds new data, whose NewDat was not cleared yet, and its FIFO buffer goes on after it.
 fn is_locked(object: &Record) -> bool
     ensures { result ≡ is_locked object.now }
 {
@@ -80,7 +80,7 @@ fn is_locked(object: &Record) -> bool
 
 /// Whether a message object accepts a frame (User's Manual, section 4.2).
 ///
-/// `test` is the same as an answer of true or false, which definitions over whole histories compute with.
+/// `test` says the same with true or false, and definitions over whole histories compute with it.
 #[tactic(auto, unfolding(crate::specs::Accept::accepts))]
 pub fn accepts(object: &Record, frame: &Frame) -> bool
     ensures test { result ≡ accepts object.now frame.now }

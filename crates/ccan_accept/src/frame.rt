@@ -6,7 +6,7 @@ use ccan_object::{DataLength, Identifier};
 use std::marker::Model;
 
 /// A data frame or a remote frame, without what the bus adds (CAN Specification 2.0, part B, section 3). Contracts see
-/// its fields: the identifier as a number of 11 or 29 bits, and eight bytes, which are 0 where no data byte stands.
+/// its fields: the identifier as a number of 11 or 29 bits, and eight bytes; those that are not data are 0.
 #[derive(Clone, Copy, PartialEq, Eq, Hash, Debug, Default)]
 pub struct Frame {
     id: u32,
@@ -64,7 +64,7 @@ impl Frame {
         }
     }
 
-    /// The identifier as a number, of 11 bits or, where it is extended, of 29.
+    /// The identifier as a number, of 11 bits or, if it is extended, of 29.
     pub fn id(&self) -> u32
         ensures id { result ≡ self.now.id }
         ensures is_frame { IsFrame self.now }
@@ -101,7 +101,7 @@ impl Frame {
         self.bytes
     }
 
-    /// The identifier as it stands in a message object: a standard one in ID28 to ID18, with 0 below.
+    /// The identifier as it is in a message object: a standard one in ID28 to ID18, with 0 below.
     pub(crate) fn identifier(&self) -> Identifier
         ensures identifier { result ≡ identifier_of self.now }
         ensures is_frame { IsFrame self.now }

@@ -9,7 +9,7 @@ pub fn accepted_place_by_place()
     ensures { AcceptedPlaceByPlace }
 {}
 
-/// Without a mask a valid object that isn't locked accepts the frames of its own identifier, width and kind alone.
+/// Without a mask a valid object that isn't locked accepts only the frames of its own identifier, width and kind.
 pub fn unmasked_accepts_its_own()
     ensures { UnmaskedAcceptsItsOwn }
 {}
@@ -49,7 +49,7 @@ pub fn started_once_sends_its_frame()
     ensures { StartedOnceSendsItsFrame }
 {}
 
-/// A request that a host makes while a frame that is tried once is under way stands after its end.
+/// A request that a host makes while a frame that is tried once is under way remains after its end.
 pub fn requests_meanwhile_stand()
     ensures { RequestsMeanwhileStand }
 {}

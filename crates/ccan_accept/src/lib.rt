@@ -1,9 +1,9 @@
 //! Which frames a message object accepts, what it stores of them, and what the start and the end of a transmission make
 //! of it.
 //!
-//! Acceptance compares an object with a frame place by place. Both identifiers stand in places 28 to 0, a standard one in
-//! the upper eleven, and the object's mask picks the places that have to agree; without UMask it is every place. Where
-//! either identifier is a standard one, places 17 to 0 are compared with nothing. Xtd is compared with the frame's width,
+//! Acceptance compares an object with a frame place by place. Both identifiers are in places 28 to 0, a standard one in
+//! the upper eleven, and the object's mask picks the places that have to agree; without UMask it is every place. If
+//! either identifier is a standard one, places 17 to 0 are not compared. Xtd is compared with the frame's width,
 //! and Dir with its kind, each unless the mask leaves it out.
 //!
 //! ```text
@@ -15,7 +15,7 @@
 //! ```
 //!
 //! An object whose MsgVal is 0, or that is locked (EoB 0 and NewDat 1), accepts nothing. All functions here are of
-//! records and frames alone; what the message handler does with them stands in the crates above.
+//! records and frames alone; the crates above say what the message handler does with them.
 #![tactic(auto)]
 
 pub mod accept;

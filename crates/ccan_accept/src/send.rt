@@ -46,7 +46,7 @@ pub fn started_once(object: &Record) -> Record
 }
 
 /// The record once a transmission that was started once has ended well: NewDat 0, and TxIE asks for an interrupt. A request
-/// that came meanwhile stands.
+/// that came meanwhile remains.
 pub fn finished_once(object: &Record) -> Record
     ensures { result ≡ finished_once object.now }
 {
@@ -57,7 +57,7 @@ pub fn finished_once(object: &Record) -> Record
     }
 }
 
-/// The frame that a message object sends: a data frame where Dir is 1, else a remote frame.
+/// The frame that a message object sends: a data frame if Dir is 1, else a remote frame.
 pub fn frame_of(object: &Record) -> Frame
     ensures frame { result ≡ frame_of object.now }
     ensures is_frame { IsFrame result }

@@ -35,7 +35,7 @@ pub record IsSameBus (old new : Bus) : Type 0 where
 pub record GoesOn (old new : Bus) (what : BusPast → BusPast → Type 0) : Type 0 where
   pub each : (past : BusPast) → LedTo past old → (after : BusPast) × LedTo after new × what past after
 
--- a call that is made with an access: the history of the memory goes on and the past of the bus
+-- a call that is made with an access: the history of the memory and the past of the bus go on
 abbrev pub GoesOnWith : Passes → Passes → Bus → Bus
     → (Terms → List Event → List Event → BusPast → BusPast → Type 0) → Type 0
 GoesOnWith seen_before seen_after old new what =

@@ -29,7 +29,7 @@ frames_of contenders = map (λ c. c.1) contenders
 abbrev pub is_least : Frame → List Frame → Bool
 is_least frame frames = list_all (λ other. not (precedes (arbitration_bits other) (arbitration_bits frame))) frames
 
--- the node sends one of the frames that none precedes
+-- the node sends one of the frames that no frame precedes
 unfoldable pub sends_least : List (ℕ × Frame) → ℕ → Bool
 sends_least contenders node = list_any (λ c. c.0 == node && is_least c.1 (frames_of contenders)) contenders
 

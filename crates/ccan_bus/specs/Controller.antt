@@ -1,4 +1,4 @@
--- A controller whose registers stand outside of the bus: they are told to the bus before a round, and what the round was to
+-- A controller whose registers are outside of the bus: they are given to the bus before a round, and what the round was to
 -- them is read off the bus afterwards. Source: this project's own.
 use Rattle.std.specs.Prelude.{ℕ, ◌≡◌, Bool, List, [], ◌∷◌, Option, Some, None, if◌then◌else◌}
 use Rattle.ccan_confine.specs.declared.bus_event.BusEvent.{BusEvent}

@@ -72,7 +72,7 @@ DecidesBack past after (decision.Finish object frame) = ⊥
 DecidesBack past after (decision.Receipt winner frame) = ⊥
 DecidesBack past after (decision.Passed winner frame) = ⊥
 
--- in loop back mode with the controller on that mode's decision, else that between the frames
+-- in loop back mode with the controller on, that mode's decision; else the decision between the frames
 abbrev pub Decides : Bool → RoundLine → BusPast → BusPast → Decision → Type 0
 Decides true line past after decided = DecidesBack past after decided
 Decides false line past after decided = DecidesBetween line past after decided
@@ -83,7 +83,7 @@ IsOf profile (decision.Finish object frame) = Holds profile object
 IsOf profile (decision.LoopBack object frame) = Holds profile object
 IsOf profile decided = Unit {0}
 
--- what a frame that was sent well calls for, as the bus finds it. Node 0 sends nothing where nothing is loaded
+-- what a frame that was sent well calls for, as the bus finds it. Node 0 sends nothing if nothing is loaded
 abbrev pub IsDue : Bus → ℕ → Frame → Decision → Type 0
 IsDue bus winner frame (decision.Finish object sent) =
     (winner ≡ 0) × (sent ≡ frame) × (started : Record) × (bus.loaded ≡ Some (object, started))

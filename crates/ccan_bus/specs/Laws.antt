@@ -85,7 +85,7 @@ AtMostOneSends =
 abbrev pub SomeoneSends : BusPast → BusPast → Type 0
 SomeoneSends past after = (node : ℕ) × HasEvent past after node Sent
 
--- a frame was sent well: the answer says so, or a memory step was refused, which comes after a success alone
+-- a frame was sent well: the answer says so, or a memory step was refused, which comes only after a success
 abbrev pub ends_well : RoundAnswer → Bool
 ends_well (answer.Sent object finished) = true
 ends_well (answer.Received found) = true
@@ -98,12 +98,12 @@ ends_well answer.Collision = false
 ends_well answer.NoAck = false
 ends_well answer.Fault = false
 
--- but not where it was the load that was refused
+-- but not if it was the load that was refused
 abbrev pub sends_well : Option RoundAnswer → RoundAnswer → Bool
 sends_well (Some refusal) reply = false
 sends_well None reply = ends_well reply
 
--- one does exactly where the answer is Sent, Received, Passed or Looped, or a memory step was refused after that success
+-- one does exactly if the answer is Sent, Received, Passed or Looped, or a memory step was refused after that success
 abbrev pub OneSendsExactlyOnSuccess : Type 0
 OneSendsExactlyOnSuccess =
     (terms : Terms) (line : RoundLine) (tries : ℕ) (seen added : List Event) (past after : BusPast) (reply : RoundAnswer)
@@ -117,7 +117,7 @@ OffNodesHaveNoEvent =
     → Round terms line tries seen added past after reply
     → (node : ℕ) → is_on past node ≡ false → after.events node ≡ past.events node
 
--- what was loaded is what a later round sends that is answered Sent, whatever was written in between
+-- a later round that is answered Sent sends what was loaded, whatever was written in between
 abbrev pub SendsWhatWasLoaded : Type 0
 SendsWhatWasLoaded =
     (terms : Terms) (line : RoundLine) (tries : ℕ) (earlier loading seen added : List Event)
@@ -130,7 +130,7 @@ SendsWhatWasLoaded =
 abbrev pub OwnFramesAre : Frame → List (ℕ × Frame) → Type 0
 OwnFramesAre own contenders = All (λ (c : ℕ × Frame). c.0 ≡ 0 → c.1 ≡ own) contenders
 
--- where the controller's frame won the bus, it is this one, of this object: it was sent well, in loop back mode too, or a
+-- if the controller's frame won the bus, it is this one, of this object: it was sent well, in loop back mode too, or a
 -- fault spoiled it, or nobody acknowledged it
 abbrev pub IsOfTheLoad : ℕ → Frame → Decision → Type 0
 IsOfTheLoad object own (decision.Finish place frame) = (place ≡ object) × (frame ≡ own)
@@ -153,7 +153,7 @@ EachRoundSendsWhatWasLoaded =
     → OwnFramesAre (frame_of started) (contenders_of past line)
     × ((decided : Decision) → report.decision ≡ Some decided → IsOfTheLoad object (frame_of started) decided)
 
--- a scan for an object that accepts this frame ends as it is told: at the object that stored it, or nowhere
+-- a scan for an object that accepts this frame ends as reported: at the object that stored it, or nowhere
 abbrev pub ScansAsTold : Terms → ℕ → Frame → List Event → List Event → Option (ℕ × Record) → Type 0
 ScansAsTold terms tries frame seen added None = Scan terms (Store frame) 1 tries seen added Nowhere
 ScansAsTold terms tries frame seen added (Some found) =
@@ -180,7 +180,7 @@ LoopsWhatWasLoaded =
     → Round terms line tries seen added past after (answer.Looped place finished found)
     → (place ≡ object) × IsFinishAndScan terms tries object finished (frame_of started) seen added found
 
--- what is loaded by a choice at one moment was ready then, and no object before it was, but for those that are no more
+-- what is loaded by a choice at one moment was ready then, and no object before it was, except those that are no longer ready
 abbrev pub LoadsAreOfOneMoment : Type 0
 LoadsAreOfOneMoment =
     (terms : Terms) (tries object : ℕ) (started : Record) (seen added : List Event) (past after : BusPast)
@@ -195,14 +195,14 @@ NothingIsLoadedAfterwards =
     (terms : Terms) (line : RoundLine) (tries : ℕ) (seen added : List Event) (past after : BusPast) (reply : RoundAnswer)
     → Round terms line tries seen added past after reply → reply ≢ answer.Idle → after.loaded ≡ None
 
--- a load that is refused leaves the error counters, the Status register and all else
+-- a load that is refused leaves the error counters, the Status register and all else as they were
 abbrev pub RefusedLoadsLeaveAll : Type 0
 RefusedLoadsLeaveAll =
     (terms : Terms) (line : RoundLine) (tries : ℕ) (seen added : List Event) (past after : BusPast) (reply refusal : RoundAnswer)
     → (round : Round terms line tries seen added past after reply)
     → refusal_of_round round.loading ≡ Some refusal → (after ≡ past) × (reply ≡ refusal)
 
--- in loop back mode with the controller on no other node has an event
+-- in loop back mode with the controller on, no other node has an event
 abbrev pub OthersRestInLoopBack : Type 0
 OthersRestInLoopBack =
     (terms : Terms) (line : RoundLine) (tries : ℕ) (seen added : List Event) (past after : BusPast) (reply : RoundAnswer)
@@ -218,12 +218,12 @@ LinesAreUnheardInLoopBack =
 
 -- ---- a controller that is off
 
--- where the controller is off, nothing is loaded
+-- if the controller is off, nothing is loaded
 abbrev pub RestsOff : BusPast → Type 0
 RestsOff past = is_on past 0 ≡ false → past.loaded ≡ None
 
--- it is so as a bus opens, and each call leaves it so: a load, a round, the decision of a round, the clearing of Init,
--- recessive groups; and what changes the Status register or the mode alone
+-- it is so when a bus opens, and each call leaves it so: a load, a round, the decision of a round, the clearing of Init,
+-- recessive groups; and what changes only the Status register or the mode
 pub record OffControllersHoldNothing : Type 0 where
   pub opened : (choice : Choice) (others : ℕ) → RestsOff (opened_with choice others)
   pub loads : (terms : Terms) (tries : ℕ) (seen added : List Event) (past after : BusPast) (told : LoadAnswer)

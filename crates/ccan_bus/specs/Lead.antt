@@ -4,7 +4,7 @@ use Rattle.ccan_accept.specs.declared.frame.Frame.{Frame}
 use Rattle.ccan_bus.specs.declared.lead.Lead.{Lead}
 use Rattle.ccan_bus.specs.Arbitration.{arbitration_bits}
 
--- a list of bits as a number of so many bits, the first the highest
+-- a list of bits as a number of this many bits, the first the highest
 unfoldable pub value_of : ℕ → List Bool → ℕ
 value_of zero bits = 0
 value_of (suc n) [] = 0

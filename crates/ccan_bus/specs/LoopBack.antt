@@ -1,6 +1,6 @@
 -- A round in loop back mode, once its load is made, with the controller on: the controller sends to itself, and treats its
 -- own frame as received. It ignores acknowledge errors, and what other nodes send. Source: C_CAN User's Manual 1.2, "Loop
--- Back Mode"; that the other nodes rest, that the controller has the bus event Sent alone, and that the frame is received
+-- Back Mode"; that the other nodes rest, that the controller has only the bus event Sent, and that the frame is received
 -- after the finish, are this project's own.
 use Rattle.std.specs.Prelude.{ℕ, ◌≡◌, List, [], ◌++◌, Option, Some, None, Result, Ok, Err}
 use Rattle.ccan_object.specs.declared.record.Record.{Record}
@@ -25,7 +25,7 @@ pub record IsLoopIdle (added : List Event) (past after : BusPast) : Type 0 where
   pub quiet : added ≡ []
   pub same : after ≡ past
 
--- the loaded frame is sent, and its object finished so
+-- the loaded frame is sent, and its object is finished with this outcome
 pub record IsLoopFinish (terms : Terms) (tries : ℕ) (seen added : List Event) (past after : BusPast) (object : ℕ) (frame : Frame)
     (outcome : Result Changed Refused) : Type 0 where
   pub started : Record
@@ -34,7 +34,7 @@ pub record IsLoopFinish (terms : Terms) (tries : ℕ) (seen added : List Event) 
   pub happened : after ≡ sends_to_itself past
   pub finish : Attempt terms object Finish tries seen added outcome
 
--- then the controller's scan for an object that accepts its own frame ends so
+-- then the controller's scan for an object that accepts its own frame ends like this
 pub record IsLoop (terms : Terms) (tries : ℕ) (seen added : List Event) (past after : BusPast) (object : ℕ) (finished : Record)
     (end : ScanEnd) : Type 0 where
   pub frame : Frame
@@ -53,7 +53,7 @@ Loops terms tries seen added past after object finished (Some found) =
     (before : Record) × (number : ℕ)
     × IsLoop terms tries seen added past after object finished (MadeAt found.0 before found.1 number)
 
--- Busy or Spent: the finish is refused and makes no scan, or the scan is refused and the finish stands
+-- Busy or Spent: the finish is refused and makes no scan, or the scan is refused and the finish remains
 pub data IsLoopRefused (terms : Terms) (tries : ℕ) (seen added : List Event) (past after : BusPast) (at : ℕ)
     (why : Refused) : Type 0 where
   AtFinish : (frame : Frame) → IsLoopFinish terms tries seen added past after at frame (Err why)

@@ -20,7 +20,7 @@ abbrev pub IsSharedOut : List Bool → BusEvent → BusEvent → (ℕ → BusEve
 IsSharedOut senders sending listening each =
     (node : ℕ) → node < 9 → each node ≡ (if sends_at senders node then sending else listening)
 
--- each node has so many groups of eleven recessive bits
+-- each node has this many groups of eleven recessive bits
 pub record HaveGroups (groups : ℕ) (old new : List Counts) : Type 0 where
   pub all : length new ≡ 9
   pub each : (node : ℕ) → node < 9 → AddsEvent (Groups groups) (count_at old node) (count_at new node)

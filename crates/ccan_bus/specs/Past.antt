@@ -45,7 +45,7 @@ opened_at_once others = opened_with AtOnce others
 abbrev pub levels_at : BusPast → ℕ → Levels
 levels_at past node = levels_after_all (is_controller node) (past.events node)
 
--- a node of the bus is on where it isn't bus off
+-- a node of the bus is on if it isn't bus off
 unfoldable pub is_on : BusPast → ℕ → Bool
 is_on past node = nat_le node past.others && not (is_off (levels_at past node))
 
@@ -53,7 +53,7 @@ is_on past node = nat_le node past.others && not (is_off (levels_at past node))
 abbrev pub hears_itself : BusPast → Bool
 hears_itself past = past.loops_back && is_on past 0
 
--- the controller alone has this event
+-- only the controller has this event
 unfoldable pub with_own : NodeEvent → BusPast → ℕ → List NodeEvent
 with_own event past node = if is_controller node then event ∷ past.events node else past.events node
 
@@ -67,7 +67,7 @@ own_levels event past = levels_after_all (is_controller 0) (with_own event past 
 unfoldable pub events_after : (ℕ → BusEvent) → BusPast → ℕ → List NodeEvent
 events_after event past node = if is_on past node then Bus (event node) ∷ past.events node else past.events node
 
--- where the controller is on, the Status register has this event, with the counters as they are then
+-- if the controller is on, the Status register has this event, with the counters as they are then
 unfoldable pub steps_after : (ℕ → BusEvent) → StatusEvent → BusPast → List StatusStep
 steps_after event noted past =
     if is_on past 0 then Happened noted (levels_after_all (is_controller 0) (events_after event past 0)) ∷ past.steps
@@ -110,7 +110,7 @@ clears_init past =
       steps = Happened status.Level (own_levels ClearInit past) ∷ past.steps;
     }
 
--- each node has so many groups of eleven recessive bits
+-- each node has this many groups of eleven recessive bits
 unfoldable pub with_groups : ℕ → BusPast → ℕ → List NodeEvent
 with_groups groups past node = Groups groups ∷ past.events node
 

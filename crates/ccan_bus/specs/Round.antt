@@ -1,8 +1,8 @@
 -- A round of the bus, as what it adds to the past of the bus and to the history of the message RAM: a load, and then one
--- of the cases below, by the answer. Who is on is judged as the frames contend. Source: by the case, from CAN
+-- of the cases below, by the answer. Who is on is judged when the frames contend. Source: by the case, from CAN
 -- Specification 2.0, "Fault Confinement" (the rules that are cited by number), and the C_CAN User's Manual 1.2, section 4.2
 -- (message handling) and "Status Register" (TxOk, RxOk, LEC). That these make up one round,
--- and what a round leaves where a memory step is refused, are this project's own.
+-- and what a round leaves if a memory step is refused, are this project's own.
 use Rattle.std.specs.Prelude.{ℕ, ◌≡◌, ◌≢◌, ◌==◌, Bool, true, false, List, [], ◌++◌, Option, Some, None, Result, Ok, Err, if◌then◌else◌}
 use Rattle.ccan_object.specs.declared.record.Record.{Record}
 use Rattle.ccan_accept.specs.declared.frame.Frame.{Frame}
@@ -45,8 +45,8 @@ pub record IsIdle (line : RoundLine) (added : List Event) (past after : BusPast)
   pub same : after ≡ past
 
 -- Collision: two or more send the same least bits. Each of them has a fault as a sender and every other node one as a
--- receiver (rules 1 and 3). The last error code is bit 1 where the controller is among them, stuff
--- where it listens. (own: that they collide, and the codes)
+-- receiver (rules 1 and 3). The last error code is bit 1 if the controller is among them, stuff
+-- if it listens. (own: that they collide, and the codes)
 pub record IsCollision (line : RoundLine) (added : List Event) (past after : BusPast) : Type 0 where
   pub outcome : Arbitrates (frames_of (contenders_of past line)) Collision
   pub quiet : added ≡ []
@@ -87,7 +87,7 @@ pub record IsSuccess (line : RoundLine) (past after : BusPast) (winner : ℕ) (f
   pub happened :
       after ≡ happens (shared (is_node winner) Sent Received) (if winner == 0 then status.Sent else status.Received) past
 
--- the controller has sent what was loaded, and its object is finished so (manual, section 4.2)
+-- the controller has sent what was loaded, and its object is finished like this (manual, section 4.2)
 pub record IsFinish (terms : Terms) (line : RoundLine) (tries : ℕ) (seen added : List Event) (past after : BusPast) (object : ℕ)
     (outcome : Result Changed Refused) : Type 0 where
   pub started : Record
@@ -103,8 +103,8 @@ pub record IsSent (terms : Terms) (line : RoundLine) (tries : ℕ) (seen added :
   pub number : ℕ
   pub finish : IsFinish terms line tries seen added past after object (Ok (Done before finished number))
 
--- another node has sent, the controller is on, and its scan for an object that accepts the frame ends so (manual, section
--- 4.2)
+-- another node has sent, the controller is on, and its scan for an object that accepts the frame ends like this (manual,
+-- section 4.2)
 pub record IsReceipt (terms : Terms) (line : RoundLine) (tries : ℕ) (seen added : List Event) (past after : BusPast)
     (end : ScanEnd) : Type 0 where
   pub winner : ℕ
@@ -129,7 +129,7 @@ pub record IsPassing (line : RoundLine) (added : List Event) (past after : BusPa
   pub success : IsSuccess line past after winner frame
   pub quiet : added ≡ []
 
--- Busy or Spent: the finish or the scan of a success is refused, and all else stands. (own)
+-- Busy or Spent: the finish or the scan of a success is refused, and all else remains. (own)
 pub data IsRefused (terms : Terms) (line : RoundLine) (tries : ℕ) (seen added : List Event) (past after : BusPast) (object : ℕ)
     (why : Refused) : Type 0 where
   RefusedFinish : IsFinish terms line tries seen added past after object (Err why)
@@ -161,7 +161,7 @@ abbrev pub Transfers : Bool → Terms → RoundLine → ℕ → List Event → L
 Transfers true terms line tries seen added past after reply = LoopsBack terms tries seen added past after reply
 Transfers false terms line tries seen added past after reply = Contends terms line tries seen added past after reply
 
--- the answer of a round whose load was refused; there is none where it was not
+-- the answer of a round whose load was refused; there is none if it was not
 abbrev pub refusal_of_round : LoadAnswer → Option RoundAnswer
 refusal_of_round (load.Busy object) = Some (answer.Busy object)
 refusal_of_round (load.Spent object) = Some (answer.Spent object)

@@ -19,7 +19,7 @@ code_of fault.Crc = Some 6
 abbrev pub sends_of : ℕ → List (ℕ × Frame) → List (ℕ × Frame)
 sends_of node sends = filter (λ s. s.0 == node) sends
 
--- each sender is one of the other nodes, of which there are so many, and no node sends twice
+-- each sender is one of this many other nodes, and no node sends twice
 pub record AreSenders (nodes : ℕ) (sends : List (ℕ × Frame)) : Type 0 where
   pub others : All (λ s. (1 ≤ s.0) × (s.0 ≤ nodes)) sends
   pub once : (node : ℕ) → length (sends_of node sends) ≤ 1

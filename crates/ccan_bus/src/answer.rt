@@ -5,7 +5,7 @@ use ccan_object::{ObjectNo, Record};
 pub enum LoadAnswer {
     /// The transmission of this object was started; the record is that after the start.
     Loaded(ObjectNo, Record),
-    /// This object is loaded already.
+    /// This object is already loaded.
     Held(ObjectNo),
     /// The controller is off, or no object is ready.
     Nothing,

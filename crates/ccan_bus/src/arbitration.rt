@@ -12,13 +12,13 @@ pub type Bits = ArrayVec<bool, 32>;
 /// How an arbitration ends.
 #[derive(Clone, Copy, PartialEq, Eq, Debug)]
 pub enum Outcome {
-    /// The frame at this place, counted from 0, goes on alone.
+    /// The frame at this index, counted from 0, goes on alone.
     Winner(usize),
     /// Two or more frames go on, which are equal in all bits of arbitration.
     Collision,
 }
 
-/// Appends so many bits of a number, from the lowest one on, the highest first.
+/// Appends this many bits of a number, from the lowest one on, the highest first.
 fn push_lowest(bits: &mut Bits, count: u32, number: u32)
     requires { array_vec_len bits.old + count ≤ 32 }
     ensures items { bits.new.items ≡ bits.old.items ++ lowest_bits count number }
@@ -50,7 +50,7 @@ pub fn arbitration_bits(frame: &Frame) -> Bits
     bits
 }
 
-/// Which of 1 to 9 frames wins the bus, where all are sent at once.
+/// Which of 1 to 9 frames wins the bus, if all are sent at once.
 pub fn arbitrate(frames: &[Frame]) -> Outcome
     requires least { 0 < length frames.now }
     requires most { length frames.now ≤ 9 }

@@ -44,7 +44,7 @@ impl Bus {
     ghost use Rattle.ccan_bus.specs.Past.{BusPast, clears_init, is_controller, opened, opened_at_once};
     ghost use Rattle.ccan_bus.specs.Past.{opened_with, recovers};
 
-    /// A bus with so many other nodes, to which nothing happened yet. Loop back mode is off. The profile is that of the
+    /// A bus with this many other nodes, to which nothing happened yet. Loop back mode is off. The profile is that of the
     /// message RAM with which its calls will be made. It chooses what it sends object after object.
     pub fn new(profile: Profile, nodes: u8) -> Bus
         requires { nodes ≤ 8 }
@@ -129,7 +129,7 @@ impl Bus {
         self.status.enable(sie, eie);
     }
 
-    /// Clears Init of the CAN Control register, from where on groups count for a controller that is off.
+    /// Clears Init of the CAN Control register; from then on groups count for a controller that is off.
     pub fn clear_init(&mut self)
         ensures same { IsSameBus self.old self.new }
         ensures goes_on { GoesOn self.old self.new (λ past after. after ≡ clears_init past) }
@@ -139,7 +139,7 @@ impl Bus {
         self.status.after(StatusEvent::Level, &controller);
     }
 
-    /// So many groups of eleven recessive bits pass on the bus, and every node sees them.
+    /// This many groups of eleven recessive bits pass on the bus, and every node sees them.
     pub fn recessive(&mut self, groups: u16)
         ensures same { IsSameBus self.old self.new }
         ensures goes_on { GoesOn self.old self.new (λ past after. after ≡ recovers groups past) }

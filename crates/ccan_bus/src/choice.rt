@@ -13,7 +13,7 @@ pub enum Choice {
     /// for an object which was looked at already, and then for a later one, sees the later one sent first.
     InTurn,
     /// At one moment, as on the part: the first object that was ready in one picture of all is started, unless it is
-    /// ready no more; then the next one that was.
+    /// no longer ready; then the next one that was.
     AtOnce,
 }
 

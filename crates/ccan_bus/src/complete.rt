@@ -16,7 +16,7 @@ use ccan_handler::{ScanRefused, Stored, receive};
 use ccan_object::{ObjectNo, Record};
 use ccan_ram::{Access, Changed, Refused, Sending, Tries};
 
-/// The end of a round none of whose memory steps was refused.
+/// The end of a round in which no memory step was refused.
 fn ended(answer: RoundAnswer) -> RoundEnd
     ensures { result ≡ ended answer }
 {
@@ -26,7 +26,7 @@ fn ended(answer: RoundAnswer) -> RoundEnd
     }
 }
 
-/// The end of a round one of whose memory steps was refused at an object.
+/// The end of a round in which a memory step was refused at an object.
 fn refused_at(step: MemoryStep, object: ObjectNo, why: Refused) -> RoundEnd
     ensures { result ≡ refused_at step object why }
 {
@@ -40,7 +40,7 @@ fn refused_at(step: MemoryStep, object: ObjectNo, why: Refused) -> RoundEnd
     }
 }
 
-/// The end where the controller has sent.
+/// The end if the controller has sent.
 fn end_of_finish(object: ObjectNo, outcome: Result<Record, Refused>) -> RoundEnd
     ensures { result ≡ end_of_finish object outcome }
 {
@@ -50,7 +50,7 @@ fn end_of_finish(object: ObjectNo, outcome: Result<Record, Refused>) -> RoundEnd
     }
 }
 
-/// The end where another node has sent and the controller is on.
+/// The end if another node has sent and the controller is on.
 fn end_of_receipt(outcome: Result<Option<Stored>, ScanRefused>) -> RoundEnd
     ensures { result ≡ end_of_receipt outcome }
 {
@@ -92,7 +92,7 @@ fn finish<A: Access>(
 {
     match access.change(object, &sending.finish(), tries) {
         Ok(Changed::Done { after, .. }) => Ok(after),
-        // A finish fits every record, so this doesn't come.
+        // A finish fits every record, so this doesn't happen.
         Ok(Changed::NotNow(shown)) => Ok(shown),
         Err(why) => Err(why),
     }
@@ -118,7 +118,7 @@ fn take_back<A: Access>(
 
 impl Decision {
     /// Makes the memory steps that are due, and ends the round. What was sent is finished as it was started. A step that is
-    /// refused is given up, and all else stands.
+    /// refused is given up, and all else remains.
     pub fn complete<A: Access>(&self, access: &mut A, sending: Sending, tries: Tries) -> RoundEnd
         requires { IsOf (A.passes access.old).terms.profile self.now }
         ensures { Goes (A.passes access.old) (A.passes access.new)

@@ -40,7 +40,7 @@ impl Contenders {
         }
     }
 
-    /// One more, where its node is on.
+    /// One more, if its node is on.
     pub(crate) fn add(&mut self, is_on: bool, node: u8, frame: &Frame)
         requires room { array_vec_len self.old.all < 9 }
         requires within { node < 9 }
@@ -78,7 +78,7 @@ impl Contenders {
         self.all.as_slice()[place]
     }
 
-    /// The nodes whose frames none precedes.
+    /// The nodes whose frames no frame precedes.
     pub(crate) fn colliding(&self) -> [bool; 9]
         ensures { (node : ℕ) → node < 9
             → sends_at result node ≡ sends_least self.now.all.items node }

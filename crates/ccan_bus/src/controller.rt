@@ -1,4 +1,4 @@
-//! A controller whose registers stand outside of the bus: they are told to the bus before a round, and what the round was
+//! A controller whose registers are outside of the bus: they are given to the bus before a round, and what the round was
 //! to them is read off the bus afterwards.
 
 ghost use Rattle.std.specs.Prelude.{◌≡◌, ◌≤◌, None, List, true};
@@ -26,7 +26,7 @@ impl Bus {
         self.loops_back = loops_back;
     }
 
-    /// Drops what is loaded. Its object stays requested, so that a later load may start it anew.
+    /// Drops what is loaded. Its object stays requested, so that a later load may start it again.
     pub fn unload(&mut self)
         ensures same { IsSameBus self.old self.new }
         ensures goes_on { GoesOn self.old self.new

@@ -20,7 +20,7 @@ use crate::round_line::RoundLine;
 use ccan_accept::{Frame, frame_of};
 use ccan_confine::{BusEvent, Counters, Status, StatusEvent};
 
-/// The Status register's event where a frame is sent and acknowledged.
+/// The Status register's event when a frame is sent and acknowledged.
 fn transfer_of(winner: u8) -> StatusEvent
     ensures value { result ≡ (if winner == 0 then StatusEvent.Sent else StatusEvent.Received) }
     ensures known { HasFaultCode result }
@@ -41,7 +41,7 @@ fn collision_code(controller: bool) -> u8
     if controller { 4 } else { 1 }
 }
 
-/// The Status register after an event, which reaches it where the controller is on.
+/// The Status register after an event, which reaches it if the controller is on.
 fn noted(mut status: Status, is_on: bool, event: StatusEvent, controller: &Counters) -> Status
     requires { HasFaultCode event }
     ensures on { is_on ≡ true → AddsStep (Happened event controller.now.levels) status result }
@@ -101,7 +101,7 @@ impl Bus {
         self.loaded = None;
     }
 
-    /// The loaded frame, where the controller is on.
+    /// The loaded frame, if the controller is on.
     fn own_contender(&self) -> Contenders
         ensures items { result.all.items
             ≡ filter (λ c. is_on_now self.now c.0) (own_frame self.now.loaded) }
@@ -136,7 +136,7 @@ impl Bus {
         if winner == 0 {
             match own_of(&self.loaded) {
                 Some(own) => Decision::Finish(own.object, frame),
-                // Node 0 sends what is loaded alone, so this doesn't come.
+                // Node 0 sends only what is loaded, so this doesn't happen.
                 None => Decision::Idle,
             }
         } else if self.is_on(0) {

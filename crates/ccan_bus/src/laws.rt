@@ -32,7 +32,7 @@ pub fn at_most_one_sends()
     ensures { AtMostOneSends }
 {}
 
-/// One does exactly where the answer is Sent, Received, Passed or Looped, or a memory step was refused after that success.
+/// One does exactly if the answer is Sent, Received, Passed or Looped, or a memory step was refused after that success.
 pub fn one_sends_exactly_on_success()
     ensures { OneSendsExactlyOnSuccess }
 {}
@@ -47,7 +47,7 @@ pub fn sends_what_was_loaded()
     ensures { SendsWhatWasLoaded }
 {}
 
-/// Whatever a round comes to, what the controller sends in it is what was loaded: be it sent well, spoiled, not acknowledged,
+/// Whatever a round comes to, what the controller sends in it is what was loaded, whether sent well, spoiled, not acknowledged,
 /// lost to another frame or in a collision.
 pub fn each_round_sends_what_was_loaded()
     ensures { EachRoundSendsWhatWasLoaded }
@@ -59,7 +59,7 @@ pub fn loops_what_was_loaded()
     ensures { LoopsWhatWasLoaded }
 {}
 
-/// What is loaded by a choice at one moment was ready then, and no object before it was, but for those that are no more.
+/// What is loaded by a choice at one moment was ready then, and no object before it was, except those that are no longer ready.
 pub fn loads_are_of_one_moment()
     ensures { LoadsAreOfOneMoment }
 {}
@@ -69,22 +69,22 @@ pub fn nothing_is_loaded_afterwards()
     ensures { NothingIsLoadedAfterwards }
 {}
 
-/// A load that is refused leaves the error counters, the Status register and all else.
+/// A load that is refused leaves the error counters, the Status register and all else as they were.
 pub fn refused_loads_leave_all()
     ensures { RefusedLoadsLeaveAll }
 {}
 
-/// In loop back mode with the controller on no other node has a bus event.
+/// In loop back mode with the controller on, no other node has a bus event.
 pub fn others_rest_in_loop_back()
     ensures { OthersRestInLoopBack }
 {}
 
-/// In loop back mode with the controller on it doesn't matter what other nodes would send, or which fault is named.
+/// In loop back mode with the controller on, it doesn't matter what other nodes would send, or which fault is named.
 pub fn lines_are_unheard_in_loop_back()
     ensures { LinesAreUnheardInLoopBack }
 {}
 
-/// A controller that is off has nothing loaded: so a bus opens, and each call leaves it so.
+/// A controller that is off has nothing loaded: it is so when a bus opens, and each call leaves it so.
 pub fn off_controllers_hold_nothing()
     ensures { OffControllersHoldNothing }
 {}

@@ -15,7 +15,7 @@
 //!
 //! `Bus::round` makes these steps to their end. They can also be made one by one: `Bus::load`, with an access to the memory;
 //! `Bus::decide`, which needs none; and `Decision::complete`, which makes the memory steps that the decision calls for.
-//! `Bus::report_round` tells what came of each. Which object a load starts, if several are ready, is the bus's `Choice`.
+//! `Bus::report_round` reports what came of each. Which object a load starts, if several are ready, is the bus's `Choice`.
 //!
 //! A `Bus` stores no list of what happened. Contracts speak of its past: each past that may have led to the value before a
 //! call goes on to one that leads to the value after it.

@@ -10,7 +10,7 @@ use ccan_handler::ScanRefused;
 use ccan_object::{ObjectNo, Record};
 use ccan_ram::{Access, Refused, Tries};
 
-/// What is loaded, and the answer that tells it.
+/// What is loaded, and the answer that reports it.
 fn loaded(object: ObjectNo, started: &Record) -> Option<(ObjectNo, Record)>
     ensures { result ≡ Some (object, started.now) }
 {
@@ -62,7 +62,7 @@ impl Bus {
         self.loaded = loaded(object, started);
     }
 
-    /// Chooses and starts an object, where the controller is on and nothing is loaded.
+    /// Chooses and starts an object, if the controller is on and nothing is loaded.
     pub fn load<A: Access>(&mut self, access: &mut A, tries: Tries) -> LoadAnswer
         requires { (A.passes access.old).terms.profile ≡ self.old.profile }
         ensures same { IsSameBus self.old self.new }
@@ -75,7 +75,7 @@ impl Bus {
         }
     }
 
-    /// The same where nothing is loaded.
+    /// The same if nothing is loaded.
     fn load_next<A: Access>(&mut self, access: &mut A, tries: Tries) -> LoadAnswer
         requires empty { self.old.loaded ≡ None }
         requires same_profile { (A.passes access.old).terms.profile ≡ self.old.profile }

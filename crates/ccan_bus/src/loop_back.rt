@@ -35,7 +35,7 @@ impl Bus {
         self.loaded = None;
     }
 
-    /// What a round comes to in loop back mode, where the controller is on.
+    /// What a round comes to in loop back mode, if the controller is on.
     pub(crate) fn decide_back(&mut self) -> Decision
         requires { is_on_now self.old 0 ≡ true }
         ensures same { IsSameBus self.old self.new }

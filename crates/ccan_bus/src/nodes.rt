@@ -55,7 +55,7 @@ pub(crate) fn counted(
     nodes
 }
 
-/// The counters after so many groups of eleven recessive bits.
+/// The counters after this many groups of eleven recessive bits.
 pub(crate) fn grouped(mut nodes: [Counters; 9], groups: u16) -> [Counters; 9]
     ensures { HaveGroups groups nodes result }
 {

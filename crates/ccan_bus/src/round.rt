@@ -27,7 +27,7 @@ impl Bus {
     ghost use Rattle.ccan_bus.specs.Bus.{GoesOnWith, IsSameBus};
 
     /// A round: a load, and then the frames of all nodes that are on contend for the bus; or, in loop back mode, the
-    /// controller sends to itself. A memory step that is refused is given up, and all else stands.
+    /// controller sends to itself. A memory step that is refused is given up, and all else remains.
     pub fn round<A: Access>(
         &mut self,
         access: &mut A,

@@ -10,7 +10,7 @@ use ccan_accept::Frame;
 pub enum Fault {
     /// Nothing.
     Quiet,
-    /// Six equal bits stood in a row.
+    /// There were six equal bits in a row.
     Stuff,
     /// A field of fixed form had a wrong bit.
     Form,
@@ -49,7 +49,7 @@ impl Default for Fault {
     }
 }
 
-/// Whether this is one of so many other nodes, and has not sent yet.
+/// Whether this is one of this many other nodes, and has not sent yet.
 fn may_send(node: u8, nodes: u8, sent: &[bool; 9]) -> bool
     requires { nodes ≤ 8 }
     ensures yes { result ≡ true → (1 ≤ node) × (node ≤ nodes) × (sends_at sent.now node ≡ false) }
@@ -59,7 +59,7 @@ fn may_send(node: u8, nodes: u8, sent: &[bool; 9]) -> bool
     node >= 1 && node <= nodes && !sent[usize::from(node)]
 }
 
-/// Whether each sender is one of so many other nodes, and none of them sends twice.
+/// Whether each sender is one of this many other nodes, and none of them sends twice.
 fn are_senders(nodes: u8, sends: &[(u8, Frame)]) -> bool
     requires { nodes ≤ 8 }
     ensures { IsTrue result ↔ AreSenders nodes sends.now }
@@ -84,7 +84,7 @@ pub struct RoundLine {
 }
 
 impl RoundLine {
-    /// None where a node is 0 (the controller), above `nodes`, or named twice.
+    /// None if a node is 0 (the controller), above `nodes`, or named twice.
     pub fn new(nodes: u8, send: ArrayVec<(u8, Frame), 8>, fault: Fault) -> Option<RoundLine>
         requires { nodes ≤ 8 }
         ensures known { IsSome result ↔ AreSenders nodes send.items }

@@ -9,7 +9,7 @@ use crate::round_end::RoundEnd;
 /// What came of a round, step by step.
 #[derive(Clone, Copy, PartialEq, Eq, Hash, Debug)]
 pub struct RoundReport {
-    /// What came of its load: `Loaded` where this round loaded what it may send, `Held` where an earlier load did.
+    /// What came of its load: `Loaded` if this round loaded what it may send, `Held` if an earlier load did.
     pub loading: LoadAnswer,
     /// What was decided with what is loaded. None: the load was refused, and no frame was on the bus.
     pub decision: Option<Decision>,

@@ -10,7 +10,7 @@ use Rattle.ccan_line.specs.declared.line_answer.LineAnswer.TheVariants as answer
 use Rattle.ccan_c.specs.declared.shown_counters.ShownCounters.{ShownCounters}
 use Rattle.ccan_c.specs.Codes.{done, busy, spent}
 
--- busy or spent where a step of the memory was, else done
+-- busy or spent if a step of the memory was, else done
 abbrev pub code_of : LineAnswer → ℕ
 code_of (answer.Busy object) = busy
 code_of (answer.Spent object) = spent

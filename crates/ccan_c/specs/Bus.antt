@@ -29,6 +29,6 @@ starting = change.WriteControlBits (record no_control { init = true }) no_contro
 abbrev pub testing : Bool → ControllerChange
 testing on = change.WriteControlBits (record no_control { test = true }) (record no_control { test = on })
 
--- the controller receives what it sends, and the bus too has it
+-- the controller receives what it sends, and the bus has it too
 abbrev pub looping : ControllerChange
 looping = change.WriteTest (record no_test { lback = true })

@@ -97,7 +97,7 @@ abbrev pub MakesChange : Terms → ControllerChange → ℕ → ChipHistory → 
 MakesChange terms z tries seen added result =
     (told : Result (Unit {0}) AccessError) × Makes terms z tries seen added told × (result ≡ code_of_access (Some told))
 
--- loop back mode is set: test mode, and then LBack, where test mode could be set
+-- loop back mode is set: test mode, and then LBack, if test mode could be set
 abbrev pub SetsLoopBack : Terms → ℕ → ChipHistory → ChipHistory → ℕ → Type 0
 SetsLoopBack terms tries seen added result =
     (((result ≡ busy) × MakesChange terms (testing true) tries seen added busy)
@@ -138,7 +138,7 @@ Counts0 terms node past seen added after result out =
 
 -- ---- rounds
 
--- the round, where each sender is one of the other nodes and sends once
+-- the round, if each sender is one of the other nodes and sends once
 pub record RoundPlayed (terms : Terms) (tries nodes : ℕ) (offers : List Offer) (fault : Fault) (past : BusPast)
     (seen added : ChipHistory) (after : BusPast) (result : ℕ) (out : ShownOutcome) : Type 0 where
   pub round : RoundLine

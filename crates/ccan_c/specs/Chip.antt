@@ -39,7 +39,7 @@ pub record Opens (profile : Profile) (set : Set) (chip : Chip) : Type 0 where
   pub handles : AllOpen chip (λ h k l. IsOpening (begins_as memory If1 set.opening) set h
       × IsOpening (begins_as memory If2 set.opening) set k × IsOpening (begins_as memory Bus set.opening) set l)
 
--- C gets the records that the one history of the chip leaves of which all three ports have seen a part
+-- C gets the records that the one history of the chip leaves; each of the three ports has seen a part of it
 abbrev pub EndsWith : Chip → ShownFinal → Type 0
 EndsWith chip out =
     AllOpen chip (λ h k l. (final : FinalChip) × ChipEnds (port_of h) (port_of k) (port_of l) final × IsFinal final.memory out)

@@ -1,5 +1,5 @@
--- The numbers that calls from C answer, for each of which the header has a name. 8 is none: a call of version 0.1 answered it.
--- Source: this project's own.
+-- The numbers that calls from C answer. The header has a name for each of them. 8 is not one of them: a call of version 0.1
+-- answered it. Source: this project's own.
 use Rattle.std.specs.Prelude.{ℕ}
 
 abbrev pub done : ℕ

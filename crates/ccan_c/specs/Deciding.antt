@@ -1,4 +1,4 @@
--- What C gets of what is on a bus. Source: this project's own, over the definitions of what is on a bus.
+-- How C gets what is on a bus. Source: this project's own, over the definitions of what is on a bus.
 use Rattle.std.specs.Prelude.{ℕ, ◌≡◌, List, MatchBool, length, map, nat_le}
 use Rattle.std.specs.List.{list_all}
 use Rattle.ccan_wire.specs.declared.wire.Wire.{Wire}
@@ -9,7 +9,7 @@ use Rattle.ccan_c.specs.declared.shown_wire.ShownWire.{ShownWire}
 use Rattle.ccan_c.specs.Codes.{done, member_range, members_range, wire_range}
 use Rattle.ccan_c.specs.Wire.{IsShownWire, is_member, is_wire, member_in, most_members, wire_in}
 
--- the members are so few, and each is one; else this code is answered
+-- the members are not too many, and each is one; else this code is answered
 abbrev pub AreMembers : List ShownMember → ℕ → Type 0 → Type 0
 AreMembers members result what =
     MatchBool (nat_le (length members) most_members)

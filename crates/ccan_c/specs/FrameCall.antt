@@ -110,7 +110,7 @@ pub data CallOnBus : Type 0 where
   of_rounds : BusCall → CallOnBus
   of_frames : FrameCall → CallOnBus
 
--- a load or a round drops what the start of a frame has loaded; each other call that is none of a frame leaves it
+-- a load or a round drops what the start of a frame has loaded; each other call that is not one of a frame leaves it
 abbrev pub CallOnBusMeans : Terms → ℕ → ℕ → Map → CallOnBus → BusState → ChipHistory → ChipHistory → BusState → Type 0
 CallOnBusMeans terms tries nodes map (of_rounds call) old seen added new =
     BusCallMeans terms tries nodes map call old.past seen added new.past
@@ -122,7 +122,7 @@ abbrev pub CallOnBusDoes : CallOnBus → Option Held → Option Held → Type 0
 CallOnBusDoes (of_rounds call) before after = BusCallDoes call before after
 CallOnBusDoes (of_frames call) before after = FrameCallDoes call before after
 
--- a call of the bus keeps how the bus chooses what it sends next: a chip's always does so at one moment
+-- a call of the bus does not change how the bus chooses what it sends next: a chip's bus always chooses at one moment
 abbrev pub CallsKeepTheChoice : Type 0
 CallsKeepTheChoice =
     (terms : Terms) (tries nodes : ℕ) (layout : Map) (call : CallOnBus) (old new : BusState) (seen added : ChipHistory)

@@ -39,7 +39,7 @@ flag_numbered number =
     else (if number == 4 then Some MsgVal
     else None))))
 
--- 1 where it is so
+-- 1 if it is so
 abbrev pub number_of : Bool → ℕ
 number_of is = if is then 1 else 0
 

@@ -99,7 +99,7 @@ WritesAtOffset terms tries map offset value own seen added result left =
     (told : Option (Result (Unit {0}) AccessError)) × WritesAt terms tries map offset value own seen added told left
     × (result ≡ code_of_access told)
 
--- the same of the word of 32 bits at an offset
+-- the same for the word of 32 bits at an offset
 abbrev pub ReadsWordAtOffset : Terms → ℕ → Map → ℕ → InterfaceSet → ChipHistory → ChipHistory → ℕ → ℕ → Type 0
 ReadsWordAtOffset terms tries map offset own seen added result out =
     (told : Option (Result ℕ AccessError)) × ReadsWord terms tries map offset own seen added told

@@ -1,4 +1,4 @@
--- What C gets of the length of a frame. Source: this project's own, over the definition of the bits of a frame on the bus.
+-- How C gets the length of a frame. Source: this project's own, over the definition of the bits of a frame on the bus.
 use Rattle.std.specs.Prelude.{ℕ, ◌≡◌, MatchBool, length}
 use Rattle.ccan_time.specs.FrameBits.{bits_on_bus}
 use Rattle.ccan_c.specs.declared.shown_frame.ShownFrame.{ShownFrame}

@@ -11,7 +11,7 @@ use Rattle.ccan_c.specs.declared.shown_load.ShownLoad.{ShownLoad}
 use Rattle.ccan_c.specs.Outcome.{c_frame, no_frame}
 use Rattle.ccan_c.specs.Record.{c_record}
 
--- which kind of answer it is, and the object that it speaks of, 0 where there is none
+-- which kind of answer it is, and the object that it speaks of, 0 if there is none
 abbrev pub load_kind : LoadAnswer → ℕ
 load_kind load.Nothing = 0
 load_kind (load.Loaded object started) = 1
@@ -26,7 +26,7 @@ load_object (load.Held object) = object
 load_object (load.Busy object) = object
 load_object (load.Spent object) = object
 
--- the record of the object that is loaded afterwards, and the frame that is to be sent of it; zero where nothing is loaded
+-- the record of the object that is loaded afterwards, and the frame that is to be sent of it; zero if nothing is loaded
 abbrev pub loaded_record : Option (ℕ × Record) → Record
 loaded_record None = zero_record
 loaded_record (Some loaded) = loaded.1

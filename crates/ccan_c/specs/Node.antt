@@ -37,7 +37,7 @@ c_node counts = record { tec = counts.levels.tec; rec = counts.levels.rec; group
 abbrev pub offer_of : ℕ → ShownFrame → ShownMember
 offer_of sends frame = record { role = 0; fault = 0; sends = sends; frame = frame }
 
--- the start of a frame, to a node
+-- the start of a frame, for a node
 abbrev pub NodeBegins : ShownNode → ℕ → ShownFrame → ℕ → ShownMember → Type 0
 NodeBegins node sends frame result out =
     MatchBool (is_node node)

@@ -1,4 +1,4 @@
--- What a handle tells another. Source: this project's own.
+-- What a handle reports to another. Source: this project's own.
 use Rattle.std.specs.Prelude.{ℕ, ◌≡◌, ◌⊎◌, Option, Some, MatchOption}
 use Rattle.ccan_ram.specs.Terms.{Terms}
 use Rattle.ccan_endless.specs.Chip.{ChipHistory}
@@ -10,24 +10,24 @@ use Rattle.ccan_c.specs.Codes.{done, no_memory, untold}
 use Rattle.ccan_c.specs.Held.{pass_of}
 use Rattle.ccan_c.specs.Step.{Rests}
 
--- what a note of C's tells
+-- what a note of C's says
 abbrev pub told_by : NoteHandle → Option Told
 told_by note = note.seal.value
 
--- if the handle is open and the note tells something, the note is of the handle's chip
+-- if the handle is open and the note says something, the note is of the handle's chip
 abbrev pub IsOfChip : Option Held → Option Told → Type 0
 IsOfChip o note = (held : Held) (told : Told) → o ≡ Some held → note ≡ Some told → told.memory ≡ (pass_of held).memory
 
--- the note tells all that had been seen
+-- the note says all that had been seen
 abbrev pub TellsOf : Option Told → ChipHistory → Type 0
 TellsOf note seen = (told : Told) × (note ≡ Some told) × (told.whole ≡ seen)
 
--- a handle tells: the note has all that its port had seen; or memory ran out. The port makes no step
+-- a handle makes a note: the note has all that its port had seen; or memory ran out. The port makes no step
 abbrev pub Tells : {State : Type 0} → Option Told → State → ChipHistory → ChipHistory → ℕ → State → Type 0
 Tells note state seen added result after =
     (TellsOf note seen × Rests done state after added result) ⊎ Rests no_memory state after added result
 
--- a handle heeds: what its port has seen then goes on from what the note tells, if it tells something
+-- a handle heeds: what its port has seen then goes on from what the note says, if it says something
 abbrev pub HeedsNote : {State : Type 0} → Terms → Option Told → State → ChipHistory → ChipHistory → ℕ → State → Type 0
 HeedsNote terms note state seen added result after =
     MatchOption note (Rests untold state after added result)

@@ -36,7 +36,7 @@ abbrev pub met_turns : List Turn → List Part
 met_turns [] = []
 met_turns (turn ∷ turns) = meeting ∷ turn_alone turn ∷ met_turns turns
 
--- the same, but for the first, before which there is nothing to tell
+-- the same, except for the first: before it there is nothing to report
 abbrev pub in_turns : List Turn → List Part
 in_turns [] = []
 in_turns (turn ∷ turns) = turn_alone turn ∷ met_turns turns

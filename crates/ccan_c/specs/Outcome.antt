@@ -24,7 +24,7 @@ use Rattle.ccan_c.specs.Record.{c_record}
 
 -- ---- the end of the round
 
--- the object that stored a frame, 0 where there is none
+-- the object that stored a frame, 0 if there is none
 abbrev pub stored_object : Option (ℕ × Record) → ℕ
 stored_object None = 0
 stored_object (Some stored) = stored.0
@@ -33,7 +33,7 @@ abbrev pub stored_record : Option (ℕ × Record) → Record
 stored_record None = zero_record
 stored_record (Some stored) = stored.1
 
--- which kind of answer it is, the object that was sent or at which a step was given up, and its record where it was finished
+-- which kind of answer it is, the object that was sent or at which a step was given up, and its record if it was finished
 abbrev pub kind_of : RoundAnswer → ℕ
 kind_of round.Idle = 0
 kind_of (round.Sent object finished) = 1
@@ -66,7 +66,7 @@ stored_of reply = None
 
 -- ---- its steps
 
--- the object that this round itself loaded, 0 where it loaded none
+-- the object that this round itself loaded, 0 if it loaded none
 abbrev pub loaded_by : LoadAnswer → ℕ
 loaded_by (load.Loaded object started) = object
 loaded_by loading = 0
@@ -80,7 +80,7 @@ step_number (Some Store) = 3
 
 -- ---- the frame that was on the bus
 
--- the node and the frame that won the bus; there is none where the load was refused
+-- the node and the frame that won the bus; there is none if the load was refused
 abbrev pub winner_in : Option Decision → Option (ℕ × Frame)
 winner_in None = None
 winner_in (Some decided) = winner_of decided
@@ -93,7 +93,7 @@ abbrev pub node_shown : Option (ℕ × Frame) → ℕ
 node_shown None = no_node
 node_shown (Some won) = won.0
 
--- a frame, whose switches are 1 where they are on
+-- a frame, whose switches are 1 if they are on
 abbrev pub c_frame : Frame → ShownFrame
 c_frame frame =
     record {
@@ -124,7 +124,7 @@ is_lost (Some (Err lost)) = true
 abbrev pub refused_number : ChipReport → ℕ
 refused_number told = if is_lost told.noted then 4 else step_number told.report.end.refused
 
--- the code of the call: busy, too, where the event at the controller was given up
+-- the code of the call: busy, too, if the event at the controller was given up
 abbrev pub code_of_round : ChipReport → ℕ
 code_of_round told = if is_lost told.noted then busy else code_of (answer.Round told.report.end.answer)
 

@@ -7,7 +7,7 @@ use Rattle.ccan_ram.specs.declared.ending.Final.{Final}
 use Rattle.ccan_c.specs.declared.shown_record.ShownRecord.{ShownRecord}
 use Rattle.ccan_c.specs.declared.shown_final.ShownFinal.{ShownFinal}
 
--- the registers of the message buffer, two of them in a word where they belong together, and the eight bytes
+-- the registers of the message buffer, two of them in one word if they belong together, and the eight bytes
 abbrev pub c_record : Record → ShownRecord
 c_record r = record { masks = masks r; arbitration = arbitration r; control = control r; bytes = r.bytes }
 

@@ -1,6 +1,6 @@
 -- A chip that is reset in its place. Source: C_CAN User's Manual 1.2, "Hardware Reset Description": the registers have their
--- reset values, those of the flags of the objects among them, and the data in the message RAM is not affected. (own): the
--- nodes beside the chip go on, and what was loaded is dropped.
+-- reset values, those of the flags of the objects among them, and the data in the message RAM is not affected. (own): the nodes
+-- besides the chip go on, and what was loaded is dropped.
 use Rattle.std.specs.Prelude.{ℕ, ◌≡◌, Result, Ok, Err, Some}
 use Rattle.ccan_bus.specs.Bus.{LedTo}
 use Rattle.ccan_bus.specs.Past.{BusPast}
@@ -26,7 +26,7 @@ pub record HasResetInterface (old new : Held) : Type 0 where
   pub bus : new.bus ≡ old.bus
   pub own : new.own ≡ reset_set
 
--- the bus's handle, with which nothing is loaded any more, and no frame is under way
+-- the bus's handle: nothing is loaded any more, and no frame is under way
 pub record DropsLoaded (old new : Held) : Type 0 where
   pub works : WorksAsBefore old new
   pub own : new.own ≡ old.own
@@ -42,13 +42,13 @@ pub record IsReset (h k l h' k' l' : Held) : Type 0 where
   pub if2 : HasResetInterface k k'
   pub bus : DropsLoaded l l'
 
--- a reset of three handles that have met, as it ends: where a step of it was refused, nothing else happens behind that
+-- a reset of three handles that have met, as it ends: if a step of it was refused, nothing else happens after that
 abbrev pub ResetsMet : Held → Held → Held → Held → Held → Held → Result (Unit {0}) AccessError → Type 0
 ResetsMet h k l h' k' l' (Ok done) = IsReset h k l h' k' l'
 ResetsMet h k l h' k' l' (Err why) =
     (h' ≡ h) × (k' ≡ k) × Steps (λ terms seen added. ResetsChip terms (reset_of l.map) l.tries seen added (Err why)) l l'
 
--- first the three ports meet, so that all that was done before is behind the reset
+-- first the three ports meet, so that the reset comes after all that was done before
 pub record ResetsHeld (h k l h' k' l' : Held) (told : Result (Unit {0}) AccessError) : Type 0 where
   pub if1 : Held
   pub if2 : Held

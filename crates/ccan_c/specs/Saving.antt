@@ -46,7 +46,7 @@ Saves old new text =
 abbrev pub IsRestored : ChipPass → Saved → InterfaceSet → Held → Type 0
 IsRestored port saved own held = IsHolding port saved.others saved.tries saved.map own held
 
--- A chip as after a reset, which the bus's port then brought to where the saved one stood, and saw that it is there; and then the
+-- A chip as after a reset, which the bus's port then brought to where the saved one was, and saw that it is there; and then the
 -- three ports met. Each host has the registers that were saved.
 pub record RestoresAs (saved : Saved) (chip : Chip) : Type 0 where
   pub memory : Memory

@@ -17,7 +17,7 @@ seal_owns alloc p (Some x) = box_owns (ghosts.dealloc_token alloc) the_row p x
 abbrev pub held_coded : Coded the_row.Denot
 held_coded = the_row.coded
 
--- the same of a note
+-- the same for a note
 abbrev pub note_seal_owns : Global → Ptr → Option note_row.Denot → Fml
 note_seal_owns alloc p None = ftrue
 note_seal_owns alloc p (Some x) = box_owns (ghosts.dealloc_token alloc) note_row p x

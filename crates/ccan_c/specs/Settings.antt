@@ -31,7 +31,7 @@ abbrev pub map_numbered : ℕ → Option Map
 map_numbered number =
     if number == 0 then Some Narrow else (if number == 1 then Some Wide else (if number == 2 then Some Dcan else None))
 
--- the first of the settings of a chip that opens as after a reset that is out of its range
+-- the first setting that is out of its range, of a chip that opens as after a reset
 abbrev pub reset_fault : ℕ → ℕ → ℕ → ℕ → Option ℕ
 reset_fault profile nodes tries number =
     option_map_or (λ fault. Some fault) (settings_fault profile nodes tries)

@@ -18,18 +18,18 @@ use Rattle.ccan_c.specs.Deciding.{IsDecided, IsDecidedAgain}
 use Rattle.ccan_c.specs.FrameCall.{BusState, FrameEnds}
 use Rattle.ccan_c.specs.Wire.{flaw_in, member_in, most_members, wire_in}
 
--- the members that C passes, by their places
+-- the members that C passes, by their positions
 abbrev pub members_of : List ShownMember → ℕ → Member
 members_of shown = member_at (map member_in shown)
 
--- what C was given of these members at the start of a frame, and what it was given at its end
+-- what C was given for these members at the start of a frame, and what it was given at its end
 pub record IsFrame (starts ends : List ShownMember) (start end : ShownWire) : Type 0 where
   pub few : length starts ≤ most_members
   pub few_left : length ends ≤ most_members
   pub decided : IsDecided starts done start
   pub ended : IsDecidedAgain start ends done end
 
--- the end of that frame at some chip, by a finish at the place of its member, which is still as C was told
+-- the end of that frame at some chip, by a finish at the position of its member, which is still as it was reported to C
 pub record IsPartOf (ends : List ShownMember) (end : ShownWire) (place : ℕ) : Type 0 where
   pub within : place < most_members
   pub terms : Terms

@@ -1,4 +1,4 @@
--- What calls from C come to in the history of the chip: where a handle stands, and calls one after another. Source: this
+-- What calls from C come to in the history of the chip: the place of a handle, and calls one after another. Source: this
 -- project's own.
 use Rattle.std.specs.Prelude.{ℕ, ◌≡◌, List, [], ◌∷◌, ◌++◌, Option, if◌then◌else◌}
 use Rattle.ccan_ram.specs.declared.port.PortName.{PortName}
@@ -18,7 +18,7 @@ abbrev pub own_of : PortName → ChipHistory → ChipHistory
 own_of port [] = []
 own_of port (e ∷ h) = if same_port (port_of_event e) port then e ∷ own_of port h else own_of port h
 
--- where a handle stands: what its calls work on, and all that its port has seen
+-- the place of a handle: what its calls work on, and all that its port has seen
 pub record Place (State : Type 0) : Type 0 where
   pub state : State
   pub seen : ChipHistory

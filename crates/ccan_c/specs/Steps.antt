@@ -23,7 +23,7 @@ pub record HostSteps (what : Terms → ChipHistory → ChipHistory → Interface
   pub station : station_of new ≡ station_of old
   pub goes : ChipGoes (port_of old) (port_of new) (λ terms seen added. what terms seen added new.own)
 
--- the same of the bus: each past that may have led to it goes on
+-- the same for the bus: each past that may have led to it goes on
 pub record BusSteps (what : Terms → BusPast → ChipHistory → ChipHistory → BusPast → Type 0) (old new : Held) : Type 0 where
   pub same : IsSamePort (pass_of old) (pass_of new)
   pub works : WorksAsBefore old new
@@ -32,7 +32,7 @@ pub record BusSteps (what : Terms → BusPast → ChipHistory → ChipHistory �
       → (after : BusPast) × LedTo after new.bus.bus
       × ChipGoes (port_of old) (port_of new) (λ terms seen added. what terms past seen added after)
 
--- the same of its part in a frame on a bus of several
+-- the same for its part in a frame on a bus of several
 pub record StationSteps (what : Terms → StationState → ChipHistory → ChipHistory → StationState → Type 0) (old new : Held)
     : Type 0 where
   pub works : WorksAsBefore old new

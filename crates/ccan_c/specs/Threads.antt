@@ -54,9 +54,9 @@ abbrev pub Begins : Profile → Beginning → Chip → Type 0
 Begins profile (opened_with set) chip = Opens profile set chip
 Begins profile (restored_as saved) chip = (saved.profile ≡ profile) × RestoresAs saved chip
 
--- calls on the three handles, those of one handle in their order and in whatever way they fall together with those of the
--- others; or a call that takes the whole chip: a meeting of the three; a saving, which gives C this text; or a reset in its
--- place, which answers this code
+-- calls on the three handles, those of one handle in their order, and mixed in any way with those of the others; or a call that
+-- takes the whole chip: a meeting of the three; a saving, which gives C this text; or a reset in its place, which answers this
+-- code
 pub data Part : Type 0 where
   at_once : List HostCall → List HostCall → List CallOnBus → Part
   meeting : Part
@@ -81,7 +81,7 @@ PartsDo (part ∷ parts) old new = (between : Chip) × PartDoes part old between
 
 -- ---- what it comes to
 
--- where the three handles stand
+-- the places of the three handles
 pub record Places : Type 0 where
   pub if1 : Place InterfaceSet
   pub if2 : Place InterfaceSet
@@ -91,7 +91,7 @@ pub record Places : Type 0 where
 abbrev pub opening_bus : ℕ → BusState
 opening_bus nodes = record { past = opened_at_once nodes; station = at_rest }
 
--- and where nothing is loaded any more, and no frame is under way
+-- and one in which nothing is loaded any more, and no frame is under way
 abbrev pub bus_unloaded : BusState → BusState
 bus_unloaded old = record { past = unloaded old.past; station = at_rest }
 
@@ -158,8 +158,8 @@ pub record SavesAll (terms : PortName → Terms) (set : Set) (text : List ℕ) (
   pub looks : LooksAtAll (terms Bus) saved.controller saved.records old.bus.seen added
   pub leaves : new ≡ bus_adds added old
 
--- after a reset the hosts have the registers of one, nothing is loaded, and the three have met; a reset that was refused
--- leaves all but its steps as it is
+-- after a reset the hosts have the registers of a reset, nothing is loaded, and the three have met; a reset that was refused
+-- changes nothing except by its steps
 abbrev pub LeavesReset : Result (Unit {0}) AccessError → Places → Places → Type 0
 LeavesReset (Ok done) old new = HaveMetAll (hosts_have reset_set reset_set (bus_unloads old)) new
 LeavesReset (Err why) old new = new ≡ old
@@ -190,7 +190,7 @@ pub record BeginsRestored (terms : PortName → Terms) (saved : Saved) (first : 
   pub puts : PutsBack (terms Bus) saved reset_history added (Ok tt)
   pub met : HaveMetAll (bus_adds added (hosts_have saved.if1 saved.if2 (opening (set_of (restored_as saved))))) first
 
--- where the three handles stand at first
+-- the places of the three handles at first
 abbrev pub BeginsAt : (PortName → Terms) → Beginning → Places → Type 0
 BeginsAt terms (opened_with set) first = first ≡ opening set
 BeginsAt terms (restored_as saved) first = BeginsRestored terms saved first
@@ -206,8 +206,8 @@ pub record Shows (profile : Profile) (history : ChipHistory) (out : ShownFinal) 
   pub records : out.records ≡ map c_record (final_records profile (ram_of history))
 
 -- one legal history of a chip holds all that the calls on each handle did, at objects and at the controller, in the order of that
--- handle's calls: each call answers what its place in the history makes it, and C gets the records that the history leaves. Every
--- event is one of the three ports', so it has no others than theirs
+-- handle's calls: each call answers what its place in the history makes it answer, and C gets the records that the history
+-- leaves. Every event is that of one of the three ports, so the history has only theirs
 pub record FitOneHistory (profile : Profile) (beginning : Beginning) (parts : List Part) (out : ShownFinal) : Type 0 where
   pub memory : Memory
   pub memory_is : IsMemoryOf profile most memory

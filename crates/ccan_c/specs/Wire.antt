@@ -24,7 +24,7 @@ use Rattle.ccan_c.specs.Bus.{is_on}
 use Rattle.ccan_c.specs.Host.{number_of}
 use Rattle.ccan_c.specs.Outcome.{c_frame, no_frame}
 
--- so many members a bus has at most
+-- the most members that a bus has
 abbrev pub most_members : ℕ
 most_members = 32
 
@@ -121,7 +121,7 @@ wire_kind (Flagged winner) = 3
 wire_kind (Unheard winner flagged) = 4
 wire_kind (Carried winner) = 5
 
--- an error flag of dominant bits stands behind the ACK slot in which no dominant bit stands
+-- an error flag of dominant bits comes after the ACK slot, in which there is no dominant bit
 abbrev pub is_flagged : Wire → Bool
 is_flagged (Unheard winner flagged) = flagged
 is_flagged on = false
@@ -131,7 +131,7 @@ part_number Listener = 0
 part_number Sender = 1
 part_number Dropped = 2
 
--- what C sees of it: at the index of each place what the member there is to the frame
+-- what C sees of it: at the index of each place, what the member there is to the frame
 pub record IsShownWire (on : Wire) (shown : ShownWire) : Type 0 where
   pub kind : shown.kind ≡ wire_kind on
   pub flagged : shown.flagged ≡ number_of (is_flagged on)
@@ -152,8 +152,8 @@ winner_in shown =
       dropped = map has_dropped shown.part;
     }
 
--- its kind is one, and its frame is one, if a single one won. Each number of a part but that of a sender and of one that has
--- dropped out is a listener's
+-- its kind is one, and its frame is one, if a single one won. Each number of a part, except that of a sender and of one that has
+-- dropped out, is a listener's
 abbrev pub is_wire : ShownWire → Bool
 is_wire shown = nat_le shown.kind 5 && (if nat_le 2 shown.kind then is_shown_frame shown.frame else true)
 

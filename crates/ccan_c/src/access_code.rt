@@ -1,4 +1,4 @@
-//! What C gets of an access to a register.
+//! What C gets from an access to a register.
 ghost use Rattle.std.specs.Prelude.{◌≡◌, ◌≢◌};
 ghost use Rattle.ccan_c.specs.Codes.{done};
 ghost use Rattle.ccan_c.specs.HostCall as call;

@@ -65,7 +65,7 @@ pub extern "C" fn ccan_control(bus: &mut BusHandle, sie: u32, eie: u32) -> u32
     code_of_access(&Some(told))
 }
 
-/// Clears Init, from where on groups count for a controller that is off, and any other takes part.
+/// Clears Init. From then on groups count for a controller that is off, and any other takes part.
 #[unsafe(no_mangle)]
 pub extern "C" fn ccan_init(bus: &mut BusHandle) -> u32
     ensures { BusCallDoes (bus_call.init result)
@@ -91,7 +91,7 @@ pub extern "C" fn ccan_loop_back(bus: &mut BusHandle, on: u32) -> u32
     code_of_access(&Some(told))
 }
 
-/// Lets groups of eleven recessive bits pass, and tells the controller's state.
+/// Lets groups of eleven recessive bits pass, and reports the controller's state.
 #[unsafe(no_mangle)]
 pub extern "C" fn ccan_recessive(bus: &mut BusHandle, groups: u32, out: &mut u32) -> u32
     ensures call { BusCallDoes (bus_call.recessive groups result out.new)
@@ -163,8 +163,8 @@ pub extern "C" fn ccan_counters(bus: &mut BusHandle, node: u32, out: &mut ShownC
     DONE
 }
 
-/// Plays a round: the frames that other nodes offer contend with the controller's, and the winner's is spoiled by a fault,
-/// where there is one.
+/// Plays a round: the frames that other nodes offer contend with the controller's, and the winner's is spoiled by a fault, if
+/// there is one.
 #[unsafe(no_mangle)]
 pub extern "C" fn ccan_round(
     bus: &mut BusHandle,

@@ -40,7 +40,7 @@ impl Held {
     ghost use Rattle.ccan_c.specs.Resetting.{DropsLoaded};
     ghost use Rattle.ccan_c.specs.Steps.{BusSteps, Steps};
 
-    /// Chooses an object to send, and starts it. With the controller that was found.
+    /// Chooses an object to send, and starts it. The answer comes with the controller that was found.
     fn load_next(&mut self) -> (Controller, LoadAnswer)
         requires { (pass_of self.old).port ≡ Bus }
         ensures steps { BusSteps (λ terms past seen added after.
@@ -58,8 +58,8 @@ impl Held {
         self.bus.loaded()
     }
 
-    /// Chooses an object to send, and starts it. With the controller that was found, and with what is loaded then. What the start
-    /// of a frame has loaded is dropped.
+    /// Chooses an object to send, and starts it. The answer comes with the controller that was found, and with what is loaded
+    /// then. What the start of a frame has loaded is dropped.
     pub(crate) fn load(&mut self) -> (Controller, LoadAnswer, Option<(ObjectNo, Record)>)
         requires { (pass_of self.old).port ≡ Bus }
         ensures steps { BusSteps (λ terms past seen added after.
@@ -83,8 +83,8 @@ impl Held {
         round(&mut self.bus, &self.ram, &mut self.port, line, self.tries)
     }
 
-    /// Plays a round. None where a sender is none of the other nodes, or sends twice. Else what the start of a frame has loaded is
-    /// dropped.
+    /// Plays a round. None if a sender is not one of the other nodes, or sends twice. Otherwise what the start of a frame has
+    /// loaded is dropped.
     pub(crate) fn play(&mut self, sends: Sends, fault: Fault) -> Option<ChipReport>
         requires { (pass_of self.old).port ≡ Bus }
         ensures port { (pass_of self.new).port ≡ (pass_of self.old).port }

@@ -21,8 +21,8 @@ pub const SHARED: u32 = 5;
 pub const PROFILE_RANGE: u32 = 6;
 /// There are too many nodes.
 pub const NODES_RANGE: u32 = 7;
-// 8 is no code any more: it was that of a quota out of its range.
-/// A change may not be tried so seldom or so often.
+// 8 is not a code any more: it was that of a quota out of its range.
+/// A change may not be tried so few or so many times.
 pub const TRIES_RANGE: u32 = 9;
 /// There is no such register.
 pub const REGISTER_RANGE: u32 = 10;
@@ -30,7 +30,7 @@ pub const REGISTER_RANGE: u32 = 10;
 pub const OBJECT_RANGE: u32 = 11;
 /// There is no such flag.
 pub const FLAG_RANGE: u32 = 12;
-/// An object may not be looked at so seldom or so often.
+/// An object may not be looked at so few or so many times.
 pub const TURNS_RANGE: u32 = 13;
 /// The bus has no such node.
 pub const NODE_RANGE: u32 = 14;
@@ -42,7 +42,7 @@ pub const FRAMES_RANGE: u32 = 16;
 pub const FRAME_RANGE: u32 = 17;
 /// There is no such fault.
 pub const FAULT_RANGE: u32 = 18;
-/// A sender is none of the other nodes, or sends twice.
+/// A sender is not one of the other nodes, or sends twice.
 pub const SENDERS: u32 = 19;
 
 /// No register of the layout begins at this offset.
@@ -51,12 +51,12 @@ pub const OFFSET_RANGE: u32 = 20;
 pub const OTHER_INTERFACE: u32 = 21;
 /// There is no such layout.
 pub const MAP_RANGE: u32 = 22;
-/// These bytes are no saved chip, or one of a version that is not known.
+/// These bytes are not a saved chip, or are one of a version that is not known.
 pub const NO_SAVED_CHIP: u32 = 23;
 /// No chip can be as the bytes say.
 pub const NO_CHIP: u32 = 24;
 
-/// The note tells nothing.
+/// The note says nothing.
 pub const UNTOLD: u32 = 25;
 
 /// There are too many members of a bus.
@@ -65,7 +65,7 @@ pub const MEMBERS_RANGE: u32 = 26;
 pub const MEMBER_RANGE: u32 = 27;
 /// What is on the bus is out of its range: its kind, or its frame.
 pub const WIRE_RANGE: u32 = 28;
-/// No bus has such a place.
+/// No bus has such a position.
 pub const PLACE_RANGE: u32 = 29;
 /// There is no such event of a controller.
 pub const EVENT_RANGE: u32 = 30;
@@ -101,7 +101,7 @@ fn code_of_reply(reply: &RoundAnswer) -> u32
     }
 }
 
-/// Busy or spent where a step of the memory was, else done.
+/// Busy or spent if a step of the memory was, else done.
 pub(crate) fn code_of(answer: &LineAnswer) -> u32
     ensures { result ≡ code_of answer.now }
 {

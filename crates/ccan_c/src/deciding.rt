@@ -8,7 +8,7 @@ use crate::shown_member::{ShownMember, read_members};
 use crate::shown_wire::ShownWire;
 use ccan_wire::{decide, decide_again};
 
-/// What is on the bus where these members take part. No chip has a part in it.
+/// What is on the bus if these members take part. No chip has a part in it.
 #[unsafe(no_mangle)]
 pub extern "C" fn ccan_decide(members: &[ShownMember], out: &mut ShownWire) -> u32
     ensures decides { Decides members.now result out.new }
@@ -24,7 +24,7 @@ pub extern "C" fn ccan_decide(members: &[ShownMember], out: &mut ShownWire) -> u
     DONE
 }
 
-/// What is on the bus at the end of a frame, where `start` was decided at its start.
+/// What is on the bus at the end of a frame, if `start` was decided at its start.
 #[unsafe(no_mangle)]
 pub extern "C" fn ccan_decide_again(
     start: &ShownWire,

@@ -15,7 +15,7 @@ use std::alloc::Global;
 use std::mem::replace;
 use std::sync::Arc;
 
-/// What a chip holds that its three handles give back. None where somebody else holds the memory.
+/// What a chip holds that its three handles give back. None if somebody else holds the memory.
 fn ended(if1: Held, if2: Held, bus: Held) -> Option<FinalChip>
     requires { AreThree if1 if2 bus }
     ensures { IfSome result (ChipEnds (port_of if1) (port_of if2) (port_of bus)) }
@@ -41,7 +41,7 @@ fn ended(if1: Held, if2: Held, bus: Held) -> Option<FinalChip>
 
 /// Ends a chip, and gives its records. A chip that is not open stays as it is.
 ///
-/// Somebody else holds the memory only where C has broken its promises; the chip is closed then too.
+/// Somebody else holds the memory only if C has broken its promises; the chip is closed then too.
 #[unsafe(no_mangle)]
 pub extern "C" fn ccan_end(alloc: Global, chip: &mut Chip, out: &mut ShownFinal) -> u32
     ensures done { result ≡ done → EndsWith chip.old out.new }

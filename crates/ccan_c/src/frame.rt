@@ -42,7 +42,7 @@ pub extern "C" fn ccan_stay(bus: &mut BusHandle, out: &mut ShownMember) -> u32
     DONE
 }
 
-/// The end of the frame, to the chip at this place on the bus, which finds this error by itself.
+/// The end of the frame, for the chip at this position on the bus, which finds this error by itself.
 #[unsafe(no_mangle)]
 pub extern "C" fn ccan_finish(
     bus: &mut BusHandle,

@@ -47,7 +47,7 @@ impl Held {
         stay(&mut self.station, &self.ram, &mut self.port)
     }
 
-    /// Its end, to the chip at this place.
+    /// Its end, for the chip at this position.
     pub(crate) fn finish(&mut self, wire: &Wire, place: usize, flaw: Option<Flaw>) -> Ended
         requires bus { (pass_of self.old).port ≡ Bus }
         requires within { place < most_members }

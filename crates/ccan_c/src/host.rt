@@ -107,7 +107,7 @@ pub extern "C" fn ccan_peek(host: &mut HostHandle, object: u32, out: &mut ShownR
     }
 }
 
-/// Looks at an object until it shows the flag, at most so many times. 1 where it did, else 0.
+/// Looks at an object until it shows the flag, at most so many times. 1 if it did, else 0.
 #[unsafe(no_mangle)]
 pub extern "C" fn ccan_until(
     host: &mut HostHandle,
@@ -159,7 +159,7 @@ pub extern "C" fn ccan_write16(host: &mut HostHandle, offset: u32, value: u16) -
     code_of_access(&told)
 }
 
-/// Whether the chip pulls its interrupt line: IE is 1, and the Interrupt register is not 0. 1 where it does, else 0.
+/// Whether the chip pulls its interrupt line: IE is 1, and the Interrupt register is not 0. 1 if it does, else 0.
 #[unsafe(no_mangle)]
 pub extern "C" fn ccan_line(host: &mut HostHandle, out: &mut u32) -> u32
     ensures call { HostCallDoes (host_call.line result out.new)

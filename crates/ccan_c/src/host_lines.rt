@@ -40,7 +40,7 @@ impl Held {
         clear_objects(&self.ram, &mut self.port, self.tries)
     }
 
-    /// The object of this number, where the chip has it.
+    /// The object of this number, if the chip has it.
     fn object_numbered(&self, number: u32) -> Option<ObjectNo>
         ensures known { IsSome result
             ↔ IsTrue (is_object (pass_of self.now).memory.profile number) }
@@ -62,7 +62,7 @@ impl Held {
         peek(&self.ram, &mut self.port, object)
     }
 
-    /// The record of an object, by one look. None where the chip has no such object.
+    /// The record of an object, by one look. None if the chip has no such object.
     pub(crate) fn peek(&mut self, number: u32) -> Option<Record>
         ensures none { IfNone result
             ((is_object (pass_of self.old).memory.profile number ≡ false) × (self.new ≡ self.old)) }
@@ -84,7 +84,7 @@ impl Held {
         wait(&self.ram, &mut self.port, object, flag, turns)
     }
 
-    /// Looks at an object until it shows a flag, and tells the first of the numbers that is out of its range.
+    /// Looks at an object until it shows a flag, or reports the first of the numbers that is out of its range.
     pub(crate) fn wait(&mut self, object: u32, flag: u32, turns: u32) -> Result<bool, u32>
         ensures waits { IfOk result (λ shown.
             (known : Flag) × (numbers.flag_numbered flag ≡ Some known)

@@ -1,13 +1,13 @@
 //! A C_CAN controller for programs in C: what `include/ccan.h` declares.
 //!
-//! A chip has three handles, one for each port, which lie in memory of C's; what they lead to is of `malloc`. A handle is a mark
-//! and a pointer that says nothing of what it leads to: a port of the memory without a lock with a share of that memory,
-//! interface registers, and a bus. A call makes steps on these, at the objects and at the controller, and its contract says
-//! what these steps are; all of them are in one history of all three handles.
+//! A chip has three handles, one for each port, which lie in C's memory; what they lead to is from `malloc`. A handle is a mark
+//! and a pointer that says nothing about what it leads to: a port of the memory without a lock, with a share of that memory,
+//! interface registers, and a bus. A call makes steps on these, at the objects and at the controller, and its contract says what
+//! these steps are; all of them are in one history of all three handles.
 //!
 //! ```text
 //!  thread A     thread B     thread C
-//!  chip.if1     chip.if2     chip.bus        in memory of C's, on cache lines of their own
+//!  chip.if1     chip.if2     chip.bus        in C's memory, on cache lines of their own
 //!      |            |            |
 //!    Held         Held         Held          a port, registers, a bus
 //!      \------------|------------/

@@ -5,7 +5,7 @@ use ccan_endless::Note;
 use std::alloc::Global;
 use std::ptr::null_mut;
 
-/// What a handle told, for another handle of the same chip, or a place for it.
+/// What a handle reported, for another handle of the same chip, or a place for it.
 #[repr(C)]
 pub struct NoteHandle {
     full: bool,
@@ -20,7 +20,7 @@ impl Drop for NoteHandle {
 }
 
 impl NoteHandle {
-    /// A note that tells this.
+    /// A note that says this.
     pub(crate) fn told(note: Box<Note, Global>) -> NoteHandle
         ensures { result.seal.value ≡ Some note.value }
     {
@@ -41,7 +41,7 @@ impl NoteHandle {
         }
     }
 
-    /// Whether it tells something.
+    /// Whether it says something.
     pub(crate) fn is_told(&self) -> bool
         ensures { result ≡ is_some self.now.seal.value }
     {
@@ -60,7 +60,7 @@ impl NoteHandle {
 /// What may go to another thread.
 fn may_cross<T: Send>() {}
 
-/// A note may, so C may tell on one thread and heed on another.
+/// A note may, so C may make it on one thread and heed it on another.
 pub fn notes_may_cross() {
     may_cross::<NoteHandle>();
 }

@@ -38,7 +38,7 @@ pub fn flag_numbered(number: u32) -> Option<Flag>
     }
 }
 
-/// 1 where it is so.
+/// 1 if it is so.
 pub(crate) fn number_of(is: bool) -> u32
     ensures { result ≡ number_of is }
 {

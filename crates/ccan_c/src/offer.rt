@@ -12,7 +12,7 @@ use ccan_bus::Fault;
 #[repr(C)]
 #[derive(Clone, Copy, PartialEq, Eq, Debug)]
 pub struct Offer {
-    /// The identifier, of 11 bits, or of 29 where it is extended.
+    /// The identifier, of 11 bits, or of 29 if it is extended.
     pub id: u32,
     /// The node, from 1 on.
     pub node: u8,
@@ -30,7 +30,7 @@ pub struct Offer {
 pub(crate) type Sends = ArrayVec<(u8, Frame), 8>;
 
 impl Offer {
-    /// The frame with its node. None where the identifier or the length is out of its range.
+    /// The frame with its node. None if the identifier or the length is out of its range.
     fn read(&self) -> Option<(u8, Frame)>
         ensures { MatchOption result (is_frame self.now ≡ false)
             (λ sending. (is_frame self.now ≡ true) × (sending ≡ sending_of self.now)) }
@@ -42,7 +42,7 @@ impl Offer {
     }
 }
 
-/// The frames of a round. None where the identifier or the length of one is out of its range.
+/// The frames of a round. None if the identifier or the length of one is out of its range.
 pub(crate) fn read_offers(offers: &[Offer]) -> Option<Sends>
     requires { length offers.now ≤ most_frames }
     ensures { MatchOption result (list_all is_frame offers.now ≡ false)

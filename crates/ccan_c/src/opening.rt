@@ -49,7 +49,7 @@ fn hold(alloc: Global, ram: &Arc<EndlessRam, Global>, port: Port, begin: &Begin)
     }
 }
 
-/// The chip of a memory and its three ports, each with what its handle begins with. None where memory ran out.
+/// The chip of a memory and its three ports, each with what its handle begins with. None if memory ran out.
 pub(crate) fn chip_of(
     alloc: Global,
     ram: EndlessRam,
@@ -81,7 +81,7 @@ pub(crate) fn chip_of(
     Some(Chip::of(if1, if2, bus))
 }
 
-/// A chip of a memory and registers that are all zero. None where memory ran out.
+/// A chip of a memory and registers that are all zero. None if memory ran out.
 fn opened(alloc: Global, settings: &Settings) -> Option<Chip>
     ensures { IfSome result
         (Opens settings.now.profile (plain settings.now.nodes settings.now.tries)) }
@@ -97,7 +97,7 @@ fn opened(alloc: Global, settings: &Settings) -> Option<Chip>
     chip_of(alloc, ram, if1, if2, bus, &begin, &begin, &begin)
 }
 
-/// A chip as after a reset, with this layout of its registers. None where memory ran out.
+/// A chip as after a reset, with this layout of its registers. None if memory ran out.
 fn opened_after_reset(alloc: Global, settings: &Settings, map: Map) -> Option<Chip>
     ensures { IfSome result (Opens settings.now.profile (record {
       nodes = settings.now.nodes;
@@ -119,8 +119,8 @@ fn opened_after_reset(alloc: Global, settings: &Settings, map: Map) -> Option<Ch
     chip_of(alloc, ram, if1, if2, bus, &begin, &begin, &begin)
 }
 
-/// Opens a chip, each port of which may make as many changes as the memory numbers. Its bus chooses what it sends at one
-/// moment, as the part does. What the place held is closed where it answers 0.
+/// Opens a chip. Each port of it may make as many changes as the memory numbers. Its bus chooses what it sends at one moment, as
+/// the part does. What the place held is closed if it answers 0.
 #[unsafe(no_mangle)]
 pub extern "C" fn ccan_open(
     alloc: Global,

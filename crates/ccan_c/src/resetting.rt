@@ -32,7 +32,7 @@ fn reset_met(if1: &mut Held, if2: &mut Held, bus: &mut Held) -> Result<(), Acces
     Ok(())
 }
 
-/// The ports meet, so that all that was done is behind the reset; and then it is made.
+/// The ports meet, so that the reset comes after all that was done; and then it is made.
 fn reset_held(if1: &mut Held, if2: &mut Held, bus: &mut Held) -> Result<(), AccessError>
     requires { AreThree if1.old if2.old bus.old }
     ensures reset { ResetsHeld if1.old if2.old bus.old if1.new if2.new bus.new result }

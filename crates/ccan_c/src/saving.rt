@@ -92,7 +92,7 @@ fn code_of_failure(why: &NotRestored) -> u32
     }
 }
 
-/// A chip as the saved one, or the code of what failed.
+/// A chip like the saved one, or the code of what failed.
 fn restored(alloc: Global, saved: &Saved) -> Result<Chip, u32>
     requires { saved.now.others ≤ most_nodes }
     ensures restored { IfOk result (RestoresAs saved.now) }
@@ -130,7 +130,7 @@ fn restored(alloc: Global, saved: &Saved) -> Result<Chip, u32>
     }
 }
 
-/// Opens a chip as a saved one was. What the place held is closed where it answers 0.
+/// Opens a chip as a saved one was. What the place held is closed if it answers 0.
 #[unsafe(no_mangle)]
 pub extern "C" fn ccan_restore(alloc: Global, chip: &mut Chip, saved: &SavedChip) -> u32
     ensures done { result ≡ done → Restores saved.now.bytes chip.new }

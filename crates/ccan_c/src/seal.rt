@@ -71,7 +71,7 @@ impl Seal {
         Seal { ptr, alloc }
     }
 
-    /// What the box holds, where it is.
+    /// What the box holds, in its place.
     pub fn as_mut(&mut self) -> &mut Held
         requires { IsSome self.old.value }
         ensures* writes_back { sem 𝓛 (LendsHeld self.entry result) }

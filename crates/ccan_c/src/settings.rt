@@ -40,7 +40,7 @@ pub fn map_numbered(number: u32) -> Option<Map>
 }
 
 impl Settings {
-    /// Reads the settings that C gives, and tells the first that is out of its range.
+    /// Reads the settings that C gives, or reports the first that is out of its range.
     pub(crate) fn read(profile: u32, nodes: u32, tries: u32) -> Result<Settings, u32>
         ensures fault { IfErr result
             (λ code. settings_fault profile nodes tries ≡ Some code) }

@@ -26,13 +26,13 @@ pub struct ShownFinished {
     /// What it is to the error counters: 0 nothing, 1 sent, 2 received, 3 an error of a sender, 4 not acknowledged, 5 an error of a
     /// receiver.
     pub counts: u32,
-    /// The object that was sent, or at which a step was given up, 0 where there is none.
+    /// The object that was sent, or at which a step was given up, 0 if there is none.
     pub object: u32,
-    /// Its record after the finish, zero where none was finished.
+    /// Its record after the finish, zero if none was finished.
     pub finished: ShownRecord,
-    /// The object that stored the frame, 0 where there is none.
+    /// The object that stored the frame, 0 if there is none.
     pub stored: u32,
-    /// Its record after the store, zero where there is none.
+    /// Its record after the store, zero if there is none.
     pub stored_record: ShownRecord,
     /// What was refused: 0 nothing, 2 the finish, 3 the store, 4 the event at the controller.
     pub refused: u32,
@@ -146,7 +146,7 @@ impl ShownFinished {
         }
     }
 
-    /// The event that was lost. None where there is no such one.
+    /// The event that was lost. None if there is no such event.
     pub(crate) fn event(&self) -> Option<OwnEvent>
         ensures is { result ≡ event_in self.now }
         ensures known { IfSome result (λ own. HasFaultCode own.1) }

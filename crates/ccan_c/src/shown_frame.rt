@@ -10,7 +10,7 @@ use ccan_object::{ObjectNo, Record};
 #[repr(C)]
 #[derive(Clone, Copy, PartialEq, Eq, Debug)]
 pub struct ShownFrame {
-    /// The identifier, of 11 bits, or of 29 where it is extended.
+    /// The identifier, of 11 bits, or of 29 if it is extended.
     pub id: u32,
     /// Whether the identifier is extended: 0 is no, 1 is yes.
     pub xtd: u8,
@@ -49,7 +49,7 @@ impl ShownFrame {
         }
     }
 
-    /// A frame as C sees it, zero where there is none.
+    /// A frame as C sees it, zero if there is none.
     pub(crate) fn of_option(frame: &Option<Frame>) -> ShownFrame
         ensures { result ≡ c_frame_or_none frame.now }
     {
@@ -59,7 +59,7 @@ impl ShownFrame {
         }
     }
 
-    /// The frame. None where its identifier or its length is out of its range.
+    /// The frame. None if its identifier or its length is out of its range.
     pub(crate) fn read(&self) -> Option<Frame>
         ensures { MatchOption result (is_shown_frame self.now ≡ false)
             (λ frame. (is_shown_frame self.now ≡ true) × (frame ≡ frame_in self.now)) }
@@ -70,7 +70,7 @@ impl ShownFrame {
         }
     }
 
-    /// The frame that was on the bus, zero where no single one was.
+    /// The frame that was on the bus, zero if no single one was.
     pub fn of(winner: &Option<(u8, Frame)>) -> ShownFrame
         ensures { result ≡ frame_shown winner.now }
     {
@@ -80,7 +80,7 @@ impl ShownFrame {
         }
     }
 
-    /// The frame that is to be sent of what is loaded, zero where nothing is.
+    /// The frame that is to be sent of what is loaded, zero if nothing is.
     pub fn of_loaded(loaded: &Option<(ObjectNo, Record)>) -> ShownFrame
         ensures { result ≡ loaded_frame loaded.now }
     {

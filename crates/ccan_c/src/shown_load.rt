@@ -12,11 +12,11 @@ use ccan_object::{ObjectNo, Record};
 pub struct ShownLoad {
     /// 0 nothing, 1 loaded, 2 held, 3 busy, 4 spent.
     pub kind: u32,
-    /// The object, 0 where there is none.
+    /// The object, 0 if there is none.
     pub object: u32,
-    /// The record after its start of the object that is loaded, zero where none is.
+    /// The record of the object that is loaded, after its start; zero if none is.
     pub held: ShownRecord,
-    /// The frame that is to be sent of it, zero where nothing is loaded.
+    /// The frame that is to be sent of it, zero if nothing is loaded.
     pub frame: ShownFrame,
 }
 
@@ -33,7 +33,7 @@ fn kind_of(loading: &LoadAnswer) -> u32
     }
 }
 
-/// The object that it speaks of, 0 where there is none.
+/// The object that it speaks of, 0 if there is none.
 fn object_of(loading: &LoadAnswer) -> u32
     ensures { result ≡ load_object loading.now }
 {

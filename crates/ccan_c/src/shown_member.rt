@@ -23,7 +23,7 @@ pub struct ShownMember {
     pub frame: ShownFrame,
 }
 
-/// The members of a bus, at their places.
+/// The members of a bus, at their positions.
 pub(crate) type Members = [Member; MOST_MEMBERS];
 
 fn nobody() -> Member {
@@ -109,7 +109,7 @@ impl ShownMember {
         }
     }
 
-    /// What it starts to send. `Err` where that is no frame.
+    /// What it starts to send. `Err` if that is not a frame.
     pub(crate) fn offered(&self) -> Result<Option<Frame>, ()>
         ensures offers { IfOk result
             (λ frame. (is_offer self.now ≡ true) × (frame ≡ offered self.now)) }
@@ -124,7 +124,7 @@ impl ShownMember {
         }
     }
 
-    /// The member. None where a number of it is out of its range.
+    /// The member. None if a number of it is out of its range.
     pub(crate) fn read(&self) -> Option<Member>
         ensures { MatchOption result (is_member self.now ≡ false)
             (λ member. (is_member self.now ≡ true) × (member ≡ member_in self.now)) }
@@ -143,7 +143,7 @@ impl ShownMember {
     }
 }
 
-/// The members of a bus, the first as many as are given. None where a number of one is out of its range.
+/// The members of a bus, the given ones first. None if a number of one is out of its range.
 pub(crate) fn read_members(shown: &[ShownMember]) -> Option<Members>
     requires { length shown.now ≤ most_members }
     ensures { MatchOption result (list_all is_member shown.now ≡ false)

@@ -37,7 +37,7 @@ impl ShownNode {
         }
     }
 
-    /// The node. None where a counter of it is out of its range.
+    /// The node. None if a counter of it is out of its range.
     fn read(&self) -> Option<Plain>
         ensures { MatchOption result (is_node self.now ≡ false)
             (λ plain. (is_node self.now ≡ true) × (plain ≡ plain_in self.now)) }
@@ -52,7 +52,7 @@ impl ShownNode {
     }
 }
 
-/// The start of a frame, to a node, which offers this frame where `sends` is not 0: what it is to the bus.
+/// The start of a frame, for a node that offers this frame if `sends` is not 0: what the node is to the bus.
 #[unsafe(no_mangle)]
 pub extern "C" fn ccan_node_begin(
     node: &ShownNode,
@@ -81,7 +81,7 @@ pub extern "C" fn ccan_node_begin(
     }
 }
 
-/// The end of a frame, to the node that is this member at this place.
+/// The end of a frame, for the node that is this member at this position.
 #[unsafe(no_mangle)]
 pub extern "C" fn ccan_node_finish(
     node: &mut ShownNode,

@@ -17,7 +17,7 @@ use ccan_object::{ObjectNo, Record};
 /// The number that stands for no node.
 pub const NO_NODE: u32 = 255;
 
-/// The number that `refused` has where the round's event was not made at the controller.
+/// The number that `refused` has if the round's event was not made at the controller.
 pub const NOT_NOTED: u32 = 4;
 
 /// What came of a round.
@@ -26,21 +26,21 @@ pub const NOT_NOTED: u32 = 4;
 pub struct ShownOutcome {
     /// 0 idle, 1 sent, 2 received, 3 passed, 4 collision, 5 not acknowledged, 6 fault, 7 looped, 8 busy, 9 spent.
     pub kind: u32,
-    /// The object that was sent, or at which a step of the memory was given up, 0 where there is none.
+    /// The object that was sent, or at which a step of the memory was given up, 0 if there is none.
     pub object: u32,
-    /// Its record after the finish, zero where none was finished.
+    /// Its record after the finish, zero if none was finished.
     pub finished: ShownRecord,
-    /// The object that stored the frame, 0 where there is none.
+    /// The object that stored the frame, 0 if there is none.
     pub stored: u32,
-    /// Its record after the store, zero where there is none.
+    /// Its record after the store, zero if there is none.
     pub stored_record: ShownRecord,
-    /// The object that this round itself loaded, 0 where an earlier load did or none was loaded.
+    /// The object that this round itself loaded, 0 if an earlier load did or none was loaded.
     pub loaded: u32,
     /// What was refused: 0 nothing, 1 the start of the load, 2 the finish, 3 the store, 4 the round's event at the controller.
     pub refused: u32,
-    /// The node whose frame was on the bus, 0 the controller; `NO_NODE` where no single frame was.
+    /// The node whose frame was on the bus, 0 the controller; `NO_NODE` if no single frame was.
     pub winner: u32,
-    /// That frame, zero where no single frame was.
+    /// That frame, zero if no single frame was.
     pub frame: ShownFrame,
 }
 
@@ -116,7 +116,7 @@ pub(crate) fn stored_of(reply: &RoundAnswer) -> Option<(ObjectNo, Record)>
     }
 }
 
-/// The object that stored a frame, 0 where there is none.
+/// The object that stored a frame, 0 if there is none.
 pub(crate) fn stored_object(stored: &Option<(ObjectNo, Record)>) -> u32
     ensures { result ≡ stored_object stored.now }
 {

@@ -18,11 +18,11 @@ use ccan_wire::{MOST_MEMBERS, Part, Places, Start, Winner, Wire};
 pub struct ShownWire {
     /// 0 nobody sends, 1 frames collide, 2 broken, 3 flagged, 4 not acknowledged, 5 carried.
     pub kind: u32,
-    /// 1 where an error flag of dominant bits stands behind the ACK slot of a frame that is not acknowledged, else 0.
+    /// 1 if an error flag of dominant bits comes after the ACK slot of a frame that is not acknowledged, else 0.
     pub flagged: u32,
-    /// The frame that won, zero where none did.
+    /// The frame that won, zero if none did.
     pub frame: ShownFrame,
-    /// At the index of each place what the member there is to the frame: 0 a listener, 1 a sender, 2 one that dropped out.
+    /// At the index of each place, what the member there is to the frame: 0 a listener, 1 a sender, 2 one that dropped out.
     pub part: [u8; MOST_MEMBERS],
 }
 
@@ -110,7 +110,7 @@ impl ShownWire {
         places_of(&self.part, 1)
     }
 
-    /// The frame that won, with those who started it. None where it is no frame.
+    /// The frame that won, with those who started it. None if it is not a frame.
     fn winner(&self) -> Option<Winner>
         ensures { MatchOption result (is_shown_frame self.now.frame ≡ false)
             (λ winner. (is_shown_frame self.now.frame ≡ true) × (winner ≡ winner_in self.now)) }
@@ -123,7 +123,7 @@ impl ShownWire {
         })
     }
 
-    /// What is on the bus. None where a number is out of its range.
+    /// What is on the bus. None if a number is out of its range.
     pub(crate) fn read(&self) -> Option<Wire>
         ensures { MatchOption result (is_wire self.now ≡ false)
             (λ wire. (is_wire self.now ≡ true) × (wire ≡ wire_in self.now)) }

@@ -1,4 +1,4 @@
-//! How a handle tells another what its port has seen, so that what the other does comes after that.
+//! How a handle shows another what its port has seen, so that what the other does comes after that.
 ghost use Rattle.std.specs.Prelude.{◌≡◌, ◌≢◌, None};
 ghost use Rattle.ccan_c.specs.Bus.{held_on};
 ghost use Rattle.ccan_c.specs.BusCall as bus_call;
@@ -25,7 +25,7 @@ impl Held {
     ghost use Rattle.ccan_c.specs.Held.{pass_of, port_of};
     ghost use Rattle.ccan_c.specs.Steps.{Steps};
 
-    /// What the port has seen so far. None where memory ran out.
+    /// What the port has seen so far. None if memory ran out.
     pub(crate) fn tell(&mut self, alloc: Global) -> Option<Box<Note, Global>>
         ensures kept { self.new ≡ self.old }
         ensures told { IfSome result (λ note. note.value.whole ≡ (port_of self.old).whole) }
@@ -38,7 +38,7 @@ impl Held {
         }
     }
 
-    /// Shows the port what the note tells.
+    /// Shows the port what the note says.
     pub(crate) fn heed(&mut self, note: Note)
         requires { note.memory ≡ (pass_of self.old).memory }
         ensures { Steps (λ terms seen added. Heeds terms.port note.whole seen added)
@@ -48,7 +48,7 @@ impl Held {
     }
 }
 
-/// Notes all that the handle's port has seen of the chip, for another handle of the chip. What the note told before is dropped.
+/// Notes all that the handle's port has seen of the chip, for another handle of the chip. What the note said before is dropped.
 #[unsafe(no_mangle)]
 pub extern "C" fn ccan_tell(alloc: Global, host: &mut HostHandle, note: &mut NoteHandle) -> u32
     ensures call { HostCallDoes (host_call.tell (told_by note.new) result)
@@ -66,8 +66,8 @@ pub extern "C" fn ccan_tell(alloc: Global, host: &mut HostHandle, note: &mut Not
     DONE
 }
 
-/// Shows the handle's port what the note tells: what the handle does from now on comes after all that the teller had seen. The
-/// note is then empty.
+/// Shows the handle's port what the note says: what the handle does from now on comes after all that the port of the note had
+/// seen. The note is then empty.
 #[unsafe(no_mangle)]
 pub extern "C" fn ccan_heed(alloc: Global, host: &mut HostHandle, note: &mut NoteHandle) -> u32
     requires chip { IsOfChip (held_by host.old) (told_by note.old) }
@@ -89,7 +89,7 @@ pub extern "C" fn ccan_heed(alloc: Global, host: &mut HostHandle, note: &mut Not
     DONE
 }
 
-/// As `ccan_tell`, of the bus's handle.
+/// As `ccan_tell`, for the bus's handle.
 #[unsafe(no_mangle)]
 pub extern "C" fn ccan_bus_tell(alloc: Global, bus: &mut BusHandle, note: &mut NoteHandle) -> u32
     ensures call { BusCallDoes (bus_call.tell (told_by note.new) result)
@@ -107,7 +107,7 @@ pub extern "C" fn ccan_bus_tell(alloc: Global, bus: &mut BusHandle, note: &mut N
     DONE
 }
 
-/// As `ccan_heed`, of the bus's handle.
+/// As `ccan_heed`, for the bus's handle.
 #[unsafe(no_mangle)]
 pub extern "C" fn ccan_bus_heed(alloc: Global, bus: &mut BusHandle, note: &mut NoteHandle) -> u32
     requires chip { IsOfChip (held_on bus.old) (told_by note.old) }

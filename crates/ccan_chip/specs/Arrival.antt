@@ -1,6 +1,7 @@
 -- How a load or a round begins: the bus's port comes to a controller that may have left the bus meanwhile. Source: C_CAN User's
 -- Manual 1.2, "CAN Control Register" (Init: setting it stops all transfer of messages, and what is pending is not sent before
--- Init is cleared). (own): that a controller which left is joined anew by one change of it; and that the port then looks again.
+-- Init is cleared). (own): that a controller which has left is joined again by one change of it, and that the port then looks
+-- again.
 use Rattle.std.specs.Prelude.{ℕ, ◌≡◌, Bool, ◌&&◌, not, None, Result, Ok, Err, MatchBool, if◌then◌else◌}
 use Rattle.ccan_ram.specs.Tries.{most_tries}
 use Rattle.ccan_confine.specs.declared.controller.Controller.{Controller}
@@ -31,11 +32,11 @@ comes_back c = may_take_part c && c.has_left
 abbrev pub unloaded : BusPast → BusPast
 unloaded past = record past { loaded = None }
 
--- what was loaded is dropped where the controller has left the bus
+-- what was loaded is dropped if the controller has left the bus
 abbrev pub left_behind : Controller → BusPast → BusPast
 left_behind first past = if first.has_left then unloaded past else past
 
--- a change of the controller is made as it is then, or each try was lost to a change of another port; no step is made at an
+-- a change is made to the controller as it is then, or each try was lost to a change of another port; no step is made at an
 -- object
 abbrev pub IsMade : ControllerChange → ℕ → ChipPass → ChipPass → Result ControllerChanged ControllerBusy → Type 0
 IsMade change tries old new (Ok made) =
@@ -49,15 +50,15 @@ pub record LooksAt (old new : ChipPass) (found : Controller) : Type 0 where
   pub adds : AddsController old new Look found
   pub quiet : AddsNoEvent old new
 
--- the port looked at a controller that comes back, and then joined, which has as many tries as one may have
+-- the port looked at a controller that comes back, and then joined; this change has as many tries as one may have
 pub record Joins (old new : ChipPass) (first : Controller) : Type 0 where
   pub looked : ChipPass
   pub looks : LooksAt old looked first
   pub outcome : Result ControllerChanged ControllerBusy
   pub joins : IsMade Join most_tries looked new outcome
 
--- The port comes to the bus: it looks at the controller; and where that comes back, it joins and looks again. Its first look
--- found this controller, and its last this one.
+-- The port comes to the bus: it looks at the controller, and if that comes back, it joins and looks again. Its first look found
+-- the controller `first`, and its last look `found`.
 pub record Arrives (old new : ChipPass) (first found : Controller) : Type 0 where
   pub before : ChipPass
   pub ready : MatchBool (comes_back first) (Joins old before first) ((before ≡ old) × (first ≡ found))

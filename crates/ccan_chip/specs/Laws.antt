@@ -1,5 +1,5 @@
 -- Laws of the rounds of a chip. Source: CAN Specification 2.0, "Fault Confinement" (an event changes the counters as they are);
--- that hosts may change the controller's registers in the midst of a round is this project's own.
+-- that hosts may change the controller's registers in the middle of a round is this project's own.
 use Rattle.std.specs.Prelude.{ℕ, ◌≡◌, ◌++◌, false, Some, Ok}
 use Rattle.std.specs.List.{list_any}
 use Rattle.ccan_confine.specs.ControllerLaws.{is_dcan_reset}
@@ -18,8 +18,8 @@ use Rattle.ccan_chip.specs.Round.{ChipRound}
 abbrev pub HasNoReset : ChipHistory → ChipHistory → Type 0
 HasNoReset earlier whole = (more : ChipHistory) → whole ≡ more ++ earlier → list_any is_dcan_reset (changes_in more) ≡ false
 
--- The error counters that the round's change of the controller finds are those that its look found, whatever hosts did between,
--- unless one of them reset a D_CAN.
+-- The error counters that the round's change of the controller finds are those that its look found, whatever hosts did in
+-- between, unless one of them reset a D_CAN.
 abbrev pub RoundsFindTheirCounters : Type 0
 RoundsFindTheirCounters =
     (terms : Terms) (line : RoundLine) (tries : ℕ) (old new : ChipPass) (past after : BusPast) (told : ChipReport)

@@ -1,6 +1,6 @@
--- Rounds of a chip whose controller's registers stand beside its objects, where any port may change them at any time. Source:
--- C_CAN User's Manual 1.2, "CAN Control Register" (Init), "Test Register" (LBack) and section 4.2 (message handling). That a
--- round looks at the controller before all else, and makes its event there after the memory steps, is (own).
+-- Rounds of a chip whose controller's registers are beside its objects, where any port may change them at any time. Source: C_CAN
+-- User's Manual 1.2, "CAN Control Register" (Init), "Test Register" (LBack) and section 4.2 (message handling). That a round
+-- looks at the controller before all else, and makes its event there after the memory steps, is (own).
 use Rattle.std.specs.Prelude.{ℕ, ◌≡◌, ◌==◌, Bool, false, ◌&&◌, List, ◌++◌, Option, Some, None, Result, if◌then◌else◌}
 use Rattle.ccan_ram.specs.declared.event.Event.{Event}
 use Rattle.ccan_ram.specs.SharedRam.{CanSee}
@@ -32,12 +32,12 @@ use Rattle.ccan_endless.specs.ChipPort.{AddsController, AddsNoEvent, AddsNone, C
 use Rattle.ccan_chip.specs.Arrival.{Arrives, IsMade, left_behind, takes_part, unloaded}
 use Rattle.ccan_chip.specs.declared.chip_report.ChipReport.{ChipReport}
 
--- loop back mode: LBack of the Test register counts where Test of the Control register is 1
+-- loop back mode: LBack of the Test register counts if Test of the Control register is 1
 abbrev pub loops_back : Controller → Bool
 loops_back c = c.control.test && c.test.lback
 
--- The past of the bus as a round finds it, where the look showed this controller and it had these events: a controller that
--- takes no part is to the bus as one that is off, and nothing is loaded then.
+-- The past of the bus as a round finds it, if the look showed this controller and it had these events: to the bus, a controller
+-- that takes no part is like one that is off, and nothing is loaded then.
 abbrev pub as_found : Controller → List NodeEvent → BusPast → BusPast
 as_found c events past =
     if takes_part c then with_controller events (loops_back c) past
@@ -51,12 +51,12 @@ events_in whole = node_events (changes_in whole)
 abbrev pub fault_of : Bool → BusEvent
 fault_of sends = if sends then event.SendFault else event.ReceiveFault
 
--- a fault with its last error code, where there is one
+-- a fault with its last error code, if there is one
 abbrev pub faulted : Bool → ℕ → Option (BusEvent × StatusEvent)
 faulted sends lec = if lec == 0 then None else Some (fault_of sends, status.Fault lec)
 
--- what a decision is to the registers of a controller that takes part, where it leaves this last error code: that of a bit is
--- left in a collision to those who sent alone
+-- what a decision is to the registers of a controller that takes part, if it leaves this last error code: in a collision, that of
+-- a bit is left only to those who sent
 abbrev pub own_of : Decision → ℕ → Option (BusEvent × StatusEvent)
 own_of decision.Idle lec = None
 own_of decision.Collision lec = faulted (lec == 4) lec
@@ -79,10 +79,10 @@ Notes None tries old new told = AddsNone old new × (told ≡ None) × AddsNoEve
 Notes (Some own) tries old new None = ⊥
 Notes (Some own) tries old new (Some outcome) = IsMade (Frame own.0 own.1) tries old new outcome
 
--- A round: the port comes to the bus, and what was loaded is dropped where the controller has left it; then a load, a
--- decision and the memory steps that are due, as the bus is with the controller that was found; and last what all this was to
--- the controller, as one change of it. Between, its port makes no other step there. What was on the bus can't be played
--- again, so this change has as many tries as one may have, however few the steps have.
+-- A round: the port comes to the bus, and what was loaded is dropped if the controller has left it; then a load, a decision and
+-- the memory steps that are due, as the bus is with the controller that was found; and last, what all this was to the controller,
+-- as one change of it. In between, its port makes no other step there. What was on the bus can't be played again, so this change
+-- has as many tries as one may have, however few the steps have.
 pub record ChipRound (terms : Terms) (line : RoundLine) (tries : ℕ) (old new : ChipPass) (past after : BusPast)
     (told : ChipReport) : Type 0 where
   pub looked : ChipPass

@@ -9,7 +9,7 @@ use ccan_confine::{Controller, ControllerChange, NodeState};
 use ccan_endless::{EndlessRam, Port};
 use ccan_ram::Tries;
 
-/// How often a change is tried that the bus's port makes of its own: as often as a change may be. What was on the bus can't be
+/// How often a change that the bus's port makes by itself is tried: as often as a change may be. What was on the bus can't be
 /// played again.
 const OWN_TRIES: u16 = 1000;
 
@@ -44,9 +44,9 @@ fn comes_back(controller: &Controller) -> bool
     may_take_part(controller) && controller.has_left
 }
 
-/// Comes to the bus: looks at the controller, and where that comes back, joins and looks again. The controllers that the
-/// first and the last look found. Where each try to join was lost to a change of another port, the controller takes no part
-/// this time.
+/// Comes to the bus: looks at the controller, and if that comes back, joins and looks again. The answer is the controllers that
+/// the first and the last look found. If each try to join was lost to a change of another port, the controller takes no part this
+/// time.
 pub fn arrive(ram: &EndlessRam, port: &mut Port) -> (Controller, Controller)
     requires memory { port.old.pass.memory ≡ ram.now.words }
     requires bus { port.old.pass.port ≡ Bus }

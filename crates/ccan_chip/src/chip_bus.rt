@@ -24,7 +24,7 @@ use ccan_object::{ObjectNo, Profile, Record};
 use ccan_ram::Tries;
 use std::marker::Brand;
 
-/// The bus of a chip: the other nodes, and what the controller is about to send. The controller's registers stand in the chip,
+/// The bus of a chip: the other nodes, and what the controller is about to send. The controller's registers are in the chip,
 /// where the hosts read and change them at any time.
 #[derive(Clone, Copy, PartialEq, Eq, Hash, Debug)]
 pub struct ChipBus {
@@ -94,7 +94,7 @@ impl ChipBus {
         }
     }
 
-    /// How many nodes there are beside the controller.
+    /// How many nodes there are besides the controller.
     pub fn others(&self) -> u8
         ensures value { result ≡ self.now.bus.others }
         ensures in_range { result ≤ 8 }
@@ -102,7 +102,7 @@ impl ChipBus {
         self.bus.others()
     }
 
-    /// The error counters of another node, from 1 on. Those of the controller stand in the chip.
+    /// The error counters of another node, from 1 on. Those of the controller are in the chip.
     pub fn counters(&self, node: u8) -> Counters
         requires { (1 ≤ node) × (node ≤ self.now.bus.others) }
         ensures { (past : BusPast) → LedTo past self.now.bus
@@ -127,7 +127,7 @@ impl ChipBus {
         self.bus.unload();
     }
 
-    /// Drops what is loaded where the controller has left the bus.
+    /// Drops what is loaded if the controller has left the bus.
     fn leave_behind(&mut self, first: &Controller)
         ensures same { IsSameBus self.old.bus self.new.bus }
         ensures drops { (past : BusPast) → LedTo past self.old.bus
@@ -153,10 +153,10 @@ impl ChipBus {
         }
     }
 
-    /// Chooses and starts an object, where nothing is loaded. What was loaded is dropped first where the controller has left the
-    /// bus since: where Init was 1, be it but for a moment, or it was reset or went off. The controller takes part as its
-    /// registers are at the last look; where it takes none, nothing is loaded afterwards. The answer comes with the controller
-    /// that this look found.
+    /// Chooses and starts an object, if nothing is loaded. What was loaded is dropped first if the controller has left the bus
+    /// since: if Init was 1, even for a moment, or it was reset or went off. The controller takes part as its registers are at
+    /// the last look; if it takes no part, nothing is loaded afterwards. The answer comes with the controller that this look
+    /// found.
     pub fn load(
         &mut self,
         ram: &EndlessRam,
@@ -183,10 +183,10 @@ impl ChipBus {
         (controller, answer, port)
     }
 
-    /// A round. What was loaded is dropped first where the controller has left the bus since. The controller takes part as its
-    /// registers are at the look before all steps at objects; what the round was to it is made there last,
-    /// so that whoever is woken by it finds the object done, unless the step that is due there was refused. It is tried 1,000
-    /// times, however few tries the other steps have.
+    /// A round. What was loaded is dropped first if the controller has left the bus since. The controller takes part as its
+    /// registers are at the look before all steps at objects. The round's event at the controller is made last, so that whoever
+    /// is woken by it finds the object done, unless the step that is due at the object was refused. The event has 1,000 tries,
+    /// however few the other steps have.
     pub fn round(
         &mut self,
         ram: &EndlessRam,
@@ -231,8 +231,8 @@ impl ChipBus {
         )
     }
 
-    /// So many groups of eleven recessive bits pass on the bus, and every node sees them. Where each try at the controller was
-    /// lost to a change of another port, no node has seen any, and the call may be made again.
+    /// So many groups of eleven recessive bits pass on the bus, and every node sees them. If each try at the controller was lost
+    /// to a change of another port, no node has seen any, and the call may be made again.
     pub fn recessive(
         &mut self,
         ram: &EndlessRam,

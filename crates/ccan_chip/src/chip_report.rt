@@ -6,7 +6,7 @@ use ccan_endless::{ControllerBusy, ControllerChanged};
 /// What came of a round of a chip.
 #[derive(Clone, Copy, PartialEq, Eq, Debug)]
 pub struct ChipReport {
-    /// The controller that the round's look found. Where its Init is 1 or it is bus off, it takes no part.
+    /// The controller that the round's look found. If its Init is 1 or it is bus off, it takes no part.
     pub found: Controller,
     /// What came of the round, step by step.
     pub report: RoundReport,

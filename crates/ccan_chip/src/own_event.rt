@@ -5,7 +5,7 @@ ghost use Rattle.ccan_chip.specs.Round.{fault_of, faulted, own_in, own_of};
 use ccan_bus::Decision;
 use ccan_confine::{BusEvent, StatusEvent};
 
-/// What is made of the error counters and of the Status register.
+/// What happens to the error counters and to the Status register.
 pub type OwnEvent = (BusEvent, StatusEvent);
 
 /// The event of a fault, for a node that sends or for one that listens.
@@ -32,7 +32,7 @@ fn faulted(sends: bool, last_error: u8) -> Option<OwnEvent>
     }
 }
 
-/// What a decision is to the registers of a controller that takes part, where it leaves this last error code.
+/// What a decision is to the registers of a controller that takes part, if it leaves this last error code.
 fn own_of(decision: &Decision, last_error: u8) -> Option<OwnEvent>
     requires { last_error ≤ 6 }
     ensures is { result ≡ own_of decision.now last_error }

@@ -7,7 +7,7 @@ use Rattle.std.specs.Prelude.{ℕ, ◌%◌, ◌^◌}
 abbrev pub register_bits : ℕ
 register_bits = 15
 
--- the BRP Extension register has these bits alone
+-- the BRP Extension register has only these bits
 abbrev pub extension_bits : ℕ
 extension_bits = 4
 

@@ -7,7 +7,7 @@ use Rattle.std.specs.Int.{bit_at}
 abbrev pub bit : ℕ → ℕ → Bool
 bit n place = bit_at n place == 1
 
--- the number that stands in so many places from a lowest one on
+-- the number in `width` places, from the place `lowest` on
 abbrev pub part : ℕ → ℕ → ℕ → ℕ
 part n lowest width = n / 2 ^ lowest % 2 ^ width
 

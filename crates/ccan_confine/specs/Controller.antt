@@ -1,8 +1,8 @@
 -- The registers of a controller at one moment, what each step makes of them, and the word that they pack to. Source: C_CAN
 -- User's Manual 1.2, "CAN Control Register", "Status Register", "Error Counter", "Bit Timing Register", "BRP Extension
 -- Register", "Test Register" and "Hardware Reset Description". (own): a status interrupt is raised whatever SIE and EIE say;
--- groups of recessive bits count on the way back from bus off also while Init is 1 again; that a controller has left the bus
--- is remembered until the message handler joins anew; and the packed word. The clearing read and the reset of a D_CAN: Texas
+-- groups of recessive bits count on the way back from bus off even while Init is 1 again; that a controller has left the bus
+-- is remembered until the message handler joins again; and the packed word. The clearing read and the reset of a D_CAN: Texas
 -- Instruments, AM335x Technical Reference Manual, chapter DCAN, "Error and Status Register" (LEC is 7 after a reset) and "CAN
 -- Control Register" (SWR).
 use Rattle.std.specs.Prelude.{ℕ, ◌≡◌, ◌+◌, ◌<◌, ◌≤◌, Bool, true, false, ◌&&◌, ◌||◌, not, nat_le, min, ◌^◌, if◌then◌else◌}
@@ -43,7 +43,7 @@ counted event counts c =
       level_pending = c.level_pending || changes_level c.counters.levels counts.levels;
     }
 
--- the counters after so many groups of eleven recessive bits
+-- the counters after this many groups of eleven recessive bits
 abbrev pub counts_grouped : ℕ → Counts → Counts
 counts_grouped groups counts =
     if is_recovering counts then
@@ -93,7 +93,7 @@ new_controller =
       has_left = false;
     }
 
--- A controller has left the bus where Init is 1, if only for a moment: setting Init stops all transfer of messages.
+-- A controller has left the bus if Init is 1, even for only a moment: setting Init stops all transfer of messages.
 abbrev pub leaving : Controller → Controller
 leaving c = record c { has_left = c.has_left || c.control.init }
 
@@ -124,7 +124,7 @@ changed_by change.Reset c = reset_controller
 changed_by change.ResetDcan c = record reset_controller { status = record { tx_ok = false; rx_ok = false; lec = 7 } }
 changed_by change.Join c = record c { has_left = false }
 
--- what a step makes of a controller: the message handler joins the bus, or the controller leaves it where Init is then 1
+-- what a step makes of a controller: the message handler joins the bus, or the controller leaves it if Init is then 1
 abbrev pub controller_after : ControllerChange → Controller → Controller
 controller_after change c = leaving (changed_by change c)
 
@@ -133,8 +133,8 @@ abbrev pub CanMake : ControllerChange → Type 0
 CanMake (change.Frame event noted) = HasFaultCode noted
 CanMake _ = Unit {0}
 
--- The ends of frames, the groups of recessive bits, a reset and a joining are the message handler's side's; all else is a host's,
--- and a reset of a D_CAN is either's.
+-- The message handler's side makes the ends of frames, the groups of recessive bits, a reset and a joining; a host makes all
+-- else; and either makes a reset of a D_CAN.
 abbrev pub is_handlers : ControllerChange → Bool
 is_handlers (change.Frame event noted) = true
 is_handlers (change.Recessive groups) = true
@@ -150,7 +150,7 @@ shows_interrupt c = (c.control.sie && c.transfer_pending) || (c.control.eie && c
 abbrev pub status_word : Controller → ℕ
 status_word c = word_of c.status.tx_ok c.status.rx_ok c.status.lec c.counters.levels
 
--- it is a controller, its numbers are in their ranges, and where Init is 1 it has left the bus
+-- it is a controller, its numbers are in their ranges, and if Init is 1 it has left the bus
 pub record IsController (c : Controller) : Type 0 where
   pub host : c.counters.host ≡ true
   pub tec : c.counters.levels.tec < off_limit + send_fault_step
@@ -190,7 +190,7 @@ packed c = packed_left c + at 42 (packed_timing c) + at 27 (packed_flags c) + pa
 abbrev pub flags_part : ℕ → ℕ
 flags_part word = part word 27 15
 
--- the controller in a word; some controller where none packs to it
+-- the controller in a word; some controller if none packs to it
 abbrev pub unpacked : ℕ → Controller
 unpacked word =
     record {

@@ -17,7 +17,7 @@ unfoldable pub controller_of : List ControllerChange → Controller
 controller_of [] = new_controller
 controller_of (z ∷ earlier) = controller_after z (controller_of earlier)
 
--- what a change of this controller is to its error counters, before other events; with a reset they begin anew
+-- what a change of this controller is to its error counters, before other events; with a reset they begin again
 abbrev pub add_event : ControllerChange → Controller → List NodeEvent → List NodeEvent
 add_event (change.Frame event noted) c events = Bus event ∷ events
 add_event (change.Recessive groups) c events = Groups groups ∷ events
@@ -33,7 +33,7 @@ unfoldable pub node_events : List ControllerChange → List NodeEvent
 node_events [] = []
 node_events (z ∷ earlier) = add_event z (controller_of earlier) (node_events earlier)
 
--- a word tells its controller
+-- a word shows which controller packs to it
 abbrev pub OneWord : Type 0
 OneWord = (c d : Controller) → IsController c → IsController d → packed c ≡ packed d → c ≡ d
 
@@ -46,7 +46,7 @@ abbrev pub is_dcan_reset : ControllerChange → Bool
 is_dcan_reset change.ResetDcan = true
 is_dcan_reset _ = false
 
--- no step of a host but a reset of a D_CAN changes TEC or REC
+-- no step of a host except a reset of a D_CAN changes TEC or REC
 abbrev pub HostsLeaveTheCounters : Type 0
 HostsLeaveTheCounters =
     (z : ControllerChange) (c : Controller) → is_handlers z ≡ false → is_dcan_reset z ≡ false
@@ -76,7 +76,7 @@ StatusReadsClear =
     → (shows_interrupt (controller_after change.ReadStatus c) ≡ false)
     × (shows_interrupt (controller_after change.ReadAndClearStatus c) ≡ false)
 
--- another Control register makes no other status interrupt pending: SIE and EIE mask what is shown alone
+-- another Control register makes no other status interrupt pending: SIE and EIE mask only what is shown
 abbrev pub MasksLoseNothing : Type 0
 MasksLoseNothing =
     (z : ControllerChange) (c : Controller) (control : ControlRegister)
@@ -101,7 +101,7 @@ rx_ok_given change.Reset = Some false
 rx_ok_given change.ResetDcan = Some false
 rx_ok_given _ = None
 
--- what the newest change gives that gives something; at the opening 0
+-- what the newest change that gives something gives; at the opening 0
 unfoldable pub newest_given : (ControllerChange → Option Bool) → List ControllerChange → Bool
 newest_given given [] = false
 newest_given given (z ∷ earlier) = unwrap_or (given z) (newest_given given earlier)

@@ -29,7 +29,7 @@ most_rec = 255
 abbrev pub rec_after_passive : ℕ
 rec_after_passive = 119
 
--- so many groups of eleven recessive bits bring a node back (for the controller own)
+-- this many groups of eleven recessive bits bring a node back (for the controller own)
 abbrev pub groups_to_return : ℕ
 groups_to_return = 128
 
@@ -67,7 +67,7 @@ by_table ReceiveFault levels = record levels { rec = min (levels.rec + 1) most_r
 abbrev pub levels_after : BusEvent → Levels → Levels
 levels_after event levels = if is_off levels then levels else by_table event levels
 
--- What happens to a node, in a list with the newest event first: a bus event, so many groups of eleven recessive bits,
+-- What happens to a node, in a list with the newest event first: a bus event, some groups of eleven recessive bits,
 -- or a clearing of Init. A clearing elsewhere than in bus off, or of another node than the controller, does nothing (own).
 pub data NodeEvent : Type 0 where
   Bus : BusEvent → NodeEvent
@@ -79,7 +79,7 @@ groups_of (Bus _) = 0
 groups_of (Groups number) = number
 groups_of ClearInit = 0
 
--- how many groups stand in a list
+-- how many groups are in a list
 abbrev pub groups_in : List NodeEvent → ℕ
 groups_in events = sum_by groups_of events
 
@@ -99,12 +99,12 @@ levels_of (Bus event ∷ earlier) = levels_after event (levels_of earlier)
 levels_of (Groups _ ∷ earlier) = levels_of earlier
 levels_of (ClearInit ∷ earlier) = levels_of earlier
 
--- the part of a life since the node went off, without the event at which it did; nothing where it is on
+-- the part of a life since the node went off, without the event at which it did; nothing if it is on
 unfoldable pub since_off : List NodeEvent → List NodeEvent
 since_off [] = []
 since_off (event ∷ earlier) = if is_off (levels_of earlier) then event ∷ since_off earlier else []
 
--- the part of a list since the first clearing of Init in it, without that; nothing where there is none
+-- the part of a list since the first clearing of Init in it, without that; nothing if there is none
 unfoldable pub since_clearing : List NodeEvent → List NodeEvent
 since_clearing [] = []
 since_clearing (event ∷ earlier) = if clears_init earlier then event ∷ since_clearing earlier else []
@@ -114,7 +114,7 @@ since_clearing (event ∷ earlier) = if clears_init earlier then event ∷ since
 abbrev pub counted : Bool → List NodeEvent → List NodeEvent
 counted host life = if host then since_clearing (since_off life) else since_off life
 
--- the node is back: enough groups stand in that part
+-- the node is back: enough groups are in that part
 abbrev pub is_back : Bool → List NodeEvent → Bool
 is_back host life = nat_le groups_to_return (groups_in (counted host life))
 
@@ -177,7 +177,7 @@ are_node_counts tec groups =
     nat_lt tec (off_limit + send_fault_step)
     && (if nat_le off_limit tec then nat_lt groups groups_to_return else groups == 0)
 
--- a node without a host whose counters stand so
+-- a node without a host, with these counters
 abbrev pub node_counts : ℕ → ℕ → ℕ → Option Counts
 node_counts tec rec groups =
     if are_node_counts tec groups

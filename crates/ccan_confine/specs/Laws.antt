@@ -39,7 +39,7 @@ abbrev pub OnlySendFaultsLeadOff : Type 0
 OnlySendFaultsLeadOff =
     (host : Bool) (event : NodeEvent) (earlier : List NodeEvent) → GoesOff host event earlier → event ≡ Bus SendFault
 
--- a node in whose own frames no error was ever found is on, as one that is alone on the bus
+-- a node is on if no error was ever found in its own frames, such as one that is alone on the bus
 abbrev pub OnWithoutSendFaults : Type 0
 OnWithoutSendFaults =
     (host : Bool) (events : List NodeEvent)
@@ -89,7 +89,7 @@ GroupsCountOnlyWhileRecovering =
     → is_recovering_after host events ≡ false
     → counts_of host (Groups number ∷ events) ≡ counts_of host events
 
--- a clearing of Init changes nothing where the node is on, where it isn't the controller, or where it recovers already
+-- a clearing of Init changes nothing if the node is on, if it isn't the controller, or if it is recovering already
 abbrev pub OnlyTheFirstClearingCounts : Type 0
 OnlyTheFirstClearingCounts =
     (host : Bool) (events : List NodeEvent)
@@ -111,7 +111,7 @@ abbrev pub EnablingMakesNothingPending : Type 0
 EnablingMakesNothingPending =
     (sie eie : Bool) (steps : List StatusStep) → IsPending (Enabled sie eie ∷ steps) → IsPending steps
 
--- after an event it is pending exactly where it was before, or where the event is a cause: with SIE the end of a transfer
+-- after an event it is pending exactly if it was before, or if the event is a cause: with SIE the end of a transfer
 -- or a bus error, with EIE a change of BOff or EWarn
 abbrev pub CausesMakePending : Type 0
 CausesMakePending =

@@ -20,7 +20,7 @@ pub data StatusStep : Type 0 where
   Enabled : Bool → Bool → StatusStep
   WasRead : StatusStep
 
--- what the newest step gives that gives something, else a value of the opening
+-- what the newest step that gives something gives, else a value of the opening
 abbrev pub newest : {A : Type 0} → (StatusStep → Option A) → A → List StatusStep → A
 newest given opening steps = unwrap_or (slice_get (filter_map given steps) 0) opening
 
@@ -59,7 +59,7 @@ is_read (Happened _ _) = false
 is_read (Enabled _ _) = false
 is_read WasRead = true
 
--- TxOk and RxOk: such a frame stands in the list; a read leaves them
+-- TxOk and RxOk: such a frame is in the list; a read leaves them
 abbrev pub tx_ok_of : List StatusStep → Bool
 tx_ok_of steps = list_any sends steps
 
@@ -95,7 +95,7 @@ IsCause event levels earlier =
     (IsTrue (sie_of earlier) × IsTrue (is_transfer_or_error event))
     ⊎ (IsTrue (eie_of earlier) × ChangesLevel levels earlier)
 
--- since the last read stands an event that made the status interrupt pending, as things were before it
+-- since the last read there is an event that made the status interrupt pending, as things were before it
 pub record IsPending (steps : List StatusStep) : Type 0 where
   pub later : List StatusStep
   pub event : StatusEvent
@@ -142,7 +142,7 @@ pub record IsHeldAfter (steps : List StatusStep) (held : Held) : Type 0 where
   pub ewarn : held.ewarn ≡ ewarn_of steps
   pub pending : IsTrue held.pending ↔ IsPending steps
 
--- after each list that led to what was held before, and this step, the new is held
+-- after each list that led to what was held before, and this step, the new value is held
 abbrev pub AddsStep : StatusStep → Held → Held → Type 0
 AddsStep step old new = (steps : List StatusStep) → IsHeldAfter steps old → IsHeldAfter (step ∷ steps) new
 
@@ -163,7 +163,7 @@ nothing_held =
 abbrev pub differ : Bool → Bool → Bool
 differ a b = if a then not b else b
 
--- an event makes the status interrupt pending, where this is held
+-- an event makes the status interrupt pending, when this is held
 abbrev pub raises : Held → StatusEvent → Levels → Bool
 raises held event levels =
     (held.sie && is_transfer_or_error event)

@@ -1,4 +1,4 @@
--- What of the Status register is stored and may be written: C_CAN User's Manual 1.2, "Status Register".
+-- What is stored of the Status register and may be written: C_CAN User's Manual 1.2, "Status Register".
 use Rattle.std.specs.Prelude.{ℕ, Bool, false, ◌||◌, unwrap_or}
 use Rattle.ccan_confine.specs.declared.status_event.StatusEvent.{StatusEvent}
 use Rattle.ccan_confine.specs.StatusEvent.{code_of, is_sent, is_received}

@@ -4,14 +4,14 @@
 /// on. One that is bus off takes no part, and keeps both.
 #[derive(Clone, Copy, Debug, PartialEq, Eq, Hash)]
 pub enum BusEvent {
-    /// It sent a frame, which another node acknowledged: TEC less 1, if above 0.
+    /// It sent a frame, which another node acknowledged: TEC minus 1, if above 0.
     Sent,
-    /// It received a frame: REC less 1, if from 1 to 127; above 127 it becomes 119.
+    /// It received a frame: REC minus 1, if from 1 to 127; above 127 it becomes 119.
     Received,
-    /// It sent, and an error was found in its frame: TEC and 8.
+    /// It sent, and an error was found in its frame: TEC plus 8.
     SendFault,
-    /// It sent, and no node acknowledged: TEC and 8, where it is error active; nothing where it is error passive.
+    /// It sent, and no node acknowledged: TEC plus 8, if it is error active; nothing if it is error passive.
     SendNoAck,
-    /// It received, and an error was found: REC and 1, up to 255.
+    /// It received, and an error was found: REC plus 1, up to 255.
     ReceiveFault,
 }

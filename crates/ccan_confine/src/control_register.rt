@@ -38,7 +38,7 @@ impl ControlRegister {
             + flag(self.init, 0)) as u16
     }
 
-    /// The register that a host writes by this word. Its reserved bits are dropped.
+    /// The register that a host writes with this word. Its reserved bits are dropped.
     #[inline(always)]
     pub fn of_word(word: u16) -> ControlRegister
         ensures { result ≡ control_in word }

@@ -23,7 +23,7 @@ const BIT_TIMING_AT_RESET: u16 = 0x2301;
 /// The registers of a controller at one moment: Control, Status, the error counters, Bit Timing, BRP Extension and Test, with
 /// the status interrupts that are pending.
 ///
-/// They fit into one word of 64 bits, so that they may stand beside the words of the message objects:
+/// They fit into one word of 64 bits, so that they may be kept beside the words of the message objects:
 ///
 /// | bits | field | bits | field |
 /// |---|---|---|---|
@@ -50,7 +50,7 @@ pub struct Controller {
     pub status: StatusFlags,
     /// A status interrupt of a transfer or an error was raised since the last read of the Status register.
     pub transfer_pending: bool,
-    /// A status interrupt of a change of BOff or EWarn was raised since.
+    /// A status interrupt of a change of BOff or EWarn was raised since then.
     pub level_pending: bool,
     /// The Test register.
     pub test: TestRegister,
@@ -62,7 +62,7 @@ pub struct Controller {
 }
 
 impl Controller {
-    /// A controller as it opens: every register is 0, also Init.
+    /// A controller as it opens: every register is 0, Init too.
     pub fn new() -> Controller
         ensures opened { result ≡ new_controller }
         ensures is { IsController result }
@@ -113,7 +113,7 @@ impl Controller {
     }
 
     /// Whether the Interrupt register shows the status interrupt, 0x8000. What was raised while SIE or EIE was 0 is
-    /// shown once the bit is 1, where no read came between. The interrupt line needs IE besides.
+    /// shown once the bit is 1, if no read came between. The interrupt line also needs IE.
     #[inline(always)]
     pub fn shows_status_interrupt(&self) -> bool
         ensures { result ≡ shows_interrupt self.now }
@@ -135,7 +135,7 @@ impl Controller {
         )
     }
 
-    /// The word of the Error Counter register: RP 15 (REC is at least 128), the low seven bits of REC 14 to 8, TEC 7 to 0, where
+    /// The word of the Error Counter register: RP 15 (REC is at least 128), the low seven bits of REC 14 to 8, TEC 7 to 0;
     /// a TEC above 255 shows as 255 (C_CAN User's Manual 1.2, "Error Counter").
     #[inline(always)]
     pub fn error_counter_word(&self) -> u16
@@ -155,7 +155,7 @@ impl Controller {
         left + (self.pack_timing() << 42) + (self.pack_flags() << 27) + self.pack_numbers()
     }
 
-    /// The controller that packs to this word; some controller where none does.
+    /// The controller that packs to this word; some controller if none does.
     #[inline(always)]
     pub fn unpack(word: u64) -> Controller
         ensures { (c : Controller) → IsController c → packed c ≡ word → result ≡ c }
@@ -240,7 +240,7 @@ impl Controller {
         }
     }
 
-    // The controller, which has left the bus where Init is 1.
+    // The controller, which has left the bus if Init is 1.
     #[inline(always)]
     fn leaving(self) -> Controller
         ensures { result ≡ leaving self }

@@ -7,10 +7,10 @@ use crate::test_register::TestRegister;
 /// What changes the controller's registers in one step.
 #[derive(Clone, Copy, Debug, PartialEq, Eq, Hash)]
 pub enum ControllerChange {
-    /// A frame ended for the controller: what it is to the error counters, and what to the Status register. By the
+    /// A frame ended for the controller: what it is to the error counters and to the Status register. Made by the
     /// message handler alone.
     Frame(BusEvent, StatusEvent),
-    /// So many groups of eleven recessive bits. By the message handler alone.
+    /// This many groups of eleven recessive bits. Made by the message handler alone.
     Recessive(u16),
     /// A host reads the Status register of a C_CAN: a status interrupt is no longer pending.
     ReadStatus,
@@ -19,32 +19,32 @@ pub enum ControllerChange {
     ReadAndClearStatus,
     /// A host writes the Status register: TxOk, RxOk and LEC.
     WriteStatus(StatusFlags),
-    /// A host writes the Control register. Where it clears Init and the controller is bus off, the way back begins.
+    /// A host writes the Control register. If it clears Init and the controller is bus off, the way back begins.
     WriteControl(ControlRegister),
     /// A host writes the bits of the Control register that are 1 in the first value, as they are in the second one; the others
-    /// stay. So a read and a write of the register end between which nobody came (C_CAN User's Manual 1.2, "CAN Control
-    /// Register").
+    /// stay. A read and a write of the register end like this if nobody came between them (C_CAN User's Manual 1.2, "CAN
+    /// Control Register").
     WriteControlBits(ControlRegister, ControlRegister),
-    /// A host writes the Test register, which stays where Test of the Control register is 0.
+    /// A host writes the Test register, which stays if Test of the Control register is 0.
     WriteTest(TestRegister),
-    /// A host writes the Bit Timing register, without its reserved bit. It stays where Init or CCE of the Control register is 0
+    /// A host writes the Bit Timing register, without its reserved bit. It stays if Init or CCE of the Control register is 0
     /// (C_CAN User's Manual 1.2, "Bit Timing Register").
     WriteBitTiming(u16),
-    /// A host writes the BRP Extension register, without its reserved bits. It stays where Init or CCE of the Control register
+    /// A host writes the BRP Extension register, without its reserved bits. It stays if Init or CCE of the Control register
     /// is 0 (C_CAN User's Manual 1.2, "BRP Extension Register").
     WriteExtension(u16),
     /// A host writes the Bit Timing and the BRP Extension register at once, without their reserved bits: the BTR register of a
-    /// D_CAN has both. They stay where Init or CCE of the Control register is 0 (Texas Instruments, AM335x Technical Reference
+    /// D_CAN has both. They stay if Init or CCE of the Control register is 0 (Texas Instruments, AM335x Technical Reference
     /// Manual, chapter DCAN, "Bit Timing Register").
     WriteTiming(u16, u16),
     /// A hardware reset: Init is 1, so the controller has left the bus, the Bit Timing register is 0x2301, and all else is 0
-    /// as in a new controller (C_CAN User's Manual 1.2, "Hardware Reset Description"). By the message handler's side alone.
+    /// as in a new controller (C_CAN User's Manual 1.2, "Hardware Reset Description"). Made by the message handler's side alone.
     Reset,
     /// A reset of a D_CAN, after which LEC is 7; all else is as after `Reset`. A host makes it too, by SWR of the CAN Control
     /// register (Texas Instruments, AM335x Technical Reference Manual, chapter DCAN, "CAN Control Register" and "Error and
     /// Status Register").
     ResetDcan,
-    /// The message handler joins the bus anew: that the controller had left it is forgotten, unless Init is 1. By the message
-    /// handler alone (own).
+    /// The message handler joins the bus again: that the controller had left it is forgotten, unless Init is 1. Made by the
+    /// message handler alone (own).
     Join,
 }

@@ -17,14 +17,14 @@ const OFF: u16 = 256;
 const SEND_FAULT_STEP: u16 = 8;
 /// What a received frame makes of a receive error counter that is above 127.
 const REC_AFTER_PASSIVE: u8 = 119;
-/// So many groups of eleven recessive bits bring a node back.
+/// This many groups of eleven recessive bits bring a node back.
 const GROUPS_TO_RETURN: u32 = 128;
 
 /// The error counters of one node, with what its way back from bus off needs.
 ///
 /// The transmit error counter (TEC) is 0 to 263, the receive error counter (REC) 0 to 255, in units of the standard: an
-/// error in an own frame adds 8, one in a frame of another node 1. A call takes the counters and answers those after
-/// it, as they are `Copy`. Contracts see the record of the parts.
+/// error in a node's own frame adds 8, one in a frame of another node 1. A call takes the counters and answers those
+/// after it, since they are `Copy`. Contracts see the record of the parts.
 #[derive(Clone, Copy, Debug, PartialEq, Eq, Hash)]
 pub struct Counters {
     pub(crate) host: bool,
@@ -75,7 +75,7 @@ impl Counters {
         }
     }
 
-    /// The controller as faults of its own frames alone lead it off: TEC is 256, and Init was not cleared since.
+    /// The controller once faults of its own frames alone have made it go off: TEC is 256, and Init was not cleared since.
     pub fn gone_off() -> Counters
         ensures off { is_off result.levels ≡ true }
         ensures listed { AreAfter true faults_to_off result }
@@ -89,8 +89,8 @@ impl Counters {
         }
     }
 
-    /// A node without a host, where its counters stand so: TEC 0 to 263, REC 0 to 255, and the groups of recessive bits that count
-    /// for it, 0 to 127, which are 0 unless it is bus off. None where a number is out of its range.
+    /// A node without a host, with these counters: TEC 0 to 263, REC 0 to 255, and the groups of recessive bits that count
+    /// for it, 0 to 127, which are 0 unless it is bus off. None if a number is out of its range.
     pub fn of_node(tec: u16, rec: u8, groups: u8) -> Option<Counters>
         ensures { result ≡ node_counts tec rec groups }
     {
@@ -133,7 +133,7 @@ impl Counters {
         self.rec
     }
 
-    /// The state that the counters mean: off where TEC is at least 256, else passive where a counter is at least 128,
+    /// The state that the counters mean: off if TEC is at least 256, else passive if a counter is at least 128,
     /// else active.
     pub fn state(self) -> NodeState
         ensures value { result ≡ state_of self.levels }
@@ -149,7 +149,7 @@ impl Counters {
         }
     }
 
-    /// Whether groups of recessive bits count now: the node is off and, where it is the controller, Init was cleared
+    /// Whether groups of recessive bits count now: the node is off and, if it is the controller, Init was cleared
     /// since it went off.
     pub fn recovering(self) -> bool
         ensures value { result ≡ is_recovering self }
@@ -172,7 +172,7 @@ impl Counters {
         }
     }
 
-    /// The counters after so many groups of eleven recessive bits. Groups count only while the node is recovering; with
+    /// The counters after this many groups of eleven recessive bits. Groups count only while the node is recovering; with
     /// the one that makes 128 it is back, as it opened.
     #[must_use]
     pub fn recessive_groups(self, groups: u16) -> Counters

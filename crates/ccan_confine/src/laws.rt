@@ -30,7 +30,7 @@ pub fn not_back_before_init()
     ensures { NotBackBeforeInit }
 {}
 
-/// For the controller groups before the clearing of Init don't count.
+/// For the controller, groups before the clearing of Init don't count.
 pub fn not_back_before_the_groups_after_init()
     ensures { NotBackBeforeTheGroupsAfterInit }
 {}
@@ -55,13 +55,13 @@ pub fn only_the_first_clearing_counts()
     ensures { OnlyTheFirstClearingCounts }
 {}
 
-/// The event at which a node goes off is an error in a frame that it sent. A missing acknowledgement leads no node off,
-/// be it active or passive.
+/// The event at which a node goes off is an error in a frame that it sent. A missing acknowledgement makes no node go off,
+/// whether active or passive.
 pub fn only_send_faults_lead_off()
     ensures { OnlySendFaultsLeadOff }
 {}
 
-/// A node in whose own frames no error was ever found is on, as one that is alone on the bus.
+/// A node is on if no error was ever found in its own frames, such as one that is alone on the bus.
 pub fn on_without_send_faults()
     ensures { OnWithoutSendFaults }
 {}
@@ -76,7 +76,7 @@ pub fn enabling_makes_nothing_pending()
     ensures { EnablingMakesNothingPending }
 {}
 
-/// After an event it is pending exactly where it was before, or where the event is a cause: with SIE the end of a transfer
+/// After an event it is pending exactly if it was before, or if the event is a cause: with SIE the end of a transfer
 /// or a bus error, with EIE a change of BOff or EWarn.
 pub fn causes_make_pending()
     ensures { CausesMakePending }
@@ -125,7 +125,7 @@ pub fn flags_are_given_last()
 {}
 
 /// From the moment at which Init is 1 the controller has left the bus, whatever else changes, until the message handler joins it
-/// anew: also where Init is 0 again.
+/// again: even if Init is 0 again.
 pub fn has_left_until_joining()
     ensures { HasLeftUntilJoining }
 {}

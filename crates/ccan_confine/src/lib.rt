@@ -21,7 +21,7 @@
 //! [`Counters`] are those of one node. They take whole frames: a [`BusEvent`] says how a frame ended for the node. The
 //! rules of the CAN Specification 2.0, section 8, "Fault Confinement", that need single bits are left out:
 //! - dominant bit after an error flag (rule 2): a receiver that sees it first after its flag adds 8 to REC;
-//! - the first exception of rule 3: a passive sender without an acknowledgement adds 8 to TEC after all where it sees a
+//! - the first exception of rule 3: a passive sender without an acknowledgement adds 8 to TEC after all if it sees a
 //!   dominant bit in its own flag;
 //! - the second exception of rule 3: a stuff error during arbitration, of a stuff bit sent recessive before the RTR bit
 //!   and seen dominant, adds nothing to TEC;
@@ -33,11 +33,11 @@
 //! 1.2, "Status Register" and "CAN Control Register").
 //!
 //! [`Controller`] has all registers of a controller in one value, which packs into one word: Control, Status, the error
-//! counters, Bit Timing, BRP Extension and Test. A [`ControllerChange`] is what one step makes of it, of a host or of the
-//! message handler.
+//! counters, Bit Timing, BRP Extension and Test. A [`ControllerChange`] is what one step of a host or of the message
+//! handler makes of it.
 //!
 //! Neither counters nor Status register store what happened. Their contracts do: whatever list of events led to a value, the
-//! value after a call is that of the list with one event more. [`laws`] says what follows over whole lists.
+//! value after a call is that of the list with one more event. [`laws`] says what follows over whole lists.
 #![tactic(auto)]
 
 pub mod bit_timing;

@@ -4,7 +4,7 @@ use std::fmt;
 /// to none. It prints as `active`, `passive` or `off`.
 #[derive(Clone, Copy, Debug, Default, PartialEq, Eq, PartialOrd, Ord, Hash)]
 pub enum NodeState {
-    /// Error active: both counters are below 128. A node opens so.
+    /// Error active: both counters are below 128. A node opens in this state.
     #[default]
     Active,
     /// Error passive: a counter is at least 128, and the node is not bus off.

@@ -92,8 +92,8 @@ impl Status {
         }
     }
 
-    /// An event, with the error counters of the controller after it. It makes the status interrupt pending where SIE is
-    /// 1 and it is a transfer or an error, or where EIE is 1 and BOff or EWarn differs from the event before (from 0
+    /// An event, with the error counters of the controller after it. It makes the status interrupt pending if SIE is
+    /// 1 and it is a transfer or an error, or if EIE is 1 and BOff or EWarn differs from the event before (from 0
     /// before the first). The code of a `Fault` has to be 1 to 6.
     pub fn after(&mut self, event: StatusEvent, counters: &Counters)
         requires { HasFaultCode event }
@@ -131,7 +131,7 @@ impl Status {
         self.word(counters)
     }
 
-    /// Whether the status interrupt is pending: it is so from its cause to the next read.
+    /// Whether the status interrupt is pending: it is pending from its cause to the next read.
     pub fn pending(&self) -> bool
         ensures value { result ≡ self.now.pending }
         ensures listed { (steps : List StatusStep) → IsHeldAfter steps self.now
@@ -167,7 +167,7 @@ impl Status {
     }
 }
 
-// The word of the register. The flags stand at places of their own and above LEC, so that their sum is their union; a sum
+// The word of the register. The flags have places of their own and above LEC, so that their sum is their union; a sum
 // is what the prover reads best.
 #[inline(always)]
 pub(crate) fn register_word(tx_ok: bool, rx_ok: bool, lec: u8, counters: &Counters) -> u16
@@ -183,7 +183,7 @@ pub(crate) fn register_word(tx_ok: bool, rx_ok: bool, lec: u8, counters: &Counte
         + u16::from(lec)
 }
 
-// The mask where the flag is set, else 0.
+// The mask if the flag is set, else 0.
 fn bit(mask: u16, set: bool) -> u16
     ensures { result ≡ (if set then mask else 0) }
 {

@@ -15,9 +15,9 @@ pub enum StatusEvent {
     /// 5 bit 0, 6 CRC.
     Fault(u8),
     /// Groups of eleven recessive bits while the controller recovers from bus off: sets LEC to 5. It is no transfer and
-    /// no error, so that SIE alone lets it make nothing pending.
+    /// no error, so with SIE alone it makes nothing pending.
     Recovery,
-    /// Nothing but the counters may have changed: LEC stays.
+    /// Only the counters may have changed: LEC stays.
     Level,
 }
 

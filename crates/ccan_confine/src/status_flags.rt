@@ -7,9 +7,9 @@ use crate::bits::{bit, part};
 use crate::status_event::StatusEvent;
 use std::marker::Model;
 
-/// What of the Status register is stored and a host may write: TxOk, RxOk and LEC (C_CAN User's Manual 1.2, "Status
+/// What is stored of the Status register and a host may write: TxOk, RxOk and LEC (C_CAN User's Manual 1.2, "Status
 /// Register"). LEC is 0 to 7: 0 none, 1 stuff, 2 form, 3 acknowledgement, 4 bit 1, 5 bit 0, 6 CRC. No event sets 7: a
-/// host writes it to see whether one sets LEC since. Contracts see the record of the parts.
+/// host writes it to see whether one has set LEC since. Contracts see the record of the parts.
 #[derive(Clone, Copy, Debug, PartialEq, Eq, Hash)]
 pub struct StatusFlags {
     tx_ok: bool,
@@ -41,7 +41,7 @@ impl StatusFlags {
         StatusFlags { tx_ok, rx_ok, lec }
     }
 
-    /// What a host writes into the Status register by this word: RxOk 4, TxOk 3, LEC 2 to 0. Its other bits are dropped.
+    /// What a host writes into the Status register with this word: RxOk 4, TxOk 3, LEC 2 to 0. Its other bits are dropped.
     #[inline(always)]
     pub fn of_word(word: u16) -> StatusFlags
         ensures { result ≡ flags_in word }

@@ -25,7 +25,7 @@ impl TestRegister {
         (flag(self.lback, 4) + flag(self.silent, 3) + flag(self.basic, 2)) as u16
     }
 
-    /// What a host writes into the register by this word. The bits of the pins and the reserved ones are dropped.
+    /// What a host writes into the register with this word. The bits of the pins and the reserved ones are dropped.
     #[inline(always)]
     pub fn of_word(word: u16) -> TestRegister
         ensures { result ≡ test_in word }

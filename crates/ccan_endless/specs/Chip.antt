@@ -1,5 +1,5 @@
 -- The history of a whole chip: the events of its message RAM and those of its controller, the newest first. The history of the
--- message RAM is its part of it. Source: this project's own; what a change makes of the controller is `controller_after`.
+-- message RAM is a part of it. Source: this project's own; what a change makes of the controller is `controller_after`.
 use Rattle.std.specs.Prelude.{◌≡◌, true, List, [], ◌∷◌, ◌++◌, if◌then◌else◌}
 use Rattle.ccan_confine.specs.declared.controller.Controller.{Controller}
 use Rattle.ccan_confine.specs.declared.controller_change.ControllerChange.{ControllerChange}
@@ -45,7 +45,7 @@ abbrev pub MayStand : PortName → ControllerStep → Type 0
 MayStand port Look = Unit {0}
 MayStand port (Make change) = MayMake port change
 
--- a look leaves the controller, a change makes another of it
+-- a look leaves the controller as it is, a change makes another of it
 abbrev pub left_by : ControllerStep → Controller → Controller
 left_by Look before = before
 left_by (Make change) before = controller_after change before
@@ -57,7 +57,7 @@ pub record IsControllerStep (event : ControllerEvent) (history : ChipHistory) : 
   pub stands : MayStand event.port event.step
   pub is : IsController event.after
 
--- the steps at the controller lead through the history
+-- each step at the controller fits the history before it
 abbrev pub IsControllerLegal : ChipHistory → Type 0
 IsControllerLegal [] = Unit {0}
 IsControllerLegal (OfRam e ∷ h) = IsControllerLegal h

@@ -14,7 +14,7 @@ pub record IsChipPart (port : ChipPass) (history : ChipHistory) : Type 0 where
   pub steps : steps_of port.pass.port history ≡ steps_of port.pass.port port.whole
   pub ram : IsPart port.pass (ram_of history)
 
--- One history of the chip, of which each port has seen a part, with all events of each and no others. Its events at objects are
+-- One history of the chip, with all events of each port and no others; each port has seen a part of it. Its events at objects are
 -- legal and leave the records; its steps at the controller are legal and leave the controller.
 pub record ChipEnds (if1 if2 bus : ChipPass) (final : FinalChip) : Type 0 where
   pub profile_is : final.memory.profile ≡ if1.pass.memory.profile

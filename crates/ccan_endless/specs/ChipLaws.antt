@@ -1,4 +1,4 @@
--- What follows of every history of a chip whose steps at the controller are legal. Source: this project's own; fault
+-- What follows for every history of a chip whose steps at the controller are legal. Source: this project's own; fault
 -- confinement is that of CAN Specification 2.0.
 use Rattle.std.specs.Prelude.{◌≡◌, true, false, List, [], ◌∷◌, ◌++◌}
 use Rattle.std.specs.List.{list_any}
@@ -11,7 +11,7 @@ use Rattle.ccan_endless.specs.declared.chip.ControllerStep.{ControllerStep}
 use Rattle.ccan_endless.specs.declared.chip.ControllerStep.TheVariants.{Look, Make}
 use Rattle.ccan_endless.specs.Chip.{ChipHistory, controller_at, steps_of, IsControllerLegal}
 
--- a change before others, a look leaves them
+-- a change comes before the others, a look leaves them as they are
 abbrev pub add_change : ControllerStep → List ControllerChange → List ControllerChange
 add_change Look changes = changes
 add_change (Make change) changes = change ∷ changes
@@ -26,7 +26,7 @@ changes_in (OfController e ∷ h) = add_change e.step (changes_in h)
 abbrev pub ControllerIsItsChanges : Type 0
 ControllerIsItsChanges = (h : ChipHistory) → IsControllerLegal h → controller_at h ≡ controller_of (changes_in h)
 
--- its error counters are those of fault confinement over what the changes are to them
+-- its error counters are those that fault confinement defines for what the changes mean to them
 abbrev pub CountersAreAsDefined : Type 0
 CountersAreAsDefined =
     (h : ChipHistory) → IsControllerLegal h → AreAfter true (node_events (changes_in h)) (controller_at h).counters

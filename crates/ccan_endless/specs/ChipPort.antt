@@ -24,13 +24,13 @@ abbrev pub whole_in : Option ChipHistory → ChipHistory
 whole_in None = []
 whole_in (Some h) = h
 
--- what a port has seen of the message RAM is the part of what it has seen of the chip, where each step at the controller is
--- legal
+-- what a port has seen of the message RAM is the message RAM's part of what it has seen of the chip, and each step at the
+-- controller there is legal
 pub record SeesOne (port : ChipPass) : Type 0 where
   pub ram : port.pass.seen ≡ ram_of port.whole
   pub legal : IsControllerLegal port.whole
 
--- a call adds one step at the controller to all that its port had seen, behind steps of others, and finds what these left
+-- a call adds one step at the controller to all that its port had seen, after steps of others, and finds what these left
 pub record AddsController (old new : ChipPass) (step : ControllerStep) (before : Controller) : Type 0 where
   pub same : IsSamePort old.pass new.pass
   pub from : SeesOne old
@@ -55,11 +55,11 @@ pub record AddsNoEvent (old new : ChipPass) : Type 0 where
   pub own : events_of old.pass.port new.pass.seen ≡ events_of old.pass.port old.pass.seen
   pub sees : CanSee new.pass
 
--- between these histories stand at least so many changes of the controller
+-- between these histories there are at least so many changes of the controller
 abbrev pub HasChanges : ℕ → ChipHistory → ChipHistory → Type 0
 HasChanges count older newer = length (changes_in older) + count ≤ length (changes_in newer)
 
--- two ports of a chip that meet make no step, and have then seen one and the same
+-- two ports of a chip that meet make no step, and have then seen the same
 pub record ChipMeets (a b new_a new_b : ChipPass) : Type 0 where
   pub none_a : AddsNone a new_a
   pub none_b : AddsNone b new_b

@@ -1,5 +1,5 @@
--- The rule of a chip's words: there is one history of the whole chip, whose part of the message RAM keeps the rule of the
--- objects' words (`Rule`), and the controller's word holds the controller that the history leaves. Source: this project's own.
+-- The rule of a chip's words: there is one history of the whole chip. The message RAM's part of it keeps the rule of the objects'
+-- words (`Rule`), and the controller's word holds the controller that the history leaves. Source: this project's own.
 use Rattle.std.specs.Prelude.{◌≡◌, ◌≢◌, ℕ, [], ◌∷◌, map, slice_index, Option, Some, None}
 use mathlib.Core.Option.{some}
 use lib.ListN.{get_elem?}
@@ -23,11 +23,11 @@ use Rattle.ccan_endless.specs.Chip.{ChipHistory, ram_of, controller_at, steps_of
 use Rattle.ccan_endless.specs.Chip.{MayMake, step_at}
 use Rattle.ccan_endless.specs.ChipPort.{whole_in}
 
--- a seat's view of a chip, beside the slots that it holds: these memories have none
+-- a seat's view of a chip, besides the slots that it holds: these memories have none
 abbrev pub ChipKnows : Type 0
 ChipKnows = Me (Unit {0}) ChipView
 
--- what of it is of the message RAM
+-- the part of it that is of the message RAM
 abbrev pub ram_knows : ChipKnows → Knows
 ram_knows m = (m.0.ram, m.1)
 
@@ -41,7 +41,7 @@ ram_state s = record { words = s.words; homes = s.homes; views = map ram_view s.
 abbrev pub chip_see : ChipHistory → ByPort ChipHistory → ByPort ChipHistory
 chip_see h v = each_as (λ old. h) v
 
--- what has been seen of the message RAM for a port is the part of what has been seen of the chip
+-- what has been seen of the message RAM for a port is the message RAM's part of what has been seen of the chip
 abbrev pub Agree : Option PortView → Option ChipHistory → Type 0
 Agree None None = Unit {0}
 Agree None (Some h) = ⊥
@@ -66,7 +66,7 @@ module _ (profile : Profile) where
     pub agree : (i : ℕ) (p : PortName) (v : ChipView) → get_elem? s.views i ≡ some v → Agree (holding p v.ram) (holding p v.chip)
     pub seats : (i : ℕ) (p : PortName) (v : ChipView) (h : ChipHistory) → get_elem? s.views i ≡ some v
         → holding p v.chip ≡ Some h → IsBeginning log p h
-    -- what was told with a seat is a beginning of the history
+    -- the `told` of a seat is a beginning of the history
     pub told : (i : ℕ) (v : ChipView) → get_elem? s.views i ≡ some v → GoesFrom log v.told
 
 -- what each port of a seat has seen is all of this history
@@ -100,7 +100,7 @@ pub record SeesController (profile : Profile) (m : ChipKnows) (found : ℕ) (n :
   pub finds : FindsController profile log m found
   pub view : SawAll log m n
 
--- what a change of the controller asks: it was computed of this controller, and the port may make it
+-- what a change of the controller requires: it was computed from this controller, and the port may make it
 pub record IsSetting (p : PortName) (change : ControllerChange) (before : Controller) : Type 0 where
   pub may : MayMake p change
   pub is_before : IsController before
@@ -117,7 +117,7 @@ pub record SetsController (profile : Profile) (p : PortName) (change : Controlle
       × IsControllerLegal (OfController (step_at p (Make change) before) ∷ log)
   pub lost : found ≢ packed before → SawAll log m n
 
--- a seat is cut in two: the second has one port, and the first is told what that has seen
+-- a seat is cut in two: the second has one port, and the `told` of the first is what that port has seen
 abbrev pub chip_without : PortName → ChipView → ChipView
 chip_without p v =
     record { ram = with_held p None v.ram; chip = with_held p None v.chip; told = whole_in (holding p v.chip) }
@@ -125,7 +125,7 @@ chip_without p v =
 abbrev pub chip_only : PortName → ChipView → ChipView
 chip_only p v = record { ram = only p (holding p v.ram); chip = only p (holding p v.chip); told = [] }
 
--- a seat takes the ports of another, and what was told with that
+-- a seat takes the ports of another, and its `told`
 abbrev pub chip_together : ChipView → ChipView → ChipView
 chip_together v w = record { ram = together v.ram w.ram; chip = together v.chip w.chip; told = w.told }
 

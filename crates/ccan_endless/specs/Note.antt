@@ -1,11 +1,11 @@
--- A note, by which one port tells another what it has seen. Source: this project's own.
+-- A note, by which one port shows another what it has seen. Source: this project's own.
 use Rattle.std.specs.Prelude.{◌≡◌, []}
 use Rattle.ccan_ram.specs.ByPort.{nothing}
 use Rattle.ccan_ram.specs.SharedRam.{Memory}
 use Rattle.ccan_endless.specs.Chip.{ChipHistory}
 use Rattle.ccan_endless.specs.Seat.{SeatKnows}
 
--- the memory of the port that told it, and all that this port had seen of the chip
+-- the memory of the port that made it, and all that this port had seen of the chip
 pub record Told : Type 0 where
   pub memory : Memory
   pub whole : ChipHistory

@@ -1,5 +1,5 @@
--- A record in two parts: its marks, which stand in its object's word, and its body, which stands in a place. Source: this
--- project's own; the fields are those of the C_CAN User's Manual 1.2, section 3.3.4.
+-- A record in two parts: its marks, which are in its object's word, and its body, which is in a place. Source: this project's
+-- own; the fields are those of the C_CAN User's Manual 1.2, section 3.3.4.
 use Rattle.std.specs.Prelude.{ℕ, ◌+◌, List, [], ◌∷◌}
 use Rattle.std.specs.Int.{from_le_bytes, w64}
 use Rattle.ccan_object.specs.declared.record.Record.{Record}

@@ -88,7 +88,7 @@ module _ (profile : Profile) where
 
   -- ---- turns
 
-  -- a turn: the looks stand right behind one history, and another goes on from them, which the port then has seen
+  -- a turn: the looks come directly after one history, and another goes on from them, which the port has then seen
   pub record Turned (p : PortName) (x : PortView) (m : Knows) : Type 0 where
     pub at : History
     pub end : History
@@ -100,7 +100,7 @@ module _ (profile : Profile) where
     pub sound : IsSound profile x.quota end
     pub sound_at : IsSound profile x.quota at
 
-  -- it succeeded: these are values of all objects' words where the looks stand
+  -- it succeeded: these are values of all objects' words at the place of the looks
   pub record Posed (p : PortName) (x : PortView) (values : List ℕ) (m : Knows) : Type 0 where
     pub turn : Turned p x m
     pub each : (k : ℕ) → k < objects_in profile → IsHead (k + 1) (slice_index values k) turn.at
@@ -116,7 +116,7 @@ module _ (profile : Profile) where
   TurnsIn p values true old new = (x : PortView) → IsSeatOf p x old → IsSound profile x.quota x.seen → Posed p x values new
   TurnsIn p values false old new = (x : PortView) → IsSeatOf p x old → IsSound profile x.quota x.seen → Missed p x new
 
-  -- the port added these events, which it then has seen
+  -- the port added these events, and has then seen them
   pub record Added (p : PortName) (x : PortView) (added : List Event) (m : Knows) : Type 0 where
     pub view : IsSeatOf p (see (added ++ x.seen) x) m
     pub sound : IsSound profile x.quota (added ++ x.seen)

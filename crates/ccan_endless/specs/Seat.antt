@@ -22,11 +22,12 @@ pub record SeatKnows : Type 0 where
 abbrev pub knows_of : TableId → ℕ → ChipKnows → SeatKnows
 knows_of table id m = record { table_id = table; id = id; me = ram_knows m; chip = m.0.chip; told = m.0.told }
 
--- the same as the words' rule speaks of it
+-- the same, in the form in which the words' rule speaks of it
 abbrev pub chip_me : SeatKnows → ChipKnows
 chip_me s = (record { ram = s.me.0; chip = s.chip; told = s.told }, s.me.1)
 
--- what a seat has seen of the message RAM is the part of what it has seen of the chip, which is legal
+-- what a seat has seen of the message RAM is the message RAM's part of what it has seen of the chip, and the latter is
+-- legal
 abbrev pub IsSeated : ChipView → Type 0
 IsSeated v =
     (p : PortName) → Agree (holding p v.ram) (holding p v.chip)

@@ -9,13 +9,13 @@ pub fn controller_is_its_changes()
     ensures { ControllerIsItsChanges }
 {}
 
-/// Its error counters are those that fault confinement defines over what the changes are to them.
+/// Its error counters are those that fault confinement defines for what the changes mean to them.
 pub fn counters_are_as_defined()
     ensures { CountersAreAsDefined }
 {}
 
-/// Between two places of a legal history without a step of the bus at the controller, and without a reset of a D_CAN, TEC and
-/// REC stay.
+/// TEC and REC stay the same between two places of a legal history, if there is no step of the bus at the controller and no reset
+/// of a D_CAN between them.
 pub fn levels_are_the_handlers()
     ensures { LevelsAreTheHandlers }
 {}

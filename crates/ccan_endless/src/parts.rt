@@ -1,5 +1,4 @@
-//! A record in two parts: its marks, 14 bits that stand in its object's word, and its body, two words that stand in a
-//! place.
+//! A record in two parts: its marks, 14 bits in its object's word, and its body, two words in a place.
 //!
 //! ```text
 //! marks    MsgVal 13, NewDat 12, MsgLst 11, IntPnd 10, UMask 9, TxIE 8, RxIE 7, RmtEn 6, TxRqst 5, EoB 4, DLC 3 to 0
@@ -36,8 +35,8 @@ pub fn body_of(object: &Record) -> [u64; 2]
     [identifiers - valid, content]
 }
 
-/// The record that has these marks and this body. Where none does, as in no place that an object's word named, it is
-/// some record.
+/// The record that has these marks and this body. If no record has them, it is an unspecified record. In a place that
+/// an object's word named, there are always those of a record.
 pub fn joined(marks: u64, body: [u64; 2]) -> Record
     requires { marks < marks_limit }
     ensures { (object : Record) → IsRecord object → marks_of object ≡ marks

@@ -1,12 +1,12 @@
 //! A picture: looks at all objects at one place of the history.
 //!
-//! The values of all objects' words are loaded, one after another; then looks at all objects are added to the history,
-//! in one step; and then the words are loaded again. Where each has the number that it had, that number stood
-//! throughout, since no number comes twice: so it stood where the looks do, and the marks in the values found first are
-//! those of the records that the looks show. Where one has another number, some other port made a change meanwhile. The
-//! others make at most twice the quota of changes.
+//! The values of all objects' words are loaded, one after another; then looks at all objects are added to the history, in one
+//! step; and then the words are loaded again. If each has the number that it had, that number was there throughout, since no
+//! number comes twice. So it was there at the place of the looks, and the marks in the values found first are those of the
+//! records that the looks show. If one has another number, some other port made a change meanwhile. The other ports make at most
+//! twice the quota of changes.
 //!
-//! No record is read: all flags of an object stand in its word.
+//! No record is read: all flags of an object are in its word.
 ghost use Rattle.std.specs.Prelude.{◌≡◌, ◌+◌, ◌<◌, ◌≤◌, true, false};
 ghost use Rattle.ccan_object.specs.Profile.{objects_in};
 ghost use Rattle.ccan_ram.specs.HandlerRegisters.{AreBelow};
@@ -50,8 +50,8 @@ pub fn picture(words: &Words, seat: &mut Seat, port: PortName) -> HandlerRegiste
     HandlerRegisters::zero()
 }
 
-/// Looks at all objects, and the values of their words where these looks stand. False: another port made a change
-/// meanwhile, and the values say nothing.
+/// Looks at all objects, and the values of their words at the place of these looks. False: another port made a change meanwhile,
+/// and the values say nothing.
 #[inline(always)]
 fn pose_once(
     words: &Words,
@@ -102,7 +102,7 @@ fn collect_all(words: &Words, seat: &mut Seat, values: &mut [u64; MOST_OBJECTS],
     }
 }
 
-/// Whether they have the numbers of these values still.
+/// Whether they still have the numbers of these values.
 #[inline(always)]
 fn still(words: &Words, seat: &mut Seat, values: &[u64; MOST_OBJECTS]) -> bool
     requires table { numbers_of seat.old.table_id ≡ words.now.name }
@@ -118,7 +118,7 @@ fn still(words: &Words, seat: &mut Seat, values: &[u64; MOST_OBJECTS]) -> bool
     }
 }
 
-/// Whether so many, as many as there are objects, have the numbers of these values still.
+/// Whether so many, as many as there are objects, still have the numbers of these values.
 #[inline(always)]
 fn all_still(words: &Words, seat: &mut Seat, values: &[u64; MOST_OBJECTS], count: usize) -> bool
     requires table { numbers_of seat.old.table_id ≡ words.now.name }

@@ -22,7 +22,7 @@ use Rattle.ccan_handler.specs.Watch.{Watches, Interrupts, ReadsFlags}
 
 -- ---- what a scan finds
 
--- the record of the object fits at each place of what is added
+-- the record of the object fits at each point of what is added
 abbrev pub FitsThroughout : Change → ℕ → List Event → List Event → Type 0
 FitsThroughout change object seen added =
     (later earlier : List Event) → added ≡ later ++ earlier → fits change (record_at object (earlier ++ seen)) ≡ true
@@ -33,14 +33,14 @@ EndsBy object Nowhere = ⊥
 EndsBy object (MadeAt at before after number) = at ≤ object
 EndsBy object (RefusedAt at why) = at ≤ object
 
--- no object is passed over whose record fits at each place of the scan
+-- no object is passed over whose record fits at each point of the scan
 abbrev pub FittingIsNotPassedOver : Type 0
 FittingIsNotPassedOver =
     (terms : Terms) (change : Change) (tries from object : ℕ) (seen added : List Event) (end : ScanEnd)
     → IsLegal terms.profile (added ++ seen) → Scan terms change from tries seen added end
     → from ≤ object → object ≤ objects_in terms.profile → FitsThroughout change object seen added → EndsBy object end
 
--- among these events is a look of the port at the object, which shows a record of which this holds
+-- among these events is a look of the port at the object, which shows a record for which this holds
 pub record ShowsAt (terms : Terms) (object : ℕ) (what : Record → Type 0) (added : List Event) : Type 0 where
   pub shown : Record
   pub later : List Event
@@ -55,7 +55,7 @@ NothingFoundLooksEverywhere =
     → Scan terms change from tries seen added Nowhere → from ≤ object → object ≤ objects_in terms.profile
     → ShowsAt terms object (λ shown. fits change shown ≡ false) added
 
--- the change is the last event, of the record at its place, which it fits
+-- the change is the last event, made to the record at its point, which it fits
 pub record IsMadeThere (terms : Terms) (object : ℕ) (change : Change) (before after : Record)
     (seen added : List Event) : Type 0 where
   pub earlier : List Event
@@ -64,14 +64,14 @@ pub record IsMadeThere (terms : Terms) (object : ℕ) (change : Change) (before 
   pub fit : fits change before ≡ true
   pub left : after ≡ changed change before
 
--- what a scan changes fitted at the place of the change
+-- what a scan changes fitted at the point of the change
 abbrev pub ScansChangeWhatFits : Type 0
 ScansChangeWhatFits =
     (terms : Terms) (change : Change) (tries from object number : ℕ) (before after : Record) (seen added : List Event)
     → IsLegal terms.profile (added ++ seen) → Scan terms change from tries seen added (MadeAt object before after number)
     → IsMadeThere terms object change before after seen added
 
--- the start is the last event, of a record that is valid and requested at its place
+-- the start is the last event, of a record that is valid and requested at its point
 pub record IsStartedThere (terms : Terms) (object : ℕ) (after : Record) (seen added : List Event) : Type 0 where
   pub here : Record
   pub earlier : List Event
@@ -81,7 +81,7 @@ pub record IsStartedThere (terms : Terms) (object : ℕ) (after : Record) (seen 
   pub requested : here.txrqst ≡ true
   pub left : after ≡ started here
 
--- what is chosen for transmission was valid and requested at the place of its start
+-- what is chosen for transmission was valid and requested at the point of its start
 abbrev pub ChosenIsReady : Type 0
 ChosenIsReady =
     (terms : Terms) (tries from object : ℕ) (after : Record) (seen added : List Event)
@@ -129,7 +129,7 @@ pub record ShowsAtLast (terms : Terms) (object : ℕ) (flag : Flag) (turns : ℕ
   pub none : All (IsLookWithout terms object flag) before
   pub within : length before < turns
 
--- waiting answers yes only where its last look shows the flag, and no earlier one does
+-- waiting answers yes only if its last look shows the flag, and no earlier one does
 abbrev pub WaitingAnswersYesAtItsLastLook : Type 0
 WaitingAnswersYesAtItsLastLook =
     (terms : Terms) (object turns : ℕ) (flag : Flag) (added : List Event)
@@ -149,7 +149,7 @@ LooksInTurn terms (suc n) own =
     (shown : Record) × (earlier : List Event) × (own ≡ look_at terms.port (suc n) shown ∷ earlier)
     × LooksInTurn terms n earlier
 
--- up to which object an interrupt value was looked for: none for the status interrupt, else the one found, or the last
+-- the object up to which an interrupt value was looked for: none for the status interrupt, else the one found, or the last
 abbrev pub looked_up_to : Profile → Bool → ℕ → ℕ
 looked_up_to profile true value = 0
 looked_up_to profile false zero = objects_in profile

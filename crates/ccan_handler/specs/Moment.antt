@@ -1,4 +1,4 @@
--- What is answered of one moment, from one picture of all objects. Source: C_CAN User's Manual 1.2, section 3.4 (Message
+-- Answers for one moment, from one picture of all objects. Source: C_CAN User's Manual 1.2, section 3.4 (Message
 -- Handler Registers) and section 4.2.
 use Rattle.std.specs.Prelude.{ℕ, zero, suc, ◌≡◌, ◌<◌, ◌+◌, ◌-◌, Bool, true, false, ◌&&◌, ◌⊎◌, List, [], ◌++◌, Option, Some, None, Result, Ok, Err}
 use Rattle.ccan_object.specs.declared.profile.Profile.{Profile}
@@ -31,7 +31,7 @@ pub record FlagsAtOnce (terms : Terms) (flag : Flag) (seen added : List Event) (
   pub picture : IsPicture terms shown seen added
   pub is : word ≡ register_of flag shown
 
--- the number of the lowest bit that is set, from 1 on; 0 where none is
+-- the number of the lowest bit that is set, from 1 on; 0 if none is
 abbrev pub IsFirstSet : ℕ → ℕ → Type 0
 IsFirstSet word value =
     ((value ≡ 0) × (word ≡ 0))
@@ -56,7 +56,7 @@ AddsInterruptAtOnce old new pending value = Goes old new (λ terms seen added. I
 abbrev pub was_ready : HandlerRegisters → ℕ → Bool
 was_ready shown object = bit shown.msgval (object - 1) && bit shown.txrqst (object - 1)
 
--- an object after a picture: it was not ready there, or it is started, or ready no more, or refused
+-- an object after a picture: it was not ready there, or it is started, or no longer ready, or refused
 abbrev pub Starts : Terms → Sending → HandlerRegisters → ℕ → ℕ → List Event → List Event → Result (Option Record) Refused → Type 0
 Starts terms sending shown object tries seen added (Ok None) =
     ((was_ready shown object ≡ false) × (added ≡ []))
@@ -68,7 +68,7 @@ Starts terms sending shown object tries seen added (Ok (Some after)) =
 Starts terms sending shown object tries seen added (Err why) =
     (was_ready shown object ≡ true) × Attempt terms object (start_by sending) tries seen added (Err why)
 
--- the first n objects after a picture: each was not ready there, or is no more
+-- the first n objects after a picture: each was not ready there, or is no longer ready
 abbrev pub Skips : Terms → Sending → HandlerRegisters → ℕ → ℕ → List Event → List Event → Type 0
 Skips terms sending shown tries zero seen added = added ≡ []
 Skips terms sending shown tries (suc n) seen added =
@@ -124,7 +124,7 @@ AddsChoiceAtOnce old new sending tries answer =
 
 -- ---- laws
 
--- this holds of the history up to one place among what is added
+-- this holds of the history up to one point among what is added
 pub record AtOneMoment (seen added : List Event) (what : List Event → Type 0) : Type 0 where
   pub later : List Event
   pub earlier : List Event
@@ -137,14 +137,14 @@ FlagsAreOfOneMoment =
     (terms : Terms) (flag : Flag) (word : ℕ) (seen added : List Event) → FlagsAtOnce terms flag seen added word
     → AtOneMoment seen added (λ h. (k : ℕ) → k < objects_in terms.profile → bit word k ≡ flag_of flag (record_at (k + 1) h))
 
--- the number of the first object that asks for an interrupt, 0 where none does
+-- the number of the first object that asks for an interrupt, 0 if none does
 abbrev pub IsFirstPending : Profile → List Event → ℕ → Type 0
 IsFirstPending profile h value =
     ((value ≡ 0) × ((k : ℕ) → k < objects_in profile → flag_of IntPnd (record_at (k + 1) h) ≡ false))
     ⊎ (Holds profile value × (flag_of IntPnd (record_at value h) ≡ true)
     × ((k : ℕ) → k + 1 < value → flag_of IntPnd (record_at (k + 1) h) ≡ false))
 
--- where no status interrupt is pending, the value is that of the first object that asks for an interrupt in one moment
+-- if no status interrupt is pending, the value is that of the first object that asks for an interrupt in one moment
 abbrev pub InterruptIsOfOneMoment : Type 0
 InterruptIsOfOneMoment =
     (terms : Terms) (value : ℕ) (seen added : List Event) → InterruptAtOnce terms false seen added value
@@ -159,7 +159,7 @@ pub record IsWithdrawn (terms : Terms) (sending : Sending) (tries object : ℕ) 
   pub whole : added ≡ later ++ (tried ++ earlier)
   pub attempt : Attempt terms object (start_by sending) tries (earlier ++ seen) tried (Ok (NotNow now))
 
--- what is chosen was ready in one moment, in which no object before it was, but for those that are no more
+-- what is chosen was ready in one moment, in which no object before it was, except those that are no longer ready
 abbrev pub ChoiceIsOfOneMoment : Type 0
 ChoiceIsOfOneMoment =
     (terms : Terms) (sending : Sending) (tries object : ℕ) (after : Record) (seen added : List Event)

@@ -1,4 +1,4 @@
--- A scan of the message objects in rising order, with its end and with what the handler's calls answer of it. Source:
+-- A scan of the message objects in rising order, with its end and with what the handler's calls say of it. Source:
 -- C_CAN User's Manual 1.2, section 4.2 (the message handler scans from object 1); its events and the scans that begin
 -- at a later object are this project's own.
 use Rattle.std.specs.Prelude.{ℕ, zero, suc, ◌≡◌, ◌≤◌, ◌+◌, ◌-◌, true, false, ◌⊎◌, List, [], ◌++◌, Option, Some, None, Result, Ok, Err, IfSome, IfOk, IfErr}
@@ -32,13 +32,13 @@ pub record IsTried (terms : Terms) (object : ℕ) (change : Change) (tries : ℕ
   pub fit : fits change shown ≡ true
   pub attempt : Attempt terms object change tries (looked ++ seen) tried outcome
 
--- an object is passed over: a look shows a record that does not fit, or an attempt finds that it fits no more
+-- an object is passed over: a look shows a record that does not fit, or an attempt finds that it no longer fits
 abbrev pub IsPassed : Terms → ℕ → Change → ℕ → List Event → List Event → Type 0
 IsPassed terms object change tries seen added =
     ((shown : Record) × (fits change shown ≡ false) × IsLook terms object shown added)
     ⊎ ((shown : Record) × IsTried terms object change tries seen added (Ok (NotNow shown)))
 
--- so many objects from this one on are passed over, one after another
+-- this many objects from this one on are passed over, one after another
 abbrev pub PassesOver : Terms → ℕ → ℕ → Change → ℕ → List Event → List Event → Type 0
 PassesOver terms from zero change tries seen added = added ≡ []
 PassesOver terms from (suc n) change tries seen added =
@@ -80,7 +80,7 @@ Visit terms object change tries seen added (Ok (Some found)) =
     × IsTried terms object change tries seen added (Ok (Done found.before found.after number))
 Visit terms object change tries seen added (Err why) = IsTried terms object change tries seen added (Err why)
 
--- a scan with the answer of a call that tells the object, and its record before and after the change
+-- a scan with the answer of a call that reports the object, and its record before and after the change
 abbrev pub Scans : Terms → Change → ℕ → ℕ → List Event → List Event → Result (Option Stored) ScanRefused → Type 0
 Scans terms change from tries seen added (Ok None) = Scan terms change from tries seen added Nowhere
 Scans terms change from tries seen added (Ok (Some found)) =
@@ -88,7 +88,7 @@ Scans terms change from tries seen added (Ok (Some found)) =
 Scans terms change from tries seen added (Err refused) =
     Scan terms change from tries seen added (RefusedAt refused.at refused.why)
 
--- a scan for a start, with the answer of a call that tells the object and its record after the start
+-- a scan for a start, with the answer of a call that reports the object and its record after the start
 abbrev pub ChoosesFrom : Terms → ℕ → ℕ → List Event → List Event → Result (Option (ℕ × Record)) ScanRefused → Type 0
 ChoosesFrom terms from tries seen added (Ok None) = Scan terms Start from tries seen added Nowhere
 ChoosesFrom terms from tries seen added (Ok (Some chosen)) =
@@ -114,9 +114,9 @@ AddsChoice old new from tries answer = Goes old new (λ terms seen added. Choose
 abbrev pub AddsStore : Passes → Passes → Frame → ℕ → ℕ → Result (Option Stored) ScanRefused → Type 0
 AddsStore old new frame from tries answer = AddsScan old new (Store frame) from tries answer
 
--- ---- what the answers tell by themselves, whatever was seen
+-- ---- what the answers say by themselves, whatever was seen
 
--- a change was made at an object that the scan may come to, of a record that it fits
+-- a change was made at an object that the scan may come to, to a record that it fits
 pub record IsMade (terms : Terms) (change : Change) (from : ℕ) (found : Stored) : Type 0 where
   pub in_turn : from ≤ found.object
   pub held : Holds terms.profile found.object
@@ -124,7 +124,7 @@ pub record IsMade (terms : Terms) (change : Change) (from : ℕ) (found : Stored
   pub left : found.after ≡ changed change found.before
 
 -- what a start leaves of the flags: until the frame is sent it is requested, and its data count as taken; what is tried once is
--- requested no more
+-- no longer requested
 abbrev pub BearsStart : Sending → Record → Type 0
 BearsStart UntilSent r = (r.txrqst ≡ true) × (r.newdat ≡ false)
 BearsStart Once r = r.txrqst ≡ false

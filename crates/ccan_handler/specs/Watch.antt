@@ -1,5 +1,5 @@
--- Looks at message objects, one after another: what is answered of a flag that is waited for, of the interrupt value, and
--- of a flag of all objects. Source: C_CAN User's Manual 1.2, section 3.4 (Message Handler Registers: the Interrupt
+-- Looks at message objects, one after another: the answers for a flag that is waited for, for the interrupt value, and
+-- for a flag of all objects. Source: C_CAN User's Manual 1.2, section 3.4 (Message Handler Registers: the Interrupt
 -- Register, and the registers of one flag of all objects); that each object has its own look, that an object which is
 -- not valid asks for an interrupt all the same, and the waiting are this project's own.
 use Rattle.std.specs.Prelude.{ℕ, ◌≡◌, ◌≤◌, ◌<◌, ◌+◌, Bool, true, false, ◌⊎◌, List, [], ◌∷◌, ◌++◌, length}
@@ -16,8 +16,8 @@ use Rattle.ccan_ram.specs.Terms.{Terms}
 use Rattle.ccan_ram.specs.Attempt.{IsLook}
 use Rattle.ccan_ram.specs.Access.{Passes, Goes}
 
--- looks, one after another, and the records that they show, the last first; `place` names the object of a look by how many
--- looks came before it
+-- looks, one after another, and the records that they show, the last first; `place` names the object of a look by the
+-- number of looks before it
 abbrev pub Looks : Terms → (ℕ → ℕ) → List Record → List Event → Type 0
 Looks terms place [] added = added ≡ []
 Looks terms place (last ∷ before) added =
@@ -28,14 +28,14 @@ Looks terms place (last ∷ before) added =
 abbrev pub in_turn : ℕ → ℕ
 in_turn before = before + 1
 
--- so many looks, of which none shows the flag
+-- this many looks, none of which shows the flag
 pub record NoneShows (terms : Terms) (place : ℕ → ℕ) (flag : Flag) (count : ℕ) (added : List Event) : Type 0 where
   pub shown : List Record
   pub looks : Looks terms place shown added
   pub counted : length shown ≡ count
   pub none : list_any (flag_of flag) shown ≡ false
 
--- a look that shows the flag, after so many that do not
+-- a look that shows the flag, after this many that do not
 pub record FirstShows (terms : Terms) (place : ℕ → ℕ) (flag : Flag) (count : ℕ) (added : List Event) : Type 0 where
   pub last : Record
   pub before : List Record
@@ -44,26 +44,26 @@ pub record FirstShows (terms : Terms) (place : ℕ → ℕ) (flag : Flag) (count
   pub none : list_any (flag_of flag) before ≡ false
   pub shows : flag_of flag last ≡ true
 
--- waiting for a flag of an object, in at most so many turns: yes at the first look that shows it, no where as many looks as
+-- waiting for a flag of an object, in at most this many turns: yes at the first look that shows it, no if as many looks as
 -- there are turns show none
 abbrev pub Watches : Terms → ℕ → Flag → ℕ → List Event → Bool → Type 0
 Watches terms object flag turns added true = (count : ℕ) × (count < turns) × FirstShows terms (λ before. object) flag count added
 Watches terms object flag turns added false = NoneShows terms (λ before. object) flag turns added
 
 -- the interrupt value: 0x8000 for the status interrupt, which comes first; else the number of the first object whose look
--- shows IntPnd, 0 where none does
+-- shows IntPnd, 0 if none does
 abbrev pub Interrupts : Terms → Bool → List Event → ℕ → Type 0
 Interrupts terms true added value = (value ≡ 0x8000) × (added ≡ [])
 Interrupts terms false added value =
     ((value ≡ 0) × NoneShows terms in_turn IntPnd (objects_in terms.profile) added)
     ⊎ ((count : ℕ) × (count < objects_in terms.profile) × (value ≡ count + 1) × FirstShows terms in_turn IntPnd count added)
 
--- what the value tells by itself
+-- what the value says by itself
 abbrev pub InterruptTells : Profile → Bool → ℕ → Type 0
 InterruptTells profile true value = value ≡ 0x8000
 InterruptTells profile false value = value ≤ objects_in profile
 
--- looks at so many objects from object 1 on, and the word of the flag that they show
+-- looks at this many objects from object 1 on, and the word of the flag that they show
 pub record ReadsSome (terms : Terms) (flag : Flag) (count : ℕ) (added : List Event) (word : ℕ) : Type 0 where
   pub shown : List Record
   pub looks : Looks terms in_turn shown added

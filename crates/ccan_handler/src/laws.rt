@@ -17,17 +17,17 @@ pub fn nothing_found_looks_everywhere()
     ensures { NothingFoundLooksEverywhere }
 {}
 
-/// What a scan changes fitted at the place of the change.
+/// What a scan changes fitted at the point of the change.
 pub fn scans_change_what_fits()
     ensures { ScansChangeWhatFits }
 {}
 
-/// What `choose` answers was valid and requested at the place of its start.
+/// What `choose` answers was valid and requested at the point of its start.
 pub fn chosen_is_ready()
     ensures { ChosenIsReady }
 {}
 
-/// A scan that was resumed has no event at an object before.
+/// A scan that was resumed has no event at an earlier object.
 pub fn scans_leave_out_what_is_before()
     ensures { ScansLeaveOutWhatIsBefore }
 {}
@@ -37,7 +37,7 @@ pub fn scans_are_bounded()
     ensures { ScansAreBounded }
 {}
 
-/// `until` answers yes only where its last look, and no earlier one, shows the flag.
+/// `until` answers yes only if its last look, and no earlier one, shows the flag.
 pub fn waiting_answers_yes_at_its_last_look()
     ensures { WaitingAnswersYesAtItsLastLook }
 {}
@@ -47,7 +47,7 @@ pub fn waiting_answers_no_after_all_turns()
     ensures { WaitingAnswersNoAfterAllTurns }
 {}
 
-/// `interrupt` takes one look at each object up to the one found, in turn, at each object where it finds none, and none for
+/// `interrupt` takes one look at each object up to the one found, in turn, at each object if it finds none, and none for
 /// the status interrupt.
 pub fn interrupts_are_bounded()
     ensures { InterruptsAreBounded }
@@ -68,12 +68,12 @@ pub fn flags_are_of_one_moment()
     ensures { FlagsAreOfOneMoment }
 {}
 
-/// Where no status interrupt is pending, the interrupt value is that of the first object that asks for one in one moment.
+/// If no status interrupt is pending, the interrupt value is that of the first object that asks for one in one moment.
 pub fn interrupt_is_of_one_moment()
     ensures { InterruptIsOfOneMoment }
 {}
 
-/// What is chosen was ready in one moment, in which no object before it was, but for those that are no more.
+/// What is chosen was ready in one moment, in which no object before it was, except those that are no longer ready.
 pub fn choice_is_of_one_moment()
     ensures { ChoiceIsOfOneMoment }
 {}

@@ -10,9 +10,9 @@
 //!                                    (no more: on to 3)
 //! ```
 //!
-//! What is found is therefore said of the places of the looks in the one history, not of one moment. The calls of
-//! [`moment`] answer of one moment: they look at all objects at one place of the history, and a choice then tries the
-//! objects that were ready there. Nothing here knows which memory is behind: everything goes through `Access`.
+//! What is found is therefore said of the points of the looks in the one history, not of one moment. The calls of
+//! [`moment`] answer for one moment: they look at all objects at one point in the history, and a choice then tries the
+//! objects that were ready there. Nothing here knows which memory is used: everything goes through `Access`.
 #![tactic(auto)]
 
 pub mod laws;

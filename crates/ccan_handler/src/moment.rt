@@ -1,4 +1,4 @@
-//! What is answered of one moment: from one picture of all objects.
+//! Answers for one moment, from one picture of all objects.
 ghost use Rattle.std.specs.Prelude.{◌≡◌, ◌<◌, ◌^◌, IfOk, IfSome};
 ghost use Rattle.ccan_object.specs.Profile.{Holds, objects_in};
 ghost use Rattle.ccan_handler.specs.Moment.{AddsChoiceAmong, AddsChoiceAtOnce, AddsFlagsAtOnce, AddsInterruptAtOnce};
@@ -20,7 +20,7 @@ pub fn flags_at_once<A: Access>(access: &mut A, flag: Flag) -> u64
     access.look_all().of(flag)
 }
 
-/// The interrupt value (User's Manual, section 3.4.1) in one moment: 0x8000 where the status interrupt is pending, which
+/// The interrupt value (User's Manual, section 3.4.1) in one moment: 0x8000 if the status interrupt is pending, which
 /// the bus side knows; else the number of the first object with IntPnd, or 0.
 pub fn interrupt_at_once<A: Access>(access: &mut A, status_pending: bool) -> u16
     ensures adds { AddsInterruptAtOnce (A.passes access.old) (A.passes access.new)
@@ -33,7 +33,7 @@ pub fn interrupt_at_once<A: Access>(access: &mut A, status_pending: bool) -> u16
     first_set(access.look_all().intpnd)
 }
 
-/// The number of the lowest bit that is set, from 1 on; 0 where none is.
+/// The number of the lowest bit that is set, from 1 on; 0 if none is.
 fn first_set(word: u64) -> u16
     ensures { IsFirstSet word result }
 {
@@ -44,10 +44,10 @@ fn first_set(word: u64) -> u16
     }
 }
 
-/// Starts the first object that was ready in one moment, unless it is ready no more: then the next one that was. Its frame is
+/// Starts the first object that was ready in one moment, unless it is no longer ready: then the next one that was. Its frame is
 /// tried as often as `sending` says.
 ///
-/// None: no object was ready in that moment, or each that was is no more.
+/// None: no object was ready in that moment, or each that was is no longer ready.
 pub fn choose_at_once<A: Access>(
     access: &mut A,
     sending: Sending,
@@ -83,7 +83,7 @@ fn choose_among<A: Access>(
     Ok(None)
 }
 
-/// Starts an object that was ready in a picture. None: it was not, or it is ready no more.
+/// Starts an object that was ready in a picture. None: it was not, or it is no longer ready.
 fn start<A: Access>(
     access: &mut A,
     sending: Sending,

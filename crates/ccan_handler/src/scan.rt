@@ -137,7 +137,7 @@ fn scan<A: Access>(
     Ok(None)
 }
 
-/// Looks at one object, and makes the change where the record fits. None: the object is passed over.
+/// Looks at one object, and makes the change if the record fits. None: the object is passed over.
 fn visit<A: Access>(
     access: &mut A,
     object: ObjectNo,

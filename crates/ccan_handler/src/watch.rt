@@ -10,7 +10,7 @@ use ccan_ram::{Access, Flag};
 /// The interrupt value of the status interrupt (User's Manual, section 3.4.1).
 pub(crate) const STATUS_INTERRUPT: u16 = 0x8000;
 
-/// Looks at an object until it shows the flag, at most so many times. Whether it did.
+/// Looks at an object until it shows the flag, at most this many times. Answers whether it did.
 pub fn until<A: Access>(access: &mut A, object: ObjectNo, flag: Flag, turns: u32) -> bool
     requires held { Holds (A.passes access.old).terms.profile object }
     ensures { AddsWatch (A.passes access.old) (A.passes access.new) object flag turns result }
@@ -24,7 +24,7 @@ pub fn until<A: Access>(access: &mut A, object: ObjectNo, flag: Flag, turns: u32
     false
 }
 
-/// The interrupt value (User's Manual, section 3.4.1): 0x8000 where the status interrupt is pending, which the bus side
+/// The interrupt value (User's Manual, section 3.4.1): 0x8000 if the status interrupt is pending, which the bus side
 /// knows; else the number of the first object with IntPnd, or 0.
 pub fn interrupt<A: Access>(access: &mut A, status_pending: bool) -> u16
     ensures adds { AddsInterrupt (A.passes access.old) (A.passes access.new) status_pending result }

@@ -14,7 +14,7 @@ pub record AreGroups (groups : ℕ) : Type 0 where
   pub least : 1 ≤ groups
   pub greatest : groups ≤ most_groups
 
--- the nodes that a line names are among so many others and the controller, and its numbers are in their ranges
+-- the nodes that a line names are among this many others and the controller, and its numbers are in their ranges
 abbrev pub BusFits : ℕ → BusLine → Type 0
 BusFits nodes (Round round) = AreSenders nodes round.send.items
 BusFits nodes (Counters node) = node ≤ nodes

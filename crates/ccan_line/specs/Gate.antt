@@ -3,7 +3,7 @@ use Rattle.std.specs.Prelude.{ℕ, zero, suc, ◌≡◌, ◌<◌, Bool, true, fa
 use Rattle.ccan_ram.specs.declared.port.PortName.{PortName}
 use Rattle.ccan_line.specs.declared.line_answer.LineAnswer.{LineAnswer}
 
--- the lines that ran: all, or only so many
+-- the lines that ran: all, or only this many
 abbrev pub ran : {Line : Type 0} → Option ℕ → List Line → List Line
 ran None lines = lines
 ran (Some count) lines = take count lines
@@ -16,18 +16,18 @@ module _ {Gate : Type 0} (enters : Gate → PortName → List LineAnswer → Boo
   LetsRun answers (suc n) old new = (between : Gate) × LetsRun answers n old between
       × enters between port (take n answers) true new
 
-  -- of a port with these answers the gate was asked so before each line that has one, and for nothing else; or then once
+  -- of a port with these answers the gate was asked like this before each line that has one, and for nothing else; or then once
   -- more, and held the port before its next line
   abbrev pub Asks : List LineAnswer → Option ℕ → Gate → Gate → Type 0
   Asks answers None old new = LetsRun answers (length answers) old new
   Asks answers (Some line) old new =
       (between : Gate) × LetsRun answers (length answers) old between × enters between port answers false new
 
-  -- so it left some gate
+  -- this left some gate
   abbrev pub WasAsked : Gate → List LineAnswer → Option ℕ → Type 0
   WasAsked gate answers stop = (left : Gate) × Asks answers stop gate left
 
--- a port of so many lines was held before this one, which comes after those that have these answers
+-- a port of this many lines was held before this one, which comes after those that have these answers
 pub record IsHeldAt (count : ℕ) (answers : List LineAnswer) (line : ℕ) : Type 0 where
   pub left : line < count
   pub next : line ≡ length answers

@@ -1,4 +1,4 @@
--- The limits of a script, and what stands where it doesn't say a number. The most changes of a port and the most tries of a
+-- The limits of a script, and what holds if it doesn't give a number. The most changes of a port and the most tries of a
 -- change are those of every memory, in ccan_ram. Source: this project's own.
 use Rattle.std.specs.Prelude.{ℕ}
 

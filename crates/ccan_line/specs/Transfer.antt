@@ -33,7 +33,7 @@ pub record Ends (object : ℕ) (registers : Registers) (moved : Record) (answer 
   pub registers_are : left ≡ filled registers.command moved registers
   pub answer_is : answer ≡ (if is_write registers.command then Write object left.buffer else Read object left.buffer)
 
--- what a transfer answers whose change had this outcome: a write moved the record that it left in the object, a clearing
+-- what a transfer whose change had this outcome answers: a write moved the record that it left in the object, a clearing
 -- read the one that it found there. Both fit every record. A refused transfer leaves the registers as they were
 abbrev pub Answers : ℕ → Registers → Result Changed Refused → LineAnswer → Registers → Type 0
 Answers object registers (Ok (Done before after number)) answer left =
@@ -42,7 +42,7 @@ Answers object registers (Ok (NotNow found)) answer left = ⊥
 Answers object registers (Err (refused.Busy tried now)) answer left = (answer ≡ Busy object) × (left ≡ registers)
 Answers object registers (Err refused.Spent) answer left = (answer ≡ Spent object) × (left ≡ registers)
 
--- a transfer of an object with these registers is one look where it is a pure read, and else one attempt of its change
+-- a transfer of an object with these registers is one look if it is a pure read, and else one attempt of its change
 abbrev pub IsTransfer : Terms → ℕ → ℕ → Registers → List Event → List Event → LineAnswer → Registers → Type 0
 IsTransfer terms tries object registers seen added answer left =
     MatchBool (is_pure_read registers.command)

@@ -31,7 +31,7 @@ pub record Three : Type 0 where
 abbrev pub opening : ℕ → Three
 opening nodes = record { first = zero_registers; second = zero_registers; bus = opened nodes }
 
--- a line of some port works on what is that port's, under its terms, and the rest stays; its answer is told with the port
+-- a line of some port works on what is that port's, under its terms, and the rest stays; its answer is reported with the port
 abbrev pub PortLineMeans : (PortName → Terms) → ℕ → PortLine → Three → List Event → List Event → PortName × LineAnswer
     → Three → Type 0
 PortLineMeans terms tries (of_if1 line) three seen added reply left =

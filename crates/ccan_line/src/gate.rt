@@ -11,7 +11,7 @@ pub trait Gate {
     ghost use Rattle.ccan_ram.specs.declared.port.PortName.{PortName};
     ghost use Rattle.ccan_line.specs.declared.line_answer.LineAnswer.{LineAnswer};
 
-    /// Asked so by a port with these answers, it may answer this and be this afterwards.
+    /// Asked like this by a port with these answers, it may answer this and be this afterwards.
     ghost enters: { Self → PortName → List LineAnswer → Bool → Self → Type 0 };
 
     /// Whether the port may run its next line, after those that have these answers.

@@ -10,7 +10,7 @@ pub enum HostLine {
         request: u16,
         set: RegisterSet,
     },
-    /// Looks at an object until it shows the flag, at most so many times.
+    /// Looks at an object until it shows the flag, at most this many times.
     Until {
         object: ObjectNo,
         flag: Flag,

@@ -11,7 +11,7 @@
 //! ```
 //!
 //! What a line stands for is said once, for hosts and for the bus, over any access: which events it adds, what it answers,
-//! and how it leaves what the next line of its port finds ([`Side`], [`run_lines`]). Neither text nor threads stand here:
+//! and how it leaves what the next line of its port finds ([`Side`], [`run_lines`]). There is neither text nor thread here:
 //! `ccan_script` reads lines from JSON and prints answers, `ccan_run` runs the lines of three ports in an order or at once.
 #![tactic(auto)]
 

@@ -3,7 +3,7 @@ use ccan_confine::NodeState;
 use ccan_object::{ObjectNo, Profile, Record};
 use ccan_ram::Flag;
 
-/// What a line of a script is answered.
+/// The answer to a line of a script.
 ///
 /// A hash leaves out which flag a line asked for: answers to one line of a script never differ in it.
 #[derive(Clone, Copy, PartialEq, Eq, Debug)]

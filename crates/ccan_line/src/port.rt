@@ -43,7 +43,7 @@ fn run_host<A: Access, G: Gate>(
     run_lines(&mut registers, access, port, lines, tries, gate, log)
 }
 
-/// Runs the lines of the bus, which begins with so many other nodes to which nothing happened.
+/// Runs the lines of the bus, which begins with this many other nodes to which nothing happened.
 fn run_bus<A: Access, G: Gate>(
     access: &mut A,
     nodes: u8,
@@ -66,7 +66,7 @@ fn run_bus<A: Access, G: Gate>(
     run_lines(&mut bus, access, PortName::Bus, lines, tries, gate, log)
 }
 
-/// Runs the lines of a port in turn, as far as the gate lets it, and logs their answers. `None` where all ran, and else the
+/// Runs the lines of a port in turn, as far as the gate lets it, and logs their answers. `None` if all ran, and else the
 /// index of the line before which the gate stopped the port. The gate is asked once before each line, with the answers so
 /// far, and for nothing else.
 ///

@@ -23,7 +23,7 @@ pub trait Side {
     /// A line of the port.
     type Line;
 
-    /// What lines are said of.
+    /// What lines speak of.
     ghost State: { Type 0 };
 
     /// This may have led to the value.
@@ -57,7 +57,7 @@ pub fn log_answer<T: Copy>(log: &mut Vec<T>, answer: T)
     }
 }
 
-/// Runs the lines of a port in turn, as far as the gate lets it, and logs their answers. `None` where all ran, and else the
+/// Runs the lines of a port in turn, as far as the gate lets it, and logs their answers. `None` if all ran, and else the
 /// index of the line before which the gate stopped the port. The gate is asked once before each line, with the answers so
 /// far, and for nothing else.
 pub fn run_lines<S: Side, A: Access, G: Gate>(

@@ -1,4 +1,4 @@
--- Where the registers stand in D_CAN, as the 16-bit halves of its registers of 32 bits. Source: Texas Instruments AM335x
+-- Where the registers are in D_CAN, as the 16-bit halves of its registers of 32 bits. Source: Texas Instruments AM335x
 -- Technical Reference Manual, chapter DCAN; the table reg_map_d_can of the mainline Linux driver c_can has the same offsets.
 use Rattle.std.specs.Prelude.{ℕ, ◌≡◌, ◌+◌, ◌*◌}
 use Rattle.ccan_object.specs.declared.register.Reg.{Reg}
@@ -16,7 +16,7 @@ abbrev pub interface_base : Interface → ℕ
 interface_base One = 0x100
 interface_base Two = 0x120
 
--- where a register stands from there on
+-- how far from there a register is
 abbrev pub buffer_place : Reg → ℕ
 buffer_place CMask = 0x02
 buffer_place Mask1 = 0x04
@@ -29,7 +29,7 @@ buffer_place DataA2 = 0x12
 buffer_place DataB1 = 0x14
 buffer_place DataB2 = 0x16
 
--- where the registers of a flag begin; MsgLst has none, and its number here says nothing
+-- where the registers of a flag begin; MsgLst has none, and its number here means nothing
 abbrev pub flag_base : Flag → ℕ
 flag_base TxRqst = 0x88
 flag_base NewDat = 0x9c
@@ -37,7 +37,7 @@ flag_base IntPnd = 0xb0
 flag_base MsgVal = 0xc4
 flag_base MsgLst = 0x00
 
--- where a register stands
+-- where a register is
 abbrev pub dcan_offset : Register → ℕ
 dcan_offset Control = 0x00
 dcan_offset Status = 0x04
@@ -50,7 +50,7 @@ dcan_offset (Request interface) = interface_base interface
 dcan_offset (Buffer interface register) = interface_base interface + buffer_place register
 dcan_offset (Flags flag part) = flag_base flag + 2 * index_of part
 
--- a register of an interface, so far from where the interface begins
+-- a register of an interface, this far from where the interface begins
 abbrev pub IsAtInterface : Interface → ℕ → Register → Type 0
 IsAtInterface interface place (Request owner) = (owner ≡ interface) × (0 ≡ place)
 IsAtInterface interface place (Buffer owner register) = (owner ≡ interface) × (buffer_place register ≡ place)

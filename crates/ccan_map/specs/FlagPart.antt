@@ -6,18 +6,18 @@ use Rattle.ccan_object.specs.Profile.{objects_in}
 use Rattle.ccan_map.specs.declared.flag_part.FlagPart.{FlagPart}
 use Rattle.ccan_map.specs.declared.flag_part.FlagPart.TheVariants.{First, Second, Third, Fourth}
 
--- its place among the parts, from 0
+-- its index among the parts, from 0
 abbrev pub index_of : FlagPart → ℕ
 index_of First = 0
 index_of Second = 1
 index_of Third = 2
 index_of Fourth = 3
 
--- a chip with so many objects has those of the part
+-- a chip with this many objects has those of the part
 abbrev pub HasObjectsOf : Profile → FlagPart → Type 0
 HasObjectsOf profile part = 16 * (index_of part + 1) ≤ objects_in profile
 
--- the flags of these objects stand so far from where the flag's registers begin, and a chip with so many objects has them
+-- the flags of these objects are this far from where the flag's registers begin, and a chip with this many objects has them
 pub record IsPlaceOf (profile : Profile) (place : ℕ) (part : FlagPart) : Type 0 where
   pub stands : 2 * index_of part ≡ place
   pub has : HasObjectsOf profile part

@@ -1,5 +1,5 @@
 -- The layouts in which drivers meet the registers of the chip. Source: C_CAN User's Manual 1.2, section 3 (Programmer's
--- Model), and Texas Instruments AM335x Technical Reference Manual, chapter DCAN; that each 16-bit register may stand at twice
+-- Model), and Texas Instruments AM335x Technical Reference Manual, chapter DCAN; that each 16-bit register may be at twice
 -- its address, aligned to 32 bits, is as the mainline Linux driver c_can has it. The numbers of the layouts are this
 -- project's own.
 use Rattle.std.specs.Prelude.{ℕ, ◌*◌}

@@ -1,4 +1,4 @@
--- Where the registers stand in C_CAN with its 16-bit registers side by side. Source: C_CAN User's Manual 1.2, section 3
+-- Where the registers are in C_CAN with its 16-bit registers side by side. Source: C_CAN User's Manual 1.2, section 3
 -- (Programmer's Model); the table reg_map_c_can of the mainline Linux driver c_can has the same offsets. The places of the
 -- flags of objects 33 to 64 are this project's own.
 use Rattle.std.specs.Prelude.{ℕ, ◌≡◌, ◌+◌, ◌*◌}
@@ -17,7 +17,7 @@ abbrev pub interface_base : Interface → ℕ
 interface_base One = 0x10
 interface_base Two = 0x40
 
--- where a register stands from there on
+-- how far from there a register is
 abbrev pub buffer_place : Reg → ℕ
 buffer_place CMask = 0x02
 buffer_place Mask1 = 0x04
@@ -30,7 +30,7 @@ buffer_place DataA2 = 0x10
 buffer_place DataB1 = 0x12
 buffer_place DataB2 = 0x14
 
--- where the registers of a flag begin; MsgLst has none, and its number here says nothing
+-- where the registers of a flag begin; MsgLst has none, and its number here means nothing
 abbrev pub flag_base : Flag → ℕ
 flag_base TxRqst = 0x80
 flag_base NewDat = 0x90
@@ -38,7 +38,7 @@ flag_base IntPnd = 0xa0
 flag_base MsgVal = 0xb0
 flag_base MsgLst = 0x00
 
--- where a register stands
+-- where a register is
 abbrev pub narrow_offset : Register → ℕ
 narrow_offset Control = 0x00
 narrow_offset Status = 0x02
@@ -51,7 +51,7 @@ narrow_offset (Request interface) = interface_base interface
 narrow_offset (Buffer interface register) = interface_base interface + buffer_place register
 narrow_offset (Flags flag part) = flag_base flag + 2 * index_of part
 
--- a register of an interface, so far from where the interface begins
+-- a register of an interface, this far from where the interface begins
 abbrev pub IsAtInterface : Interface → ℕ → Register → Type 0
 IsAtInterface interface place (Request owner) = (owner ≡ interface) × (0 ≡ place)
 IsAtInterface interface place (Buffer owner register) = (owner ≡ interface) × (buffer_place register ≡ place)

@@ -11,7 +11,7 @@ use crate::register::Register;
 use ccan_object::{Profile, Reg};
 use ccan_ram::flag::Flag;
 
-/// The register at an offset that stands once.
+/// The register at an offset, of those that a chip has once.
 #[inline(always)]
 fn general_at(offset: u32) -> Option<Register>
     ensures some { IfSome result (λ r. (dcan_offset r ≡ offset) × IsGeneral r) }
@@ -65,7 +65,7 @@ fn interface_at(interface: Interface, place: u32) -> Option<Register>
     }
 }
 
-/// The register at an offset, if a chip with so many objects has one there.
+/// The register at an offset, if a chip with this many objects has one there.
 #[inline(always)]
 pub fn register_at(profile: Profile, offset: u32) -> Option<Register>
     ensures some { IfSome result (λ r. (dcan_offset r ≡ offset) × IsIn profile r) }

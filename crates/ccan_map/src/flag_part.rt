@@ -24,7 +24,7 @@ impl FlagPart {
         ((word >> self.lowest_bit()) % (1 << 16)) as u16
     }
 
-    /// The bit of a flag word in which the first of them stands.
+    /// The bit of a flag word that the first of them has.
     #[inline(always)]
     fn lowest_bit(self) -> u32
         ensures { result ≡ 16 * index_of self }

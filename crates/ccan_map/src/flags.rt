@@ -9,7 +9,7 @@ use crate::register::Register;
 use ccan_object::Profile;
 use ccan_ram::flag::Flag;
 
-/// The objects whose flags stand at a place, in bytes from where the flag's registers begin.
+/// The objects whose flags are at a place, in bytes from where the flag's registers begin.
 #[inline(always)]
 pub fn part_at(profile: Profile, place: u32) -> Option<FlagPart>
     ensures some { IfSome result (IsPlaceOf profile place) }

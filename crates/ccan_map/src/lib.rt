@@ -14,8 +14,8 @@
 //!  IF2                0x40 .. 0x54    0x80 .. 0xa8    0x120 .. 0x136
 //! ```
 //!
-//! What stands in a register is not said here: [`Map::register_at`] answers which register an offset is, and everything
-//! above speaks of registers alone.
+//! What is in a register is not said here: [`Map::register_at`] answers which register an offset is, and everything
+//! above speaks only of registers.
 #![tactic(auto)]
 
 mod dcan;

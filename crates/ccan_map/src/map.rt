@@ -7,7 +7,7 @@ use crate::register::Register;
 use crate::{dcan, narrow};
 use ccan_object::Profile;
 
-/// How the registers lie, in bytes from where the chip begins.
+/// How the registers are laid out, in bytes from where the chip begins.
 #[derive(Clone, Copy, PartialEq, Eq, PartialOrd, Ord, Hash, Debug)]
 pub enum Map {
     /// C_CAN with its registers of 16 bits side by side, at the addresses of the User's Manual (section 3).
@@ -35,7 +35,7 @@ impl Map {
         }
     }
 
-    /// The register at this offset, if a chip with so many objects has one there: with 32 objects no offset is a register
+    /// The register at this offset, if a chip with this many objects has one there: with 32 objects no offset is a register
     /// of the flags of objects 33 to 64. No odd offset is a register, nor is the upper half of a word of `Wide`.
     #[inline(always)]
     pub fn register_at(self, profile: Profile, offset: u32) -> Option<Register>

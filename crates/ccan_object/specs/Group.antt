@@ -19,7 +19,7 @@ place_of DataB = 0
 abbrev pub selects : CommandMask → Group → Bool
 selects command group = bit (bits_of command) (place_of group)
 
--- the fields of a group, flags as numbers; TxRqst, which belongs to Control, has a bit of its own and stands alone
+-- the fields of a group, flags as numbers; TxRqst, which belongs to Control, has a bit of its own and is not listed here
 abbrev pub fields_of : Group → Record → List ℕ
 fields_of Mask r = r.mask ∷ flag r.mdir ∷ flag r.mxtd ∷ []
 fields_of Arb r = r.id ∷ flag r.dir ∷ flag r.xtd ∷ flag r.valid ∷ []
@@ -29,7 +29,7 @@ fields_of Control r =
 fields_of DataA r = take 4 r.bytes
 fields_of DataB r = drop 4 r.bytes
 
--- each field is the first record's where its group is selected, else the second's
+-- each field is the first record's if its group is selected, else the second's
 abbrev pub by_groups : CommandMask → Record → Record → Record
 by_groups c first second =
     let mask = (if selects c Mask then first else second) in

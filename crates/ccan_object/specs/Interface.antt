@@ -44,8 +44,8 @@ with_control w r =
 abbrev pub with_bytes : ℕ → ℕ → List ℕ → List ℕ
 with_bytes first w bytes = take first bytes ++ part w 0 8 ∷ part w 8 8 ∷ drop (first + 2) bytes
 
--- the record that the buffer holds once a register of it is written: the fields that stand in the register come from
--- their places, all others stay
+-- the record that the buffer holds once a register of it is written: the fields in the register come from their places,
+-- all others stay
 abbrev pub with_register : Reg → ℕ → Record → Record
 with_register CMask w r = r
 with_register Mask1 w r = record r { mask = at 16 (part r.mask 16 13) + part w 0 16 }

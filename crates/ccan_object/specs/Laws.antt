@@ -21,8 +21,8 @@ abbrev pub GoesByGroups : CommandMask → Record → Record → Record → Type 
 GoesByGroups command selected other r =
     (group : Group) → fields_of group r ≡ (if selects command group then fields_of group selected else fields_of group other)
 
--- a masked write makes each selected group the buffer's and leaves each other group as it was; TxRqst is 1 by bit 2, and
--- else goes with Control
+-- a masked write takes each selected group from the buffer and leaves each other group as it was; bit 2 makes TxRqst 1,
+-- without it TxRqst goes with Control
 abbrev pub WritesByGroups : Type 0
 WritesByGroups =
     (command : CommandMask) (buffer old : Record) → IsRecord buffer → IsRecord old
@@ -79,7 +79,7 @@ PacksBack words = IfSome (unpacked_from words) (λ object. IsRecord object × (p
 abbrev pub NoRecordPacks : List ℕ → Type 0
 NoRecordPacks words = (object : Record) → IsRecord object → packed object ≢ words
 
--- the words of a record hold that record; what three words hold packs to them again; and they hold none exactly where no
+-- the words of a record hold that record; what three words hold packs to them again; and they hold none exactly when no
 -- record packs to them
 abbrev pub RoundTrips : Type 0
 RoundTrips =

@@ -5,7 +5,7 @@ use Rattle.ccan_object.specs.declared.profile.Profile.{Profile}
 use Rattle.ccan_object.specs.Bits.{part}
 use Rattle.ccan_object.specs.Profile.{objects_in}
 
--- the low six bits count, and beyond the last object the numbers begin anew; a number 0 names the last object
+-- the low six bits count, and beyond the last object the numbers begin again; a number 0 names the last object
 abbrev pub requested : Profile → ℕ → ℕ
 requested profile word =
     let number = part word 0 6 % objects_in profile in

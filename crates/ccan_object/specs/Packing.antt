@@ -11,7 +11,7 @@ use Rattle.ccan_object.specs.Interface.{with_control}
 abbrev pub packed : Record → List ℕ
 packed r = (at 32 (masks r) + arbitration r) ∷ control r ∷ from_le_bytes w64 r.bytes ∷ []
 
--- the record in three words, whatever stands at the places that no field has
+-- the record in three words, whatever is at the places that no field has
 abbrev pub unpacked : ℕ → ℕ → ℕ → Record
 unpacked identifiers control content =
     with_control control
@@ -41,7 +41,7 @@ abbrev pub has_reserved : List ℕ → Bool
 has_reserved words =
     bit (slice_index words 0) 61 || not (part (slice_index words 1) 4 3 == 0) || nat_le (2 ^ 16) (slice_index words 1)
 
--- the record that three words hold; none where a reserved bit is set
+-- the record that three words hold; none if a reserved bit is set
 abbrev pub unpacked_from : List ℕ → Option Record
 unpacked_from words =
     if has_reserved words then None

@@ -1,6 +1,6 @@
 -- What a masked write and a clearing read make of a record. Source: C_CAN User's Manual 1.2, sections 3.3.2 (IFx Command
 -- Mask Registers) and 4.2.1 (Data Transfer from / to Message RAM). That TxRqst comes from the buffer
--- where Control is selected without bit 2, and that bit 2 of a write leaves NewDat, are this project's own.
+-- if Control is selected without bit 2, and that bit 2 of a write leaves NewDat, are this project's own.
 use Rattle.std.specs.Prelude.{true, false, if◌then◌else◌}
 use Rattle.ccan_object.specs.declared.record.Record.{Record}
 use Rattle.ccan_object.specs.declared.command.CommandMask.{CommandMask}

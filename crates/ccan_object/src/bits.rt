@@ -9,7 +9,7 @@ pub fn bit(word: u64, place: u32) -> bool
     (word >> place) % 2 == 1
 }
 
-/// The number in so many places of a word, from a lowest one on.
+/// The number in `width` places of a word, from the place `lowest` on.
 pub fn part(word: u64, lowest: u32, width: u32) -> u64
     requires { lowest + width < 64 }
     ensures value { result ≡ part word lowest width }

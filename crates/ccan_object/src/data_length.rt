@@ -4,7 +4,7 @@ ghost use Rattle.ccan_object.specs.DataLength.{byte_count};
 
 use std::marker::Model;
 
-/// A data length code, 0 to 15: the number of data bytes, where 9 to 15 mean 8 too. Contracts see the code.
+/// A data length code, 0 to 15: the number of data bytes; 9 to 15 mean 8 too. Contracts see the code.
 #[derive(Clone, Copy, PartialEq, Eq, PartialOrd, Ord, Hash, Default, Debug)]
 pub struct DataLength {
     code: u8,
@@ -23,7 +23,7 @@ impl Model for DataLength {
 }
 
 impl DataLength {
-    /// The length of this code, where it is at most 15.
+    /// The length of this code, if it is at most 15.
     pub fn new(code: u8) -> Option<DataLength>
         ensures known { IsSome result ↔ (code ≤ 15) }
         ensures code { IfSome result (λ length. length ≡ code) }

@@ -24,7 +24,7 @@ impl Model for Identifier {
 }
 
 impl Identifier {
-    /// The identifier of these bits, where there are no more than 29.
+    /// The identifier of these bits, if there are no more than 29.
     pub fn new(bits: u32) -> Option<Identifier>
         ensures known { IsSome result ↔ (bits < 2 ^ 29) }
         ensures bits { IfSome result (λ identifier. identifier ≡ bits) }
@@ -60,7 +60,7 @@ impl Identifier {
         self.bits
     }
 
-    /// The identifier with bits 15 to 0 exchanged.
+    /// The identifier with bits 15 to 0 replaced.
     pub fn with_low_half(self, half: u16) -> Identifier
         ensures { result ≡ at 16 (part self 16 13) + part half 0 16 }
     {
@@ -69,7 +69,7 @@ impl Identifier {
         }
     }
 
-    /// The identifier with bits 28 to 16 exchanged, for the low 13 bits of the half.
+    /// The identifier with bits 28 to 16 replaced by the low 13 bits of the half.
     pub fn with_high_half(self, half: u16) -> Identifier
         ensures { result ≡ at 16 (part half 0 13) + part self 0 16 }
     {

@@ -136,7 +136,7 @@ fn with_register(buffer: &Record, register: Reg, value: u16) -> Record
     }
 }
 
-/// The record with the fields that stand in Message Control.
+/// The record with the fields of a Message Control register.
 pub(crate) fn with_control(buffer: &Record, value: u16) -> Record
     ensures { result ≡ with_control value buffer.now }
 {
@@ -162,7 +162,7 @@ fn with_bytes(buffer: &Record, first: usize, value: u16) -> Record
     ensures { result ≡ record buffer.now { bytes = with_bytes first value buffer.now.bytes } }
 {
     let mut bytes = buffer.bytes;
-    // by arithmetic: the prover takes the bytes of `to_le_bytes` less readily than these
+    // by arithmetic: the prover handles these more readily than the bytes of `to_le_bytes`
     bytes[first] = (value % 256) as u8;
     bytes[first + 1] = (value >> 8) as u8;
     Record { bytes, ..*buffer }

@@ -2,7 +2,7 @@
 
 ghost use Rattle.ccan_object.specs.Laws.{ReadsBeforeClearing, ReadsByGroups, RegistersReadBack, RoundTrips, WritesByGroups};
 
-/// A masked write makes each selected group the buffer's and leaves each other group, but for TxRqst by bit 2.
+/// A masked write takes each selected group from the buffer and leaves each other group, except for TxRqst by bit 2.
 pub fn writes_go_by_groups()
     ensures { WritesByGroups }
 {}
@@ -23,7 +23,7 @@ pub fn registers_read_back()
     ensures { RegistersReadBack }
 {}
 
-/// A packed record is unpacked as itself, what is unpacked packs to the same words, and nothing is unpacked exactly where
+/// A packed record is unpacked as itself, what is unpacked packs to the same words, and nothing is unpacked exactly when
 /// no record packs to them.
 pub fn round_trips()
     ensures { RoundTrips }

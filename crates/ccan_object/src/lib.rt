@@ -6,7 +6,7 @@
 //! The tenth, the Command Mask register, is no part of that buffer; it says which groups of fields the next transfer
 //! moves, and which way. So a register set is kept as what it shows, a record and a command ([`Iface`]), and a transfer is
 //! a function of records: a write makes the object [`merged`] from buffer and object, a read fills the buffer from the
-//! object and leaves that [`cleared`].
+//! object and leaves the object [`cleared`].
 //!
 //! ```text
 //!  bit            15      14      13      12     11    10    9      8       7    6 5 4  3 2 1 0

@@ -5,8 +5,8 @@ ghost use Rattle.ccan_object.specs.Profile.{Holds, IsObject};
 use crate::profile::Profile;
 use std::marker::Model;
 
-/// The number of a message object, 1 to 64; object 1 has the highest priority. Which of them a memory has, its profile
-/// says. Contracts see the number.
+/// The number of a message object, 1 to 64; object 1 has the highest priority. The profile of a memory says which of
+/// them it has. Contracts see the number.
 #[derive(Clone, Copy, PartialEq, Eq, PartialOrd, Ord, Hash, Debug)]
 pub struct ObjectNo {
     number: u8,
@@ -26,7 +26,7 @@ impl Model for ObjectNo {
 }
 
 impl ObjectNo {
-    /// The object of this number, where some profile has it.
+    /// The object of this number, if some profile has it.
     pub fn new(number: u8) -> Option<ObjectNo>
         ensures known { IsSome result ↔ IsObject number }
         ensures number { IfSome result (λ object. object ≡ number) }

@@ -23,7 +23,7 @@ pub fn pack(object: &Record) -> [u64; 3]
     ]
 }
 
-/// The data as a word, byte 0 lowest. It is a function of its own for its clauses, which `pack` tells its callers.
+/// The data as a word, byte 0 lowest. It is a function of its own for its clauses, which `pack` passes on to its callers.
 fn content_word(bytes: &[u8; 8]) -> u64
     ensures word { result ≡ from_le_bytes w64 bytes.now }
     ensures length { length bytes.now ≡ 8 }
@@ -32,7 +32,7 @@ fn content_word(bytes: &[u8; 8]) -> u64
     u64::from_le_bytes(*bytes)
 }
 
-/// The record that packs to these words. There is none where a bit is 1 that no field has: bit 61 of the first word,
+/// The record that packs to these words. There is none if a bit is 1 that no field has: bit 61 of the first word,
 /// or one of bits 6 to 4 and 63 to 16 of the second.
 pub fn unpack(words: [u64; 3]) -> Option<Record>
     ensures value { result ≡ unpacked_from words }
@@ -48,7 +48,7 @@ pub fn unpack(words: [u64; 3]) -> Option<Record>
     Some(unpacked(identifiers, control as u16, content))
 }
 
-/// The record in three words, whatever stands at the places that no field has.
+/// The record in three words, whatever is at the places that no field has.
 fn unpacked(identifiers: u64, control: u16, content: u64) -> Record
     ensures { result ≡ unpacked identifiers control content }
 {

@@ -15,7 +15,7 @@ pub struct Record {
     pub xtd: bool,
     /// Dir: 1 transmits, 0 receives.
     pub dir: bool,
-    /// ID28 to ID0. A standard identifier stands in ID28 to ID18.
+    /// ID28 to ID0. A standard identifier is in ID28 to ID18.
     pub id: Identifier,
     /// MXtd: the mask compares Xtd.
     pub mxtd: bool,
@@ -25,7 +25,7 @@ pub struct Record {
     pub mask: Identifier,
     /// NewDat: a frame or a host wrote data here, and nobody has cleared this flag since.
     pub newdat: bool,
-    /// MsgLst: a message was written over before NewDat was cleared.
+    /// MsgLst: a message was overwritten before NewDat was cleared.
     pub msglst: bool,
     /// IntPnd: the object asks for an interrupt.
     pub intpnd: bool,

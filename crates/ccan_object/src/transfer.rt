@@ -45,7 +45,7 @@ pub(crate) fn by_groups(command: CommandMask, first: &Record, second: &Record) -
     }
 }
 
-/// The record after a masked write of the buffer. Bit 7 of the command is not looked at.
+/// The record after a masked write of the buffer. Bit 7 of the command is ignored.
 pub fn merged(command: CommandMask, buffer: &Record, old: &Record) -> Record
     ensures { result ≡ merged command buffer.now old.now }
 {
@@ -56,7 +56,7 @@ pub fn merged(command: CommandMask, buffer: &Record, old: &Record) -> Record
     }
 }
 
-/// The record after a clearing read. Bit 7 of the command is not looked at.
+/// The record after a clearing read. Bit 7 of the command is ignored.
 pub fn cleared(command: CommandMask, old: &Record) -> Record
     ensures { result ≡ cleared command old.now }
 {

@@ -33,7 +33,7 @@ IsDrawn contends draft pass =
     (later : List Event) × (earlier : List Event)
     × IsDrawnAt (terms_of contends pass.memory pass.port) draft pass.seen later earlier
 
--- a change was made, of the draft's record and after all that was seen
+-- a change was made to the draft's record, after all that was seen
 pub record CommitsDone (terms : Terms) (draft : Draft) (change : Change) (seen added : List Event) (before after : Record)
     (number : ℕ) : Type 0 where
   pub room : HasRoom terms seen
@@ -51,7 +51,7 @@ pub record CommitsNotNow (terms : Terms) (draft : Draft) (change : Change) (seen
   pub found : shown ≡ draft.held
   pub none : added ≡ []
 
--- a change that contends stands after the draft's look, wherever that was
+-- a change that contends comes after the draft's look, wherever that was
 pub record CommitsLost (terms : Terms) (draft : Draft) (change : Change) (seen added : List Event) (now : ℕ) : Type 0 where
   pub room : HasRoom terms seen
   pub fit : fits change draft.held ≡ true
@@ -78,8 +78,8 @@ abbrev pub AddsCommit : (ℕ → ℕ → Bool) → Pass → Pass → Draft → C
 AddsCommit contends old new draft change answer =
     Goes (passes_of contends old) (passes_of contends new) (λ terms seen added. Commits terms draft change seen added answer)
 
--- what the answer tells by itself, whatever was seen: Done only where the draft's record fits, and with what the change
--- makes of it; NotNow only where it does not fit
+-- what the answer says by itself, whatever was seen: Done only if the draft's record fits, and with what the change
+-- makes of it; NotNow only if it does not fit
 abbrev pub CommitTells : Draft → Change → Result Changed CommitError → Type 0
 CommitTells draft change (Ok (Done before after number)) =
     (fits change draft.held ≡ true) × (before ≡ draft.held) × (after ≡ changed change draft.held)

@@ -10,7 +10,7 @@ use Rattle.ccan_ram.specs.declared.event.Event.{Event}
 use Rattle.ccan_ram.specs.History.{IsLegal, BeginsWith, leaves, events_of}
 use Rattle.ccan_ram.specs.SharedRam.{Pass}
 
--- the records that the history leaves, and zero records for the objects that the profile has not
+-- the records that the history leaves, and zero records for the objects that the profile does not have
 abbrev pub final_records : Profile → List Event → List Record
 final_records profile history = leaves profile history ++ replicate (objects_in Two - objects_in profile) zero_record
 
@@ -19,8 +19,8 @@ pub record IsPart (pass : Pass) (history : List Event) : Type 0 where
   pub begins : BeginsWith history pass.seen
   pub own : events_of pass.port history ≡ events_of pass.port pass.seen
 
--- one legal history of which each port has seen a part. Since every event is one of the three ports', it has no others than
--- theirs; and the records are those that it leaves
+-- one legal history of which each port has seen a part. Since every event is one of the three ports', it has only their
+-- events; and the records are those that it leaves
 pub record Ends (if1 if2 bus : Pass) (final : Final) : Type 0 where
   pub profile_is : final.profile ≡ if1.memory.profile
   pub history : List Event

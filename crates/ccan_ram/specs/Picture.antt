@@ -1,4 +1,4 @@
--- Pictures: a port's looks at all objects at one place of the history, and the Message Handler Registers there. Source: this
+-- Pictures: a port's looks at all objects at one point in the history, and the Message Handler Registers there. Source: this
 -- project's own; on the part, a register of one flag of all objects is read in one moment (C_CAN User's Manual 1.2, section
 -- 3.4).
 use Rattle.std.specs.Prelude.{◌≡◌, ℕ, zero, suc, ◌*◌, ◌<◌, ◌≤◌, List, [], ◌∷◌, ◌++◌}
@@ -25,13 +25,13 @@ pub record Turn (terms : Terms) (seen added : List Event) : Type 0 where
   pub foreign_after : AreOthers terms after
   pub whole : added ≡ after ++ (pictured terms.port (objects_in terms.profile) (before ++ seen) ++ before)
 
--- a turn that is lost: some port made a change meanwhile, which was another port
+-- a turn that is lost: another port made a change meanwhile
 pub record LostTurn (terms : Terms) (seen added : List Event) : Type 0 where
   pub turn : Turn terms seen added
   pub other : PortName
   pub changed : changes_by other seen < changes_by other (added ++ seen)
 
--- so many turns that are lost, one after another
+-- this many turns that are lost, one after another
 abbrev pub LostTurns : Terms → ℕ → List Event → List Event → Type 0
 LostTurns terms zero seen added = added ≡ []
 LostTurns terms (suc n) seen added =
@@ -39,7 +39,7 @@ LostTurns terms (suc n) seen added =
     × LostTurn terms (earlier ++ seen) last × LostTurns terms n seen earlier
 
 -- turns that are lost, no more than twice the quota, and one more turn; the registers are those of the memory that the history
--- left where its looks stand
+-- left at the point of its looks
 pub record IsPicture (terms : Terms) (shown : HandlerRegisters) (seen added : List Event) : Type 0 where
   pub times : ℕ
   pub lost : List Event

@@ -23,7 +23,7 @@ pub record Pass : Type 0 where
 abbrev pub opened : Memory → PortName → Pass
 opened memory port = record { memory = memory; port = port; seen = [] }
 
--- a memory of this profile, whose ports may make so many changes each
+-- a memory of this profile, whose ports may make this many changes each
 pub record IsMemoryOf (profile : Profile) (quota : ℕ) (memory : Memory) : Type 0 where
   pub profile_is : memory.profile ≡ profile
   pub quota_is : memory.quota ≡ quota
@@ -49,7 +49,7 @@ terms_of contends memory port =
       alone = false;
     }
 
--- the port has seen just this
+-- the port has seen exactly this
 abbrev pub passes_of : (ℕ → ℕ → Bool) → Pass → Passes
 passes_of contends pass =
     record {

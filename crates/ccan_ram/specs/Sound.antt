@@ -1,4 +1,4 @@
--- Histories as a shared memory has them: legal ones of records, in which each port keeps to its quota; and which changes stand
+-- Histories as a shared memory has them: legal ones of records, in which each port keeps to its quota; and which changes are
 -- in one. Source: this project's own.
 use Rattle.std.specs.Prelude.{◌≡◌, ℕ, ◌≤◌, ◌⊎◌, true, [], ◌∷◌}
 use Rattle.ccan_object.specs.declared.profile.Profile.{Profile}
@@ -17,11 +17,11 @@ pub record IsSound (profile : Profile) (quota : ℕ) (h : History) : Type 0 wher
   pub records : AreRecords h
   pub few : (q : PortName) → changes_by q h ≤ quota
 
--- the change of this number stands in the history, and `at` is the history up to it
+-- the change of this number is in the history, and `at` is the history up to it
 abbrev pub Stands : History → ℕ → History → Type 0
 Stands [] n at = ⊥
 Stands (e ∷ h) n at = ((is_change e ≡ true) × (next_number e.port h ≡ n) × (at ≡ e ∷ h)) ⊎ Stands h n at
 
--- a change of this number stands in the history
+-- a change of this number is in the history
 abbrev pub IsMade : History → ℕ → Type 0
 IsMade h n = (at : History) × Stands h n at

@@ -9,12 +9,12 @@ use crate::handler_registers::HandlerRegisters;
 use crate::tries::Tries;
 use ccan_object::{ObjectNo, Profile, Record};
 
-/// A message RAM, as one of its ports sees it. All upper layers use this trait alone.
+/// A message RAM, as one of its ports sees it. All upper layers use only this trait.
 ///
 /// Contracts speak of the port's pass: the history of all ports' events that the port has seen so far, the newest first.
 /// A pass is no data at run time. Each clause holds for every history that may be what the port has seen before the call,
 /// and gives one of the value after: the old history, and the events that the call added in front of it. Among these are
-/// events of other ports, but of the caller's own exactly those that the clause names.
+/// events of other ports; the caller's own among them are exactly those that the clause names.
 pub trait Access {
     ghost use Rattle.std.specs.Prelude.{◌≡◌};
     ghost use Rattle.ccan_ram.specs.Access.{Passes, SeesLegal, SeesWithin};
@@ -31,18 +31,18 @@ pub trait Access {
         requires held { Holds (passes self.old).terms.profile object }
         ensures { AddsLook (passes self.old) (passes self.new) object result };
 
-    /// The Message Handler Registers at one place of the history, by looks at all objects with no other event between.
+    /// The Message Handler Registers at one point in the history, by looks at all objects with no other event between.
     ///
-    /// Looks that are lost to a change of another port are made anew, and stay in the history.
+    /// Looks that are lost to a change of another port are made again, and stay in the history.
     fn look_all(&mut self) -> HandlerRegisters
         ensures pictures { AddsPicture (passes self.old) (passes self.new) result }
         ensures within { AreBelow (objects_in (passes self.old).terms.profile) result };
 
-    /// Makes a change, in at most so many tries.
+    /// Makes a change, in at most this many tries.
     ///
-    /// Spent comes where the port has made its quota of changes, before everything else. Busy comes where each try was
-    /// lost to a change of another port that contends. NotNow comes where the record found does not fit. In all three
-    /// the port has made no change.
+    /// The answer is Spent if the port has made its quota of changes; this is checked before everything else. It is Busy if
+    /// each try was lost to a change of another port that contends. It is NotNow if the record found does not fit. In all
+    /// three cases the port has made no change.
     fn change(
         &mut self,
         object: ObjectNo,

@@ -1,7 +1,7 @@
 /// What there is for each port, or none.
 ///
-/// Memories that share their words among threads say by it what a seat on the words knows: for each port that the seat
-/// holds. Such values are spoken of by contracts alone.
+/// Memories that share their words among threads say with it what a seat on the words knows, for each port that the seat
+/// holds. Only contracts speak of such values.
 pub struct ByPort<H> {
     /// For IF1.
     pub if1: Option<H>,

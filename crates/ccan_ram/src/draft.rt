@@ -26,7 +26,7 @@ impl Draft {
         }
     }
 
-    /// The object that the change is to be made of.
+    /// The object that the change is to be made to.
     pub fn object(&self) -> ObjectNo
         ensures { result ≡ self.now.object }
     {
@@ -40,7 +40,7 @@ impl Draft {
         self.held
     }
 
-    /// The number of the last change that contends, as the look found it: 0 where there was none.
+    /// The number of the last change that contends, as the look found it: 0 if there was none.
     pub fn number(&self) -> u64
         ensures { result ≡ self.now.number }
     {
@@ -51,7 +51,7 @@ impl Draft {
 /// Why a draft was not committed. Nothing was changed.
 #[derive(Clone, Copy, PartialEq, Eq, Debug)]
 pub enum CommitError {
-    /// Since the draft was made, a change that contends was made, by whatever port.
+    /// Since the draft was made, a change that contends was made, by any port.
     Lost {
         /// The number of the last such change.
         now: u64,

@@ -1,7 +1,7 @@
 //! The message RAM as its ports see it.
 //!
 //! A memory has three ports: the hosts behind the interface registers IF1 and IF2, and the message handler on the bus. What
-//! they do is told as one history, a list of events. Each event stands at one object, finds the record that the events
+//! they do is reported as one history, a list of events. Each event is at one object, finds the record that the events
 //! before it left there, and is a look, which leaves that record, or a change, which leaves another. Here is a history at
 //! object 4, the oldest event at the left, with the number of each change in parentheses:
 //!
@@ -17,9 +17,9 @@
 //!
 //! A port has seen a part of the history from its beginning: IF2 has seen events 1 to 3 after its first look. No program
 //! stores a history; contracts speak of it. [`Access`] is what all upper layers use: each call says which events it adds to
-//! what its port has seen, and its answer is that of the memory at the place of those events. [`Array`] is a plain memory
+//! what its port has seen, and its answer is that of the memory at the point of those events. [`Array`] is a plain memory
 //! for one thread. [`SharedRam`] is a memory that three threads share, and [`On`] one of its ports as an `Access`.
-//! [`HandlerRegisters`] are the flags of all objects at one place of the history. [`laws`] hold in every history of every
+//! [`HandlerRegisters`] are the flags of all objects at one point in the history. [`laws`] hold in every history of every
 //! memory.
 #![tactic(auto)]
 

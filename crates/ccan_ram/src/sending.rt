@@ -7,7 +7,7 @@ use crate::change::Change;
 pub enum Sending {
     /// Until it was sent: if it fails, it stays requested and is tried again.
     UntilSent,
-    /// Once (C_CAN User's Manual 1.2, "Disabled Automatic Retransmission"): if it fails, it is requested no more.
+    /// Once (C_CAN User's Manual 1.2, "Disabled Automatic Retransmission"): if it fails, it is no longer requested.
     Once,
 }
 

@@ -24,7 +24,7 @@ use std::alloc::Global;
 ///
 /// A port carries what it has seen of the one history of all ports' events, as a fact and not as data. Each call at a
 /// port adds to that what the others did meanwhile and, in front of it, the port's own event. Two ports may `meet`, and
-/// then each has seen what either had; and at the end `close` gives the one history of which all three saw a part, with
+/// then each has seen what either had; and at the end `close` gives the one history that all three saw a part of, with
 /// all events of each and no others, and the records that this history leaves.
 ///
 /// A change is made in two steps: `prepare` looks at the object, and `commit` makes the change of what was seen there, if
@@ -39,7 +39,7 @@ pub trait SharedRam {
     /// How many objects the memory has, how many changes each port may make, and its name.
     ghost memory: { Self → Memory };
 
-    /// What is known of a port: to which memory it belongs, whose it is, and what it has seen.
+    /// What is known of a port: which memory it belongs to, whose it is, and what it has seen.
     ghost pass: { Self.Port → Pass };
 
     /// Whether a change at the first object contends with the second.
@@ -50,7 +50,7 @@ pub trait SharedRam {
     /// The most changes that a port may be given.
     const MAX_QUOTA: u64;
 
-    /// A memory that is all zero, in which each port may make so many changes, and its ports IF1, IF2 and bus.
+    /// A memory that is all zero, in which each port may make this many changes, and its ports IF1, IF2 and bus.
     fn open_ram(
         alloc: Global,
         profile: Profile,
@@ -76,9 +76,9 @@ pub trait SharedRam {
         ensures looks { AddsLook (passes_of contends (pass port.old))
             (passes_of contends (pass port.new)) object result };
 
-    /// The Message Handler Registers at one place of the history, by looks at all objects with no other event between.
+    /// The Message Handler Registers at one point in the history, by looks at all objects with no other event between.
     ///
-    /// Looks that are lost to a change of another port are made anew, and stay in the history.
+    /// Looks that are lost to a change of another port are made again, and stay in the history.
     fn look_all(&self, port: &mut Self::Port) -> HandlerRegisters
         requires memory { (pass port.old).memory ≡ memory self.now }
         ensures memory { (pass port.new).memory ≡ (pass port.old).memory }
@@ -97,8 +97,8 @@ pub trait SharedRam {
 
     /// Makes a change of the record that the port's draft shows.
     ///
-    /// Spent comes where the port has made its quota of changes, before everything else; NotNow where the draft's record
-    /// does not fit, without a step; Lost where a change that contends was made since the draft was.
+    /// The answer is Spent if the port has made its quota of changes; this is checked before everything else. It is NotNow
+    /// if the draft's record does not fit, without a step. It is Lost if a change that contends was made since the draft.
     fn commit(
         &self,
         port: &mut Self::Port,
@@ -112,7 +112,7 @@ pub trait SharedRam {
             draft change.now result }
         ensures tells { CommitTells draft change.now result };
 
-    /// Prepares and commits a change, in at most so many tries.
+    /// Prepares and commits a change, in at most this many tries.
     fn change(
         &self,
         port: &mut Self::Port,

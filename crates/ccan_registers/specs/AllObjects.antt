@@ -11,7 +11,7 @@ use Rattle.ccan_registers.specs.declared.access_error.AccessError.{AccessError}
 use Rattle.ccan_registers.specs.ChipSteps.{OnObjects, Then}
 use Rattle.ccan_registers.specs.Dcan.{change_told}
 
--- an object is changed, by a change that fits each record, or that was refused
+-- an object is changed by a change that fits each record, or the change was refused
 abbrev pub ChangesObject : Terms → Change → ℕ → ℕ → ChipHistory → ChipHistory → Result (Unit {0}) AccessError → Type 0
 ChangesObject terms change tries object seen added told =
     (outcome : Result Changed Refused)
@@ -23,7 +23,7 @@ HaveChanged terms change tries zero seen added = added ≡ []
 HaveChanged terms change tries (suc n) seen added =
     Then (λ s a. HaveChanged terms change tries n s a) (λ s a. ChangesObject terms change tries (suc n) s a (Ok tt)) seen added
 
--- each object of the chip is changed; or the change of one is refused, and no object behind it is changed
+-- each object of the chip is changed; or the change of one is refused, and no object after it is changed
 abbrev pub ChangesObjects : Terms → Change → ℕ → ChipHistory → ChipHistory → Result (Unit {0}) AccessError → Type 0
 ChangesObjects terms change tries seen added (Ok done) =
     HaveChanged terms change tries (objects_in terms.profile) seen added

@@ -1,5 +1,5 @@
--- What a call on a port of a chip adds to the one history of the chip: events at objects, looks and changes of the
--- controller, and one after another of these. Source: this project's own.
+-- What a call on a port of a chip adds to the one history of the chip: events at objects, looks and changes of the controller,
+-- and several of these, one after another. Source: this project's own.
 use Rattle.std.specs.Prelude.{ℕ, ◌≡◌, List, [], ◌∷◌, ◌++◌, Result, Ok, Err}
 use Rattle.ccan_confine.specs.declared.controller.Controller.{Controller}
 use Rattle.ccan_confine.specs.declared.controller_change.ControllerChange.{ControllerChange}
@@ -29,13 +29,13 @@ pub record SeesChip (port : ChipPass) : Type 0 where
 abbrev pub terms_at : ChipPass → Terms
 terms_at port = terms_of same_object port.pass.memory port.pass.port
 
--- A call adds events to all that its port had seen, of which this holds. The events are the newest first.
+-- A call adds events to all that its port had seen, and this holds of them. The events are the newest first.
 pub record ChipGoes (old new : ChipPass) (what : Terms → ChipHistory → ChipHistory → Type 0) : Type 0 where
   pub same : IsSamePort old.pass new.pass
   pub each : SeesChip old
       → (added : ChipHistory) × SeesChip new × (new.whole ≡ added ++ old.whole) × what (terms_at old) old.whole added
 
--- the port made these steps at objects, and none at the controller; other ports' steps may stand between
+-- the port made these steps at objects, and none at the controller; other ports' steps may come in between
 pub record OnObjects (port : PortName) (what : List Event → List Event → Type 0) (seen added : ChipHistory) : Type 0 where
   pub none : steps_of port added ≡ []
   pub means : what (ram_of seen) (ram_of added)
@@ -48,8 +48,8 @@ pub record AtController (port : PortName) (step : ControllerStep) (before : Cont
   pub quiet : events_of port (ram_of others) ≡ []
   pub stands : IsControllerStep (step_at port step before) (others ++ seen)
 
--- a change of the controller that was given up: so many changes of other ports came between, and the port made no step. Told are
--- the tries, and the controller that was found last
+-- a change of the controller that was given up: so many changes of other ports came between, and the port made no step. The tries
+-- and the controller that was found last are reported
 pub record IsLost (port : PortName) (tries : ℕ) (busy : ControllerBusy) (seen added : ChipHistory) : Type 0 where
   pub none : steps_of port added ≡ []
   pub quiet : events_of port (ram_of added) ≡ []

@@ -1,7 +1,7 @@
--- What a D_CAN does otherwise than a C_CAN. Source: Texas Instruments AM335x Technical Reference Manual, chapter DCAN: "CAN
+-- What a D_CAN does differently from a C_CAN. Source: Texas Instruments AM335x Technical Reference Manual, chapter DCAN: "CAN
 -- Control Register" (SWR, PMD), "Error and Status Register" and "Test Register" (their bits), "IF1 and IF2 Command Registers"
 -- (TxRqst/NewDat, Message Number). (own): parity is not there, so PMD reads 5, which is off, and can't be written; a write with
--- SWR resets where it has Init too, whatever Init was before, and else its SWR is dropped; a request of a number that no object
+-- SWR resets if it has Init too, whatever Init was before, and otherwise its SWR is dropped; a request of a number that no object
 -- has does nothing.
 use Rattle.std.specs.Prelude.{ℕ, ◌≡◌, ◌+◌, Bool, false, ◌&&◌, [], Result, Ok, Err, nat_le}
 use Rattle.ccan_object.specs.declared.command.CommandMask.{CommandMask}
@@ -78,7 +78,7 @@ pub record NamesNone (own : InterfaceSet) (added : ChipHistory) (told : Result (
   pub told_is : told ≡ Ok tt
   pub left_is : left ≡ own
 
--- how a change of an object ends that fits each record, so that only a refusal keeps it from being made
+-- how a change of an object that fits each record ends, so that only a refusal keeps it from being made
 abbrev pub change_told : Result Changed Refused → Result (Unit {0}) AccessError
 change_told (Ok changed) = Ok tt
 change_told (Err (refused.Busy tries now)) = Err Busy

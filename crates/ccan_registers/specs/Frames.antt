@@ -1,4 +1,4 @@
--- What a chip does at the start of a frame on a bus of several, at a look until its end, and at its end, as it stands in the chip's
+-- What a chip does at the start of a frame on a bus of several, at a look until its end, and at its end, as it is in the chip's
 -- history. Source: this project's own, over the definitions of a chip's part in what is on the bus.
 use Rattle.std.specs.Prelude.{ℕ, ◌≡◌, ◌++◌, Option, Some, None}
 use Rattle.ccan_ram.specs.Terms.{Terms}
@@ -58,8 +58,8 @@ pub record StaysOnChip (terms : Terms) (old : StationState) (seen added : ChipHi
   pub held : new.loaded ≡ still_loaded told.found old.loaded
   pub member : told.member ≡ member_now new.under_way
 
--- Its end, to the chip at this place: a look at the controller; the steps at objects that its event calls for; and last that event
--- at the controller, which has as many tries as a change may have. Nothing is under way afterwards.
+-- Its end, for the chip at this position: a look at the controller; the steps at objects that its event calls for; and last that
+-- event at the controller, which has as many tries as a change may have. Nothing is under way afterwards.
 pub record EndsOnChip (terms : Terms) (tries : ℕ) (on : Wire) (place : ℕ) (flaw : Option Flaw) (old : StationState)
     (seen added : ChipHistory) (new : StationState) (told : Ended) : Type 0 where
   pub looked : ChipHistory

@@ -28,7 +28,7 @@ Transfers terms tries request registers seen added reply left =
 abbrev pub ShowsFlags : Terms → Flag → ChipHistory → ChipHistory → ℕ → Type 0
 ShowsFlags terms flag seen added word = OnObjects terms.port (λ s a. FlagsAtOnce terms flag s a word) seen added
 
--- the interrupt value of one moment, where the status interrupt is pending or not
+-- the interrupt value of one moment, with the status interrupt pending or not
 abbrev pub ShowsInterrupt : Terms → Bool → ChipHistory → ChipHistory → ℕ → Type 0
 ShowsInterrupt terms pending seen added value = OnObjects terms.port (λ s a. InterruptAtOnce terms pending s a value) seen added
 

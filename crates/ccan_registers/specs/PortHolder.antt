@@ -7,7 +7,7 @@ use Rattle.ccan_ram.specs.SharedRam.{opened}
 use Rattle.ccan_endless.specs.ChipPort.{ChipPass}
 use Rattle.ccan_registers.specs.declared.port_holder.PortHolder.{PortHolder}
 
--- a port of a memory without a name, which stands for none
+-- a port of a memory without a name, which stands for no port
 abbrev pub nowhere : ChipPass
 nowhere = record { pass = opened (record { profile = One; quota = 0; name = [] }) Bus; whole = [] }
 

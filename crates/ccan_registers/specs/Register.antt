@@ -1,7 +1,7 @@
 -- What a read and a write of a register of the chip come to. Source: C_CAN User's Manual 1.2, section 3 (Programmer's Model);
--- that a read of the Status register of a D_CAN clears it: Texas Instruments AM335x Technical Reference Manual, "Error and
--- Status Register"; what else a D_CAN does otherwise stands in Dcan.antt; what a port may do there that is not the owner of an
--- interface is this project's own.
+-- that a read of the Status register of a D_CAN clears it: Texas Instruments AM335x Technical Reference Manual, "Error and Status
+-- Register"; what else a D_CAN does differently is in Dcan.antt; what a port that is not the owner of an interface may do there
+-- is this project's own.
 use Rattle.std.specs.Prelude.{ℕ, ◌≡◌, ◌+◌, ◌*◌, ◌/◌, ◌%◌, ◌^◌, ◌==◌, ◌⊎◌, Bool, true, false, not, ◌&&◌, [], Option, Some, None, Result, Ok, Err, MatchBool, MatchOption}
 use Rattle.ccan_object.specs.declared.register.Reg.{Reg}
 use Rattle.ccan_object.specs.Interface.{set_register, shown}
@@ -69,7 +69,7 @@ pub record IsQuiet {Value : Type 0} (added : ChipHistory) (told : Result Value A
 
 -- ---- registers of the controller
 
--- one look at the controller, of which this word is read
+-- one look at the controller, from which this word is read
 abbrev pub Shows : Terms → (Controller → ℕ) → ChipHistory → ChipHistory → Result ℕ AccessError → Type 0
 Shows terms word seen added told = (c : Controller) × AtController terms.port Look c seen added × (told ≡ Ok (word c))
 
@@ -90,13 +90,13 @@ ReadsStatus terms z tries seen added told =
     (outcome : Result ControllerChanged ControllerBusy) × Changes terms.port z tries seen added outcome
     × (told ≡ status_told outcome)
 
--- The interrupt value: a look at the controller, which tells whether a status interrupt is shown; and then, where none is, the
+-- The interrupt value: a look at the controller, which says whether a status interrupt is shown; and then, if none is, the
 -- objects that ask for one in one moment.
 pub record InterruptValue (terms : Terms) (seen added : ChipHistory) (found : Controller) (value : ℕ) : Type 0 where
   pub steps : Then (AtController terms.port Look found)
       (λ s a. ShowsInterrupt terms (shows_interrupt found) s a value) seen added
 
--- the interrupt line is pulled where IE is 1 and the interrupt value is not 0
+-- the interrupt line is pulled if IE is 1 and the interrupt value is not 0
 abbrev pub PullsLine : Terms → ChipHistory → ChipHistory → Bool → Type 0
 PullsLine terms seen added pulls =
     (found : Controller) × (value : ℕ) × InterruptValue terms seen added found value
@@ -109,8 +109,8 @@ abbrev pub ReadsOwn : PortName → Interface → ℕ → InterfaceSet → ChipHi
 ReadsOwn port interface value own added told =
     MatchBool (is_own port interface) (IsQuiet added told value) (IsOthers own own added told)
 
--- what Test reads: with Rx, bit 7, the level of the bus, which is recessive. That no bit of a frame is on the bus when a register is
--- read is (own): a frame has no bits in a history
+-- what Test reads: with Rx, bit 7, as the level of the bus, which is recessive. That no bit of a frame is on the bus when a
+-- register is read is (own): a frame has no bits in a history
 abbrev pub test_shown : TestRegister → ℕ
 test_shown test = at 7 1 + test_word test
 
@@ -168,7 +168,7 @@ status_written Narrow value = Some (change.WriteStatus (flags_in value))
 status_written Wide value = Some (change.WriteStatus (flags_in value))
 status_written Dcan value = None
 
--- what a write of this word is to the controller, where the register is one that it has and that can be written
+-- what a write of this word is to the controller, if the register is one that it has and that can be written
 abbrev pub change_by : Map → Register → ℕ → Option ControllerChange
 change_by map register.Control value = Some (change.WriteControl (control_in value))
 change_by map register.Status value = status_written map value
@@ -228,7 +228,7 @@ pub record IsAt (map : Map) (profile : Profile) (offset : ℕ) (r : Register) : 
 abbrev pub HasNone : Map → Profile → ℕ → Type 0
 HasNone map profile offset = (r : Register) → IsIn profile r → offset_of map r ≡ offset → ⊥
 
--- a read at an offset: of the register that stands there; where none does, nothing happens
+-- a read at an offset: of the register that begins there; if none does, nothing happens
 abbrev pub ReadsAt : Terms → ℕ → Map → ℕ → InterfaceSet → ChipHistory → ChipHistory → Option (Result ℕ AccessError) → Type 0
 ReadsAt terms tries map offset own seen added None = HasNone map terms.profile offset × (added ≡ [])
 ReadsAt terms tries map offset own seen added (Some told) =
@@ -243,7 +243,7 @@ WritesAt terms tries map offset value own seen added (Some told) left =
 
 -- ---- 32 bits in one access
 
--- an access to one half of a word was refused; where no register begins, none is
+-- an access to one half of a word was refused; if no register begins there, none is
 abbrev pub is_refused : {Value : Type 0} → Option (Result Value AccessError) → Bool
 is_refused (Some (Err why)) = true
 is_refused told = false
@@ -271,7 +271,7 @@ pub record AreFlags (map : Map) (profile : Profile) (offset : ℕ) (flag : Flag)
   pub lower : IsAt map profile offset (register.Flags flag low)
   pub upper : IsAt map profile (offset + 2) (register.Flags flag high)
 
--- two registers of a flag, of which a word is read: all their objects at one moment
+-- two registers of a flag, which are read as a word: all their objects at one moment
 pub record ReadsFlags (terms : Terms) (map : Map) (offset : ℕ) (seen added : ChipHistory)
     (told : Option (Result ℕ AccessError)) : Type 0 where
   pub flag : Flag
@@ -287,7 +287,7 @@ pub record AreTiming (map : Map) (profile : Profile) (offset : ℕ) : Type 0 whe
   pub lower : IsAt map profile offset register.BitTiming
   pub upper : IsAt map profile (offset + 2) register.Extension
 
--- the bit timing, of which a word is read: one look at the controller
+-- the bit timing, which is read as a word: one look at the controller
 pub record ReadsTiming (terms : Terms) (map : Map) (offset : ℕ) (seen added : ChipHistory)
     (told : Option (Result ℕ AccessError)) : Type 0 where
   pub are : AreTiming map terms.profile offset
@@ -302,7 +302,7 @@ pub record ReadsApart (terms : Terms) (tries : ℕ) (map : Map) (offset : ℕ) (
   pub no_timing : AreTiming map terms.profile offset → ⊥
   pub halves : ReadsHalves terms tries map offset own seen added told
 
--- A read of the word at an offset. One that is not a multiple of 4 is none of a word.
+-- A read of the word at an offset. An offset that is not a multiple of 4 is not that of a word.
 abbrev pub ReadsWord : Terms → ℕ → Map → ℕ → InterfaceSet → ChipHistory → ChipHistory → Option (Result ℕ AccessError) → Type 0
 ReadsWord terms tries map offset own seen added told =
     MatchBool (offset % 4 == 0)
@@ -317,7 +317,7 @@ both_written high None = high
 both_written high (Some low) = Some low
 
 -- A write of the halves of a word: of its upper one, and then, unless that was refused, of its lower one. So the Command Mask
--- register of a D_CAN is written before the Command Request register, which stands below it and starts the transfer.
+-- register of a D_CAN is written before the Command Request register, which is below it and starts the transfer.
 abbrev pub WritesHalves : Terms → ℕ → Map → ℕ → ℕ → InterfaceSet → ChipHistory → ChipHistory
     → Option (Result (Unit {0}) AccessError) → InterfaceSet → Type 0
 WritesHalves terms tries map offset value own seen added told left =
@@ -327,7 +327,7 @@ WritesHalves terms tries map offset value own seen added told left =
     × Then (λ s a. WritesAt terms tries map (offset + 2) (value / 2 ^ 16) own s a high between)
     (λ s a. WritesAt terms tries map offset (value % 2 ^ 16) between s a low left) seen added × (told ≡ both_written high low))
 
--- the bit timing, of which a word is written: one change of the controller
+-- the bit timing, which is written as a word: one change of the controller
 pub record WritesTiming (terms : Terms) (tries : ℕ) (map : Map) (offset value : ℕ) (own : InterfaceSet)
     (seen added : ChipHistory) (told : Option (Result (Unit {0}) AccessError)) (left : InterfaceSet) : Type 0 where
   pub are : AreTiming map terms.profile offset
@@ -342,7 +342,7 @@ pub record WritesApart (terms : Terms) (tries : ℕ) (map : Map) (offset value :
   pub no_timing : AreTiming map terms.profile offset → ⊥
   pub halves : WritesHalves terms tries map offset value own seen added told left
 
--- A write of the word at an offset. One that is not a multiple of 4 is none of a word.
+-- A write of the word at an offset. An offset that is not a multiple of 4 is not that of a word.
 abbrev pub WritesWord : Terms → ℕ → Map → ℕ → ℕ → InterfaceSet → ChipHistory → ChipHistory
     → Option (Result (Unit {0}) AccessError) → InterfaceSet → Type 0
 WritesWord terms tries map offset value own seen added told left =

@@ -35,15 +35,15 @@ JoinsOnChip port found seen added =
     (outcome : Result ControllerChanged ControllerBusy)
     × Then (λ s a. Changes port Join most_tries s a outcome) (λ s a. AtController port Look found s a) seen added
 
--- the port comes to the bus: it looks at the controller; and where that comes back, it joins and looks again
+-- the port comes to the bus: it looks at the controller, and if that comes back, it joins and looks again
 abbrev pub ArrivesOnChip : PortName → Controller → Controller → ChipHistory → ChipHistory → Type 0
 ArrivesOnChip port first found seen added =
     MatchBool (comes_back first)
     (Then (λ s a. AtController port Look first s a) (λ s a. JoinsOnChip port found s a) seen added)
     (AtController port Look found seen added × (first ≡ found))
 
--- a load: the port comes to the bus, and what was loaded is dropped where the controller has left it; and then the choice of what
--- is sent and its start, as the bus is with the controller that was found
+-- a load: the port comes to the bus, and what was loaded is dropped if the controller has left it; and then what is sent is
+-- chosen and started, as the bus is with the controller that was found
 pub record LoadsOnChip (terms : Terms) (tries : ℕ) (past : BusPast) (seen added : ChipHistory) (after : BusPast)
     (found : Controller) (loading : LoadAnswer) : Type 0 where
   pub looked : ChipHistory
@@ -62,9 +62,9 @@ NotesEvent port tries None noted seen added = (noted ≡ None) × IsStill port a
 NotesEvent port tries (Some own) None seen added = ⊥
 NotesEvent port tries (Some own) (Some outcome) seen added = Changes port (Frame own.0 own.1) tries seen added outcome
 
--- A round: the port comes to the bus, and what was loaded is dropped where the controller has left it; the load, the decision
--- and the steps at objects that are due, as the bus is with the controller that was found; and last what all this was to the
--- controller, which has as many tries as a change may have.
+-- A round: the port comes to the bus, and what was loaded is dropped if the controller has left it; then the load, the decision
+-- and the steps at objects that are due, as the bus is with the controller that was found; and last, the event that all this was
+-- to the controller, which has as many tries as a change may have.
 pub record RoundOnChip (terms : Terms) (line : RoundLine) (tries : ℕ) (past : BusPast) (seen added : ChipHistory)
     (after : BusPast) (told : ChipReport) : Type 0 where
   pub looked : ChipHistory
@@ -79,8 +79,8 @@ pub record RoundOnChip (terms : Terms) (line : RoundLine) (tries : ℕ) (past : 
   pub own : WasTo told.own (as_found told.found (events_in (looked ++ seen)) (left_behind first past)) after
   pub notes : NotesEvent terms.port most_tries told.own told.noted (steps ++ (looked ++ seen)) last
 
--- groups of recessive bits: the controller has them by one change, and every other node; or the change was given up, and no node
--- has seen any
+-- groups of recessive bits: the controller has them by one change, and every other node has them; or the change was given up, and
+-- no node has seen any
 abbrev pub RecoversOnChip : Terms → ℕ → ℕ → BusPast → ChipHistory → ChipHistory → BusPast
     → Result ControllerChanged ControllerBusy → Type 0
 RecoversOnChip terms groups tries past seen added after (Ok made) =

@@ -1,9 +1,9 @@
 use thiserror::Error;
 
-/// Why an access to a register came to nothing.
+/// Why an access to a register failed.
 #[derive(Clone, Copy, PartialEq, Eq, Debug, Error)]
 pub enum AccessError {
-    /// The register is of an interface that the port is not: IF1's is for IF1's port alone, and IF2's for IF2's.
+    /// The register is of another port's interface: those of IF1 are for IF1's port only, and those of IF2 for IF2's.
     #[error("the register is of another port's interface")]
     OtherInterface,
     /// Each try was lost to a change of another port; the access may be made again.

@@ -9,7 +9,7 @@ use ccan_endless::{EndlessRam, Port};
 use ccan_object::{ObjectNo, Profile};
 use ccan_ram::{Change, Refused, SharedRam, Tries};
 
-/// The object behind so many others.
+/// The object after so many others.
 fn object_behind(profile: Profile, others: u8) -> ObjectNo
     requires { others < objects_in profile }
     ensures number { result ≡ others + 1 }

@@ -28,7 +28,7 @@ fn zeros() -> Change
 
 /// Makes each object of the chip one of zeros, in the order of their numbers, as the initialisation of the message RAM of a D_CAN
 /// does (Texas Instruments AM335x Technical Reference Manual, chapter Control Module, "dcan_raminit Register"). `Busy` or
-/// `Spent`: that object and those behind it are as they were. After `Busy` the call may be made again.
+/// `Spent`: that object and those after it are as they were. After `Busy` the call may be made again.
 pub fn clear_objects(
     ram: &EndlessRam,
     holder: &mut PortHolder,

@@ -1,4 +1,4 @@
-//! Looks and changes of the controller, as they stand in the history of the chip.
+//! Looks and changes of the controller, as they are in the history of the chip.
 ghost use Rattle.std.specs.Prelude.{◌≡◌};
 ghost use Rattle.ccan_confine.specs.Controller.{IsController};
 ghost use Rattle.ccan_endless.specs.Chip.{MayMake};
@@ -25,7 +25,7 @@ pub fn look(ram: &EndlessRam, holder: &mut PortHolder) -> Controller
     ram.look_controller(port)
 }
 
-/// Changes the controller, in at most so many tries: each is lost where another port's change of it came first.
+/// Changes the controller, in at most so many tries: each is lost if another port's change of it came first.
 #[inline(always)]
 pub fn change(
     ram: &EndlessRam,

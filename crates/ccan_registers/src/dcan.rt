@@ -1,4 +1,4 @@
-//! What a D_CAN does otherwise than a C_CAN (Texas Instruments AM335x Technical Reference Manual, chapter DCAN).
+//! What a D_CAN does differently from a C_CAN (Texas Instruments AM335x Technical Reference Manual, chapter DCAN).
 ghost use Rattle.std.specs.Prelude.{◌≡◌, false, true, IfNone, IfSome};
 ghost use Rattle.ccan_object.specs.Profile.{Holds};
 ghost use Rattle.ccan_ram.specs.declared.port.PortName.TheVariants.{Bus};
@@ -63,7 +63,7 @@ pub(crate) fn test_written(map: Map, word: u16) -> TestRegister
     }
 }
 
-/// Whether a write asks for a software reset: of Control of a D_CAN, with SWR and Init.
+/// Whether a write asks for a software reset: a write of Control of a D_CAN does, with SWR and Init.
 #[inline(always)]
 pub(crate) fn asks_for_reset(map: Map, register: Register, word: u16) -> bool
     ensures { result ≡ says.asks_for_reset map register word }
@@ -137,8 +137,8 @@ fn sent(
     }
 }
 
-/// Makes a transfer that requests a transmission. It sets NewDat of the object beside TxRqst, so that new data is sent also
-/// where the frame of the object is on its way.
+/// Makes a transfer that requests a transmission. It sets NewDat of the object in addition to TxRqst, so that new data is sent
+/// even if the frame of the object is on its way.
 pub(crate) fn send(
     own: &mut InterfaceSet,
     ram: &EndlessRam,

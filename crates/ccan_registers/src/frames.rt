@@ -1,4 +1,4 @@
-//! The start and the end of a frame on a bus of several chips, and a look between, as they stand in the chip's history.
+//! The start and the end of a frame on a bus of several chips, and a look in between, as they are in the chip's history.
 ghost use Rattle.std.specs.Prelude.{◌≡◌, ◌<◌};
 ghost use Rattle.ccan_ram.specs.declared.port.PortName.TheVariants.{Bus};
 ghost use Rattle.ccan_registers.specs.ChipSteps.{ChipGoes};
@@ -51,8 +51,8 @@ pub fn stay(station: &mut Station, ram: &EndlessRam, holder: &mut PortHolder) ->
     station.stay(ram, port)
 }
 
-/// The end of the frame, to the chip at this place on the bus, which finds this error by itself: a look at the controller, the
-/// steps at objects that its event calls for, and the event at the controller, in up to 1,000 tries.
+/// The end of the frame, for the chip at this position on the bus, which finds this error by itself: a look at the controller,
+/// the steps at objects that its event calls for, and the event at the controller, in up to 1,000 tries.
 pub fn end(
     station: &mut Station,
     ram: &EndlessRam,

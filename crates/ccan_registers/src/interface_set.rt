@@ -7,7 +7,7 @@ use ccan_line::LineAnswer;
 use ccan_object::{Iface, ObjectNo, Reg};
 use ccan_ram::{SharedRam, Tries};
 
-/// What a host has of its own beside its port: the registers of its interface, IF1 or IF2 (User's Manual, section 3.3).
+/// What a host has of its own besides its port: the registers of its interface, IF1 or IF2 (User's Manual, section 3.3).
 #[derive(Clone, Copy, PartialEq, Eq, Debug)]
 pub struct InterfaceSet {
     /// The Command Mask register and the message buffer.
@@ -22,7 +22,7 @@ impl InterfaceSet {
     ghost use Rattle.ccan_registers.specs.PortHolder.{port_at};
     ghost use Rattle.ccan_registers.specs.InterfaceSet.{Transferred, reset_set, zero_set};
 
-    /// Registers that read 0, but for the Command Request register, which names object 1.
+    /// Registers that read 0, except the Command Request register, which names object 1.
     pub fn new() -> InterfaceSet
         ensures { result ≡ zero_set }
     {
@@ -43,7 +43,7 @@ impl InterfaceSet {
     }
 
     /// Writes the Command Request register: the transfer that the Command Mask register says, with the object that the request
-    /// names (User's Manual, section 3.3.1). Where its change is refused, the message buffer stays as it was.
+    /// names (User's Manual, section 3.3.1). If its change is refused, the message buffer stays as it was.
     #[inline(always)]
     pub fn request(
         &mut self,

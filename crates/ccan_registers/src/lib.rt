@@ -1,10 +1,10 @@
 //! The registers of a C_CAN for whoever has a port of the chip.
 //!
-//! A port reads and writes a register by its offset, as a driver does. What it comes to is in the chip's one history: a register
-//! of the controller is one look or one change of the controller's word; a register of flags is all objects in one moment; a
-//! write of Command Request is a transfer; the other registers of an interface are the port's own, and no other port has them.
-//! Beside these, whoever drives the bus plays its rounds here, and resets the chip: a change of the controller and one of each
-//! object.
+//! A port reads and writes a register by its offset, as a driver does. What the access does is in the chip's one history: a
+//! register of the controller is one look or one change of the controller's word; a register of flags is all objects in one
+//! moment; a write of Command Request is a transfer; the other registers of an interface are the port's own, and no other port
+//! has them. Besides these, whoever drives the bus plays its rounds here, and resets the chip: a change of the controller and one
+//! of each object.
 //!
 //! ```text
 //!   read_at, write_at             load, round, recessive
@@ -18,13 +18,13 @@
 //!         \----------\--- EndlessRam ----------/------/
 //! ```
 //!
-//! Whoever drives a bus of several chips has for each chip the start and the end of a frame, and a look between (`begin`, `stay`,
-//! `end`): as a round, cut at the points where other chips and time come in.
+//! Whoever drives a bus of several chips has for each chip the start and the end of a frame, and a look in between (`begin`,
+//! `stay`, `end`): a round, cut at the points where other chips and time come in.
 //!
-//! A port tells another what it has seen by a note (`tell`, `heed`).
+//! A port shows another what it has seen by a note (`tell`, `heed`).
 //!
 //! A word of 32 bits (`read_word`, `write_word`) is two registers, one after the other; two of one flag, and Bit Timing with BRP
-//! Extension, are one access. What a D_CAN does otherwise than a C_CAN stands in `dcan`, and the initialisation of its message RAM
+//! Extension, are one access. What a D_CAN does differently from a C_CAN is in `dcan`, and the initialisation of its message RAM
 //! in `clearing`.
 #![tactic(auto)]
 

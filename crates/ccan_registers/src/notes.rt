@@ -1,4 +1,5 @@
-//! How one port of a chip tells another what it has seen: by a note, which can go from the one's thread to the other's.
+//! How one port of a chip shows another what it has seen: by a note, which can go from the thread of the one to that of
+//! the other.
 ghost use Rattle.std.specs.Prelude.{◌≡◌};
 ghost use Rattle.ccan_registers.specs.ChipSteps.{ChipGoes};
 ghost use Rattle.ccan_registers.specs.Notes.{Heeds};
@@ -20,7 +21,8 @@ pub fn tell(ram: &EndlessRam, holder: &mut PortHolder) -> Note
     ram.tell(port)
 }
 
-/// Shows the port what the note tells: what the port does from now on comes after all that the teller had seen.
+/// Shows the port what the note says: what the port does from now on comes after all that the port of the note had
+/// seen.
 pub fn heed(ram: &EndlessRam, holder: &mut PortHolder, note: Note)
     requires memory { (port_at holder.old).pass.memory ≡ ram.now.words }
     requires note { note.memory ≡ ram.now.words }

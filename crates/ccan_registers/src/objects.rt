@@ -1,4 +1,4 @@
-//! Steps of a port at objects, as they stand in the history of the chip. Each call works on the port in its place: it makes no
+//! Steps of a port at objects, as they are in the history of the chip. Each call works on the port in its place: it makes no
 //! access of the port, which would own it for that time.
 ghost use Rattle.std.specs.Prelude.{◌≡◌};
 ghost use Rattle.ccan_object.specs.Profile.{Holds};
@@ -42,7 +42,7 @@ fn watched(ram: &EndlessRam, port: &mut Port, object: ObjectNo, flag: Flag, turn
     false
 }
 
-/// A flag of all objects in one moment. Each flag has a look of its own, from which the compiler gathers no other.
+/// A flag of all objects in one moment. Each flag has a look of its own, for which the compiler gathers no other flag.
 #[inline(always)]
 fn flags_shown(ram: &EndlessRam, port: &mut Port, flag: Flag) -> u64
     requires memory { port.old.pass.memory ≡ ram.now.words }
@@ -59,7 +59,7 @@ fn flags_shown(ram: &EndlessRam, port: &mut Port, flag: Flag) -> u64
     }
 }
 
-/// The number of the lowest bit that is set, from 1 on; 0 where none is.
+/// The number of the lowest bit that is set, from 1 on; 0 if none is.
 fn first_set(word: u64) -> u16
     ensures { IsFirstSet word result }
 {
@@ -142,8 +142,8 @@ pub fn flags(ram: &EndlessRam, holder: &mut PortHolder, flag: Flag) -> u64
     flags_shown(ram, port, flag)
 }
 
-/// The interrupt value of one moment: 0x8000 where the status interrupt is pending; else the number of the first object with
-/// IntPnd, or 0.
+/// The interrupt value of one moment: 0x8000 if the status interrupt is pending; else the number of the first object with IntPnd,
+/// or 0.
 #[inline(never)]
 pub fn interrupt(ram: &EndlessRam, holder: &mut PortHolder, pending: bool) -> u16
     requires memory { (port_at holder.old).pass.memory ≡ ram.now.words }

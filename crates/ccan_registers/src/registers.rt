@@ -100,8 +100,8 @@ pub fn write_controller(
     }
 }
 
-/// The Interrupt register: 0x8000 for the status interrupt, else the number of the first object with IntPnd, or 0. With the
-/// controller that its look found.
+/// The Interrupt register: 0x8000 for the status interrupt, else the number of the first object with IntPnd, or 0. It comes with
+/// the controller that its look found.
 #[inline(always)]
 pub fn interrupt_value(ram: &EndlessRam, holder: &mut PortHolder) -> (Controller, u16)
     requires memory { (port_at holder.old).pass.memory ≡ ram.now.words }
@@ -126,7 +126,7 @@ pub fn line(ram: &EndlessRam, holder: &mut PortHolder) -> bool
 
 // ---- reads
 
-/// What a register of an interface reads, where the interface is the port's.
+/// What a register of an interface reads, if the interface is the port's.
 #[inline(always)]
 fn read_own(port: PortName, interface: Interface, value: u16) -> Result<u16, AccessError>
     ensures own { says.is_own port interface ≡ true → result ≡ Ok value }
@@ -170,7 +170,7 @@ pub fn read(
     }
 }
 
-/// Reads the register at an offset, in bytes from where the chip begins. None where no register of the layout begins there.
+/// Reads the register at an offset, in bytes from where the chip begins. None if no register of the layout begins there.
 #[inline(always)]
 pub fn read_at(
     own: &InterfaceSet,
@@ -237,7 +237,7 @@ fn write_request(
     transfer_told(&reply)
 }
 
-/// The request of a D_CAN: its number has eight bits, and where no object has it, nothing happens.
+/// The request of a D_CAN: its number has eight bits, and if no object has it, nothing happens.
 #[inline(never)]
 fn write_request_of_dcan(
     own: &mut InterfaceSet,
@@ -280,7 +280,7 @@ fn write_request_by(
     }
 }
 
-/// Writes a register of the message buffer or the Command Mask register, where the interface is the port's.
+/// Writes a register of the message buffer or the Command Mask register, if the interface is the port's.
 #[inline(always)]
 fn write_own(
     own: &mut InterfaceSet,
@@ -313,7 +313,7 @@ fn status_written(map: Map, value: u16) -> Option<ControllerChange>
     }
 }
 
-/// What a write of this word is to the controller, where the register is one that it has and that can be written.
+/// What a write of this word is to the controller, if the register is one that it has and that can be written.
 #[inline(always)]
 fn change_by(map: Map, register: Register, value: u16) -> Option<ControllerChange>
     ensures { result ≡ says.change_by map register value }
@@ -371,7 +371,7 @@ pub fn write(
     }
 }
 
-/// Writes the register at an offset, in bytes from where the chip begins. None where no register of the layout begins there.
+/// Writes the register at an offset, in bytes from where the chip begins. None if no register of the layout begins there.
 #[inline(always)]
 pub fn write_at(
     own: &mut InterfaceSet,

@@ -15,7 +15,7 @@ use ccan_ram::{Change, Tries};
 
 /// Resets the controller, by this change, and then each object: MsgVal, NewDat, IntPnd and TxRqst of each become 0, and all else
 /// of the objects stays (C_CAN User's Manual 1.2, "Hardware Reset Description"). `Busy` of the controller: nothing was reset.
-/// `Busy` or `Spent` of an object: that one and those behind it were not reset. After `Busy` the call may be made again.
+/// `Busy` or `Spent` of an object: that one and those after it were not reset. After `Busy` the call may be made again.
 pub fn reset(
     ram: &EndlessRam,
     holder: &mut PortHolder,

@@ -1,4 +1,4 @@
-//! Loads, rounds and recessive bits of the bus of a chip, as they stand in the chip's history.
+//! Loads, rounds and recessive bits of the bus of a chip, as they are in the chip's history.
 ghost use Rattle.std.specs.Prelude.{◌≡◌};
 ghost use Rattle.ccan_bus.specs.Bus.{IsSameBus, LedTo};
 ghost use Rattle.ccan_bus.specs.Past.{BusPast};
@@ -14,8 +14,8 @@ use ccan_confine::Controller;
 use ccan_endless::{ControllerBusy, ControllerChanged, EndlessRam};
 use ccan_ram::Tries;
 
-/// Chooses an object to send, and starts it, where the controller takes part and has none. With the controller that its look
-/// found.
+/// Chooses an object to send, and starts it, if the controller takes part and has none. The answer comes with the controller that
+/// its look found.
 pub fn load(
     bus: &mut ChipBus,
     ram: &EndlessRam,
@@ -68,8 +68,8 @@ pub fn round(
     report
 }
 
-/// Lets so many groups of eleven recessive bits pass. Where each try at the controller was lost to a change of another port, no
-/// node has seen any.
+/// Lets so many groups of eleven recessive bits pass. If each try at the controller was lost to a change of another port, no node
+/// has seen any.
 pub fn recessive(
     bus: &mut ChipBus,
     ram: &EndlessRam,

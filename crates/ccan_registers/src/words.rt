@@ -102,7 +102,7 @@ fn flag_shown(register: Option<Register>) -> Option<(Flag, FlagPart)>
     }
 }
 
-/// The flag of which both halves of the word at an offset are registers, with the objects that the lower and the upper half show.
+/// The flag that both halves of the word at an offset are registers of, with the objects that the lower and the upper half show.
 fn flags_at(map: Map, profile: Profile, offset: u32) -> Option<(Flag, FlagPart, FlagPart)>
     requires small { offset + 2 < 2 ^ 32 }
     ensures some { IfSome result (λ r. AreFlags map profile offset r.0 r.1 r.2) }
@@ -139,7 +139,7 @@ fn timing_word(timing: BitTiming) -> u32
     (u32::from(timing.extension()) << 16) + u32::from(timing.register())
 }
 
-/// Reads the word of 32 bits at an offset that is a multiple of 4, where it is none of flags.
+/// Reads the word of 32 bits at an offset that is a multiple of 4, if it is not one of flags.
 fn read_other(
     own: &InterfaceSet,
     ram: &EndlessRam,
@@ -187,9 +187,9 @@ fn read_aligned(
     }
 }
 
-/// Reads the word of 32 bits at an offset, in bytes from where the chip begins. Where both halves are registers of one flag, or
-/// Bit Timing and BRP Extension, it is of one moment; else its lower half is read, and then its upper one. A half without a
-/// register reads 0. None where the offset is no multiple of 4, or neither half has a register.
+/// Reads the word of 32 bits at an offset, in bytes from where the chip begins. If both halves are registers of one flag, or Bit
+/// Timing and BRP Extension, it is of one moment; otherwise its lower half is read, and then its upper one. A half without a
+/// register reads 0. None if the offset is not a multiple of 4, or neither half has a register.
 pub fn read_word(
     own: &InterfaceSet,
     ram: &EndlessRam,
@@ -279,10 +279,10 @@ fn write_aligned(
     write_halves(own, ram, holder, map, offset, value, tries)
 }
 
-/// Writes the word of 32 bits at an offset, in bytes from where the chip begins. Where its halves are Bit Timing and BRP
-/// Extension, that is one change of the controller. Else its upper half is written, and then its lower one, so that a command
-/// of a D_CAN is there before its request. A half without a register drops its bits. None where the offset is no multiple of 4,
-/// or neither half has a register.
+/// Writes the word of 32 bits at an offset, in bytes from where the chip begins. If its halves are Bit Timing and BRP Extension,
+/// that is one change of the controller. Otherwise its upper half is written, and then its lower one, so that a command of a
+/// D_CAN is there before its request. A half without a register drops its bits. None if the offset is not a multiple of 4, or
+/// neither half has a register.
 pub fn write_word(
     own: &mut InterfaceSet,
     ram: &EndlessRam,

@@ -1,4 +1,4 @@
--- Why bytes are no saved chip. Source: this project's own.
+-- Why bytes are not a saved chip. Source: this project's own.
 use Rattle.std.specs.Prelude.{ℕ, ◌≡◌, ◌≢◌, ◌≤◌, List, length, take, drop}
 use Rattle.std.specs.Int.{from_le_bytes, w64}
 use Rattle.ccan_saved.specs.declared.format_error.FormatError.{FormatError}

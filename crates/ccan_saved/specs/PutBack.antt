@@ -10,7 +10,7 @@ use Rattle.ccan_saved.specs.declared.saved.Saved.{Saved}
 use Rattle.ccan_saved.specs.Looks.{LooksAtAll}
 
 -- The chip has as many objects as the saved one, and after some steps a look at the controller found one with the saved one's
--- word, in which all its registers are, and a look at each object found the saved record. Where it failed nothing is said but
+-- word, in which all its registers are, and a look at each object found the saved record. If it failed, nothing is said except
 -- that its steps are in the history.
 abbrev pub PutsBack : Terms → Saved → ChipHistory → ChipHistory → Result (Unit {0}) NotRestored → Type 0
 PutsBack terms saved seen added (Ok done) =

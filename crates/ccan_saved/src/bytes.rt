@@ -48,7 +48,7 @@ fn bytes_of(words: &[u64; WORDS]) -> [u8; LENGTH]
     bytes
 }
 
-/// The word at a place of a text.
+/// The word at an index of a text.
 fn word_at(bytes: &[u8], place: usize) -> u64
     requires { 8 * place + 8 ≤ length bytes.now }
     ensures text { to_le_bytes w64 result ≡ take 8 (drop (8 * place) bytes.now) }

@@ -18,7 +18,7 @@ use ccan_object::{CommandMask, Iface, Profile, Reg, unpack};
 use ccan_ram::Tries;
 use ccan_registers::InterfaceSet;
 
-/// The most nodes that a bus has beside the controller.
+/// The most nodes that a bus has besides the controller.
 const MOST_NODES: u64 = 8;
 /// A Command Mask register that says that the object is written: WR/RD, bit 7.
 const WRITE: u16 = 0x80;

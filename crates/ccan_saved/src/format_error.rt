@@ -5,7 +5,7 @@ use thiserror::Error;
 /// fields in their order.
 #[derive(Clone, Copy, PartialEq, Eq, Debug, Error)]
 pub enum FormatError {
-    /// They are not as many as a saved chip has, 1672. There are so many.
+    /// They are not as many as a saved chip has, 1672. The value is how many they are.
     #[error("a saved chip has 1672 bytes, and these are {0}")]
     Length(usize),
     /// They do not begin with the text `ccansave`.

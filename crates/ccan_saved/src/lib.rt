@@ -1,6 +1,6 @@
 //! A chip saved to bytes and put back from them, so that a simulator can take a snapshot of it.
 //!
-//! What is saved is all that a driver can read of the chip: its registers, with what stands behind them, and the records of its
+//! What is saved is all that a driver can read of the chip: its registers, with what is behind them, and the records of its
 //! objects. Two things are not saved: the error counters of the other nodes, which begin anew; and the frame that is loaded for
 //! sending, whose object stays requested and is loaded anew. A driver can notice both later: data that its host wrote after the
 //! load is then sent once and not after the loaded frame; and a node that was bus off is on again.
@@ -13,14 +13,14 @@
 //! ```
 //!
 //! No call allocates. No event of a chip says "restored": `put_back` brings a chip after its reset, by steps that every chip can
-//! make, to where the saved one stood, and then looks whether it is there. So each law about chips holds of it.
+//! make, to where the saved one was, and then looks to see whether it is there. So each law about chips holds for it.
 //!
 //! # Calling
 //!
 //! To save, read `look_at_all` by any port while no other call runs, and fill a `Saved`. A look at the controller and one at each
-//! object are not one moment: where other ports change the chip meanwhile, what is saved may be a chip that never was. To put
-//! back, open a chip with `EndlessRam::open_reset`, hand `put_back` the bus's port before any other port is used, and where it
-//! fails close the chip. `from_bytes` refuses what no `Saved` is written as; that no chip can be like it shows in `put_back`.
+//! object are not one moment: if other ports change the chip meanwhile, what is saved may be a chip that never was. To put back,
+//! open a chip with `EndlessRam::open_reset`, hand `put_back` the bus's port before any other port is used, and if it fails,
+//! close the chip. `from_bytes` refuses what no `Saved` is written as; `put_back` finds out whether no chip can be like it.
 #![tactic(auto)]
 
 mod bytes;

@@ -62,7 +62,7 @@ fn look_through(ram: &EndlessRam, port: &mut Port) -> [Record; MOST_OBJECTS]
     records
 }
 
-/// The object at this place among those of a chip, from place 0 on.
+/// The object at this index among those of a chip, from index 0 on.
 pub(crate) fn object_at(profile: Profile, place: usize) -> ObjectNo
     requires { place < objects_in profile }
     ensures number { result ≡ place + 1 }

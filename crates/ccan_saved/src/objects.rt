@@ -48,7 +48,7 @@ fn unused_are_zero(profile: Profile, records: &[Record; MOST_OBJECTS]) -> bool
     are_zero(&all[usize::from(profile.objects())..])
 }
 
-/// The records that these words are, where those past the chip's last object are zero.
+/// The records that these words are, if those past the chip's last object are zero.
 pub(crate) fn records_in(profile: Profile, words: &[u64]) -> Result<[Record; MOST_OBJECTS], Field>
     requires { length words.now ≡ 192 }
     ensures found { IfOk result (λ records. AreRecords records × AreUnused profile records

@@ -1,4 +1,4 @@
-//! By which changes a controller after its reset comes to where another one stood.
+//! The changes by which a controller after its reset comes to where another one was.
 ghost use Rattle.std.specs.Prelude.{◌≡◌, All};
 ghost use Rattle.ccan_ram.specs.declared.port.PortName.TheVariants.{Bus};
 ghost use Rattle.ccan_endless.specs.Chip.{MayMake};
@@ -14,12 +14,12 @@ pub(crate) struct Step {
     pub(crate) times: u16,
 }
 
-/// From this count of either counter on EWarn is 1.
+/// From this count of either counter on, EWarn is 1.
 const WARNING: u8 = 96;
 /// What an error in an own frame adds to TEC.
 const SEND_FAULT_STEP: u16 = 8;
 
-/// A change of the error counters alone: LEC stays, and no transfer is told.
+/// A change of the error counters alone: LEC stays, and no transfer is reported.
 fn quiet(event: BusEvent) -> ControllerChange
     ensures { MayMake Bus result }
 {
@@ -38,8 +38,8 @@ fn told(event: BusEvent) -> ControllerChange
     ControllerChange::Frame(event, noted)
 }
 
-/// The event by which these counters may come last, with no change of BOff or EWarn: it leaves counters of a node that is
-/// passive or off, and a REC of 0.
+/// The event that may come last on the way to these counters, with no change of BOff or EWarn: it leaves the counters of a node
+/// that is passive or off as they are, and a REC of 0 too.
 fn last_event(counters: Counters) -> BusEvent {
     if counters.state() != NodeState::Active {
         BusEvent::SendNoAck
@@ -96,7 +96,7 @@ pub(crate) fn plan(controller: &Controller) -> [Step; 17]
         once(ControllerChange::WriteBitTiming(controller.timing.register())),
         once(ControllerChange::WriteExtension(controller.timing.extension())),
         once(ControllerChange::WriteTest(controller.test)),
-        // up to the warning limit and back, where a change of EWarn is pending
+        // up to the warning limit and back, if a change of EWarn is pending
         times(12 * crosses, quiet(BusEvent::SendFault)),
         times(96 * crosses, quiet(BusEvent::Sent)),
         // the counters

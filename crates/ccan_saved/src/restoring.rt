@@ -18,9 +18,9 @@ use ccan_endless::{EndlessRam, Port};
 use ccan_object::{MOST_OBJECTS, Record};
 use ccan_ram::SharedRam;
 
-/// Brings a chip that was just opened, by `EndlessRam::open_reset`, to where the saved one stood, by the bus's port. It writes
-/// each object once, and makes some 400 changes of the controller at most, each in at most as many tries as are saved; then it
-/// looks at all.
+/// Brings a chip that was just opened, by `EndlessRam::open_reset`, to where the saved one was, by the bus's port. It writes each
+/// object once, and makes some 400 changes of the controller at most, each in at most as many tries as are saved; then it looks
+/// at all.
 pub fn put_back(ram: &EndlessRam, port: &mut Port, saved: &Saved) -> Result<(), NotRestored>
     requires memory { port.old.pass.memory ≡ ram.now.words }
     requires bus { port.old.pass.port ≡ Bus }
@@ -43,7 +43,7 @@ pub fn put_back(ram: &EndlessRam, port: &mut Port, saved: &Saved) -> Result<(), 
     }
 }
 
-/// Leads the chip to where the saved one stood.
+/// Leads the chip to where the saved one was.
 fn lead(ram: &EndlessRam, port: &mut Port, saved: &Saved) -> Result<(), Refusal>
     requires memory { port.old.pass.memory ≡ ram.now.words }
     requires bus { port.old.pass.port ≡ Bus }

@@ -21,6 +21,6 @@ pub struct Saved {
     pub if2: InterfaceSet,
     /// The controller's registers, with the error counters and the status interrupts that are pending.
     pub controller: Controller,
-    /// The records of the objects, object k at place k - 1, and zero records past the last one that the chip has.
+    /// The records of the objects, object k at index k - 1, and zero records past the last one that the chip has.
     pub records: [Record; MOST_OBJECTS],
 }

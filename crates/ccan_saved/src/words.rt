@@ -23,7 +23,7 @@ pub(crate) const NAME: u64 = 0x657661736e616363;
 pub(crate) const VERSION: u64 = 2;
 /// How many words a saved chip has.
 pub(crate) const WORDS: usize = 209;
-/// How many of them stand before the objects.
+/// How many of them come before the objects.
 const HEAD: usize = 17;
 /// How many are the objects'.
 const OBJECTS: usize = 192;

@@ -34,8 +34,8 @@ use Rattle.ccan_station.specs.Station.{Begins, Ends, due, ending, frame_won, sen
 abbrev pub after_look : Controller → Option Flaw → Member → Member
 after_look found flaw m = ending (still_under_way found (Some m)) flaw
 
--- Whoever leaves while a frame is under way, and whatever errors are found: where the members that are left are asked anew, the
--- frame that won at the start wins, if one of its senders is left.
+-- Whoever leaves while a frame is under way, and whatever errors are found: when the members that remain are asked anew, the
+-- frame that won at the start wins, if one of its senders remains.
 abbrev pub WhoLeavesChangesNoWinner : Type 0
 WhoLeavesChangesNoWinner =
     (m : ℕ → Member) (found : ℕ → Controller) (flaw : ℕ → Option Flaw) (wire later : Wire) (winner : Winner) (sender : ℕ)
@@ -50,7 +50,7 @@ FramesOfWhoLeftAreCutOff =
     → start_of wire ≡ Won winner → ((k : ℕ) → part_of winner k ≡ Sender → takes_part (found k) ≡ false)
     → Continues wire (λ k. after_look (found k) (flaw k) (m k)) later → later ≡ Broken winner
 
--- who has left the bus has no event, whatever is on it
+-- a member that has left the bus has no event, whatever is on it
 abbrev pub WhoLeftHasNoEvent : Type 0
 WhoLeftHasNoEvent =
     (on : Wire) (place : ℕ) (found : Controller) (flaw : Option Flaw) (m : Member) → takes_part found ≡ false
@@ -71,7 +71,7 @@ BeginsAreLoads =
     → (next : BusPast) × ChipLoad terms tries old new past next told.found told.loading × (next.loaded ≡ as_of_one after)
 
 -- What is started at the start of a frame is finished as DAR said then, whatever a host makes of DAR until the end: the memory
--- steps of the end are those of an object that was started so.
+-- steps of the end are those of an object that was started in that way.
 abbrev pub EndsAsItBegan : Type 0
 EndsAsItBegan =
     (terms : Terms) (tries : ℕ) (old new later last : ChipPass) (on : Wire) (place : ℕ) (flaw : Option Flaw) (loaded : Loaded)

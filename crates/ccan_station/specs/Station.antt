@@ -1,9 +1,9 @@
 -- A chip's part in what is on a bus of several: what it does at the start of a frame, what is left of that at a look until the end,
 -- and what it does at the end. Source: C_CAN User's Manual 1.2, "CAN Control Register" (Init: setting it stops all transfer of
--- messages), "Silent Mode" (no transmission can be started), "Loop Back Mode" and section 4.2 (transmission of messages: after an error or a lost
--- arbitration the objects are chosen from anew; acceptance filtering of received messages), and "Disabled Automatic
--- Retransmission". (own): that a chip looks at its controller at the start and at the end of each frame, and makes its event there
--- after the memory steps; that DAR counts as it is when a transmission starts.
+-- messages), "Silent Mode" (no transmission can be started), "Loop Back Mode" and section 4.2 (transmission of messages: after an
+-- error or a lost arbitration an object is chosen anew; acceptance filtering of received messages), and "Disabled Automatic
+-- Retransmission". (own): that a chip looks at its controller at the start and at the end of each frame, and makes its event
+-- there after the memory steps; that DAR counts as it is when a transmission starts.
 use Rattle.std.specs.Prelude.{ℕ, ◌≡◌, Bool, true, false, List, [], ◌++◌, Option, Some, None, Ok, Err}
 use Rattle.std.specs.Prelude.{if◌then◌else◌}
 use Rattle.ccan_accept.specs.declared.frame.Frame.{Frame}
@@ -77,7 +77,7 @@ answer_of (Ok None) = load.Nothing
 answer_of (Ok (Some found)) = load.Loaded found.0 found.1
 answer_of (Err refused) = refusal_of_load refused.at refused.why
 
--- what is loaded stays; where nothing is, an object is chosen and started; and a chip that sends nothing has nothing loaded
+-- what is loaded stays; if nothing is, an object is chosen and started; and a chip that sends nothing has nothing loaded
 abbrev pub Loads : Bool → Sending → Terms → ℕ → List Event → List Event → Option Loaded → Option Loaded → LoadAnswer
     → Type 0
 Loads false sending terms tries seen added old new told = (added ≡ []) × (new ≡ None) × (told ≡ load.Nothing)
@@ -94,7 +94,7 @@ loaded_frame (Some loaded) = Some (frame_of loaded.started)
 abbrev pub member_of : Controller → Option Loaded → Member
 member_of found loaded = record { role = role_now found; frame = loaded_frame loaded; flaw = None }
 
--- The port comes to the bus, and what was loaded is dropped where the controller has left it; then a load, by what the controller
+-- The port comes to the bus, and what was loaded is dropped if the controller has left it; then a load, by what the controller
 -- does there as the last look found it. After that look the port makes no step at the controller. The member is under way.
 pub record Begins (terms : Terms) (tries : ℕ) (old new : ChipPass) (loaded after : Option Loaded) (under_way : Option Member)
     (told : Begun) : Type 0 where
@@ -111,7 +111,7 @@ pub record Begins (terms : Terms) (tries : ℕ) (old new : ChipPass) (loaded aft
 
 -- ---- until its end
 
--- what a look leaves of what is under way: a controller that has left the bus takes no part in the rest, also if it is back
+-- what a look leaves of what is under way: a controller that has left the bus takes no part in the rest, even if it is back
 abbrev pub still_under_way : Controller → Option Member → Option Member
 still_under_way found under_way = if takes_part found then under_way else None
 
@@ -182,8 +182,8 @@ abbrev pub left_by : Option (BusEvent × StatusEvent) → Option Loaded → Opti
 left_by None loaded = loaded
 left_by (Some own) loaded = None
 
--- A look at the controller; where it has left the bus since the start, nothing is under way and nothing is loaded, so there is
--- no event. Then the memory steps that the event calls for, and last the event at the controller. Between, the port makes no
+-- A look at the controller; if it has left the bus since the start, nothing is under way and nothing is loaded, so there is no
+-- event. Then come the memory steps that the event calls for, and last the event at the controller. In between, the port makes no
 -- other step there. What was on the bus can't be played again, so the event has as many tries as one may have.
 pub record Ends (terms : Terms) (tries : ℕ) (old new : ChipPass) (on : Wire) (place : ℕ) (flaw : Option Flaw)
     (loaded after : Option Loaded) (under_way : Option Member) (told : Ended) : Type 0 where

@@ -4,8 +4,8 @@
 ghost use Rattle.ccan_station.specs.Laws.{BeginsAreLoads, EndsAsItBegan, FramesOfWhoLeftAreCutOff};
 ghost use Rattle.ccan_station.specs.Laws.{WhoLeavesChangesNoWinner, WhoLeftHasNoEvent};
 
-/// Whoever leaves while a frame is under way: if one of its senders is left, the frame that won at the start wins where the
-/// members are asked anew.
+/// Whoever leaves while a frame is under way: if one of the frame's senders remains, the frame that won at the start wins when
+/// the members are asked anew.
 pub fn who_leaves_changes_no_winner()
     ensures { WhoLeavesChangesNoWinner }
 {}
@@ -15,7 +15,7 @@ pub fn frames_of_who_left_are_cut_off()
     ensures { FramesOfWhoLeftAreCutOff }
 {}
 
-/// Who has left the bus has no event, whatever is on it.
+/// A member that has left the bus has no event, whatever is on it.
 pub fn who_left_has_no_event()
     ensures { WhoLeftHasNoEvent }
 {}

@@ -10,9 +10,9 @@
 //! ```
 //!
 //! A [`Station`] keeps what is loaded and what is under way between these calls. Meanwhile hosts do what they like. A request
-//! that they make then is not in this frame. If a host sets Init, the controller has left the bus, also if Init is 0 again
-//! before the next look: `stay` answers a member that is absent, and neither it nor `end` leaves anything under way or loaded,
-//! so the frame is no event to it. The next `begin` joins and chooses anew. A reset of the chip calls `unload` to the same end.
+//! that they make then is not in this frame. If a host sets Init, the controller has left the bus, even if Init is 0 again before
+//! the next look: `stay` answers with a member that is absent, and neither it nor `end` leaves anything under way or loaded, so
+//! the frame is no event to it. The next `begin` joins and chooses anew. A reset of the chip calls `unload` to the same end.
 //!
 //! DAR of the CAN Control register says how often a frame is tried, as `begin` finds it when it starts an object: `end`
 //! finishes that object in the same way, whatever a host makes of DAR meanwhile.
@@ -25,8 +25,8 @@
 //!
 //! A frame is lost if another wins the arbitration, and dropped if the controller leaves the bus.
 //!
-//! Members are settled at the start: who has not begun by then begins with the next frame. Of several `end` calls the order is
-//! the caller's: those who listen first, if a stored frame is to stand before its sender's TxOk.
+//! Members are settled at the start: a chip that has not begun by then begins with the next frame. The caller chooses the order
+//! of several `end` calls: those who listen come first, if a stored frame is to be there before its sender's TxOk.
 //!
 //! A chip in loop back mode is a member that never stops (`Role::Looped`), or one that nobody sees, if Silent is 1 too
 //! (`Role::Alone`). Its frame is sent and received by itself, whatever else is on the bus.

@@ -36,7 +36,7 @@ fn loaded_answer(object: ObjectNo, started: &Record) -> LoadAnswer
 }
 
 impl Station {
-    /// Chooses and starts an object where nothing is loaded.
+    /// Chooses and starts an object if nothing is loaded.
     fn load_next<A: Access>(&mut self, access: &mut A, sending: Sending, tries: Tries) -> LoadAnswer
         requires empty { self.old.loaded ≡ None }
         requires same_profile { (A.passes access.old).terms.profile ≡ self.old.profile }

@@ -14,7 +14,7 @@ pub struct Plain {
 impl Plain {
     ghost use Rattle.ccan_station.specs.Plain.{plain_after, plain_member};
 
-    /// What it is to the bus, where it offers this frame and finds this error by itself. One that is bus off is absent.
+    /// What it is to the bus, if it offers this frame and finds this error by itself. One that is bus off is absent.
     pub fn member(&self, frame: Option<Frame>, flaw: Option<Flaw>) -> Member
         ensures { result ≡ plain_member self.now frame flaw }
     {
@@ -25,7 +25,7 @@ impl Plain {
         }
     }
 
-    /// The end of a frame, to the node that is this member at this place.
+    /// The end of a frame, for the node that is this member at this position.
     pub fn end(&mut self, wire: &Wire, place: usize, member: &Member)
         requires { place < MOST_MEMBERS }
         ensures { self.new ≡ plain_after self.old wire.now place member.now }

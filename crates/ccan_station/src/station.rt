@@ -79,7 +79,8 @@ impl Station {
         self.loaded
     }
 
-    /// What the chip is to the frame that is under way: a member that is absent, where none is or it takes no part in it.
+    /// What the chip is to the frame that is under way: a member that is absent, if no frame is under way or the chip takes no
+    /// part in it.
     pub fn member(&self) -> Member
         ensures { result ≡ member_now self.now.under_way }
     {
@@ -96,7 +97,7 @@ impl Station {
         *self = Station::new(self.profile);
     }
 
-    /// Drops what was loaded where the controller has left the bus.
+    /// Drops what was loaded if the controller has left the bus.
     fn leave_behind(&mut self, first: &Controller)
         ensures profile { self.new.profile ≡ self.old.profile }
         ensures loaded { self.new.loaded ≡ loaded_before first.now self.old.loaded }
@@ -152,10 +153,10 @@ impl Station {
         (answer, objects.into_port())
     }
 
-    /// The start of a frame. The bus's port looks at the controller; where that has left the bus and may take part again, it joins
-    /// and looks again. What was loaded is dropped where the controller has left the bus since. Then an object is chosen and
-    /// started, if nothing is loaded and the controller may send; with DAR 1 its frame is tried once. What the chip is to the
-    /// bus is under way from here on.
+    /// The start of a frame. The bus's port looks at the controller; if that has left the bus and may take part again, it joins
+    /// and looks again. What was loaded is dropped if the controller has left the bus since. Then an object is chosen and
+    /// started, if nothing is loaded and the controller may send; with DAR 1 its frame is tried once. What the chip is to the bus
+    /// is under way from here on.
     pub fn begin(&mut self, ram: &EndlessRam, mut port: Port, tries: Tries) -> (Begun, Port)
         requires memory { port.pass.memory ≡ ram.now.words }
         requires bus { port.pass.port ≡ BusPort }
@@ -189,8 +190,9 @@ impl Station {
         )
     }
 
-    /// One more look at the controller while a frame is under way, and what the chip is to the bus from there. Where the controller
-    /// has left the bus since the start, also if it is back, it takes no part in the rest: nothing is under way, nothing is loaded.
+    /// One more look at the controller while a frame is under way, and what the chip is to the bus from there. If the controller
+    /// has left the bus since the start, even if it is back, it takes no part in the rest: nothing is under way, nothing is
+    /// loaded.
     pub fn stay(&mut self, ram: &EndlessRam, port: &mut Port) -> Stayed
         requires memory { port.old.pass.memory ≡ ram.now.words }
         ensures profile { self.new.profile ≡ self.old.profile }
@@ -207,10 +209,10 @@ impl Station {
         }
     }
 
-    /// The end of a frame, to the chip at this place on the bus, which finds this error by itself. It looks at the controller: one
-    /// that has left the bus since the start, also if it is back, has no event, and nothing is loaded. Else the memory steps come
-    /// that the event calls for, of which the finish is of the kind of the start, and then the event at the controller, in up to
-    /// 1,000 tries. Nothing is under way afterwards.
+    /// The end of a frame, for the chip at this position on the bus, which finds this error by itself. It looks at the
+    /// controller: one that has left the bus since the start, even if it is back, has no event, and nothing is loaded. Otherwise
+    /// the memory steps that the event calls for come first, and the finish among them is of the kind of the start. Then comes
+    /// the event at the controller, in up to 1,000 tries. Nothing is under way afterwards.
     pub fn end(
         &mut self,
         ram: &EndlessRam,

@@ -1,6 +1,6 @@
 -- The nominal bit time, of the Bit Timing register and the BRP Extension register. Source: C_CAN User's Manual 1.2, sections "Bit
 -- Timing Register", "BRP Extension Register" and "Bit Timing": a bit is the synchronization segment of one time quantum, TSeg1 + 1
--- quanta, and TSeg2 + 1 quanta. The sample point stands between the last two. A time quantum has BRPE and BRP, as one number with
+-- quanta, and TSeg2 + 1 quanta. The sample point is between the last two. A time quantum has BRPE and BRP, as one number with
 -- BRPE above, plus 1 periods of CAN_CLK.
 use Rattle.std.specs.Prelude.{ℕ, ◌+◌, ◌*◌}
 use Rattle.ccan_object.specs.Bits.{part}

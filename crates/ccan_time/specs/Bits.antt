@@ -10,7 +10,7 @@ dominant = false
 abbrev pub recessive : Bool
 recessive = true
 
--- so many bits of a number, from the lowest one on, the highest first
+-- this many bits of a number, from the lowest one on, the highest first
 unfoldable pub lowest_bits : ℕ → ℕ → List Bool
 lowest_bits zero number = []
 lowest_bits (suc n) number = bit number n ∷ lowest_bits n number

@@ -1,5 +1,5 @@
 -- The CRC sequence. Source: CAN Specification 2.0, part B, "Data Frame" (CRC field): the bits from the start of frame on, with
--- 15 bits 0 behind them, are the coefficients of a polynomial, the highest first. It is divided (the coefficients are calculated
+-- 15 bits 0 after them, are the coefficients of a polynomial, the highest first. It is divided (the coefficients are calculated
 -- modulo 2) by the generator polynomial. The remainder of this division is the CRC sequence.
 use Rattle.std.specs.Prelude.{ℕ, zero, suc, Bool, true, false, List, [], ◌∷◌, ◌++◌, length, replicate}
 use Rattle.std.specs.Bool.{xor}
@@ -15,7 +15,7 @@ plus [] addend = []
 plus (b ∷ bits) [] = b ∷ bits
 plus (b ∷ bits) (c ∷ addend) = xor b c ∷ plus bits addend
 
--- so many steps of long division: the highest coefficient falls away, and where it is 1 the generator is taken off
+-- this many steps of long division: the highest coefficient falls away, and if it is 1 the generator is subtracted
 unfoldable pub divided : ℕ → List Bool → List Bool
 divided zero bits = bits
 divided (suc n) [] = []

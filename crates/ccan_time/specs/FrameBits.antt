@@ -27,18 +27,18 @@ control_field f = dominant ∷ dominant ∷ lowest_bits 4 f.dlc
 unfoldable pub data_field : Frame → List Bool
 data_field f = flat_map (lowest_bits 8) (take (data_count f.rtr f.dlc) f.bytes)
 
--- what the CRC sequence is computed of: start of frame, arbitration field, control field, data field
+-- what the CRC sequence is computed from: start of frame, arbitration field, control field, data field
 unfoldable pub checked_bits : Frame → List Bool
 checked_bits f = dominant ∷ (arbitration_field f ++ control_field f ++ data_field f)
 
 abbrev pub crc_sequence : Frame → List Bool
 crc_sequence f = crc (checked_bits f)
 
--- the bits of fixed form behind the CRC sequence: CRC delimiter, ACK slot, ACK delimiter, end of frame. The ACK slot is that of a
+-- the bits of fixed form after the CRC sequence: CRC delimiter, ACK slot, ACK delimiter, end of frame. The ACK slot is that of a
 -- frame that is acknowledged
 abbrev pub end_bits : List Bool
 end_bits = recessive ∷ dominant ∷ recessive ∷ replicate 7 recessive
 
--- the frame as it is on the bus, from the start of frame to the end of frame, without the intermission behind it
+-- the frame as it is on the bus, from the start of frame to the end of frame, without the intermission after it
 unfoldable pub bits_on_bus : Frame → List Bool
 bits_on_bus f = stuffed (checked_bits f ++ crc_sequence f) ++ end_bits

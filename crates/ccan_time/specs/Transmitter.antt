@@ -7,16 +7,16 @@ use Rattle.ccan_time.specs.declared.stuffing.Stuffing.{Stuffing}
 use Rattle.ccan_time.specs.declared.transmitter.Transmitter.{Transmitter}
 use Rattle.ccan_time.specs.Stuffing.{most_identical, run_with}
 
--- the register is shifted left by one place, and changed where the bit that comes differs from the one that leaves
+-- the register is shifted left by one place, and changed if the bit that comes differs from the one that leaves
 unfoldable pub register_with : ℕ → Bool → ℕ
 register_with register b =
     if xor b (bit register 14) then bit_xor (register * 2 % 2 ^ 15) 0x4599 else register * 2 % 2 ^ 15
 
--- with this run at its end, and so many bits
+-- with this run at its end, and this many bits
 abbrev pub stuffing_at : Bool → ℕ → ℕ → Stuffing
 stuffing_at value run bits = record { value = value; run = run; bits = bits }
 
--- one bit more is sent, with a stuff bit behind it where it is the fifth of a run
+-- one more bit is sent, with a stuff bit after it if it is the fifth of a run
 unfoldable pub stuffing_with : Stuffing → Bool → Stuffing
 stuffing_with s b =
     if run_with s.value s.run b == most_identical

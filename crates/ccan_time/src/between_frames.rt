@@ -7,22 +7,22 @@ ghost use Rattle.ccan_time.specs.BetweenFrames.{begun_group, bits_before_start, 
 use ccan_confine::NodeState;
 use std::marker::Model;
 
-/// The recessive bits behind each frame.
+/// The recessive bits after each frame.
 pub const INTERMISSION_BITS: u32 = 3;
 
-/// The recessive bits behind the intermission that an error passive node waits where it sent the frame before.
+/// The recessive bits after the intermission that an error passive node waits if it sent the frame before.
 pub const SUSPEND_TRANSMISSION_BITS: u32 = 8;
 
 /// An error flag.
 pub const ERROR_FLAG_BITS: u32 = 6;
 
-/// The recessive bits behind an error flag.
+/// The recessive bits after an error flag.
 pub const ERROR_DELIMITER_BITS: u32 = 8;
 
-/// So many recessive bits in a row are one group, of which 128 bring back a node that is bus off.
+/// This many recessive bits in a row are one group; 128 groups bring back a node that is bus off.
 pub const GROUP_BITS: u8 = 11;
 
-/// How many recessive bits behind a frame go before a node in this state may start the next one: 3, or 11 where the node is error
+/// How many recessive bits pass after a frame before a node in this state may start the next one: 3, or 11 if the node is error
 /// passive and was the transmitter of that frame. None: it is bus off, and may not.
 pub fn bits_before_start(state: NodeState, was_transmitter: bool) -> Option<u32>
     ensures { result ≡ bits_before_start state was_transmitter }
@@ -40,7 +40,7 @@ pub fn bits_before_start(state: NodeState, was_transmitter: bool) -> Option<u32>
     }
 }
 
-/// How many bits an error frame has, 14 to 20: error flags, of which the last begins `later` bits behind the first, and the
+/// How many bits an error frame has, 14 to 20: error flags, the last of which begins `later` bits after the first, and the
 /// delimiter. The intermission follows it.
 pub fn error_frame_bits(later: u32) -> u32
     requires { later ≤ ERROR_FLAG_BITS }
@@ -51,7 +51,7 @@ pub fn error_frame_bits(later: u32) -> u32
     later + ERROR_FLAG_BITS + ERROR_DELIMITER_BITS
 }
 
-/// How many whole groups of 11 bits are in so many recessive bits in a row.
+/// How many whole groups of 11 bits are in this many recessive bits in a row.
 pub fn whole_groups(bits: u64) -> u64
     ensures { result ≡ whole_groups bits }
 {
@@ -78,7 +78,7 @@ impl Model for BegunGroup {
 }
 
 impl BegunGroup {
-    /// No bit: as behind a dominant bit.
+    /// No bit: as after a dominant bit.
     pub fn new() -> BegunGroup
         ensures { result ≡ 0 }
     {
@@ -93,7 +93,7 @@ impl BegunGroup {
         self.bits
     }
 
-    /// So many recessive bits more pass. Answers how many groups become whole.
+    /// This many more recessive bits pass. Answers how many groups become whole.
     pub fn pass(&mut self, bits: u64) -> u64
         ensures groups { result ≡ whole_groups (self.old + bits) }
         ensures begun { self.new ≡ begun_group (self.old + bits) }

@@ -20,7 +20,7 @@ pub fn crc_sequence(frame: &Frame) -> u16
 }
 
 /// How many bits a frame has on the bus, at most 157: all from the start of frame to the end of frame, with the stuff bits, and
-/// without the intermission behind it (CAN Specification 2.0, part B, "Data Frame", "Remote Frame" and "Coding"). A data length
+/// without the intermission after it (CAN Specification 2.0, part B, "Data Frame", "Remote Frame" and "Coding"). A data length
 /// code of 9 to 15 means eight data bytes; a remote frame has none.
 pub fn frame_bits(frame: &Frame) -> u32
     ensures exact { result ≡ length (bits_on_bus frame.now) }

@@ -2,7 +2,7 @@
 //! CAN_CLK.
 //!
 //! After a reset the Bit Timing register holds 0x2301: BRP 1, SJW 0, TSeg1 3, TSeg2 2. A time quantum is 2 clock periods, a bit has
-//! 1 + 4 + 3 = 8 quanta, so 16 clock periods, and the sample point stands 5 quanta, so 10 clock periods, behind its start. With a
+//! 1 + 4 + 3 = 8 quanta, so 16 clock periods, and the sample point is 5 quanta, so 10 clock periods, after its start. With a
 //! clock of 8 MHz that is a bit rate of 500 kBit/s, as the manual says.
 
 ghost use Rattle.std.specs.Prelude.{◌≡◌, ◌≤◌, ◌<◌, ◌*◌, ◌^◌};
@@ -28,7 +28,7 @@ fn quanta_before_sample(timing: BitTiming) -> u32
     u32::from((timing.register() >> 8) % 16) + 2
 }
 
-/// The quanta of a bit behind its sample point, 1 to 8: TSeg2 + 1.
+/// The quanta of a bit after its sample point, 1 to 8: TSeg2 + 1.
 fn quanta_after_sample(timing: BitTiming) -> u32
     ensures value { result ≡ quanta_after_sample timing }
     ensures least { 1 ≤ result }
@@ -64,7 +64,7 @@ pub fn jump_width(timing: BitTiming) -> u32
     (u32::from((timing.register() >> 6) % 4) + 1) * time_quantum(timing)
 }
 
-/// So many bits, in clock periods.
+/// This many bits, in clock periods.
 pub fn clock_periods(bits: u32, timing: BitTiming) -> u64
     ensures { result ≡ bits * bit_time timing }
 {

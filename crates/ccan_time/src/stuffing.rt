@@ -3,7 +3,7 @@
 ghost use Rattle.std.specs.Prelude.{◌≡◌, ◌<◌, ◌≤◌, ◌+◌, ◌^◌};
 ghost use Rattle.ccan_time.specs.Stuffing.{most_identical, run_with};
 
-/// So many bits of identical value in a row have a stuff bit behind them.
+/// This many bits of identical value in a row have a stuff bit after them.
 const MOST_IDENTICAL: u8 = 5;
 
 /// What is on the bus so far, with its stuff bits.
@@ -11,13 +11,13 @@ const MOST_IDENTICAL: u8 = 5;
 pub(crate) struct Stuffing {
     /// The value of the last bit.
     pub(crate) value: bool,
-    /// So many bits of that value stand at the end; 0 before the first bit.
+    /// How many bits of that value are at the end; 0 before the first bit.
     pub(crate) run: u8,
     /// How many bits were sent.
     pub(crate) bits: u32,
 }
 
-/// How long the run is that ends with this bit.
+/// How long the run that ends with this bit is.
 fn run_with(value: bool, run: u8, bit: bool) -> u8
     requires { run < most_identical }
     ensures run { result ≡ run_with value run bit }
@@ -29,7 +29,7 @@ fn run_with(value: bool, run: u8, bit: bool) -> u8
 impl Stuffing {
     ghost use Rattle.ccan_time.specs.Transmitter.{stuffing_with};
 
-    /// After one bit more, and the stuff bit behind it if it ends a run of five.
+    /// After one more bit, and the stuff bit after it if it ends a run of five.
     pub(crate) fn with(self, bit: bool) -> Stuffing
         requires short { self.run < most_identical }
         requires room { self.bits + 2 < 2 ^ 32 }

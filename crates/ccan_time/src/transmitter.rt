@@ -49,7 +49,7 @@ impl Transmitter {
         self.stuffing = self.stuffing.with(bit);
     }
 
-    /// Sends so many bits of a number, from the lowest one on, the highest first.
+    /// Sends this many bits of a number, from the lowest one on, the highest first.
     pub(crate) fn send_number(&mut self, number: u64, width: u32)
         requires ready { IsReady self.old }
         requires width { width ≤ 64 }
@@ -122,7 +122,7 @@ impl Transmitter {
         self.send_bytes(&frame.bytes()[..count]);
     }
 
-    /// After all bits of the frame that its CRC sequence is computed of.
+    /// After all bits of the frame that its CRC sequence is computed from.
     pub(crate) fn of_checked(frame: &Frame) -> Transmitter
         ensures value { result ≡ transmitter_after silent_transmitter (checked_bits frame.now) }
         ensures ready { IsReady result }

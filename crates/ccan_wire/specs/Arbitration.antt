@@ -1,5 +1,5 @@
 -- The bits of a frame, as far as they may differ. Source: CAN Specification 2.0, part B, sections 2 (arbitration) and 3.1.1
--- (arbitration field, control field, data field). The check sequence is the same where these are.
+-- (arbitration field, control field, data field). The check sequence is the same if these are.
 use Rattle.std.specs.Prelude.{ℕ, zero, suc, ◌+◌, ◌*◌, ◌/◌, ◌^◌, Bool, true, false, List, [], ◌∷◌, ◌++◌, if◌then◌else◌}
 use Rattle.std.specs.Int.{from_be_bytes, w64}
 use Rattle.ccan_object.specs.Bits.{bit}
@@ -12,7 +12,7 @@ dominant = false
 abbrev pub recessive : Bool
 recessive = true
 
--- so many bits of a number, from the lowest one on, the highest first
+-- this many bits of a number, from the lowest one on, the highest first
 unfoldable pub lowest_bits : ℕ → ℕ → List Bool
 lowest_bits zero number = []
 lowest_bits (suc n) number = bit number n ∷ lowest_bits n number
@@ -38,11 +38,11 @@ precedes (true ∷ ours) (false ∷ theirs) = false
 precedes (false ∷ ours) (false ∷ theirs) = precedes ours theirs
 precedes (true ∷ ours) (true ∷ theirs) = precedes ours theirs
 
--- this frame goes on where the two are sent at once
+-- this frame goes on if the two are sent at once
 abbrev pub beats : Frame → Frame → Bool
 beats one other = precedes (arbitration_bits one) (arbitration_bits other)
 
--- what stands behind the bits of arbitration, as one number, the first bit the highest: the data length code, and then the data.
+-- what comes after the bits of arbitration, as one number, the first bit the highest: the data length code, and then the data.
 -- Where two frames with the same bits of arbitration first differ, the one of the lesser number has the dominant bit
 unfoldable pub rest_of : Frame → ℕ
 rest_of f = f.dlc * 2 ^ 64 + from_be_bytes w64 f.bytes

@@ -1,9 +1,9 @@
 -- What is on the bus, to each member: an event of its error counters, and one of its Status register with the last error code
 -- that the member itself can see. Source: CAN Specification 2.0, "Error Detection", "Error Signalling", "Fault Confinement"
 -- (rules 1, 3, 7 and 8); C_CAN User's Manual 1.2, "Status Register" (LEC), "Silent Mode", "Loop Back Mode". That what a member
--- sees behind its own error flag counts nothing more (rules 2, 4, 5 and 6), that the second exception of rule 3 does not come,
--- that a silent member counts as others do, and that frames which spoil each other, as one is of a member in loop back mode, are a
--- bit error to those who hear and send them and a stuff error to all others who hear, are (own).
+-- sees after its own error flag counts nothing more (rules 2, 4, 5 and 6), that the second exception of rule 3 does not occur,
+-- that a silent member counts as others do, and that frames which spoil each other, since one is of a member in loop back mode,
+-- are a bit error to those who hear and send them and a stuff error to all others who hear, are (own).
 use Rattle.std.specs.Prelude.{ℕ, Bool, ◌&&◌, not, [], Option, Some, None, if◌then◌else◌}
 use Rattle.ccan_accept.specs.declared.frame.Frame.{Frame}
 use Rattle.ccan_confine.specs.declared.bus_event.BusEvent.{BusEvent}
@@ -61,12 +61,12 @@ abbrev pub sent_unheard : Bool → Role → Option Flaw → Option (BusEvent × 
 sent_unheard flagged role None = Some (unacknowledged flagged role, status.Fault 3)
 sent_unheard flagged role (Some flaw) = send_fault (code_of flaw)
 
--- to a listener: a flag behind the ACK slot breaks the form; with none the frame is whole
+-- to a listener: a flag after the ACK slot breaks the form; with none the frame is whole
 abbrev pub received_unheard : Bool → Option Flaw → Option (BusEvent × StatusEvent)
 received_unheard flagged flaw = if flagged then receive_fault (own_or flaw 2) else received_well flaw
 
 -- to a member that sends: a flag in the stuffed part makes a recessive bit of its own dominant (4), and one at the end breaks the
--- form (2). That the first begins behind the arbitration field, and that the second is a form error, not a bit error, is (own)
+-- form (2). That the first begins after the arbitration field, and that the second is a form error, not a bit error, is (own)
 abbrev pub sender_event : Wire → Role → Option Flaw → Option (BusEvent × StatusEvent)
 sender_event Idle role flaw = None
 sender_event (Collided who) role flaw = send_fault 4
@@ -84,7 +84,7 @@ listener_event (Flagged winner) flaw = receive_fault (own_or flaw 2)
 listener_event (Unheard winner flagged) flaw = received_unheard flagged flaw
 listener_event (Carried winner) flaw = received_well flaw
 
--- to one that takes part; who dropped out has seen a bit error (4)
+-- to one that takes part; one that dropped out has seen a bit error (4)
 abbrev pub event_in : Part → Wire → Member → Option (BusEvent × StatusEvent)
 event_in Sender wire m = sender_event wire m.role m.flaw
 event_in Dropped wire m = send_fault 4

@@ -1,5 +1,5 @@
 -- Errors that a member finds by itself, their codes, and where in the frame each is found. Source: CAN Specification 2.0, "Error
--- Detection" and "Error Signalling" (the flag for a CRC error begins behind the ACK delimiter, the others at the next bit); C_CAN
+-- Detection" and "Error Signalling" (the flag for a CRC error begins after the ACK delimiter, the others at the next bit); C_CAN
 -- User's Manual 1.2, "Status Register" (LEC). That each is found at the place given here is (own): the usual case.
 use Rattle.std.specs.Prelude.{ℕ, Bool, true, false, Option, Some, None}
 use Rattle.ccan_wire.specs.declared.flaw.Flaw.{Flaw}

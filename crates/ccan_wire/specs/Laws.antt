@@ -36,7 +36,7 @@ pub record IsSameTo (m : ℕ → Member) (wire other : Wire) : Type 0 where
 abbrev pub EachRoundHasOneWire : Type 0
 EachRoundHasOneWire = (m : ℕ → Member) (wire other : Wire) → Carries m wire → Carries m other → IsSameTo m wire other
 
--- where nothing happened to the members since the start, what was decided then is decided again
+-- if nothing happened to the members since the start, what was decided then is decided again
 abbrev pub DecidedAgainAsAtFirst : Type 0
 DecidedAgainAsAtFirst =
     (m : ℕ → Member) (wire later : Wire) → Carries m wire → Continues wire m later → IsSameTo m wire later
@@ -48,7 +48,7 @@ pub record Hears (m : ℕ → Member) (wire : Wire) (j : ℕ) : Type 0 where
   pub listens : part_on wire j ≡ Listener
   pub received : event_of wire j (m j) ≡ has_received
 
--- who has sent was heard by a member that takes part and sent nothing, and that member has received
+-- a member that has sent was heard by one that takes part and sent nothing, and that one has received
 abbrev pub SentIsHeard : Type 0
 SentIsHeard =
     (m : ℕ → Member) (wire : Wire) (k : ℕ) → Ends m wire → event_of wire k (m k) ≡ has_sent → (j : ℕ) × Hears m wire j
@@ -65,7 +65,7 @@ pub record DriveTheSame (m other : ℕ → Member) : Type 0 where
   pub drive : (k : ℕ) → drives (m k).role ≡ true → other k ≡ m k
   pub rest : (k : ℕ) → drives (m k).role ≡ false → drives (other k).role ≡ false
 
--- who drives nothing changes nothing on the bus
+-- a member that drives nothing changes nothing on the bus
 abbrev pub ListenersChangeNothing : Type 0
 ListenersChangeNothing = (m other : ℕ → Member) (wire : Wire) → DriveTheSame m other → Carries m wire → Carries other wire
 
@@ -83,7 +83,7 @@ NobodyHearsALoneSender =
     (m : ℕ → Member) (wire : Wire) (k : ℕ) → Carries m wire → IsLoneSender m k
     → event_of wire k (m k) ≡ Some (event.SendNoAck, status.Fault 3)
 
--- and that leads no node off
+-- and that makes no node go off
 abbrev pub UnheardSendersStayOn : Type 0
 UnheardSendersStayOn = (levels : Levels) → is_off levels ≡ false → is_off (levels_after event.SendNoAck levels) ≡ false
 
@@ -99,7 +99,7 @@ pub record SomeLeave (m other : ℕ → Member) (sender : ℕ) : Type 0 where
   pub stays : sent_by (other sender) ≡ sent_by (m sender)
   pub leave : (k : ℕ) (frame : Frame) → sent_by (other k) ≡ Some frame → IsAsBefore (m k) (other k) frame
 
--- the frame that won at the start is the one that wins where the members who are left are asked anew
+-- the frame that won at the start is the one that wins when the members who are left are asked again
 abbrev pub WinnersAreSettledAtTheStart : Type 0
 WinnersAreSettledAtTheStart =
     (m other : ℕ → Member) (wire later : Wire) (winner : Winner) (sender : ℕ)
@@ -107,7 +107,7 @@ WinnersAreSettledAtTheStart =
     → SomeLeave m other sender → Carries other later
     → (left : Winner) × (start_of later ≡ Won left) × (left.frame ≡ winner.frame)
 
--- to one in loop back mode what is on the bus is nothing, nor its place there: its event is the same
+-- to one in loop back mode neither what is on the bus nor its place there matters: its event is the same
 abbrev pub LoopBackDisregardsTheBus : Type 0
 LoopBackDisregardsTheBus =
     (wire other : Wire) (j k : ℕ) (m : Member) → hears m.role ≡ false → event_of wire j m ≡ event_of other k m

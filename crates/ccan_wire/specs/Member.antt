@@ -5,7 +5,7 @@ use Rattle.ccan_wire.specs.declared.member.Member.{Member}
 use Rattle.ccan_wire.specs.declared.role.Role.TheVariants.{Absent}
 use Rattle.ccan_wire.specs.Role.{drives}
 
--- no member stands at this place
+-- no member is at this place
 abbrev pub nobody : Member
 nobody = record { role = Absent; frame = None; flaw = None }
 

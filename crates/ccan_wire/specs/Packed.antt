@@ -8,7 +8,7 @@ use Rattle.ccan_wire.specs.Member.{sent_by}
 use Rattle.ccan_wire.specs.Role.{hears, is_active}
 use Rattle.ccan_wire.specs.Winner.{is_among}
 
--- a list of bits as a number of so many bits, the first the highest
+-- a list of bits as a number of this many bits, the first the highest
 unfoldable pub value_of : ℕ → List Bool → ℕ
 value_of zero bits = 0
 value_of (suc n) [] = 0
@@ -43,7 +43,7 @@ pub record IsLeastAmong (key : ℕ → ℕ) (who : List Bool) (count place : ℕ
   pub within : is_among who place ≡ true
   pub floor : (k : ℕ) → k < count → is_among who k ≡ true → key place ≤ key k
 
--- a member just drops out behind the arbitration
+-- a member just drops out after the arbitration
 pub record IsLate (m : Member) (frame : Frame) : Type 0 where
   pub hears : hears m.role ≡ true
   pub passive : is_active m.role ≡ false

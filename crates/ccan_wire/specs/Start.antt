@@ -1,13 +1,13 @@
 -- What is settled when a frame starts: who sends which frame, or that some collide. Source: CAN Specification 2.0, part B,
 -- section 2 (arbitration: the frame whose bits precede goes on, and no bit of it is lost), 3.1.3 (a passive error flag is of
--- recessive bits) and "Error Detection" (bit error: a unit that sends a recessive bit behind the arbitration field and sees a
+-- recessive bits) and "Error Detection" (bit error: a unit that sends a recessive bit after the arbitration field and sees a
 -- dominant one); C_CAN User's Manual 1.2, "Loop Back Mode" (the input is disregarded, and the messages are at the output). Members
 -- who send frames that are equal to the last bit see no difference: these are one frame on the bus.
 --
--- A member in loop back mode never stops: neither a lost arbitration nor another's bit is anything to it. So its frame goes on as it
--- is if no other frame precedes it and the others who send all stop. That two different frames, of which neither stops, spoil
--- each other is (own): by the bits, one may rarely cover the other to its end. That it starts its frame when the others start
--- theirs is (own) too: a part starts it at any time.
+-- A member in loop back mode never stops: neither a lost arbitration nor another's bit matters to it. So its frame goes on as it
+-- is if no other frame precedes it and the others who send all stop. That two different frames spoil each other if neither
+-- stops is (own): by the bits, one may rarely cover the other to its end. That it starts its frame when the others start theirs
+-- is (own) too: a part starts it at any time.
 use Rattle.std.specs.Prelude.{ℕ, ◌≡◌, ◌≢◌, ◌≤◌, ◌<◌, Bool, true, false, List, Some, None}
 use Rattle.ccan_accept.specs.declared.frame.Frame.{Frame}
 use Rattle.ccan_wire.specs.declared.member.Member.{Member}
@@ -33,7 +33,7 @@ pub record Loses (m : Member) (frame : Frame) : Type 0 where
   pub lost : beats frame other ≡ true
   pub hears : hears m.role ≡ true
 
--- this member drops out behind the arbitration, and leaves the frame as it is: it sends one that comes later, hears that, and is
+-- this member drops out after the arbitration, and leaves the frame as it is: it sends one that comes later, hears that, and is
 -- error passive
 pub record DropsOut (m : Member) (frame : Frame) : Type 0 where
   pub other : Frame
@@ -73,7 +73,7 @@ pub record Collides (m : ℕ → Member) (who : List Bool) : Type 0 where
   pub drives_on : Loses (m another) frame → ⊥
   pub stays : DropsOut (m another) frame → ⊥
 
--- the members start so
+-- the members start like this
 abbrev pub Starts : (ℕ → Member) → Start → Type 0
 Starts m Nothing = (k : ℕ) → sent_by (m k) ≡ None
 Starts m (Collision who) = Collides m who

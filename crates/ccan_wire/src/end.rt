@@ -1,4 +1,4 @@
-//! How a frame ends that won the bus.
+//! How a frame that won the bus ends.
 
 ghost use Rattle.std.specs.Prelude.{◌≡◌, ◌≤◌, true, false, length};
 ghost use Rattle.ccan_wire.specs.Member.{member_at};

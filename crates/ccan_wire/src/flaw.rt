@@ -2,16 +2,16 @@ ghost use Rattle.std.specs.Prelude.{◌≡◌, ◌≤◌};
 ghost use Rattle.ccan_wire.specs.Flaw.{code_of, is_before_the_ack_slot, is_in_the_stuffed_part};
 
 /// An error that a member finds in a frame by itself (CAN Specification 2.0, "Error Detection"), so not one that it sees because
-/// another member sent an error flag. An acknowledge error is none: it comes of what the members do.
+/// another member sent an error flag. An acknowledge error is not one: it comes from what the members do.
 ///
-/// Where in the frame each is found, and so where the member's error flag begins, is of the usual case:
+/// Where in the frame each is found, and so where the member's error flag begins, is given for the usual case:
 ///
 /// | flaw | found by a sender | found by a listener |
 /// |---|---|---|
 /// | `Stuff` | between the start of the frame and its check sequence | there too |
-/// | `Bit1`, `Bit0` | there too | in the ACK slot, the one bit that a listener sends; its flag begins behind it |
+/// | `Bit1`, `Bit0` | there too | in the ACK slot, the one bit that a listener sends; its flag begins after it |
 /// | `Form` | in the CRC delimiter; its flag begins in the ACK slot | there too |
-/// | `Crc` | as `Form`, since a sender checks no sequence | in the check sequence; its flag begins behind the ACK delimiter |
+/// | `Crc` | as `Form`, since a sender checks no sequence | in the check sequence; its flag begins after the ACK delimiter |
 #[derive(Clone, Copy, Debug, PartialEq, Eq, Hash)]
 pub enum Flaw {
     /// Six equal bits in a row.

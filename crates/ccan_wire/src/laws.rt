@@ -9,12 +9,12 @@ pub fn each_round_has_one_wire()
     ensures { EachRoundHasOneWire }
 {}
 
-/// Where nothing happened to the members since the start of a frame, what was decided then is decided again.
+/// If nothing happened to the members since the start of a frame, what was decided then is decided again.
 pub fn decided_again_as_at_first()
     ensures { DecidedAgainAsAtFirst }
 {}
 
-/// Who has sent was heard by a member that takes part and sent nothing, and that member has received.
+/// A member that has sent was heard by one that takes part and sent nothing, and that one has received.
 pub fn sent_is_heard()
     ensures { SentIsHeard }
 {}
@@ -24,22 +24,22 @@ pub fn at_most_one_frame_is_sent()
     ensures { AtMostOneFrameIsSent }
 {}
 
-/// Who drives nothing changes nothing on the bus.
+/// A member that drives nothing changes nothing on the bus.
 pub fn listeners_change_nothing()
     ensures { ListenersChangeNothing }
 {}
 
-/// A frame is not acknowledged while nobody but its sender drives the bus, however many listen.
+/// A frame is not acknowledged while nobody except its sender drives the bus, however many listen.
 pub fn nobody_hears_a_lone_sender()
     ensures { NobodyHearsALoneSender }
 {}
 
-/// A frame that nobody acknowledges leads no sender off.
+/// A frame that nobody acknowledges makes no sender go off.
 pub fn unheard_senders_stay_on()
     ensures { UnheardSendersStayOn }
 {}
 
-/// The frame that won at the start is the one that wins where the members who are left are asked anew, if one of its senders is.
+/// The frame that won at the start is the one that wins when the members who are left are asked again, if one of its senders is.
 pub fn winners_are_settled_at_the_start()
     ensures { WinnersAreSettledAtTheStart }
 {}
@@ -49,7 +49,7 @@ pub fn loop_back_disregards_the_bus()
     ensures { LoopBackDisregardsTheBus }
 {}
 
-/// A frame that one member alone sends, in loop back mode or not, is received by each other that takes part and hears the bus, if
+/// A frame that only one member sends, in loop back mode or not, is received by each other that takes part and hears the bus, if
 /// nobody finds an error by itself.
 pub fn lone_frames_are_received()
     ensures { LoneFramesAreReceived }

@@ -7,11 +7,11 @@
 //!                                                   wire.event(place, member): to each member, what its registers count and show
 //! ```
 //!
-//! `decide` alone is a whole round, where nothing happens to the members between the start and the end of the frame.
+//! `decide` alone is a whole round, if nothing happens to the members between the start and the end of the frame.
 //!
 //! A member is its `Role`, the frame that it starts, and the error that it finds by itself. What another member's error flag is
 //! to it follows from where that flag begins: a flag of dominant bits in the stuffed part of the frame makes a recessive bit of
-//! the sender dominant (LEC 4, bit 1) and six equal bits for a listener (LEC 1, stuff). One behind the ACK slot is a wrong bit
+//! the sender dominant (LEC 4, bit 1) and six equal bits for a listener (LEC 1, stuff). One after the ACK slot is a wrong bit
 //! in a field of fixed form for both (LEC 2, form). The error flags of error passive members are of recessive bits. Those of a
 //! listener are seen by nobody, and those of a frame's only sender break the stuff rule.
 //!
@@ -20,11 +20,11 @@
 //! | members | the wire | and to them |
 //! |---|---|---|
 //! | active +, active - | `Carried` | sent; received |
-//! | active +, active - with an error of its check sequence | `Unheard`, flagged | LEC 3, TEC and 8; LEC 6 |
-//! | passive +, active - with that error | `Unheard`, flagged | LEC 3, TEC and 8: it sees a dominant flag; LEC 6 |
+//! | active +, active - with an error of its check sequence | `Unheard`, flagged | LEC 3, TEC plus 8; LEC 6 |
+//! | passive +, active - with that error | `Unheard`, flagged | LEC 3, TEC plus 8: it sees a dominant flag; LEC 6 |
 //! | active +, active - with that error, active - | `Flagged` | LEC 2; LEC 6; LEC 2 |
 //! | passive +, nobody else but a silent - | `Unheard`, not flagged | LEC 3, TEC stays; received |
-//! | active +, nobody else but a silent - | `Unheard`, flagged by its sender | LEC 3, TEC and 8; LEC 2 |
+//! | active +, nobody else but a silent - | `Unheard`, flagged by its sender | LEC 3, TEC plus 8; LEC 2 |
 //! | active +, passive - with a stuff error, active - | `Carried` | sent; LEC 1; received |
 //! | active +, active - with a stuff error, active - | `Broken` | LEC 4; LEC 1; LEC 1 |
 //! | passive + with a bit error, active - | `Broken` | LEC 5; LEC 1: six recessive bits |
@@ -41,15 +41,15 @@
 //! | looped +, active + whose frame it precedes | `Carried` | sent to itself; received |
 //! | looped +, active + whose frame precedes it, active - | `Collided` | sent to itself; LEC 4; LEC 1 |
 //! | two looped + of different frames, active - | `Collided` | both sent to themselves; LEC 1 |
-//! | active +, looped - | `Unheard`, flagged by its sender | LEC 3, TEC and 8; nothing |
+//! | active +, looped - | `Unheard`, flagged by its sender | LEC 3, TEC plus 8; nothing |
 //!
 //! What the model leaves out:
 //!
 //! - A member in loop back mode (without Silent) starts its frame when the others start theirs; a part starts it at any time, also
-//!   into another's frame. Of two different frames, of which neither stops, none goes on, though by the bits one may rarely cover
-//!   the other; and what is left of the frame in loop back mode disturbs nothing behind an error flag.
-//! - An error counts 1 at each receiver. Rule 2 of fault confinement adds 8 where a dominant bit stands behind its own flag.
-//! - A stuff error in the arbitration field of a sender counts 8 as others do: the second exception of rule 3 does not come.
+//!   into another's frame. If neither of two different frames stops, none goes on, though by the bits one may rarely cover
+//!   the other; and what is left of the frame in loop back mode disturbs nothing after an error flag.
+//! - An error counts 1 at each receiver. Rule 2 of fault confinement adds 8 if a dominant bit comes after its own flag.
+//! - A stuff error in the arbitration field of a sender counts 8 as others do: the second exception of rule 3 does not occur.
 //! - There are no overload frames, and an error passive sender does not wait before its next frame.
 #![tactic(auto)]
 

@@ -7,7 +7,7 @@ use crate::sign::Sign;
 use crate::winner::Part;
 use ccan_accept::Frame;
 
-/// So many members a bus has at most.
+/// A bus has at most this many members.
 pub const MOST_MEMBERS: usize = 32;
 
 /// The number of a member that sends nothing, above those of all frames.
@@ -23,7 +23,7 @@ pub struct Member {
     pub role: Role,
     /// The frame that it starts to send, if its role lets it: what a chip has loaded, or what another node offers.
     pub frame: Option<Frame>,
-    /// The error that it finds by itself, which counts for nothing in one that doesn't hear the bus. Where an earlier one ends the
+    /// The error that it finds by itself, which counts for nothing in one that doesn't hear the bus. If an earlier one ends the
     /// frame for all, give no later one.
     pub flaw: Option<Flaw>,
 }
@@ -58,7 +58,7 @@ impl Member {
         }
     }
 
-    /// What it sends behind the bits of arbitration, as a number; 0 if it sends nothing.
+    /// What it sends after the bits of arbitration, as a number; 0 if it sends nothing.
     pub(crate) fn rest(&self) -> u128
         ensures { result ≡ rest_by self.now }
     {
@@ -68,7 +68,7 @@ impl Member {
         }
     }
 
-    /// Whether it just drops out behind the arbitration, where this frame has the same bits of arbitration as its own.
+    /// Whether it just drops out after the arbitration, if this frame has the same bits of arbitration as its own.
     fn is_late(&self, frame: &Frame) -> bool
         ensures { IsTrue result ↔ IsLate self.now frame.now }
     {
@@ -132,7 +132,7 @@ impl Member {
         }
     }
 
-    /// Whether it does this while the frame is sent to which it is such a part.
+    /// Whether it does this while the frame is sent, if this is its part.
     pub(crate) fn shows(&self, sign: Sign, part: Part) -> bool
         ensures { result ≡ shows sign part self.now }
     {

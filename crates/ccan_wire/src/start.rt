@@ -13,14 +13,14 @@ pub enum Start {
     /// Nobody sends.
     Nothing,
     /// No frame goes on. These members send frames that are equal in the bits of arbitration, and no other frame
-    /// precedes them. One of them sees a bit error behind the arbitration and is error active, so that its error flag ends all
+    /// precedes them. One of them sees a bit error after the arbitration and is error active, so that its error flag ends all
     /// these frames; or a member in loop back mode sends another frame over them.
     Collision(Places),
     /// This frame won the bus.
     Won(Winner),
 }
 
-/// The place of a member whose number none is less than.
+/// The place of a member with the least number.
 fn least_place(members: &[Member]) -> usize
     requires { 0 < length members.now }
     ensures { IsLeast (λ k. key_of (member_at members.now k)) (length members.now) result }
@@ -65,7 +65,7 @@ fn least_rest(members: &[Member], who: &Places, first: usize) -> usize
     least
 }
 
-/// Those among these members that send what is this number behind the arbitration.
+/// Those among these members that send what is this number after the arbitration.
 fn with_rest(members: &[Member], who: &Places, number: u128) -> Places
     requires { length members.now ≤ MOST_MEMBERS }
     ensures { (k : ℕ) → is_among result k
@@ -89,7 +89,7 @@ fn except(who: &Places, those: &Places) -> Places
     others
 }
 
-/// A member that does not let the frame go on, where these have the same bits of arbitration.
+/// A member that does not let the frame go on, if these have the same bits of arbitration.
 fn dissenter(members: &[Member], who: &Places, frame: &Frame) -> Option<usize>
     requires { length members.now ≤ MOST_MEMBERS }
     ensures some { IfSome result (λ k. Dissents (is_among who.now k) (member_at members.now k) frame.now) }
@@ -107,7 +107,7 @@ fn dissenter(members: &[Member], who: &Places, frame: &Frame) -> Option<usize>
 impl Start {
     ghost use Rattle.ccan_wire.specs.Start.{Starts};
 
-    /// What is settled where these members take part, up to 32 of them.
+    /// What is settled if these members take part, up to 32 of them.
     pub fn of(members: &[Member]) -> Start
         requires { length members.now ≤ MOST_MEMBERS }
         ensures { Starts (member_at members.now) result }

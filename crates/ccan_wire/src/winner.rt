@@ -18,9 +18,9 @@ pub enum Part {
 pub struct Winner {
     /// The frame.
     pub frame: Frame,
-    /// The members who started it: several where each sends it, equal to the last bit.
+    /// The members who started it: several if each sends it, equal to the last bit.
     pub senders: Places,
-    /// The members who dropped out behind the arbitration.
+    /// The members who dropped out after the arbitration.
     pub dropped: Places,
 }
 

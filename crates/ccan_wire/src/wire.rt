@@ -10,11 +10,11 @@ pub enum Wire {
     /// These members' frames collide: they are equal in the bits of arbitration, and an error flag of dominant bits ends them, or
     /// a member in loop back mode sends another frame over them.
     Collided(Places),
-    /// The frame ends before the end of its check sequence: by an error flag of dominant bits, or as nobody sends it any more.
+    /// The frame ends before the end of its check sequence: by an error flag of dominant bits, or since nobody sends it any more.
     Broken(Winner),
-    /// A dominant bit stands in the ACK slot, and an error flag of dominant bits there or behind it.
+    /// There is a dominant bit in the ACK slot, and an error flag of dominant bits there or after it.
     Flagged(Winner),
-    /// No dominant bit stands in the ACK slot; and whether an error flag of dominant bits stands behind it.
+    /// There is no dominant bit in the ACK slot; and whether an error flag of dominant bits comes after it.
     Unheard(Winner, bool),
     /// The frame is acknowledged, and there is no error flag of dominant bits.
     Carried(Winner),

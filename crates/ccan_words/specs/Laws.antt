@@ -36,7 +36,7 @@ quotient p c l = omega arith
 remainder : (p c : ℕ) → c < 65536 → (p * 65536 + c) % 65536 ≡ c
 remainder p c l = omega arith
 
--- the number of a change, where the port has made few
+-- the number of a change, if the port has made few
 few_number : (p : PortName) (c : ℕ) → c < 65536 → change_number p c ≡ port_index p * 65536 + c
 few_number p c l = let e : (c / 65536) * 262144 + (port_index p * 65536 + c % 65536) ≡ port_index p * 65536 + c = omega arith in e
 

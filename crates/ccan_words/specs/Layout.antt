@@ -13,10 +13,10 @@ use Rattle.ccan_ram.specs.Change.{changed}
 use Rattle.ccan_ram.specs.History.{is_change, record_at, History}
 use Rattle.ccan_ram.specs.Attempt.{change_at}
 
--- how a memory lies in words that has the objects of a profile, whose ports may be given at most so many changes, and in
--- which a change at the first object contends with the second
+-- how a memory lies in words: one that has the objects of a profile, whose ports may be given at most this many changes, and
+-- in which a change at the first object contends with the second
 pub record Form (profile : Profile) (most : ℕ) (contends : ℕ → ℕ → Bool) : Type 0 where
-  -- how many words there are, and how many of them stand before the versions
+  -- how many words there are, and how many of them come before the versions
   pub size : ℕ
   pub cells : ℕ
   -- how many words a version has
@@ -30,7 +30,7 @@ pub record Form (profile : Profile) (most : ℕ) (contends : ℕ → ℕ → Boo
   -- the words of the version that the newest change of a history made
   pub content : History → List ℕ
 
--- a change's number, where each port makes at most so many
+-- a change's number, if each port makes at most this many
 pub record IsNumber (most number : ℕ) : Type 0 where
   pub port : PortName
   pub count : ℕ
@@ -53,11 +53,11 @@ module _ (contends : ℕ → ℕ → Bool) where
   IsBlankFor k h = (i : ℕ) → contends i k ≡ true → record_at i h ≡ zero_record
 
 module _ {profile : Profile} {most : ℕ} {contends : ℕ → ℕ → Bool} (F : Form profile most contends) where
-  -- the place is before or behind the words of the object's record
+  -- the place is before or after the words of the object's record
   abbrev pub IsBeside : ℕ → ℕ → Type 0
   IsBeside k j = (j < F.offset k) ⊎ (F.offset k + 3 ≤ j)
 
-  -- the versions lie behind the objects' words, and apart; two objects share a word just where their changes contend
+  -- the versions lie after the objects' words, and apart; two objects share a word exactly if their changes contend
   pub record Lies : Type 0 where
     pub few : most ≤ 4096
     pub cells : (k : ℕ) → Holds profile k → F.cell k < F.cells
@@ -76,7 +76,7 @@ module _ {profile : Profile} {most : ℕ} {contends : ℕ → ℕ → Bool} (F :
         → slice_index (F.content at) (F.offset k + j) ≡ slice_index (packed (record_at k at)) j
 
   -- the version that a change makes has the object's new record at its offset, and beside it the words of any version with
-  -- the records of before, or zeros where no record was written
+  -- the records from before, or zeros if no record was written
   pub record Makes : Type 0 where
     pub value : (p : PortName) (k i : ℕ) (c : Change) (r : Record) (h : History) → Holds profile k → i < 3
         → slice_index (F.content (change_at p k c r ∷ h)) (F.offset k + i) ≡ slice_index (packed (changed c r)) i

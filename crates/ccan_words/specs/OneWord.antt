@@ -6,7 +6,7 @@ use Rattle.ccan_object.specs.Packing.{packed}
 use Rattle.ccan_ram.specs.History.{record_at, History}
 use Rattle.ccan_words.specs.Layout.{Form}
 
--- the one word has a cache line of its own; behind it, each port has room for 64 versions of at most 192 words
+-- the one word has a cache line of its own; after it, each port has room for 64 versions of at most 192 words
 abbrev pub root_place : ℕ → ℕ → ℕ
 root_place n j = 8 + (n / 65536) * 12288 + (n % 65536 - 1) * 192 + j
 

@@ -1,4 +1,4 @@
--- A word for each object: a version is the packed record of one object, and changes at the same object alone contend.
+-- A word for each object: a version is the packed record of one object, and only changes at the same object contend.
 -- Source: this project's own.
 use Rattle.std.specs.Prelude.{ℕ, ◌+◌, ◌-◌, ◌*◌, ◌/◌, ◌%◌, ◌==◌, Bool, List, [], ◌∷◌}
 use Rattle.ccan_object.specs.declared.profile.Profile.{Profile}
@@ -10,7 +10,7 @@ use Rattle.ccan_words.specs.Layout.{Form}
 abbrev pub word_cell : ℕ → ℕ
 word_cell k = (k - 1) * 8
 
--- there is room for 64 objects; behind them, each port has room for 4096 versions of three words
+-- there is room for 64 objects; after them, each port has room for 4096 versions of three words
 abbrev pub word_place : ℕ → ℕ → ℕ
 word_place n j = 512 + (n / 65536) * 12288 + (n % 65536 - 1) * 3 + j
 

@@ -37,7 +37,7 @@ module _ {profile : Profile} {most : ℕ} {contends : ℕ → ℕ → Bool} (F :
 
   -- ---- many words
 
-  -- at some place between these two histories this was the number of the last change that contends
+  -- at some point between these two histories this was the number of the last change that contends
   pub record Stood (older newer : History) (k number : ℕ) : Type 0 where
     pub at : History
     pub from : BeginsWith at older
@@ -45,14 +45,14 @@ module _ {profile : Profile} {most : ℕ} {contends : ℕ → ℕ → Bool} (F :
     pub last : number ≡ last_number contends k at
     pub ranged : number ≢ 0 → IsNumber most number
 
-  -- the numbers of the first n objects' words, each as it was at some place after what the port had seen
+  -- the numbers of the first n objects' words, each as it was at some point after what the port had seen
   pub record Counted (p : PortName) (x : PortView) (n : ℕ) (numbers : List ℕ) (m : Knows) : Type 0 where
     pub log : History
     pub view : IsSeatOf p (see log x) m
     pub goes_on : GoesOn profile p x log
     pub each : (k : ℕ) → k < n → Stood x.seen log (k + 1) (slice_index numbers k)
 
-  -- at some place after what the port had seen, an object's word held another number
+  -- at some point after what the port had seen, an object's word held another number
   pub record Moved (p : PortName) (x : PortView) (numbers : List ℕ) (m : Knows) : Type 0 where
     pub log : History
     pub view : IsSeatOf p (see log x) m
@@ -76,7 +76,7 @@ module _ {profile : Profile} {most : ℕ} {contends : ℕ → ℕ → Bool} (F :
   abbrev pub AreNumbers : List ℕ → Type 0
   AreNumbers numbers = (k : ℕ) → k < objects_in profile → slice_index numbers k ≢ 0 → IsNumber most (slice_index numbers k)
 
-  -- where these were the last numbers at some history that a port of the seat has seen, the registers are those of the memory
+  -- if these were the last numbers at some history that a port of the seat has seen, the registers are those of the memory
   -- that it left
   abbrev pub ShowsAll : List ℕ → Knows → HandlerRegisters → Type 0
   ShowsAll numbers m shown =
@@ -86,7 +86,7 @@ module _ {profile : Profile} {most : ℕ} {contends : ℕ → ℕ → Bool} (F :
 
   -- ---- turns
 
-  -- a turn: the looks stand right behind one history, and another goes on from them, which the port then has seen
+  -- a turn: the looks come right after one history, and another goes on from them, which the port has then seen
   pub record Turned (p : PortName) (x : PortView) (m : Knows) : Type 0 where
     pub at : History
     pub end : History
@@ -98,7 +98,7 @@ module _ {profile : Profile} {most : ℕ} {contends : ℕ → ℕ → Bool} (F :
     pub sound : IsSound profile x.quota end
     pub sound_at : IsSound profile x.quota at
 
-  -- it succeeded: these were the numbers of all objects' words where the looks stand
+  -- it succeeded: these were the numbers of all objects' words at the point of the looks
   pub record Posed (p : PortName) (x : PortView) (numbers : List ℕ) (m : Knows) : Type 0 where
     pub turn : Turned p x m
     pub each : (k : ℕ) → k < objects_in profile → slice_index numbers k ≡ last_number contends (k + 1) turn.at
@@ -119,13 +119,13 @@ module _ {profile : Profile} {most : ℕ} {contends : ℕ → ℕ → Bool} (F :
 
 -- ---- a picture
 
--- the port added these events, which it then has seen
+-- the port added these events, which it has then seen
 pub record Added (profile : Profile) (p : PortName) (x : PortView) (added : List Event) (m : Knows) : Type 0 where
   pub view : IsSeatOf p (see (added ++ x.seen) x) m
   pub sound : IsSound profile x.quota (added ++ x.seen)
   pub own : changes_by p (added ++ x.seen) ≡ changes_by p x.seen
 
--- the port of a seat tried in so many turns, which were lost
+-- the port of a seat tried in this many turns, which were lost
 abbrev pub TriedIn : (ℕ → ℕ → Bool) → Memory → PortName → ℕ → Knows → Knows → Type 0
 TriedIn contends memory p i old new =
     (x : PortView) → IsSeatOf p x old → IsSound memory.profile x.quota x.seen → x.quota ≡ memory.quota

@@ -1,4 +1,4 @@
--- What each step of a seat tells, and what it asks. Source: this project's own.
+-- What each step of a seat shows, and what it asks. Source: this project's own.
 use Rattle.std.specs.Prelude.{Bool, true, ◌≡◌, ◌≢◌, ℕ, ◌<◌, ◌≤◌, [], ◌∷◌, length, slice_index, Some}
 use Rattle.atomic_table.specs.Table.{Me}
 use Rattle.ccan_object.specs.declared.profile.Profile.{Profile}
@@ -33,7 +33,7 @@ pub record GoesOn (profile : Profile) (p : PortName) (x : PortView) (h : History
 abbrev pub change_of : Version → Event
 change_of version = change_at version.port version.object version.change version.before
 
--- no version, where a step is made for none
+-- no version, if a step is made for none
 abbrev pub no_version : Version
 no_version =
     record {
@@ -84,7 +84,7 @@ module _ {profile : Profile} {most : ℕ} {contends : ℕ → ℕ → Bool} (F :
     pub view : n ≡ (see_all log m.0, m.1)
     pub goes_on : (p : PortName) (x : PortView) → holding p m.0 ≡ Some x → GoesOn profile p x log
 
-  -- a word of a version: where its change has been seen for some port, the word that the change made
+  -- a word of a version: if its change has been seen for some port, the word that the change made
   pub record Reads (word : ℕ) (m : Knows) (found : ℕ) (n : Knows) : Type 0 where
     pub view : n ≡ m
     pub value : (p : PortName) (x : PortView) (number j : ℕ) (at : History) → holding p m.0 ≡ Some x → Stands x.seen number at

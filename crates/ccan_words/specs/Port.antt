@@ -25,7 +25,7 @@ abbrev pub pass_of : TableId → Profile → ℕ → PortName → View → Pass
 pass_of table profile quota name v =
     record { memory = memory_in table profile quota; port = name; seen = seen_in (holding name v) }
 
--- the seat holds this port alone, which has made so many changes of its quota
+-- the seat holds only this port, which has made this many changes of its quota
 pub record IsPort (me : Knows) (profile : Profile) (name : PortName) (used quota : ℕ) : Type 0 where
   pub held : PortView
   pub view : IsSeatOf name held me

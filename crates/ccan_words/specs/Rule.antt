@@ -17,11 +17,11 @@ use Rattle.ccan_words.specs.Layout.{Form, IsChangeFor, IsBlankFor, AgreeFor}
 use Rattle.ccan_ram.specs.Sound.{IsSound, Stands}
 
 module _ {profile : Profile} {most : ℕ} {contends : ℕ → ℕ → Bool} (F : Form profile most contends) where
-  -- the word of each object holds the number of the last change in the history that contends there, 0 where there is none
+  -- the word of each object holds the number of the last change in the history that contends there, 0 if there is none
   abbrev pub Heads : List ℕ → History → Type 0
   Heads words log = (k : ℕ) → Holds profile k → slice_index words (F.cell k) ≡ last_number contends k log
 
-  -- the words of each version whose change stands in the history are those that the change made
+  -- the words of each version whose change is in the history are those that the change made
   abbrev pub Versions : List ℕ → History → Type 0
   Versions words log =
       (n j : ℕ) (at : History) → Stands log n at → j < F.width → slice_index words (F.place n j) ≡ slice_index (F.content at) j
@@ -63,7 +63,7 @@ module _ {profile : Profile} {most : ℕ} {contends : ℕ → ℕ → Bool} (F :
     pub heads : Heads words log
     pub versions : Versions words log
 
--- what the number of the last change that contends tells of the records of the objects that share the word: at 0 nobody
+-- what the number of the last change that contends says of the records of the objects that share the word: at 0 nobody
 -- wrote them, and else they are those that this change left
 pub record Latest (contends : ℕ → ℕ → Bool) (k n : ℕ) (h : History) : Type 0 where
   pub none : n ≡ 0 → IsBlankFor contends k h

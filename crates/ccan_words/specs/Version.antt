@@ -26,7 +26,7 @@ IsSeatOf p x m = m ≡ (only p (Some x), [])
 abbrev pub with_note : List ℕ → PortView → PortView
 with_note note x = record { seen = x.seen; note = note; quota = x.quota }
 
--- the version of a port that has made so many changes, for a draft and a change
+-- the version of a port that has made this many changes, for a draft and a change
 abbrev pub version_of : PortName → ℕ → Draft → Change → Version
 version_of port used draft change =
     record {
@@ -49,7 +49,7 @@ module _ {profile : Profile} {most : ℕ} {contends : ℕ → ℕ → Bool} (F :
   abbrev pub Finds : PortName → ℕ → Knows → ℕ → Record → Knows → Type 0
   Finds p k m found shown n = (t : Looks F p k m found n) × (shown ≡ record_at k t.log)
 
-  -- where a change that some port has seen has this number, and its version has a record of the object, it is this one
+  -- if a change that some port has seen has this number, and its version has a record of the object, it is this one
   abbrev pub IsRecordOf : ℕ → ℕ → Knows → Record → Type 0
   IsRecordOf k number m shown =
       (p : PortName) (x : PortView) (at : History) (r : Record) → holding p m.0 ≡ Some x → Stands x.seen number at → IsRecord r

@@ -1,10 +1,10 @@
 //! A message memory that three ports use at once, each perhaps in a thread of its own, with no lock.
 //!
-//! Each object has a word, which holds the number of the last change that was made there, 0 where there was none. The
+//! Each object has a word, which holds the number of the last change that was made there, 0 if there was none. The
 //! number names a version: the record that the change left, in words of its own. A port writes a version before it
 //! publishes the number, and nobody writes it again. So a look is one load of the object's word, and what it names
 //! stays as it is. A change is a look, a version that is written aside, and one exchange of the word from the number
-//! that was found to the new one. Where the word holds another number by then, the exchange fails, and nothing is
+//! that was found to the new one. If the word holds another number by then, the exchange fails, and nothing is
 //! changed.
 //!
 //! ```text
@@ -19,17 +19,17 @@
 //!                   1 to 65537: done                                         65537             131073
 //! ```
 //!
-//! So there is one history of all events, the looks and the exchanges that succeed, in the order in which they hit
+//! So there is one history of all events, the looks and the exchanges that succeed, in the order in which they reach
 //! the words: here the three looks, the changes 1 and 131073, IF2's second look and change 65537. A port knows the
 //! part of it that it has seen. The failed exchange is no event; it showed IF2 what the others had done.
 //!
-//! Looks at all objects can stand at one place of the history too: all words are loaded, and loaded again. Where each
-//! holds its number still, it held it between, since no number comes twice, and there the looks stand.
+//! Looks at all objects can be at one point in the history too: all words are loaded, and loaded again. If each still
+//! holds its number, it held it in between, since no number comes twice, and the looks are there.
 //!
-//! `WordRam` has a word for each object, so that a change is lost to one of the same object alone. `RootRam` has one
+//! `WordRam` has a word for each object, so that a change is lost only to one of the same object. `RootRam` has one
 //! word for all objects, and a version is the whole memory; there any change costs the others a try. Both are the one
-//! memory `Ram`, over two layouts. The rule that every step of every port keeps stands in `specs/Rule.antt`, and what
-//! a layout gives in `specs/Layout.antt`. Nothing is allocated once a memory is open, and no call on a port waits.
+//! memory `Ram`, over two layouts. The rule that every step of every port keeps is in `specs/Rule.antt`, and what
+//! a layout gives is in `specs/Layout.antt`. Nothing is allocated once a memory is open, and no call on a port waits.
 #![tactic(auto)]
 
 mod ending;

@@ -31,7 +31,7 @@ impl Layout for OneWordEach {
         (object - 1) * 8
     }
 
-    // The versions begin behind the words of 64 objects in both profiles.
+    // The versions begin after the words of 64 objects in both profiles.
     fn place(profile: Profile, number: u64, word: usize) -> usize {
         let _ = profile;
         let port = (number / 65536) as usize;

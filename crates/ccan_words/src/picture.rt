@@ -1,11 +1,11 @@
-//! A picture: looks at all objects at one place of the history.
+//! A picture: looks at all objects at one point in the history.
 //!
 //! The numbers of all objects' words are read, one after another; then looks at all objects are added to the history, in
-//! one step; and then the numbers are read again. Where each is what it was, it stood throughout, since no number comes
-//! twice: so it stood where the looks do, and the versions of these numbers hold the records that the looks show. Where
-//! one is another, some other port made a change meanwhile. The others make at most twice the quota of changes.
+//! one step; and then the numbers are read again. If each is what it was, it stayed throughout, since no number comes
+//! twice: so it was there at the point of the looks, and the versions of these numbers hold the records that the looks
+//! show. If one is another, some other port made a change meanwhile. The others make at most twice the quota of changes.
 //!
-//! The versions are read last, and of an object that nobody wrote there is none.
+//! The versions are read last; there is none for an object that nobody wrote.
 ghost use Rattle.std.specs.Prelude.{◌≡◌, ◌≤◌, ◌<◌, true, false, length};
 ghost use Rattle.ccan_object.specs.Profile.{objects_in};
 ghost use Rattle.ccan_ram.specs.HandlerRegisters.{AreBelow};
@@ -22,7 +22,7 @@ use crate::words::{Seat, Words};
 use ccan_object::MOST_OBJECTS;
 use ccan_ram::{HandlerRegisters, PortName};
 
-/// The registers at one place of the history.
+/// The registers at one point in the history.
 #[inline(always)]
 pub fn picture<L: Layout>(words: &Words<L>, seat: &mut Seat, port: PortName) -> HandlerRegisters
     requires table { numbers_of seat.old.table_id ≡ words.now.name }
@@ -42,8 +42,8 @@ pub fn picture<L: Layout>(words: &Words<L>, seat: &mut Seat, port: PortName) -> 
     HandlerRegisters::zero()
 }
 
-/// Looks at all objects, and the numbers of their words where these looks stand. False: another port made a change
-/// meanwhile, and the numbers say nothing.
+/// Looks at all objects, and the numbers of their words at the point of these looks. False: another port made a
+/// change meanwhile, and the numbers mean nothing.
 #[inline(always)]
 fn pose_once<L: Layout>(
     words: &Words<L>,
@@ -76,7 +76,7 @@ fn collect<L: Layout>(words: &Words<L>, seat: &mut Seat, numbers: &mut [u64; MOS
     }
 }
 
-/// Whether they hold these numbers still.
+/// Whether they still hold these numbers.
 #[inline(always)]
 fn still<L: Layout>(words: &Words<L>, seat: &mut Seat, numbers: &[u64; MOST_OBJECTS]) -> bool
     requires table { numbers_of seat.old.table_id ≡ words.now.name }

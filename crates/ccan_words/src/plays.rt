@@ -1,4 +1,4 @@
-//! What the steps of a seat tell, for the proofs alone. No value of these types is made.
+//! What the steps of a seat show, only for the proofs. No value of these types is made.
 use crate::layout::Layout;
 use crate::version::Version;
 use crate::view::View;

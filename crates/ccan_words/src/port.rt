@@ -2,7 +2,7 @@ use crate::words::{Key, Seat};
 use ccan_ram::PortName;
 use std::marker::Model;
 
-/// A port of a memory: the right to act for it. Contracts see to which memory it belongs, whose it is, and the
+/// A port of a memory: the right to act for it. Contracts see which memory it belongs to, whose it is, and the
 /// history that it has seen.
 #[derive(Drop)]
 pub struct Port {
@@ -10,7 +10,7 @@ pub struct Port {
     pub(crate) name: PortName,
     pub(crate) used: u64,
     pub(crate) key: Key,
-    // Ports that different threads hold do not share a cache line, even where they lie side by side.
+    // Ports that different threads hold do not share a cache line, even if they lie side by side.
     _apart: [u64; 12],
 }
 

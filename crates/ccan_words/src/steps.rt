@@ -178,7 +178,7 @@ fn note_as<L: Layout, D: Deed>(
     words.table.shared.store::<Noting<D>>(seat, place, value);
 }
 
-/// Publishes the version where the object's word still has the old number, and gives the number found.
+/// Publishes the version if the object's word still has the old number, and gives the number found.
 pub fn exchange<L: Layout>(words: &Words<L>, seat: &mut Seat, version: &Version) -> u64
     requires table { numbers_of seat.old.table_id ≡ words.now.name }
     requires drafted { IsDraftedIn (L.form words.now.profile) version.now seat.old.me }

@@ -26,9 +26,9 @@ pub struct Version {
     pub number: u64,
     /// The object that is changed.
     pub object: usize,
-    /// The number of the version that the draft found, 0 where there was none.
+    /// The number of the version that the draft found, 0 if there was none.
     pub old: u64,
-    /// What is made of the record.
+    /// The change to the record.
     pub change: Change,
     /// The record that the draft found.
     pub before: Record,
@@ -43,7 +43,7 @@ impl Version {
     ghost use Rattle.ccan_ram.specs.declared.change.Changed.{Changed};
     ghost use Rattle.ccan_words.specs.Version.{IsContent, version_of};
 
-    /// The next version of a port that has made so many changes.
+    /// The next version of a port that has made this many changes.
     #[inline(always)]
     pub fn of(port: PortName, used: u64, draft: &Draft, change: &Change) -> Version
         requires { used < 4096 }
@@ -76,14 +76,14 @@ impl Version {
     }
 }
 
-/// An object's number as a place.
+/// An object's number as an index.
 pub fn number_of(object: ObjectNo) -> usize
     ensures { result ≡ object }
 {
     usize::from(object.get())
 }
 
-/// The record that packs to these words. Where none does, as in no version that was published, it is zero.
+/// The record that packs to these words. If none does, which happens in no version that was published, it is zero.
 pub fn record_in(words: [u64; 3]) -> Record
     ensures { (object : Record) → IsRecord object → packed object ≡ words → result ≡ object }
 {
@@ -134,7 +134,7 @@ pub fn fetch<L: Layout>(words: &Words<L>, seat: &mut Seat, number: u64, object: 
 }
 
 /// Writes the version and publishes it, unless a change that contends came first. Gives the number that the object's
-/// word held: the old one where the version was published.
+/// word held: the old one if the version was published.
 pub fn publish<L: Layout>(words: &Words<L>, seat: &mut Seat, version: &Version) -> u64
     requires table { numbers_of seat.old.table_id ≡ words.now.name }
     requires content { IsContent version.now }

@@ -1,4 +1,4 @@
-//! What a seat knows. Histories and views exist in the proofs alone; no value of these types is made.
+//! What a seat knows. Histories and views exist only in the proofs; no value of these types is made.
 use ccan_ram::{ByPort, Event};
 use std::collections::LinkedList;
 

@@ -52,7 +52,7 @@ host profile quota list made = record { profile = profile; quota = quota; list =
 abbrev pub gone_on : Host → ℕ → Host
 gone_on theirs more = record theirs { made = theirs.made + more }
 
--- its next transfer is the one that stands next in its list, where it has quota left and the memory has the object
+-- its next transfer is the one that is next in its list, if it has quota left and the memory has the object
 pub record IsNext (theirs : Host) (next : Transfer) : Type 0 where
   pub stands : slice_get theirs.list theirs.made ≡ Some next
   pub left : theirs.made < theirs.quota
@@ -83,12 +83,12 @@ AddsTheirs old new transfer number =
 abbrev pub IsForBus : Passes → Type 0
 IsForBus plain = plain.terms ≡ one_thread_terms plain.terms.profile Bus plain.terms.quota
 
--- the other host makes its next transfer, where it has one; else nothing is added
+-- the other host makes its next transfer, if it has one; else nothing is added
 abbrev pub GoesOn : Host → Bool → List Event → Type 0
 GoesOn theirs true added = (next : Transfer) × IsNext theirs next × (found : Record) × (added ≡ transferred next found)
 GoesOn theirs false added = added ≡ []
 
--- what a call adds in which the other host may make its next transfer, and nobody does anything else
+-- what a call adds if the other host may make its next transfer during it, and nobody does anything else
 abbrev pub AddsNext : Passes → Passes → Host → Bool → Type 0
 AddsNext old new theirs goes_on = Goes old new (λ terms seen added. GoesOn theirs goes_on added)
 
@@ -98,7 +98,7 @@ AddsOthers old new = Goes old new (λ terms seen added. AreOthers terms added)
 
 -- ---- the calls of the bus
 
--- the number of a change, 0 where none was made
+-- the number of a change, 0 if none was made
 abbrev pub number_of : Result Changed Refused → ℕ
 number_of (Ok (Done before after number)) = number
 number_of (Ok (NotNow shown)) = 0
@@ -155,8 +155,8 @@ AreLostTo theirs object change (suc n) terms added =
     (last : List Event) × (earlier : List Event) × (added ≡ last ++ earlier)
     × IsLostTo (gone_on theirs n) object change terms last × AreLostTo theirs object change n terms earlier
 
--- why the other host does nothing in a try that is not lost: it has no next transfer; or that is at the same object, but
--- the record does not fit, so that no exchange is to come
+-- why the other host does nothing in a try that is not lost: it has no next transfer; or the next transfer is at the same object,
+-- but the record does not fit, so that no exchange is to come
 abbrev pub MayRest : Host → ℕ → Result Changed Refused → Type 0
 MayRest theirs object (Ok (Done before after number)) = ¬ HasNext theirs
 MayRest theirs object (Ok (NotNow shown)) = (next : Transfer) → IsNext theirs next → next.object ≡ object
@@ -196,7 +196,7 @@ Course theirs object change tries (Err (Busy told now)) made terms seen added =
     AreLostTo theirs object change tries terms added × (made ≡ theirs.made + tries)
 Course theirs object change tries (Err Spent) made terms seen added = (added ≡ []) × (made ≡ theirs.made)
 
--- an attempt of a change, in the course of which the other host acts so
+-- an attempt of a change, during which the other host acts in this way
 abbrev pub AddsCourse : Passes → Passes → Host → ℕ → Change → ℕ → Result Changed Refused → ℕ → Type 0
 AddsCourse old new theirs object change tries outcome made =
     Goes old new (λ terms seen added. Attempt terms object change tries seen added outcome

@@ -15,7 +15,7 @@ abbrev pub change_of : Transfer → Change
 change_of transfer =
     if is_write transfer.command then Write transfer.command transfer.buffer else Clear transfer.command
 
--- what the transfer of IF1 adds where this record stands: its look, and its change of that record
+-- what the transfer of IF1 adds if this is the record there: its look, and its change of that record
 abbrev pub transferred : Transfer → Record → List Event
 transferred transfer found =
     change_at If1 transfer.object (change_of transfer) found ∷ look_at If1 transfer.object found ∷ []

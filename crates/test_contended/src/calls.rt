@@ -1,5 +1,5 @@
-//! The handler's calls, without their promises: what each adds to the history is proved in its own crate, and here it would
-//! only stay known from call to call, which makes the proof of a test long.
+//! The handler's calls, without their promises. What each adds to the history is proved in its own crate, and here it would only
+//! stay known from call to call, which makes the proof of a test long.
 use ccan_accept::Frame;
 use ccan_handler::{ScanRefused, Stored};
 use ccan_object::{ObjectNo, Record};

@@ -17,10 +17,10 @@ use ccan_ram::{Access, Array, Change, Changed, HandlerRegisters, PortName, Refus
 
 /// The bus port of a plain memory, during whose calls the host at IF1 goes through a list of transfers.
 ///
-/// In each try of a change, IF1 makes its next transfer. One at the same object comes after a look at a record that
-/// fits, and costs the try. Where the record doesn't fit, no exchange is to come, and IF1 keeps the transfer for later. One
-/// at another object comes just before the look, and the try is not lost. A look by itself brings none about. The list ends
-/// early at a transfer for which IF1 has no quota left, or at an object that the memory doesn't have.
+/// In each try of a change, IF1 makes its next transfer. One at the same object comes after a look at a record that fits, and
+/// costs the try. If the record doesn't fit, no exchange is to come, and IF1 keeps the transfer for later. One at another object
+/// comes just before the look, and the try is not lost. A look by itself causes no transfer. The list ends early at a transfer
+/// for which IF1 has no quota left, or at an object that the memory doesn't have.
 #[derive(Drop)]
 pub struct Contended<'a> {
     ram: Array,
@@ -229,7 +229,7 @@ fn interfere(ram: &mut Array, theirs: Transfer) -> u64
     number_of(&outcome)
 }
 
-/// The number of a change, 0 where none was made.
+/// The number of a change, 0 if none was made.
 fn number_of(outcome: &Result<Changed, Refused>) -> u64
     ensures { result ≡ number_of outcome.now }
 {

@@ -75,7 +75,7 @@ fn a_controller_comes_back_and_recovery_sets_the_code(rt: HostRuntime) {
     holds(&rt, !status.pending());
 }
 
-/// The laws do nothing: they are called so that each is seen to stand.
+/// The laws do nothing: they are called so that each is seen to hold.
 #[test]
 fn laws_stand(_rt: HostRuntime) {
     laws::counters_are_bounded();

@@ -6,7 +6,7 @@ use ccan_ram::Refused;
 use test_contended::calls::{choose, receive, receive_from};
 use test_contended::{Contended, Transfer};
 
-/// A transfer of IF1 from new registers that were set so.
+/// A transfer of IF1 from new registers that were set to these values.
 fn transfer(request: u16, some: &[(Reg, u16)], more: &[(Reg, u16)]) -> Transfer {
     let registers = registers(some, more);
     Transfer {
@@ -30,7 +30,7 @@ fn tries_are_lost_to_the_host(rt: HostRuntime) {
     ];
     let mut ram = Contended::new(Profile::One, 64, &theirs);
     holds(&rt, ram.go_on());
-    // The scan is busy after its two tries. Where it goes on, it loses one more, and none to the write of another object.
+    // The scan is busy after its two tries. When it goes on, it loses one more, and none to the write of another object.
     let bytes = [1, 0, 0, 0, 0, 0, 0, 0];
     let received = frame(0x123, false, false, 1, bytes);
     let at = ObjectNo::from_request(Profile::One, 3);

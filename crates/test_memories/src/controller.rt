@@ -31,7 +31,7 @@ fn testing(word: u16) -> Controller {
     opened.after(&WriteTest(TestRegister::of_word(word)))
 }
 
-/// A controller as it opens whose Control, Bit Timing and BRP Extension register are written so, in this order.
+/// A controller as it opens, after a write of its Control, Bit Timing and BRP Extension registers, in this order.
 fn timed(word: u16, register: u16, extension: u16) -> Controller {
     let opened = controlled(Controller::new(), word);
     let written = opened.after(&WriteBitTiming(register));
@@ -47,7 +47,7 @@ fn after_send_faults(times: u16) -> Controller {
     controller
 }
 
-/// The words of the Control, Status and Error Counter register.
+/// The words of the Control, Status and Error Counter registers.
 fn words(controller: &Controller) -> (u16, u16, u16) {
     (
         controller.control.word(),
@@ -56,7 +56,7 @@ fn words(controller: &Controller) -> (u16, u16, u16) {
     )
 }
 
-/// The words of its Bit Timing and its BRP Extension register.
+/// The words of its Bit Timing and its BRP Extension registers.
 fn timing_of(controller: &Controller) -> (u16, u16) {
     (controller.timing.register(), controller.timing.extension())
 }
@@ -74,7 +74,7 @@ fn goes_off_and_comes_back(rt: HostRuntime) {
     let back = after(waits, Recessive(1));
     same(&rt, back.counters.state(), NodeState::Active);
     same(&rt, words(&back), (0x0001, 0x0005, 0x0000));
-    // RP at bit 15 where REC is 128 and more.
+    // RP at bit 15 if REC is 128 or more.
     let mut heard = after_send_faults(2);
     for (times, word) in [(127, 0x7f10), (1, 0x8010)] {
         for _ in 0..times {
@@ -90,7 +90,7 @@ fn status_may_be_written_and_read(rt: HostRuntime) {
     let opened = Controller::new();
     let received = after(opened, Frame(BusEvent::Received, StatusEvent::Received));
     same(&rt, received.status_word(), 0x0010);
-    // A host clears RxOk and writes LEC 7, to see whether an event sets LEC since.
+    // A host clears RxOk and writes LEC 7, to see whether an event sets LEC after that.
     let written = after(received, WriteStatus(StatusFlags::new(false, false, 7)));
     same(&rt, written.status_word(), 0x0007);
     let sent = after(written, Frame(BusEvent::Sent, StatusEvent::Sent));
@@ -163,7 +163,7 @@ fn control_is_written_bit_by_bit(rt: HostRuntime) {
     let written = controlled(Controller::new(), 0x69);
     let changed = after(written, WriteControlBits(bits, values));
     same(&rt, changed.control.word(), 0x0027);
-    // Where the bits clear Init of a controller that is off, the way back begins.
+    // If the bits clear Init of a controller that is off, the way back begins.
     let init = ControlRegister::of_word(0x01);
     let clear = WriteControlBits(init, ControlRegister::of_word(0x00));
     let begun = after(after_send_faults(32), clear);
@@ -197,7 +197,7 @@ fn a_reset_gives_the_values_of_the_manual(rt: HostRuntime) {
     same(&rt, reset.pack(), LEFT + (0x2301 << 42) + (1 << 32));
 }
 
-/// The same but LEC, which is 7 in a D_CAN.
+/// The same except for LEC, which is 7 in a D_CAN.
 #[test]
 fn a_reset_of_a_dcan_sets_the_last_error_code(rt: HostRuntime) {
     let busy = controlled(after_send_faults(32), 0xff);
@@ -260,7 +260,7 @@ fn packs(rt: &impl Abort, controller: Controller, word: u64) {
 
 #[test]
 fn each_register_has_its_bits_of_the_word(rt: HostRuntime) {
-    // Where Init is 1, the controller has left the bus.
+    // If Init is 1, the controller has left the bus.
     for (bits, word) in [
         (0x01, LEFT + (1 << 32)),
         (0x02, 1 << 33),
@@ -295,13 +295,13 @@ fn each_register_has_its_bits_of_the_word(rt: HostRuntime) {
     );
     // TEC 8 from bit 8 on, LEC 4 from bit 24 on, and the transfer pending at bit 29.
     packs(&rt, after_send_faults(1), (1 << 29) + (4 << 24) + (8 << 8));
-    // TEC 256, 100 groups, LEC 5, both interrupts pending, Init cleared, every bit of Control but Init, and left.
+    // TEC 256, 100 groups, LEC 5, both interrupts pending, Init cleared, every bit of Control except Init, and left.
     let begun = controlled(after_send_faults(32), 0xee);
     let word = LEFT + (0x7e << 32) + (0b111 << 29) + (5 << 24) + (100 << 17) + (256 << 8);
     packs(&rt, after(begun, Recessive(100)), word);
 }
 
-/// The laws do nothing: they are called so that each is seen to stand.
+/// The laws do nothing: they are called so that each is seen to hold.
 #[test]
 fn laws_of_the_controller_stand(_rt: HostRuntime) {
     laws::one_word_tells_its_controller();

@@ -1,5 +1,5 @@
 //! What a test expects, asserted by calls that promise nothing: what a test itself asserts stays known up to its end, and makes
-//! the proof of a test of many lines long. Where a test fails, the two values tell which line it was.
+//! the proof of a test of many lines long. If a test fails, the two values show which line it was.
 ghost use Rattle.std.specs.Prelude.{◌≤◌, ◌<◌, ◌^◌};
 ghost use Rattle.ccan_accept.specs.Frame.{identifier_bits};
 ghost use Rattle.ccan_ram.specs.Tries.{IsTries};
@@ -49,7 +49,7 @@ pub fn empty_frame(id: u32) -> Frame
     frame(id, false, false, 0, [0; 8])
 }
 
-/// What a scan found, where it was neither refused nor in vain.
+/// What a scan found, if it was neither refused nor in vain.
 pub fn found<T>(rt: &impl Abort, scanned: Result<Option<T>, ScanRefused>) -> T {
     match scanned {
         Ok(Some(found)) => found,
@@ -57,7 +57,7 @@ pub fn found<T>(rt: &impl Abort, scanned: Result<Option<T>, ScanRefused>) -> T {
     }
 }
 
-/// Registers that were set so in turn.
+/// Registers that were set to these values in turn.
 pub fn registers(some: &[(Reg, u16)], more: &[(Reg, u16)]) -> Iface {
     let mut registers = Iface::new();
     for (register, value) in some {
@@ -69,7 +69,7 @@ pub fn registers(some: &[(Reg, u16)], more: &[(Reg, u16)]) -> Iface {
     registers
 }
 
-/// The change that a driver asks for who sets these registers.
+/// The change that a driver asks for by setting these registers.
 pub fn change_of(some: &[(Reg, u16)], more: &[(Reg, u16)]) -> Change {
     let registers = registers(some, more);
     let command = registers.command();
@@ -90,7 +90,7 @@ pub fn shown(object: &Record) -> (u32, u32, u16, [u8; 8]) {
     )
 }
 
-/// The registers that a driver sets to write the standard message 0x123 of eight bytes, but for Message Control.
+/// The registers that a driver sets to write the standard message 0x123 of eight bytes, except Message Control.
 pub const MESSAGE: [(Reg, u16); 6] = [
     (Reg::CMask, 0x00f3),
     (Reg::Arb2, 0xa48c),
@@ -103,8 +103,8 @@ pub const MESSAGE: [(Reg, u16); 6] = [
 /// The bytes of that message.
 pub const BYTES: [u8; 8] = [0x11, 0x22, 0x33, 0x44, 0x55, 0x66, 0x77, 0x88];
 
-/// The registers that a driver sets to receive standard frames 0x123, but for Message Control.
+/// The registers that a driver sets to receive standard frames 0x123, except Message Control.
 pub const RECEIVER: [(Reg, u16); 2] = [(Reg::CMask, 0x00f3), (Reg::Arb2, 0x848c)];
 
-/// The registers of a write of Message Control alone, but for its value.
+/// The registers of a write of Message Control alone, except for its value.
 pub const CONTROL: [(Reg, u16); 1] = [(Reg::CMask, 0x0090)];

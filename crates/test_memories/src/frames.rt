@@ -68,7 +68,7 @@ const ACCEPTED: [(u32, u32, u16, [bool; 6]); 15] = [
         0x1080,
         [false, false, false, true, false, false],
     ),
-    // an extended object whose mask has place 0 alone, without MXtd and with it
+    // an extended object whose mask has bit 0 only, without MXtd and with it
     (
         0xc48c0001,
         0x40000001,
@@ -174,7 +174,7 @@ fn stores_data_frames(rt: HostRuntime) {
             frame(0x1fffffff, true, false, 15, bytes),
             (0xdfffffff, 0, 0x808f, bytes),
         ),
-        // the place that the mask leaves out is the frame's
+        // the bit that the mask leaves out is the frame's
         (
             record(0x848c0000, 0xdff80000, 0x1080, [0; 8]),
             empty_frame(0x122),

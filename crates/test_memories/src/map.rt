@@ -1,4 +1,4 @@
-//! Which register stands at an offset: each offset of the three layouts as the manuals list it, and no other.
+//! Which register is at an offset: each offset of the three layouts as the manuals list it, and no other.
 
 use crate::expect::same;
 use ccan_map::Interface::{One, Two};
@@ -11,8 +11,8 @@ use ccan_object::Reg::{Arb1, Arb2, CMask, Ctrl, DataA1, DataA2, DataB1, DataB2, 
 use ccan_ram::flag::Flag;
 use std::process::Abort;
 
-/// The registers in the order in which the tables below list their offsets: those that stand once, IF1, IF2, and the flags
-/// of objects 1 to 32.
+/// The registers in the order in which the tables below list their offsets: those that occur once, IF1, IF2, and the flags of
+/// objects 1 to 32.
 const COMMON: [Register; 37] = [
     Control,
     Status,
@@ -65,7 +65,7 @@ const FURTHER: [Register; 8] = [
     Flags(Flag::MsgVal, FlagPart::Fourth),
 ];
 
-/// Where the registers stand: those of every chip, and those of a chip with 64 objects alone.
+/// Where the registers are: those of every chip, and those that only a chip with 64 objects has.
 struct Places {
     common: [u32; 37],
     further: [u32; 8],

@@ -20,7 +20,7 @@ pub struct Plain {
 pub type Chosen = Result<Option<(ObjectNo, Record)>, ScanRefused>;
 
 impl Plain {
-    /// A memory each of whose ports may make so many changes.
+    /// A memory whose ports may each make so many changes.
     pub fn new(profile: Profile, quota: u64) -> Plain
         requires { IsQuota quota }
     {

@@ -1,11 +1,12 @@
-//! The bytes of a saved chip, written by hand after the table of their format, and what is told of bytes that are none.
+//! The bytes of a saved chip, written by hand after the table of their format, and what is reported of bytes that are
+//! not a saved chip.
 ghost use Rattle.std.specs.Prelude.{◌≤◌, ◌+◌};
 
 use crate::expect::holds;
 use ccan_saved::{Field, FormatError, LENGTH, from_bytes, to_bytes};
 use std::process::Abort;
 
-/// Puts a word at a place.
+/// Puts a word at an index.
 fn put(bytes: &mut [u8; LENGTH], place: usize, word: u64)
     requires { place + 8 ≤ 1672 }
 {
@@ -24,7 +25,7 @@ fn plain() -> [u8; LENGTH] {
     bytes
 }
 
-/// What is told of these bytes, where they are no saved chip.
+/// What is reported of these bytes, if they are not a saved chip.
 fn told(bytes: &[u8]) -> Option<FormatError> {
     match from_bytes(bytes) {
         Ok(_) => None,
@@ -32,7 +33,7 @@ fn told(bytes: &[u8]) -> Option<FormatError> {
     }
 }
 
-/// The plain chip with another word at a place is refused for this.
+/// The plain chip with another word at an index is refused for this reason.
 fn refuses(rt: &impl Abort, place: usize, word: u64, why: FormatError)
     requires { place + 8 ≤ 1672 }
 {

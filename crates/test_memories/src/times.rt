@@ -1,5 +1,5 @@
-//! How long a frame, a bit and what is between frames take. The frames are counted by `tools/test/frame_bits.py`, and those of
-//! the data frames by `canframelen` of can-utils 2020.11.0 too, which has the three bits of the intermission besides.
+//! How long a frame, a bit and what is between frames take. The frames are counted by `tools/test/frame_bits.py`, and the data
+//! frames by `canframelen` of can-utils 2020.11.0 too, which also has the three bits of the intermission.
 
 use crate::expect::{holds, same};
 use ccan_accept::Frame;

@@ -205,7 +205,7 @@ fn rounds_come_to_each_member_as_it_sees_them(rt: HostRuntime) {
     }
 }
 
-/// A frame in loop back mode, of identifier 5 with the byte 1 unless said otherwise. Its sender never stops, whatever is on the
+/// A frame in loop back mode, of identifier 5 with the byte 1 unless stated otherwise. Its sender never stops, whatever is on the
 /// bus, and acknowledges nothing.
 #[test]
 fn loop_back_frames_are_on_the_bus_without_silent(rt: HostRuntime) {
@@ -274,7 +274,7 @@ fn loop_back_frames_are_on_the_bus_without_silent(rt: HostRuntime) {
             [(Looped, Some((5, 2)), None), (Passive, one, None), listener],
             [LOOPED, send_fault(4), receive_fault(1)],
         ),
-        // the same frame is one on the bus, of which the other sender needs an acknowledgement
+        // the same frame is one on the bus, and the other sender needs an acknowledgement of it
         (
             [looped, (Active, one, None), listener],
             [LOOPED, SENT, RECEIVED],

@@ -87,7 +87,7 @@ fn line(ram: &EndlessRam, port: &mut Port, calls: u32) -> u32
     quiet
 }
 
-/// A call of this name on an access, so often. None where there is no such call.
+/// A call of this name on an access, so often. None if there is no such call.
 fn calls_on<A: Access>(access: &mut A, call: &str, calls: u32) -> Option<u32> {
     match call {
         "look" => Some(look(access, calls)),

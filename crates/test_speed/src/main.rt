@@ -1,7 +1,7 @@
 //! Times the memories that three threads share without a lock.
 //!
 //! With the word `measure` it prints medians of several runs; with the word `open` whether the memories could be opened; without
-//! a word nothing. A word as `look=1000` makes so many calls of that kind: of `look`, `read`, `write`, `flags` or `line`.
+//! a word nothing. A word such as `look=1000` makes so many calls of that kind: of `look`, `read`, `write`, `flags` or `line`.
 #![tactic(auto)]
 
 mod counting;

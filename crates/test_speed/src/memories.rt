@@ -13,7 +13,7 @@ use std::rt::Clock;
 use std::thread::Threads;
 use std::time::Instant;
 
-/// How many steps of a kind are timed together, where they are no changes.
+/// How many steps of a kind are timed together, if they are not changes.
 const STEPS: u32 = 100_000;
 
 /// How often that is done.
@@ -22,7 +22,7 @@ const RUNS: usize = 21;
 /// How many memories are opened for changes, each of which takes as many as its quota.
 const MEMORIES: usize = 63;
 
-/// The quota that a memory is opened with: its greatest, or this where it has no end that could be reached.
+/// The quota that a memory is opened with: its greatest, or this if it has no end that could be reached.
 pub fn quota_of<R: SharedRam>() -> u64 {
     R::MAX_QUOTA.min(4096)
 }

@@ -15,7 +15,7 @@ use std::time::Instant;
 /// How many memories the three ports write into, one after another.
 const MEMORIES: usize = 63;
 
-/// How often a thread looks whether the others are there, before it begins without them.
+/// How often a thread looks to see whether the others are there, before it begins without them.
 const TURNS: u32 = 1_000_000;
 
 /// The work of a port.

@@ -80,7 +80,7 @@ fn arbitrates_across_the_four_kinds(rt: HostRuntime) {
     let four = [ExtendedRemote, ExtendedData, StandardRemote, StandardData];
     holds(&rt, outcome(&rt, &four) == Outcome::Winner(3));
     holds(&rt, outcome(&rt, &four[..1]) == Outcome::Winner(0));
-    // frames with the same bits collide, where none beats them
+    // frames with the same bits collide, if none beats them
     let three = [ExtendedData, BeforeRemote, ExtendedData];
     holds(&rt, outcome(&rt, &three) == Outcome::Winner(1));
     let three = [ExtendedData, StandardData, StandardData];

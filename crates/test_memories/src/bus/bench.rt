@@ -38,7 +38,7 @@ impl Bench {
         }
     }
 
-    /// The same, whose bus chooses at one moment.
+    /// The same, with a bus that chooses at one moment.
     pub fn choosing_at_once(nodes: u8, quota: u64) -> Bench
         requires nodes { nodes ≤ 8 }
         requires quota { IsQuota quota }
@@ -111,7 +111,7 @@ impl Bench {
         Some(self.bus.report_round(&mut self.ram, &line, tries(100)))
     }
 
-    /// The same by a call for each step, where the load isn't refused.
+    /// The same by a call for each step, if the load isn't refused.
     pub fn steps(&mut self, sends: &[(u8, Frame)], fault: Fault) -> Option<RoundReport> {
         let line = line_of(sends, fault)?;
         self.ram.at(PortName::Bus);
@@ -159,7 +159,7 @@ impl Bench {
         (counters.tec(), counters.rec(), counters.state())
     }
 
-    /// Whether the status interrupt is pending behind a round in which these nodes send, with SIE set before it; what the Status
+    /// Whether the status interrupt is pending after a round in which these nodes send, with SIE set before it; what the Status
     /// register then reads; and whether it is pending after that.
     pub fn interrupts(&mut self, sends: &[(u8, Frame)]) -> (bool, u16, bool) {
         self.bus.enable(true, false);

@@ -15,7 +15,7 @@ fn own() -> Frame {
     frame(0x123, false, false, 8, BYTES)
 }
 
-/// A memory and a bus with so many other nodes, where the message waits in object 1.
+/// A memory and a bus with so many other nodes; the message waits in object 1.
 fn bench(nodes: u8, quota: u64) -> Bench
     requires nodes { nodes ≤ 8 }
     requires quota { IsQuota quota }

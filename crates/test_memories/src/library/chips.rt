@@ -15,7 +15,7 @@ use ccan_c::{
 use ccan_object::Record;
 use std::process::Abort;
 
-/// A record of which no bit is set.
+/// A record with no bit set.
 fn no_record() -> ShownRecord {
     ShownRecord::of(&Record::zero())
 }
@@ -116,7 +116,7 @@ fn the_ports_of_a_chip_meet(rt: HostRuntime) {
     same(&rt, shown(&rt, &mut chip.if1, 5), 0x8000);
 }
 
-/// What one handle tells another, `tools/test/c/calls.c` tries.
+/// `tools/test/c/calls.c` tries what one handle reports to another.
 #[test]
 fn a_host_tells_and_heeds(rt: HostRuntime) {
     let alloc = rt.alloc();
@@ -233,8 +233,8 @@ fn loads(rt: &impl Abort, bus: &mut BusHandle) -> u32 {
     loaded.object
 }
 
-/// What an outcome tells beside its kind: the object that the round itself loaded, the step that was refused, and the node whose
-/// frame was on the bus.
+/// What an outcome reports besides its kind: the object that the round itself loaded, the step that was refused, and the node
+/// whose frame was on the bus.
 fn beside(outcome: &ShownOutcome) -> (u32, u32, u32) {
     (outcome.loaded, outcome.refused, outcome.winner)
 }
@@ -366,7 +366,7 @@ const SENDS_OF_DCAN: [(u32, u16); 6] = [
     (0x000, 0),
 ];
 
-/// New data for a frame on its way, by a command with WR/RD, TxRqst/NewDat and Data A: it is sent behind that frame (AM335x
+/// New data for a frame on its way, by a command with WR/RD, TxRqst/NewDat and Data A: it is sent after that frame (AM335x
 /// manual, IF1 Command Register: the bit sets TxRqst and NewDat).
 #[test]
 fn a_command_of_a_dcan_sends_new_data(rt: HostRuntime) {
@@ -387,7 +387,7 @@ fn a_command_of_a_dcan_sends_new_data(rt: HostRuntime) {
     same(&rt, played(&rt, &mut chip.bus, &[], 0).kind, 0);
 }
 
-/// A request of a D_CAN has eight bits, and 0 and 33 are no objects of 32: nothing happens.
+/// A request of a D_CAN has eight bits, and 0 and 33 are not among the 32 objects: nothing happens.
 #[test]
 fn a_request_of_a_dcan_may_name_no_object(rt: HostRuntime) {
     let mut chip = reset(&rt, rt.alloc(), 2);
@@ -540,7 +540,7 @@ fn going_off_sets_init(rt: HostRuntime) {
     same(&rt, after_groups(&rt, &mut chip.bus), 0);
 }
 
-/// A chip is saved and opened again from its bytes. Others are refused, and leave the place as it is.
+/// A chip is saved and opened again from its bytes. Other bytes are refused, and leave the place as it is.
 #[test]
 fn a_saved_chip_opens_again(rt: HostRuntime) {
     let alloc = rt.alloc();

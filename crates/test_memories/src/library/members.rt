@@ -108,7 +108,7 @@ fn end_of(
     finished
 }
 
-/// What a frame is to a chip with this word of Test, which asks to send or doesn't, and this other member is there.
+/// What a frame is to a chip with this word of Test, which asks to send or doesn't, while this other member is there.
 pub fn ended(
     rt: &impl Abort,
     alloc: Global,
@@ -144,7 +144,7 @@ fn a_closed_chip_has_no_part_in_a_frame(rt: HostRuntime) {
     same(&rt, finished.event, 77);
 }
 
-/// The chip is at place 0, and an active member at place 1 acknowledges: TxIE of the object sets IntPnd.
+/// The chip is at position 0, and an active member at position 1 acknowledges: TxIE of the object sets IntPnd.
 #[test]
 fn a_chip_sends_on_a_bus_of_several(rt: HostRuntime) {
     let mut chip = opened(&rt, rt.alloc(), 1, 0);

@@ -67,7 +67,7 @@ fn codes_of_several_chips(rt: HostRuntime) {
     same(&rt, code::COUNTERS_RANGE, 31); // CCAN_COUNTERS_RANGE
 }
 
-/// The number of a layout, 77 where it has none.
+/// The number of a layout, 77 if it has none.
 fn layout(sought: Map) -> u32 {
     for number in 0..77 {
         if map_numbered(number) == Some(sought) {
@@ -84,7 +84,7 @@ fn layouts(rt: HostRuntime) {
     same(&rt, layout(Map::Dcan), 2); // CCAN_LAYOUT_D_CAN
 }
 
-/// The offset of a register of a chip with 64 objects, 777 where it has none.
+/// The offset of a register of a chip with 64 objects, 777 if it has none.
 fn offset(sought: Register) -> u32 {
     for number in 0..777 {
         if Map::Narrow.register_at(Profile::Two, number) == Some(sought) {
@@ -174,7 +174,7 @@ fn offsets_of_pending_and_valid(rt: HostRuntime) {
     same(&rt, of_flag(Flag::MsgVal, FlagPart::Fourth), 182); // CCAN_OFFSET_MESSAGE_VALID_4
 }
 
-/// The number of a register, 77 where it has none.
+/// The number of a register, 77 if it has none.
 fn register(sought: Reg) -> u32 {
     for number in 0..77 {
         if register_numbered(number) == Some(sought) {
@@ -198,7 +198,7 @@ fn registers(rt: HostRuntime) {
     same(&rt, register(Reg::DataB2), 9); // CCAN_DATAB2
 }
 
-/// The number of a flag, 77 where it has none.
+/// The number of a flag, 77 if it has none.
 fn flag(sought: Flag) -> u32 {
     for number in 0..77 {
         if flag_numbered(number) == Some(sought) {
@@ -217,7 +217,7 @@ fn flags(rt: HostRuntime) {
     same(&rt, flag(Flag::MsgVal), 4); // CCAN_MSGVAL
 }
 
-/// The number of a fault, 77 where it has none.
+/// The number of a fault, 77 if it has none.
 fn fault(sought: Fault) -> u32 {
     for number in 0..77 {
         if fault_numbered(number) == Some(sought) {
@@ -358,17 +358,17 @@ fn parts(rt: HostRuntime) {
     same(&rt, part(&rt, sends(3, 0, 2)), 2); // CCAN_PART_DROPPED
 }
 
-/// What is on the bus to a chip that asks to send, and another member is there.
+/// What is on the bus, to a chip that asks to send while another member is there.
 fn sender(rt: &impl Abort, alloc: Global, other: ShownMember) -> ShownFinished {
     ended(rt, alloc, 0, true, other)
 }
 
-/// The same of one that doesn't.
+/// The same for one that doesn't.
 fn hearer(rt: &impl Abort, alloc: Global, other: ShownMember) -> ShownFinished {
     ended(rt, alloc, 0, false, other)
 }
 
-/// The same of one that sends to itself.
+/// The same for one that sends to itself.
 fn looped(rt: &impl Abort, alloc: Global) -> ShownFinished {
     ended(rt, alloc, 0x10, true, nobody())
 }

@@ -1,5 +1,5 @@
-//! The calls at a port with the part of their contracts that further calls need. What they add to the history is proved in
-//! their own crates; here it would only stay known from call to call, which is dear.
+//! The calls at a port with the part of their contracts that further calls need. What they add to the history is proved in their
+//! own crates; here it would only stay known from call to call, which is costly.
 ghost use Rattle.std.specs.Prelude.{◌≡◌};
 ghost use Rattle.ccan_object.specs.Profile.{Holds};
 ghost use Rattle.ccan_ram.specs.Draft.{IsDrawn};

@@ -17,7 +17,8 @@ use std::thread::{Threads, join};
 pub struct AtWork {
     /// The counters that the events which were made at the controller make of a new controller's.
     pub counters: Counters,
-    /// Each event was made at the controller, where it found the counters that those before it had left, or told as given up.
+    /// Each event was made at the controller, where it found the counters that those before it had left, or was reported as given
+    /// up.
     pub all_noted: bool,
     /// In how many rounds the controller took part.
     pub parts: u32,
@@ -40,7 +41,7 @@ impl AtWork {
     }
 }
 
-/// So many rounds, of two lines by turns.
+/// So many rounds, of two lines in turn.
 pub fn play(
     ram: &EndlessRam,
     mut port: Port,

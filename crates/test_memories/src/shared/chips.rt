@@ -14,7 +14,7 @@ use std::thread::{Threads, join};
 pub struct Counted {
     /// How many changes it made.
     pub made: u32,
-    /// Each found of the port's own registers what the one before had left.
+    /// Each found the port's own registers as the one before had left them.
     pub own_in_turn: bool,
     /// Of the bus: how many raised the status interrupt of transfers and errors. Of a reader: how many cleared it.
     pub pending: u32,
@@ -56,11 +56,11 @@ pub fn changed(
     }
 }
 
-/// How often a change is begun anew that lost each of its tries.
+/// How often a change that lost each of its tries is begun anew.
 const PATIENCE: u32 = 1000;
 
-/// A change of the controller that is begun anew where each of its tries was lost. Nothing says that one comes through where
-/// others change the controller all the time, and on a busy machine a thousand tries may be lost in a row.
+/// A change of the controller that is begun anew if each of its tries was lost. Nothing says that one succeeds if others change
+/// the controller all the time, and on a busy machine a thousand tries may be lost in a row.
 fn insisted(
     ram: &EndlessRam,
     port: &mut Port,
@@ -100,7 +100,7 @@ pub fn control(init: bool, sie: bool) -> ControllerChange
     })
 }
 
-// The bus receives a frame that is faulty and one that is not, by turns.
+// The bus receives a frame that is faulty and one that is not, in turn.
 fn frame(faulty: bool) -> ControllerChange
     ensures { MayMake Bus result }
 {

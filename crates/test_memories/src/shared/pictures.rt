@@ -49,7 +49,7 @@ pub fn set_and_clear<R: SharedRam>(
     port
 }
 
-/// 1 where the second flag is set without the first.
+/// 1 if the second flag is set without the first.
 pub fn torn_by(first: bool, second: bool) -> u32 {
     if first {
         return 0;

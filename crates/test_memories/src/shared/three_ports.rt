@@ -15,8 +15,8 @@ use std::alloc::Global;
 use std::process::Abort;
 use test_contended::calls::{choose_at_once, receive, receive_from};
 
-/// A shared memory and its ports. That each port is the memory's belongs to it, so its calls promise nothing, and a test has no
-/// more to carry than its own lines. A request names an object, as in the Command Request register.
+/// A shared memory and its ports. It is part of the type that each port is the memory's, so its calls promise nothing, and a test
+/// has no more to carry than its own lines. A request names an object, as in the Command Request register.
 #[derive(Drop)]
 pub struct ThreePorts<R: SharedRam> {
     ram: R,
@@ -89,8 +89,7 @@ impl<R: SharedRam + Drop> ThreePorts<R> {
         (draft.object(), draft.held(), draft.number())
     }
 
-    /// An attempt of IF1, between whose look and whose commit IF2 makes two changes at this object; and what IF2 was answered
-    /// last.
+    /// An attempt of IF1; between its look and its commit IF2 makes two changes at this object. And what IF2 was answered last.
     pub fn disturbed(
         &mut self,
         request: u16,
@@ -106,8 +105,8 @@ impl<R: SharedRam + Drop> ThreePorts<R> {
         (answer, commit(&self.ram, &mut self.if1, draft, made))
     }
 
-    /// A choice of the bus at one moment, each of whose tries IF1 disturbs by this change; and how many changes the bus and IF1
-    /// have made then.
+    /// A choice of the bus at one moment, while IF1 disturbs each of its tries by this change; and how many changes the bus and
+    /// IF1 have then made.
     pub fn chooses_disturbed(self, theirs: Change, tries: Tries) -> (Chosen, (u64, u64)) {
         let ThreePorts {
             ram,
@@ -121,8 +120,8 @@ impl<R: SharedRam + Drop> ThreePorts<R> {
         (chosen, disturbed.used())
     }
 
-    /// A receipt of the bus, each of whose tries IF1 disturbs by this change, and how many changes the bus and IF1 have made
-    /// then; and a receipt from this object on that nobody disturbs.
+    /// A receipt of the bus, while IF1 disturbs each of its tries by this change, and how many changes the bus and IF1 have then
+    /// made; and a receipt from this object on that nobody disturbs.
     pub fn receives_disturbed(
         self,
         frame: &Frame,
@@ -146,7 +145,7 @@ impl<R: SharedRam + Drop> ThreePorts<R> {
         (first, used, second)
     }
 
-    /// Shows IF1 and IF2 what the other has seen.
+    /// Shows each of IF1 and IF2 what the other has seen.
     pub fn meet(&mut self) {
         self.ram.meet(&mut self.if1, &mut self.if2);
     }

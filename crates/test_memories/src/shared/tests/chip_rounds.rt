@@ -98,7 +98,7 @@ fn no_event_is_lost_while_a_host_writes(rt: HostRuntime) {
         20_000,
         tries(1000),
     );
-    // In how many rounds the controller takes part is the schedule's: where the host sleeps while Init is set, in none.
+    // In how many rounds the controller takes part depends on the schedule: if the host sleeps while Init is set, in none.
     holds(&rt, at_work.all_noted);
     let controller = last.controller;
     same(&rt, at_work.counters, controller.counters);

@@ -8,8 +8,8 @@ use ccan_ram::{CommitError, HandlerRegisters, OpenError, PortName, Refused};
 /// What the registers of the message show.
 const P: (u32, u32, u16, [u8; 8]) = (0xa48c0000, 0, 0x0088, BYTES);
 
-/// A draft is lost to changes of its object since, also where the record is then the same as before; and to those of another
-/// object where the two contend.
+/// A draft is lost to changes of its object since, even if the record is then the same as before; and to those of another object
+/// if the two contend.
 fn stale_drafts<R: SharedRam + Drop>(rt: &impl Abort, alloc: Global, beside: bool) {
     let mut three = ThreePorts::<R>::open(rt, alloc, Profile::One, 64);
     let written = three.change(PortName::If1, 4, &message(0x0088), tries(1));
@@ -93,7 +93,7 @@ fn scan_is_resumed<R: SharedRam + Drop>(rt: &impl Abort, alloc: Global) {
     same(rt, used, (0, 3));
 }
 
-/// A choice of one moment, each of whose tries the rival disturbs by a write that takes the request away.
+/// A choice of one moment. The rival disturbs each of its tries by a write that takes the request away.
 fn chosen_are_ready_no_more<R: SharedRam + Drop>(rt: &impl Abort, alloc: Global) {
     let mut three = ThreePorts::<R>::open(rt, alloc, Profile::One, 64);
     let second = three.change(PortName::If1, 2, &message(0x0188), tries(1));
@@ -161,7 +161,7 @@ fn ports_are_spent_after_their_quotas(rt: HostRuntime) {
     takes_up_to::<EndlessRam>(&rt, rt.alloc(), 140_737_488_355_327);
     spent_after::<WordRam>(&rt, rt.alloc(), 4096, 135168);
     spent_after::<RootRam>(&rt, rt.alloc(), 64, 131136);
-    // behind the 65,535th change the numbers go on above the ports' own
+    // after the 65,535th change the numbers go on above the ports' own
     spent_after::<EndlessRam>(&rt, rt.alloc(), 65_535, 196_607);
     spent_after::<EndlessRam>(&rt, rt.alloc(), 65_536, 393_216);
 }

@@ -148,7 +148,7 @@ impl Seat {
         self.station.stay(&self.ram, &mut self.port).member
     }
 
-    /// The end of a frame, to the chip at this place: its event.
+    /// The end of a frame, for the chip at this position: its event.
     fn end(self, wire: &Wire, place: usize) -> (Seat, Option<OwnEvent>)
         requires { place < MOST_MEMBERS }
     {
@@ -228,7 +228,7 @@ impl Network {
         (Network { a, b, c }, to_a, to_b)
     }
 
-    /// Whether A's request stands, and whether A has something loaded.
+    /// Whether A's request is still there, and whether A has something loaded.
     fn waits(&mut self) -> (bool, bool) {
         (self.a.record().txrqst, self.a.station.loaded().is_some())
     }
@@ -276,7 +276,7 @@ fn leave(
     network.end(start)
 }
 
-/// Sees that a frame of A was cut off so. B has so many receive errors then.
+/// Checks that a frame of A was cut off in this way. B then has so many receive errors.
 fn was_cut_off(
     rt: &impl Abort,
     network: &mut Network,
@@ -366,7 +366,7 @@ fn a_silent_chip_loads_nothing_and_hears(rt: HostRuntime) {
     laws::ends_as_it_began();
 }
 
-/// A sends to itself, be it acknowledged or not. B receives the frame, and with Silent at A hears nothing of it.
+/// A sends to itself, whether or not it is acknowledged. B receives the frame, and with Silent at A hears nothing of it.
 #[test]
 fn a_frame_in_loop_back_mode_is_heard_without_silent(rt: HostRuntime) {
     let looped = Some((BusEvent::Sent, StatusEvent::Looped));
@@ -384,7 +384,7 @@ fn a_frame_in_loop_back_mode_is_heard_without_silent(rt: HostRuntime) {
     }
 }
 
-/// Sees that the next start finds nothing to send of A, whose object has NewDat 1 and TxRqst 0.
+/// Checks that the next start finds nothing of A to send. A's object has NewDat 1 and TxRqst 0.
 fn is_not_tried_again(rt: &impl Abort, mut a: Seat) -> Seat {
     same(rt, a.record().control(), 0x8088);
     let (a, loading, member) = a.begin();

@@ -6,7 +6,7 @@ use crate::shared::rivals::{Plan, Seen, Task, three_at_work};
 use ccan_ram::Final;
 use std::thread::Threads;
 
-/// What three ports see who work on the objects of these requests, and what they leave.
+/// What three ports that work on the objects of these requests see, and what they leave.
 fn worked<R: SharedRam + Sync, T: Abort + Threads + Sync>(
     rt: &T,
     alloc: Global,
@@ -32,7 +32,7 @@ fn worked<R: SharedRam + Sync, T: Abort + Threads + Sync>(
     three_at_work(rt, ram, if1, if2, bus, plan)
 }
 
-/// Each port made so many changes, each in turn, and what two of them counted stands at these places.
+/// Each port made so many changes, each in turn, and what two of them counted is in these records.
 fn counted(rt: &impl Abort, seen: &[Seen; 3], turns: u16, masks: &Record, bytes: &Record) {
     for port in seen {
         same(
