@@ -1,6 +1,6 @@
 //! The lines of a script as processes, and three ports in their processes as one machine.
 //!
-//! A process tells step by step what a line is: looks at objects, attempts of changes and decisions of rounds, each with what
+//! A process says step by step what a line is: looks at objects, attempts of changes and decisions of rounds, each with what
 //! comes next by what came of it. A line stands for just what its process runs to, and a port comes to the end of its process
 //! step by step in just those ways, while others act in between. So the machine of three ports ends with just the outcomes that
 //! the promise of a run in threads allows. How often a wait may look makes no difference to them.
@@ -9,8 +9,8 @@
 //! a line ─ line_process_laws ─ its process ─ process_laws ─ steps of a port ─ machine_laws ─ outcomes of three ports
 //! ```
 //!
-//! It has definitions and laws, on which a search for all outcomes stands. What runs of it is [`LineEnd`](line_end::LineEnd) alone,
-//! the answer of a line with the frame of a round.
+//! It has definitions and laws, on which a search for all outcomes rests. Only [`LineEnd`](line_end::LineEnd) of it runs: the
+//! answer to a line, with the frame of a round.
 #![tactic(auto)]
 
 pub mod line_end;
