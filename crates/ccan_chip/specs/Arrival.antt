@@ -28,7 +28,7 @@ takes_part c = may_take_part c && not c.has_left
 abbrev pub comes_back : Controller → Bool
 comes_back c = may_take_part c && c.has_left
 
--- nothing is loaded: the object stays requested, so that a later load may start it anew
+-- nothing is loaded: the object stays requested, so that a later load may start it again
 abbrev pub unloaded : BusPast → BusPast
 unloaded past = record past { loaded = None }
 

@@ -118,7 +118,7 @@ impl ChipBus {
         self.bus.loaded()
     }
 
-    /// Drops what is loaded, as a reset does. Its object stays requested, so that a later load may start it anew.
+    /// Drops what is loaded, as a reset does. Its object stays requested, so that a later load may start it again.
     pub fn unload(&mut self)
         ensures same { IsSameBus self.old.bus self.new.bus }
         ensures drops { (past : BusPast) → LedTo past self.old.bus

@@ -103,7 +103,7 @@ pub record AnswersAsked (question : OutcomesQuestion) (name : List ℕ) (script 
   pub tells : TellsBy question.asked question name script answer
   pub ends : EndsAsAsked question.asked question.frames script (texts_of question.lines.items) answer.status
 
--- why there is no answer, by what is asked: too many states or nodes for it, a line that is refused, or want of memory
+-- why there is no answer, by what is asked: too many states or nodes for it, a line that is refused, or lack of memory
 abbrev pub RefusesBy : Asked → OutcomesQuestion → ScriptFields → LabError → Type 0
 RefusesBy Summary question script why = HasNoWords question.frames script ports_are.eq question.most why
 RefusesBy Can question script why =

@@ -6,7 +6,7 @@ use std::cell::Cell;
 /// So many states are followed between two reports.
 const EACH: usize = 10_000;
 
-/// A line of standard error that is written anew while a search goes on, if that is a terminal. Else nothing is written.
+/// A line of standard error that is rewritten while a search goes on, if that is a terminal. Else nothing is written.
 #[derive(Drop)]
 pub struct ProgressLine<'a, T> {
     /// What gives standard error.

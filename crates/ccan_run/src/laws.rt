@@ -55,7 +55,7 @@ pub fn threads_means_threads()
     ensures { ThreadsMeansThreads }
 {}
 
-/// Another word is refused, be it a flag or empty, and so are two words or more. The first `--`, which ends the options,
+/// Another word is refused, whether a flag or empty, and so are two words or more. The first `--`, which ends the options,
 /// is not counted among the words. Only no word at all, `run` and `threads` are accepted, each with a `--` or without.
 pub fn other_words_are_refused()
     ensures { OtherWordsAreRefused }

@@ -1,8 +1,8 @@
 //! A chip saved to bytes and put back from them, so that a simulator can take a snapshot of it.
 //!
 //! What is saved is all that a driver can read of the chip: its registers, with what is behind them, and the records of its
-//! objects. Two things are not saved: the error counters of the other nodes, which begin anew; and the frame that is loaded for
-//! sending, whose object stays requested and is loaded anew. A driver can notice both later: data that its host wrote after the
+//! objects. Two things are not saved: the error counters of the other nodes, which begin again; and the frame that is loaded for
+//! sending, whose object stays requested and is loaded again. A driver can notice both later: data that its host wrote after the
 //! load is then sent once and not after the loaded frame; and a node that was bus off is on again.
 //!
 //! ```text

@@ -34,7 +34,7 @@ use Rattle.ccan_station.specs.Station.{Begins, Ends, due, ending, frame_won, sen
 abbrev pub after_look : Controller → Option Flaw → Member → Member
 after_look found flaw m = ending (still_under_way found (Some m)) flaw
 
--- Whoever leaves while a frame is under way, and whatever errors are found: when the members that remain are asked anew, the
+-- Whoever leaves while a frame is under way, and whatever errors are found: when the members that remain are asked again, the
 -- frame that won at the start wins, if one of its senders remains.
 abbrev pub WhoLeavesChangesNoWinner : Type 0
 WhoLeavesChangesNoWinner =

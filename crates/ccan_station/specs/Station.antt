@@ -1,7 +1,7 @@
 -- A chip's part in what is on a bus of several: what it does at the start of a frame, what is left of that at a look until the end,
 -- and what it does at the end. Source: C_CAN User's Manual 1.2, "CAN Control Register" (Init: setting it stops all transfer of
 -- messages), "Silent Mode" (no transmission can be started), "Loop Back Mode" and section 4.2 (transmission of messages: after an
--- error or a lost arbitration an object is chosen anew; acceptance filtering of received messages), and "Disabled Automatic
+-- error or a lost arbitration an object is chosen again; acceptance filtering of received messages), and "Disabled Automatic
 -- Retransmission". (own): that a chip looks at its controller at the start and at the end of each frame, and makes its event
 -- there after the memory steps; that DAR counts as it is when a transmission starts.
 use Rattle.std.specs.Prelude.{ℕ, ◌≡◌, Bool, true, false, List, [], ◌++◌, Option, Some, None, Ok, Err}
@@ -115,7 +115,7 @@ pub record Begins (terms : Terms) (tries : ℕ) (old new : ChipPass) (loaded aft
 abbrev pub still_under_way : Controller → Option Member → Option Member
 still_under_way found under_way = if takes_part found then under_way else None
 
--- and of what is loaded: its object may be chosen anew, if it is requested
+-- and of what is loaded: its object may be chosen again, if it is requested
 abbrev pub still_loaded : Controller → Option Loaded → Option Loaded
 still_loaded found loaded = if takes_part found then loaded else None
 
@@ -177,7 +177,7 @@ abbrev pub sent_as : Option Loaded → Sending
 sent_as None = UntilSent
 sent_as (Some loaded) = loaded.sending
 
--- after an event nothing is loaded: the next load chooses anew
+-- after an event nothing is loaded: the next load chooses again
 abbrev pub left_by : Option (BusEvent × StatusEvent) → Option Loaded → Option Loaded
 left_by None loaded = loaded
 left_by (Some own) loaded = None

@@ -5,7 +5,7 @@ ghost use Rattle.ccan_station.specs.Laws.{BeginsAreLoads, EndsAsItBegan, FramesO
 ghost use Rattle.ccan_station.specs.Laws.{WhoLeavesChangesNoWinner, WhoLeftHasNoEvent};
 
 /// Whoever leaves while a frame is under way: if one of the frame's senders remains, the frame that won at the start wins when
-/// the members are asked anew.
+/// the members are asked again.
 pub fn who_leaves_changes_no_winner()
     ensures { WhoLeavesChangesNoWinner }
 {}

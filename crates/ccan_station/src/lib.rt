@@ -12,7 +12,7 @@
 //! A [`Station`] keeps what is loaded and what is under way between these calls. Meanwhile hosts do what they like. A request
 //! that they make then is not in this frame. If a host sets Init, the controller has left the bus, even if Init is 0 again before
 //! the next look: `stay` answers with a member that is absent, and neither it nor `end` leaves anything under way or loaded, so
-//! the frame is no event to it. The next `begin` joins and chooses anew. A reset of the chip calls `unload` to the same end.
+//! the frame is no event to it. The next `begin` joins and chooses again. A reset of the chip calls `unload` to the same end.
 //!
 //! DAR of the CAN Control register says how often a frame is tried, as `begin` finds it when it starts an object: `end`
 //! finishes that object in the same way, whatever a host makes of DAR meanwhile.

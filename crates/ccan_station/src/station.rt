@@ -88,7 +88,7 @@ impl Station {
     }
 
     /// Drops what is loaded, and takes no more part in a frame that is under way, as a reset does. An object that was started with
-    /// DAR 0 stays requested, so that a later load may start it anew.
+    /// DAR 0 stays requested, so that a later load may start it again.
     pub fn unload(&mut self)
         ensures profile { self.new.profile ≡ self.old.profile }
         ensures empty { self.new.loaded ≡ None }
@@ -118,7 +118,7 @@ impl Station {
         }
     }
 
-    /// After an event nothing is loaded, so that the next load chooses anew; and nothing is under way.
+    /// After an event nothing is loaded, so that the next load chooses again; and nothing is under way.
     fn settle(&mut self, own: &Option<OwnEvent>)
         ensures profile { self.new.profile ≡ self.old.profile }
         ensures loaded { self.new.loaded ≡ left_by own.now self.old.loaded }

@@ -1,4 +1,4 @@
-//! Scripts with what they print, and want of memory. Scripts of each length, and numbers over their ranges, are given to the
+//! Scripts with what they print, and lack of memory. Scripts of each length, and numbers over their ranges, are given to the
 //! program (`tools/test/check_long_scripts`).
 use crate::expect::holds;
 use crate::faulty::new_sheet;

@@ -192,7 +192,7 @@ fn a_chip_that_leaves_has_no_event(rt: HostRuntime) {
     same(&rt, member(&rt, &mut chip.bus), own);
 }
 
-/// The event that is made anew is one more error of a sender: TEC grows by 8 each time.
+/// The event that is made again is one more error of a sender: TEC grows by 8 each time.
 #[test]
 fn an_event_is_made_again(rt: HostRuntime) {
     let mut chip = opened(&rt, rt.alloc(), 1, 0);

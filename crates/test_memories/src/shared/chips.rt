@@ -56,10 +56,10 @@ pub fn changed(
     }
 }
 
-/// How often a change that lost each of its tries is begun anew.
+/// How often a change that lost each of its tries is begun again.
 const PATIENCE: u32 = 1000;
 
-/// A change of the controller that is begun anew if each of its tries was lost. Nothing says that one succeeds if others change
+/// A change of the controller that is begun again if each of its tries was lost. Nothing says that one succeeds if others change
 /// the controller all the time, and on a busy machine a thousand tries may be lost in a row.
 fn insisted(
     ram: &EndlessRam,

@@ -72,7 +72,7 @@ fn goes_off_and_comes_back_by_its_host(rt: HostRuntime) {
     holds(&rt, bench.write_control(false, false));
     same(&rt, bench.recessive(127), Some(NodeState::Off));
     same(&rt, bench.recessive(1), Some(NodeState::Active));
-    // What was to be sent is loaded anew, and then it hears another node.
+    // What was to be sent is loaded again, and then it hears another node.
     let (after, loading, _) = bench.round(&silent(&rt, Fault::Quiet));
     bench = after;
     holds(&rt, matches!(loading, LoadAnswer::Loaded(_, _)));

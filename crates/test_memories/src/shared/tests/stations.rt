@@ -301,7 +301,7 @@ fn init_in_mid_frame_cuts_the_frame_off(rt: HostRuntime) {
     let (network, wire) = network.start();
     let (mut network, to_a, to_b) = leave(&rt, network, &wire, false);
     was_cut_off(&rt, &mut network, to_a, to_b, 1);
-    // While Init is 1 nobody sends; then the object is chosen anew.
+    // While Init is 1 nobody sends; then the object is chosen again.
     let (network, wire) = network.start();
     same(&rt, wire, Wire::Idle);
     let (mut network, to_a, to_b) = network.end(&wire);
