@@ -108,20 +108,20 @@ pub fn found_text<P: Progress>(
     telling: &Telling<'_, P>,
     number: usize,
 ) -> Result<String, LabError>
-    requires can { CanBeTold (fields_of telling.now.script.now) telling.now.list.now }
+    requires can { CanBeTold (fields_of telling.now.query.now.script.now) telling.now.list.now }
     requires within { number < length (endings_in telling.now.list.now.words) }
     requires few { number < 2 ^ 64 - 1 }
     ensures text { IfOk result (λ text. IsOneText (frames_in telling.now.list.now)
-        telling.now.form (fields_of telling.now.script.now)
+        telling.now.query.now.form (fields_of telling.now.query.now.script.now)
         (endings_in telling.now.list.now.words) number (string_bytes text)) }
-    ensures without { IfErr result (HasNoHistory (fields_of telling.now.script.now)
-        ⟦<AllPorts as PartialEq>⟧.eq telling.now.most) }
+    ensures without { IfErr result (HasNoHistory (fields_of telling.now.query.now.script.now)
+        ⟦<AllPorts as PartialEq>⟧.eq telling.now.query.now.most) }
 {
     let words = &telling.list.words;
     let Some(ending) = words.ending(alloc, number as u64)? else {
         unreachable!()
     };
-    let rows = all_choices(alloc, telling.script, words)?;
+    let rows = all_choices(alloc, telling.query.script, words)?;
     let choices = all_in_order(alloc, rows.as_slice())?;
     let lines = different_lines(alloc, choices.as_slice(), &ending)?;
     let mut text = count_text(alloc, words.count())?;
@@ -143,13 +143,13 @@ pub fn text_of<P: Progress>(
     telling: &Telling<'_, P>,
     asked: Asked<'_>,
 ) -> Result<String, LabError>
-    requires can { CanBeTold (fields_of telling.now.script.now) telling.now.list.now }
+    requires can { CanBeTold (fields_of telling.now.query.now.script.now) telling.now.list.now }
     requires of_all { IsOfAll asked }
     ensures text { IfOk result (λ text. Answers (frames_in telling.now.list.now)
-        telling.now.form (fields_of telling.now.script.now)
+        telling.now.query.now.form (fields_of telling.now.query.now.script.now)
         (endings_in telling.now.list.now.words) asked.entry (string_bytes text)) }
-    ensures without { IfErr result (HasNoHistory (fields_of telling.now.script.now)
-        ⟦<AllPorts as PartialEq>⟧.eq telling.now.most) }
+    ensures without { IfErr result (HasNoHistory (fields_of telling.now.query.now.script.now)
+        ⟦<AllPorts as PartialEq>⟧.eq telling.now.query.now.most) }
 {
     match asked {
         Asked::All => listing(alloc, telling),

@@ -11,10 +11,10 @@ use crate::history_form::HistoryForm;
 use crate::input::script_asked;
 use crate::lab_error::LabError;
 use crate::outcome_rows::picture_of_history;
-use crate::outcome_words::{OutcomeList, list_of};
+use crate::outcome_words::OutcomeList;
 use crate::outcomes::most_of;
 use crate::progress_line::ProgressLine;
-use crate::telling::{Telling, history_to};
+use crate::telling::{Query, Telling, history_to, list_asked};
 use ccan_draw::{Picture, picture_of_run, svg_of};
 use ccan_explain::tell;
 use ccan_outcomes::{Histories, looking_once};
@@ -93,7 +93,7 @@ fn numbered_drawn<P: Progress>(
     telling: &Telling<'_, P>,
     number: usize,
 ) -> Result<Picture, LabError>
-    requires { CanBeTold (fields_of telling.now.script.now) telling.now.list.now }
+    requires { CanBeTold (fields_of telling.now.query.now.script.now) telling.now.list.now }
 {
     let words = &telling.list.words;
     let none = LabError::NoOutcome(number, words.count() as usize);
@@ -105,41 +105,30 @@ fn numbered_drawn<P: Progress>(
     };
     let mut histories = Histories::new(alloc);
     let history = history_to(alloc, telling, &mut histories, place, &ending)?;
-    Ok(picture_of_history(alloc, telling.script, &history, &ending)?)
+    Ok(picture_of_history(alloc, telling.query.script, &history, &ending)?)
 }
 
 /// The picture of a history of the outcome of this number, from 1, of these, which are dropped.
 fn listed_drawn<P: Progress>(
     alloc: Global,
-    script: &Script,
+    query: &Query<'_, P>,
     list: OutcomeList,
     number: usize,
-    most: usize,
-    progress: &P,
 ) -> Result<Picture, LabError>
-    requires { CanBeTold (fields_of script.now) list }
+    requires { CanBeTold (fields_of query.now.script.now) list }
 {
-    let telling = Telling {
-        script,
-        list: &list,
-        most,
-        progress,
-        form: HistoryForm::EachStep,
-    };
+    let telling = Telling { query, list: &list };
     numbered_drawn(alloc, &telling, number)
 }
 
 /// The picture of a history of the outcome of this number, from 1, as `ccan-lab outcomes --all` lists it.
 fn outcome_drawn<P: Progress>(
     alloc: Global,
-    script: &Script,
+    query: &Query<'_, P>,
     number: usize,
-    frames: bool,
-    most: usize,
-    progress: &P,
 ) -> Result<Picture, LabError> {
-    let list = list_of(alloc, script, frames, most, progress)?;
-    listed_drawn(alloc, script, list, number, most, progress)
+    let list = list_asked(alloc, query)?;
+    listed_drawn(alloc, query, list, number)
 }
 
 /// The picture of the run in the script's order.
@@ -158,14 +147,14 @@ fn drawn<P: Progress>(
     match question.outcome {
         Some(number) => {
             let once = looking_once(alloc, script)?;
-            outcome_drawn(
-                alloc,
-                &once,
-                number,
-                question.frames,
-                question.most,
+            let query = Query {
+                script: &once,
+                frames: question.frames,
+                most: question.most,
                 progress,
-            )
+                form: HistoryForm::EachStep,
+            };
+            outcome_drawn(alloc, &query, number)
         }
         None => Ok(run_drawn(alloc, &script)?),
     }

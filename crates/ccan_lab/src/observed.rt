@@ -176,7 +176,7 @@ fn add_if_first<P: Progress>(
     ending: &Ending,
     number: usize,
 ) -> Result<bool, LabError>
-    requires can { CanBeTold (fields_of telling.now.script.now) telling.now.list.now }
+    requires can { CanBeTold (fields_of telling.now.query.now.script.now) telling.now.list.now }
     requires within { number < length texts.now.lines.items }
     requires at { slice_get (endings_in telling.now.list.now.words) number ≡ Some ending.now }
     requires few { number + 1 < 2 ^ 64 }
@@ -184,12 +184,12 @@ fn add_if_first<P: Progress>(
         ≡ not (is_repeat (map string_bytes texts.now.lines.items) number)) }
     ensures text { OnOk result ((added : List ℕ)
         × (string_bytes text.new ≡ string_bytes text.old ++ added)
-        × IsFirstText (IsOutcomeText (frames_in telling.now.list.now) telling.now.form
-        (fields_of telling.now.script.now) (endings_in telling.now.list.now.words))
+        × IsFirstText (IsOutcomeText (frames_in telling.now.list.now) telling.now.query.now.form
+        (fields_of telling.now.query.now.script.now) (endings_in telling.now.list.now.words))
         (is_repeat (map string_bytes texts.now.lines.items) number)
         (text_at (map string_bytes texts.now.lines.items) number) number added) }
-    ensures without { IfErr result (HasNoHistory (fields_of telling.now.script.now)
-        ⟦<AllPorts as PartialEq>⟧.eq telling.now.most) }
+    ensures without { IfErr result (HasNoHistory (fields_of telling.now.query.now.script.now)
+        ⟦<AllPorts as PartialEq>⟧.eq telling.now.query.now.most) }
 {
     if texts.is_repeat(number) {
         return Ok(false);
@@ -207,18 +207,18 @@ fn add_firsts<P: Progress>(
     texts: &ShownTexts,
     endings: &[Ending],
 ) -> Result<usize, LabError>
-    requires can { CanBeTold (fields_of telling.now.script.now) telling.now.list.now }
+    requires can { CanBeTold (fields_of telling.now.query.now.script.now) telling.now.list.now }
     requires endings { endings.now ≡ endings_in telling.now.list.now.words }
     requires as_many { length texts.now.lines.items ≡ length endings.now }
     ensures count { IfOk result (λ count. count
         ≡ first_count (map string_bytes texts.now.lines.items) (length endings.now)) }
     ensures text { OnOk result ((added : List ℕ)
         × (string_bytes text.new ≡ string_bytes text.old ++ added)
-        × AreFirstTexts (IsOutcomeText (frames_in telling.now.list.now) telling.now.form
-        (fields_of telling.now.script.now) endings.now)
+        × AreFirstTexts (IsOutcomeText (frames_in telling.now.list.now) telling.now.query.now.form
+        (fields_of telling.now.query.now.script.now) endings.now)
         (map string_bytes texts.now.lines.items) (length endings.now) added) }
-    ensures without { IfErr result (HasNoHistory (fields_of telling.now.script.now)
-        ⟦<AllPorts as PartialEq>⟧.eq telling.now.most) }
+    ensures without { IfErr result (HasNoHistory (fields_of telling.now.query.now.script.now)
+        ⟦<AllPorts as PartialEq>⟧.eq telling.now.query.now.most) }
 {
     let mut histories = Histories::new(alloc);
     let mut count = 0;
@@ -282,16 +282,16 @@ pub fn observed_listing<P: Progress>(
     telling: &Telling<'_, P>,
     list: &str,
 ) -> Result<String, LabError>
-    requires can { CanBeTold (fields_of telling.now.script.now) telling.now.list.now }
+    requires can { CanBeTold (fields_of telling.now.query.now.script.now) telling.now.list.now }
     ensures text { IfOk result (λ text. IsObservedListing (frames_in telling.now.list.now)
-        telling.now.form (names_in list.now) (fields_of telling.now.script.now)
+        telling.now.query.now.form (names_in list.now) (fields_of telling.now.query.now.script.now)
         (endings_in telling.now.list.now.words) (string_bytes text)) }
-    ensures without { IfErr result (HasNoHistory (fields_of telling.now.script.now)
-        ⟦<AllPorts as PartialEq>⟧.eq telling.now.most) }
+    ensures without { IfErr result (HasNoHistory (fields_of telling.now.query.now.script.now)
+        ⟦<AllPorts as PartialEq>⟧.eq telling.now.query.now.most) }
 {
     let endings = all_endings(alloc, &telling.list.words)?;
     let rows = all_rows(alloc, endings.as_slice())?;
-    let lines = named_texts(alloc, telling.script, rows.as_slice(), list)?;
+    let lines = named_texts(alloc, telling.query.script, rows.as_slice(), list)?;
     let texts = ShownTexts::new(alloc, lines)?;
     let mut firsts = String::new(alloc);
     let apart = add_firsts(alloc, &mut firsts, telling, &texts, endings.as_slice())?;

@@ -33,13 +33,13 @@ use crate::input::{searched_script, tell_terminal};
 use crate::lab_error::LabError;
 use crate::line_search::{LineSearch, search_among};
 use crate::observed::first_unknown;
-use crate::outcome_words::{OutcomeList, list_of, words_of};
+use crate::outcome_words::{OutcomeList, words_of};
 use crate::outcomes_json::answer_of_json;
 use crate::paging::{Source, source_asked};
 use crate::progress_line::ProgressLine;
 use crate::seen::seen_text;
 use crate::summary::short_list;
-use crate::telling::Telling;
+use crate::telling::{Query, Telling, list_asked};
 use ccan_outcomes::Ending;
 use ccan_outcomes::all_ports::AllPorts;
 use ccan_script::Script;
@@ -360,68 +360,53 @@ fn refuse_unknown(alloc: Global, script: &Script, asked: Asked<'_>) -> Result<()
 /// What is answered to a question about the list of these outcomes, which are dropped.
 fn text_of_list<P: Progress>(
     alloc: Global,
-    script: &Script,
+    query: &Query<'_, P>,
     list: OutcomeList,
     asked: Asked<'_>,
-    form: HistoryForm,
-    most: usize,
-    progress: &P,
 ) -> Result<String, LabError>
     requires of_all { IsOfAll asked }
-    requires can { CanBeTold (fields_of script.now) list }
+    requires can { CanBeTold (fields_of query.now.script.now) list }
     ensures text { IfOk result (λ text.
-        Answers (frames_in list) form (fields_of script.now) (endings_in list.words) asked.entry
-        (string_bytes text)) }
+        Answers (frames_in list) query.now.form (fields_of query.now.script.now)
+        (endings_in list.words) asked.entry (string_bytes text)) }
     ensures without { IfErr result
-        (HasNoHistory (fields_of script.now) ⟦<AllPorts as PartialEq>⟧.eq most) }
+        (HasNoHistory (fields_of query.now.script.now) ⟦<AllPorts as PartialEq>⟧.eq
+        query.now.most) }
 {
-    let telling = Telling {
-        script,
-        list: &list,
-        most,
-        progress,
-        form,
-    };
+    let telling = Telling { query, list: &list };
     text_of(alloc, &telling, asked)
 }
 
 /// What is answered to a question about the list of all outcomes of a script.
 fn answer_of_all<P: Progress>(
     alloc: Global,
-    script: &Script,
+    query: &Query<'_, P>,
     asked: Asked<'_>,
-    form: HistoryForm,
-    frames: bool,
-    most: usize,
-    progress: &P,
 ) -> Result<Answer, LabError>
     requires { IsOfAll asked }
-    ensures told { IfOk result (λ answer. TellsAll frames form (fields_of script.now)
+    ensures told { IfOk result (λ answer.
+        TellsAll query.now.frames query.now.form (fields_of query.now.script.now)
         ⟦<Ending as PartialEq>⟧.eq asked.entry (string_bytes answer.text)) }
     ensures holds { IfOk result (λ answer. answer.holds ≡ true) }
-    ensures without { IfErr result
-        (IsWithout frames (fields_of script.now) ⟦<AllPorts as PartialEq>⟧.eq most) }
+    ensures without { IfErr result (IsWithout query.now.frames
+        (fields_of query.now.script.now) ⟦<AllPorts as PartialEq>⟧.eq query.now.most) }
 {
-    let list = list_of(alloc, script, frames, most, progress)?;
-    let text = text_of_list(alloc, script, list, asked, form, most, progress)?;
+    let list = list_asked(alloc, query)?;
+    let text = text_of_list(alloc, query, list, asked)?;
     Ok(Answer { text, holds: true })
 }
 
 /// What each line may be in the outcomes of a script. No outcome is listed for it.
-fn answer_of_summary<P: Progress>(
-    alloc: Global,
-    script: &Script,
-    frames: bool,
-    most: usize,
-    progress: &P,
-) -> Result<Answer, LabError>
-    ensures told { IfOk result (λ answer. TellsSummary frames (fields_of script.now)
+fn answer_of_summary<P: Progress>(alloc: Global, query: &Query<'_, P>) -> Result<Answer, LabError>
+    ensures told { IfOk result (λ answer.
+        TellsSummary query.now.frames (fields_of query.now.script.now)
         ⟦<Ending as PartialEq>⟧.eq (string_bytes answer.text)) }
     ensures holds { IfOk result (λ answer. answer.holds ≡ true) }
-    ensures without { IfErr result
-        (HasNoWords frames (fields_of script.now) ⟦<AllPorts as PartialEq>⟧.eq most) }
+    ensures without { IfErr result (HasNoWords query.now.frames
+        (fields_of query.now.script.now) ⟦<AllPorts as PartialEq>⟧.eq query.now.most) }
 {
-    let words = words_of(alloc, script, frames, most, progress)?;
+    let script = query.script;
+    let words = words_of(alloc, script, query.frames, query.most, query.progress)?;
     let text = short_list(alloc, script, words)?;
     Ok(Answer { text, holds: true })
 }
@@ -434,19 +419,20 @@ fn answer_by_line<P: Progress>(
     begins: &[&str],
     never: bool,
 ) -> Result<Answer, LabError>
-    requires can { CanBeTold (fields_of telling.now.script.now) telling.now.list.now }
-    requires all { AreOutcomes (fields_of telling.now.script.now)
+    requires can { CanBeTold (fields_of telling.now.query.now.script.now) telling.now.list.now }
+    requires all { AreOutcomes (fields_of telling.now.query.now.script.now)
         (endings_in telling.now.list.now.words) }
     requires distinct { IsDistinct ⟦<Ending as PartialEq>⟧.eq
         (endings_in telling.now.list.now.words) }
     ensures told { IfOk result (λ answer. TellsLine (frames_in telling.now.list.now)
-        telling.now.form (fields_of telling.now.script.now) ⟦<Ending as PartialEq>⟧.eq
-        (texts_of begins.now) never (string_bytes answer.text) answer.holds) }
+        telling.now.query.now.form (fields_of telling.now.query.now.script.now)
+        ⟦<Ending as PartialEq>⟧.eq (texts_of begins.now) never
+        (string_bytes answer.text) answer.holds) }
     ensures without { IfErr result (IsUnanswered (frames_in telling.now.list.now)
-        (fields_of telling.now.script.now) (texts_of begins.now)
-        ⟦<AllPorts as PartialEq>⟧.eq telling.now.most) }
+        (fields_of telling.now.query.now.script.now) (texts_of begins.now)
+        ⟦<AllPorts as PartialEq>⟧.eq telling.now.query.now.most) }
 {
-    match search_among(alloc, telling.script, &telling.list.words, begins)? {
+    match search_among(alloc, telling.query.script, &telling.list.words, begins)? {
         LineSearch::Found(number) => {
             let text = found_text(alloc, telling, number)?;
             Ok(Answer {
@@ -462,30 +448,23 @@ fn answer_by_line<P: Progress>(
 /// What is answered to that question about these outcomes, which are dropped.
 fn answer_of_list<P: Progress>(
     alloc: Global,
-    script: &Script,
+    query: &Query<'_, P>,
     list: OutcomeList,
     begins: &[&str],
     never: bool,
-    form: HistoryForm,
-    most: usize,
-    progress: &P,
 ) -> Result<Answer, LabError>
-    requires can { CanBeTold (fields_of script.now) list }
-    requires all { AreOutcomes (fields_of script.now) (endings_in list.words) }
+    requires can { CanBeTold (fields_of query.now.script.now) list }
+    requires all { AreOutcomes (fields_of query.now.script.now) (endings_in list.words) }
     requires distinct { IsDistinct ⟦<Ending as PartialEq>⟧.eq (endings_in list.words) }
-    ensures told { IfOk result (λ answer. TellsLine (frames_in list) form (fields_of script.now)
+    ensures told { IfOk result (λ answer.
+        TellsLine (frames_in list) query.now.form (fields_of query.now.script.now)
         ⟦<Ending as PartialEq>⟧.eq (texts_of begins.now) never
         (string_bytes answer.text) answer.holds) }
-    ensures without { IfErr result (IsUnanswered (frames_in list) (fields_of script.now)
-        (texts_of begins.now) ⟦<AllPorts as PartialEq>⟧.eq most) }
+    ensures without { IfErr result
+        (IsUnanswered (frames_in list) (fields_of query.now.script.now)
+        (texts_of begins.now) ⟦<AllPorts as PartialEq>⟧.eq query.now.most) }
 {
-    let telling = Telling {
-        script,
-        list: &list,
-        most,
-        progress,
-        form,
-    };
+    let telling = Telling { query, list: &list };
     answer_by_line(alloc, &telling, begins, never)
 }
 
@@ -493,43 +472,39 @@ fn answer_of_list<P: Progress>(
 /// `never` is set, whether none has.
 fn answer_of_line<P: Progress>(
     alloc: Global,
-    script: &Script,
+    query: &Query<'_, P>,
     begins: &[&str],
     never: bool,
-    form: HistoryForm,
-    frames: bool,
-    most: usize,
-    progress: &P,
 ) -> Result<Answer, LabError>
-    ensures told { IfOk result (λ answer. TellsLine frames form (fields_of script.now)
+    ensures told { IfOk result (λ answer.
+        TellsLine query.now.frames query.now.form (fields_of query.now.script.now)
         ⟦<Ending as PartialEq>⟧.eq (texts_of begins.now) never
         (string_bytes answer.text) answer.holds) }
-    ensures without { IfErr result (IsUnanswered frames (fields_of script.now) (texts_of begins.now)
-        ⟦<AllPorts as PartialEq>⟧.eq most) }
+    ensures without { IfErr result
+        (IsUnanswered query.now.frames (fields_of query.now.script.now)
+        (texts_of begins.now) ⟦<AllPorts as PartialEq>⟧.eq query.now.most) }
 {
-    let list = list_of(alloc, script, frames, most, progress)?;
-    answer_of_list(alloc, script, list, begins, never, form, most, progress)
+    let list = list_asked(alloc, query)?;
+    answer_of_list(alloc, query, list, begins, never)
 }
 
 /// What is answered to the question what of the outcomes of a script can be told apart by the lines and objects of these
 /// names.
 fn answer_of_observed<P: Progress>(
     alloc: Global,
-    script: &Script,
+    query: &Query<'_, P>,
     names: &str,
-    form: HistoryForm,
-    frames: bool,
-    most: usize,
-    progress: &P,
 ) -> Result<Answer, LabError>
-    ensures told { IfOk result (λ answer. TellsSeen frames form (names_in names.now)
-        (fields_of script.now) ⟦<Ending as PartialEq>⟧.eq (string_bytes answer.text)) }
+    ensures told { IfOk result (λ answer.
+        TellsSeen query.now.frames query.now.form (names_in names.now)
+        (fields_of query.now.script.now) ⟦<Ending as PartialEq>⟧.eq
+        (string_bytes answer.text)) }
     ensures holds { IfOk result (λ answer. answer.holds ≡ true) }
     ensures without { IfErr result
-        (HasNoSeenList frames (names_in names.now) (fields_of script.now)
-        ⟦<AllPorts as PartialEq>⟧.eq most) }
+        (HasNoSeenList query.now.frames (names_in names.now) (fields_of query.now.script.now)
+        ⟦<AllPorts as PartialEq>⟧.eq query.now.most) }
 {
-    let text = seen_text(alloc, script, names, form, frames, most, progress)?;
+    let text = seen_text(alloc, query, names)?;
     Ok(Answer { text, holds: true })
 }
 
@@ -563,19 +538,21 @@ fn answer_of_script<P: Progress>(
         (AnswersAsked question.now (string_bytes source.now.name) (fields_of script.now)) }
     ensures refused { IfErr result (RefusesAsked question.now (fields_of script.now)) }
 {
-    let (lines, form) = (question.lines.as_slice(), question.form);
-    let (frames, most) = (question.frames, question.most);
+    let query = Query {
+        script,
+        frames: question.frames,
+        most: question.most,
+        progress,
+        form: question.form,
+    };
+    let lines = question.lines.as_slice();
     let answer = match question.asked {
-        Asked::Summary => answer_of_summary(alloc, script, frames, most, progress)?,
-        Asked::Can => answer_of_line(alloc, script, lines, false, form, frames, most, progress)?,
-        Asked::Never => answer_of_line(alloc, script, lines, true, form, frames, most, progress)?,
-        Asked::Observed(names) => answer_of_observed(
-            alloc, script, names, form, frames, most, progress,
-        )?,
-        Asked::All | Asked::AllObserved(_) => {
-            answer_of_all(alloc, script, question.asked, form, frames, most, progress)?
-        }
-        Asked::Json => return answer_of_json(alloc, script, source, frames, most, progress),
+        Asked::Summary => answer_of_summary(alloc, &query)?,
+        Asked::Can => answer_of_line(alloc, &query, lines, false)?,
+        Asked::Never => answer_of_line(alloc, &query, lines, true)?,
+        Asked::Observed(names) => answer_of_observed(alloc, &query, names)?,
+        Asked::All | Asked::AllObserved(_) => answer_of_all(alloc, &query, question.asked)?,
+        Asked::Json => return answer_of_json(alloc, &query, source),
     };
     Ok(file_answer(answer))
 }

@@ -9,10 +9,10 @@ use crate::each_file::FileAnswer;
 use crate::lab_error::LabError;
 use crate::paging::outcome_pages::listed_page;
 use crate::paging::{Source, empty_page};
+use crate::telling::Query;
 use ccan_outcomes::Ending;
 use ccan_outcomes::all_ports::AllPorts;
 use ccan_page::{Page, data_of};
-use ccan_script::Script;
 use ccan_search::Progress;
 use std::alloc::{AllocError, Global};
 
@@ -28,20 +28,18 @@ fn json_of(alloc: Global, page: &Page<'_>) -> Result<Vec<u8>, AllocError>
 /// What is answered to the question for all outcomes of the script of this source as JSON.
 pub(crate) fn answer_of_json<P: Progress>(
     alloc: Global,
-    script: &Script,
+    query: &Query<'_, P>,
     source: &Source,
-    frames: bool,
-    most: usize,
-    progress: &P,
 ) -> Result<FileAnswer, LabError>
-    ensures told { IfOk result (λ answer. TellsJson frames (string_bytes source.now.name)
-        (fields_of script.now) ⟦<Ending as PartialEq>⟧.eq answer.text.items) }
+    ensures told { IfOk result (λ answer.
+        TellsJson query.now.frames (string_bytes source.now.name)
+        (fields_of query.now.script.now) ⟦<Ending as PartialEq>⟧.eq answer.text.items) }
     ensures status { IfOk result (λ answer. answer.status ≡ 0) }
-    ensures without { IfErr result
-        (IsWithout frames (fields_of script.now) ⟦<AllPorts as PartialEq>⟧.eq most) }
+    ensures without { IfErr result (IsWithout query.now.frames
+        (fields_of query.now.script.now) ⟦<AllPorts as PartialEq>⟧.eq query.now.most) }
 {
     let empty = empty_page(alloc, source)?;
-    let page = listed_page(alloc, script, usize::MAX, frames, most, empty, progress)?;
+    let page = listed_page(alloc, query, usize::MAX, empty)?;
     let text = json_of(alloc, &page)?;
     Ok(FileAnswer { text, status: 0 })
 }

@@ -221,15 +221,7 @@ fn paged<'a, P: Progress>(
     if is_run(question.kind, source.text.as_slice()) {
         Ok(run_page(alloc, &script, page)?)
     } else {
-        outcomes_page(
-            alloc,
-            script,
-            question.limit,
-            question.frames,
-            question.most,
-            page,
-            progress,
-        )
+        outcomes_page(alloc, script, question, page, progress)
     }
 }
 

@@ -154,27 +154,27 @@ pub fn add_outcome<P: Progress>(
     lines: &str,
     number: usize,
 ) -> Result<(), LabError>
-    requires can { CanBeTold (fields_of telling.now.script.now) telling.now.list.now }
+    requires can { CanBeTold (fields_of telling.now.query.now.script.now) telling.now.list.now }
     requires at { slice_get (endings_in telling.now.list.now.words) number ≡ Some ending.now }
     requires few { number + 1 < 2 ^ 64 }
     ensures text { OnOk result ((added : List ℕ)
         × (string_bytes text.new ≡ string_bytes text.old ++ added)
-        × IsOutcomeText (frames_in telling.now.list.now) telling.now.form
-        (fields_of telling.now.script.now) (endings_in telling.now.list.now.words)
+        × IsOutcomeText (frames_in telling.now.list.now) telling.now.query.now.form
+        (fields_of telling.now.query.now.script.now) (endings_in telling.now.list.now.words)
         lines.now number added) }
-    ensures without { IfErr result (HasNoHistory (fields_of telling.now.script.now)
-        ⟦<AllPorts as PartialEq>⟧.eq telling.now.most) }
+    ensures without { IfErr result (HasNoHistory (fields_of telling.now.query.now.script.now)
+        ⟦<AllPorts as PartialEq>⟧.eq telling.now.query.now.most) }
 {
     let history = history_to(alloc, telling, histories, number, ending)?;
     let frames = telling.list.words.numbers.frames;
     let order = order_to(
         alloc,
-        telling.script,
+        telling.query.script,
         frames,
         ending,
         history.steps.as_slice(),
     )?;
-    let told = history_told(alloc, telling.script, telling.form, &history)?;
+    let told = history_told(alloc, telling.query.script, telling.query.form, &history)?;
     add_told_outcome(text, lines, number, told.as_str(), &order)?;
     Ok(())
 }
@@ -186,14 +186,14 @@ fn add_outcomes<P: Progress>(
     telling: &Telling<'_, P>,
     choices: &[Vec<&str>],
 ) -> Result<(), LabError>
-    requires can { CanBeTold (fields_of telling.now.script.now) telling.now.list.now }
+    requires can { CanBeTold (fields_of telling.now.query.now.script.now) telling.now.list.now }
     ensures text { OnOk result ((added : List ℕ)
         × (string_bytes text.new ≡ string_bytes text.old ++ added)
-        × AreOutcomeTexts (frames_in telling.now.list.now) telling.now.form
-        (fields_of telling.now.script.now) (endings_in telling.now.list.now.words)
+        × AreOutcomeTexts (frames_in telling.now.list.now) telling.now.query.now.form
+        (fields_of telling.now.query.now.script.now) (endings_in telling.now.list.now.words)
         (all_texts choices.now) (length (endings_in telling.now.list.now.words)) added) }
-    ensures without { IfErr result (HasNoHistory (fields_of telling.now.script.now)
-        ⟦<AllPorts as PartialEq>⟧.eq telling.now.most) }
+    ensures without { IfErr result (HasNoHistory (fields_of telling.now.query.now.script.now)
+        ⟦<AllPorts as PartialEq>⟧.eq telling.now.query.now.most) }
 {
     let mut histories = Histories::new(alloc);
     for number in 0..usize::MAX {
@@ -217,15 +217,15 @@ fn add_outcomes<P: Progress>(
 
 /// The list of all outcomes of a script, each with a history that leads to it.
 pub fn listing<P: Progress>(alloc: Global, telling: &Telling<'_, P>) -> Result<String, LabError>
-    requires can { CanBeTold (fields_of telling.now.script.now) telling.now.list.now }
+    requires can { CanBeTold (fields_of telling.now.query.now.script.now) telling.now.list.now }
     ensures text { IfOk result (λ text. IsListing (frames_in telling.now.list.now)
-        telling.now.form (fields_of telling.now.script.now)
+        telling.now.query.now.form (fields_of telling.now.query.now.script.now)
         (endings_in telling.now.list.now.words) (string_bytes text)) }
-    ensures without { IfErr result (HasNoHistory (fields_of telling.now.script.now)
-        ⟦<AllPorts as PartialEq>⟧.eq telling.now.most) }
+    ensures without { IfErr result (HasNoHistory (fields_of telling.now.query.now.script.now)
+        ⟦<AllPorts as PartialEq>⟧.eq telling.now.query.now.most) }
 {
     let words = &telling.list.words;
-    let rows = all_choices(alloc, telling.script, words)?;
+    let rows = all_choices(alloc, telling.query.script, words)?;
     let choices = all_in_order(alloc, rows.as_slice())?;
     let mut text = count_text(alloc, words.count())?;
     add_same_parts(&mut text, choices.as_slice())?;

@@ -17,15 +17,14 @@ ghost use Rattle.ccan_lab.specs.Telling.{CanBeTold, frames_in};
 ghost use Rattle.ccan_lab.specs.Words.{HasNoHistory, HasNoWords};
 
 use crate::brief::history_told;
-use crate::history_form::HistoryForm;
 use crate::lab_error::LabError;
 use crate::observed::{marks_of, observed_lines, observed_texts};
-use crate::outcome_words::{OutcomeList, list_of};
+use crate::outcome_words::OutcomeList;
 use crate::replay::{ending_in, order_of};
 use crate::report::add_told_outcome;
 use crate::rows::{all_rows, rows_of};
 use crate::shown_texts::ShownTexts;
-use crate::telling::{Telling, history_by_word};
+use crate::telling::{Query, Telling, history_by_word, list_asked};
 use crate::wording::add_counted;
 use ccan_language::Letter;
 use ccan_outcomes::all_ports::AllPorts;
@@ -131,7 +130,7 @@ fn add_seen<P: Progress>(
     lines: &str,
     number: usize,
 ) -> Result<(), LabError>
-    requires can { CanBeTold (fields_of telling.now.script.now) telling.now.list.now }
+    requires can { CanBeTold (fields_of telling.now.query.now.script.now) telling.now.list.now }
     requires listed { (ending : Ending) → Contains shown.now.endings.items ending
         → Contains (endings_in telling.now.list.now.words) ending }
     requires within { place < length shown.now.endings.items }
@@ -139,21 +138,21 @@ fn add_seen<P: Progress>(
     ensures text { OnOk result ((added : List ℕ)
         × (string_bytes text.new ≡ string_bytes text.old ++ added)
         × IsTextWith
-        (IsHistoryOf (frames_in telling.now.list.now) (fields_of telling.now.script.now))
-        (IsHistoryText telling.now.form (fields_of telling.now.script.now))
-        (λ _. ReplaysShown (frames_in telling.now.list.now) (fields_of telling.now.script.now)
-        marks.now lines.now)
+        (IsHistoryOf (frames_in telling.now.list.now) (fields_of telling.now.query.now.script.now))
+        (IsHistoryText telling.now.query.now.form (fields_of telling.now.query.now.script.now))
+        (λ _. ReplaysShown (frames_in telling.now.list.now)
+        (fields_of telling.now.query.now.script.now) marks.now lines.now)
         shown.now.endings.items place lines.now number added) }
-    ensures without { IfErr result (HasNoHistory (fields_of telling.now.script.now)
-        ⟦<AllPorts as PartialEq>⟧.eq telling.now.most) }
+    ensures without { IfErr result (HasNoHistory (fields_of telling.now.query.now.script.now)
+        ⟦<AllPorts as PartialEq>⟧.eq telling.now.query.now.most) }
 {
     let ending = &shown.endings[place];
     let word = Vec::from_slice(alloc, shown.words[place].as_slice())?;
     let history = history_by_word(alloc, telling, histories, word, ending)?;
     let steps = history.steps.as_slice();
     let frames = telling.list.words.numbers.frames;
-    let order = order_to_lines(alloc, telling.script, frames, marks, lines, steps)?;
-    let told = history_told(alloc, telling.script, telling.form, &history)?;
+    let order = order_to_lines(alloc, telling.query.script, frames, marks, lines, steps)?;
+    let told = history_told(alloc, telling.query.script, telling.query.form, &history)?;
     add_told_outcome(text, lines, number, told.as_str(), &order)?;
     Ok(())
 }
@@ -170,7 +169,7 @@ fn add_if_new<P: Progress>(
     place: usize,
     number: usize,
 ) -> Result<bool, LabError>
-    requires can { CanBeTold (fields_of telling.now.script.now) telling.now.list.now }
+    requires can { CanBeTold (fields_of telling.now.query.now.script.now) telling.now.list.now }
     requires listed { (ending : Ending) → Contains shown.now.endings.items ending
         → Contains (endings_in telling.now.list.now.words) ending }
     requires as_many { length texts.now.lines.items ≡ length shown.now.endings.items }
@@ -181,13 +180,13 @@ fn add_if_new<P: Progress>(
         ≡ not (is_repeat (map string_bytes texts.now.lines.items) place)) }
     ensures text { OnOk result ((added : List ℕ)
         × (string_bytes text.new ≡ string_bytes text.old ++ added)
-        × IsFirstText (IsSeenText (frames_in telling.now.list.now) telling.now.form
-        (fields_of telling.now.script.now) marks.now
+        × IsFirstText (IsSeenText (frames_in telling.now.list.now) telling.now.query.now.form
+        (fields_of telling.now.query.now.script.now) marks.now
         shown.now.endings.items (map string_bytes texts.now.lines.items))
         (is_repeat (map string_bytes texts.now.lines.items) place)
         (text_at (map string_bytes texts.now.lines.items) place) place added) }
-    ensures without { IfErr result (HasNoHistory (fields_of telling.now.script.now)
-        ⟦<AllPorts as PartialEq>⟧.eq telling.now.most) }
+    ensures without { IfErr result (HasNoHistory (fields_of telling.now.query.now.script.now)
+        ⟦<AllPorts as PartialEq>⟧.eq telling.now.query.now.most) }
 {
     if texts.is_repeat(place) {
         return Ok(false);
@@ -208,7 +207,7 @@ fn add_all_seen<P: Progress>(
     shown: &Shown,
     texts: &ShownTexts,
 ) -> Result<usize, LabError>
-    requires can { CanBeTold (fields_of telling.now.script.now) telling.now.list.now }
+    requires can { CanBeTold (fields_of telling.now.query.now.script.now) telling.now.list.now }
     requires listed { (ending : Ending) → Contains shown.now.endings.items ending
         → Contains (endings_in telling.now.list.now.words) ending }
     requires as_many { length texts.now.lines.items ≡ length shown.now.endings.items }
@@ -216,12 +215,12 @@ fn add_all_seen<P: Progress>(
         ≡ first_count (map string_bytes texts.now.lines.items) (length shown.now.endings.items)) }
     ensures text { OnOk result ((added : List ℕ)
         × (string_bytes text.new ≡ string_bytes text.old ++ added)
-        × AreFirstTexts (IsSeenText (frames_in telling.now.list.now) telling.now.form
-        (fields_of telling.now.script.now) marks.now
+        × AreFirstTexts (IsSeenText (frames_in telling.now.list.now) telling.now.query.now.form
+        (fields_of telling.now.query.now.script.now) marks.now
         shown.now.endings.items (map string_bytes texts.now.lines.items))
         (map string_bytes texts.now.lines.items) (length shown.now.endings.items) added) }
-    ensures without { IfErr result (HasNoHistory (fields_of telling.now.script.now)
-        ⟦<AllPorts as PartialEq>⟧.eq telling.now.most) }
+    ensures without { IfErr result (HasNoHistory (fields_of telling.now.query.now.script.now)
+        ⟦<AllPorts as PartialEq>⟧.eq telling.now.query.now.most) }
 {
     let mut histories = Histories::new(alloc);
     let mut count = 0;
@@ -269,14 +268,14 @@ fn seen_listing<P: Progress>(
     marks: &[bool],
     shown: &Shown,
 ) -> Result<String, LabError>
-    requires can { CanBeTold (fields_of telling.now.script.now) telling.now.list.now }
+    requires can { CanBeTold (fields_of telling.now.query.now.script.now) telling.now.list.now }
     requires listed { (ending : Ending) → Contains shown.now.endings.items ending
         → Contains (endings_in telling.now.list.now.words) ending }
     ensures text { IfOk result (λ text. IsSeenListing (frames_in telling.now.list.now)
-        telling.now.form (fields_of telling.now.script.now) marks.now
+        telling.now.query.now.form (fields_of telling.now.query.now.script.now) marks.now
         shown.now.endings.items (string_bytes text)) }
-    ensures without { IfErr result (HasNoHistory (fields_of telling.now.script.now)
-        ⟦<AllPorts as PartialEq>⟧.eq telling.now.most) }
+    ensures without { IfErr result (HasNoHistory (fields_of telling.now.query.now.script.now)
+        ⟦<AllPorts as PartialEq>⟧.eq telling.now.query.now.most) }
 {
     let lines = shown_texts(alloc, marks, shown)?;
     let texts = ShownTexts::new(alloc, lines)?;
@@ -291,15 +290,15 @@ fn shown_of<P: Progress>(
     telling: &Telling<'_, P>,
     marks: &[bool],
 ) -> Result<Shown, LabError>
-    requires can { CanBeTold (fields_of telling.now.script.now) telling.now.list.now }
+    requires can { CanBeTold (fields_of telling.now.query.now.script.now) telling.now.list.now }
     ensures shown { IfOk result (λ shown. AreShownOf marks.now
         (endings_in telling.now.list.now.words) shown.endings.items) }
     ensures without { IfErr result
-        (HasNoImages telling.now.list.now.words marks.now telling.now.most) }
+        (HasNoImages telling.now.list.now.words marks.now telling.now.query.now.most) }
 {
     let words = &telling.list.words;
-    let Some(observed) = words.observed(alloc, marks, telling.most)? else {
-        return Err(LabError::Nodes(telling.most));
+    let Some(observed) = words.observed(alloc, marks, telling.query.most)? else {
+        return Err(LabError::Nodes(telling.query.most));
     };
     Ok(all_shown(alloc, words, &observed)?)
 }
@@ -310,14 +309,14 @@ fn seen_of<P: Progress>(
     telling: &Telling<'_, P>,
     marks: &[bool],
 ) -> Result<String, LabError>
-    requires can { CanBeTold (fields_of telling.now.script.now) telling.now.list.now }
+    requires can { CanBeTold (fields_of telling.now.query.now.script.now) telling.now.list.now }
     ensures text { IfOk result (λ text. ListsSeen (frames_in telling.now.list.now)
-        telling.now.form (fields_of telling.now.script.now) marks.now
+        telling.now.query.now.form (fields_of telling.now.query.now.script.now) marks.now
         (endings_in telling.now.list.now.words) (string_bytes text)) }
     ensures without { IfErr result (λ why.
-        HasNoImages telling.now.list.now.words marks.now telling.now.most why
-        ⊎ HasNoHistory (fields_of telling.now.script.now) ⟦<AllPorts as PartialEq>⟧.eq
-        telling.now.most why) }
+        HasNoImages telling.now.list.now.words marks.now telling.now.query.now.most why
+        ⊎ HasNoHistory (fields_of telling.now.query.now.script.now) ⟦<AllPorts as PartialEq>⟧.eq
+        telling.now.query.now.most why) }
 {
     let shown = shown_of(alloc, telling, marks)?;
     seen_listing(alloc, telling, marks, &shown)
@@ -326,26 +325,19 @@ fn seen_of<P: Progress>(
 /// The list of what can be told apart of these outcomes, which are dropped, by the marks of all places.
 fn seen_of_list<P: Progress>(
     alloc: Global,
-    script: &Script,
+    query: &Query<'_, P>,
     list: OutcomeList,
     marks: &[bool],
-    form: HistoryForm,
-    most: usize,
-    progress: &P,
 ) -> Result<String, LabError>
-    requires can { CanBeTold (fields_of script.now) list }
-    ensures text { IfOk result (λ text. ListsSeen (frames_in list) form (fields_of script.now)
+    requires can { CanBeTold (fields_of query.now.script.now) list }
+    ensures text { IfOk result (λ text.
+        ListsSeen (frames_in list) query.now.form (fields_of query.now.script.now)
         marks.now (endings_in list.words) (string_bytes text)) }
-    ensures without { IfErr result (λ why. HasNoImages list.words marks.now most why
-        ⊎ HasNoHistory (fields_of script.now) ⟦<AllPorts as PartialEq>⟧.eq most why) }
+    ensures without { IfErr result (λ why. HasNoImages list.words marks.now query.now.most why
+        ⊎ HasNoHistory (fields_of query.now.script.now) ⟦<AllPorts as PartialEq>⟧.eq
+        query.now.most why) }
 {
-    let telling = Telling {
-        script,
-        list: &list,
-        most,
-        progress,
-        form,
-    };
+    let telling = Telling { query, list: &list };
     seen_of(alloc, &telling, marks)
 }
 
@@ -356,20 +348,17 @@ fn seen_of_list<P: Progress>(
 /// them; names have commas between them.
 pub fn seen_text<P: Progress>(
     alloc: Global,
-    script: &Script,
+    query: &Query<'_, P>,
     names: &str,
-    form: HistoryForm,
-    frames: bool,
-    most: usize,
-    progress: &P,
 ) -> Result<String, LabError>
-    ensures text { IfOk result (λ text. TellsSeen frames form (names_in names.now)
-        (fields_of script.now) ⟦<Ending as PartialEq>⟧.eq (string_bytes text)) }
+    ensures text { IfOk result (λ text.
+        TellsSeen query.now.frames query.now.form (names_in names.now)
+        (fields_of query.now.script.now) ⟦<Ending as PartialEq>⟧.eq (string_bytes text)) }
     ensures without { IfErr result
-        (HasNoSeenList frames (names_in names.now) (fields_of script.now)
-        ⟦<AllPorts as PartialEq>⟧.eq most) }
+        (HasNoSeenList query.now.frames (names_in names.now) (fields_of query.now.script.now)
+        ⟦<AllPorts as PartialEq>⟧.eq query.now.most) }
 {
-    let marks = marks_of(alloc, script, names)?;
-    let list = list_of(alloc, script, frames, most, progress)?;
-    seen_of_list(alloc, script, list, marks.as_slice(), form, most, progress)
+    let marks = marks_of(alloc, query.script, names)?;
+    let list = list_asked(alloc, query)?;
+    seen_of_list(alloc, query, list, marks.as_slice())
 }

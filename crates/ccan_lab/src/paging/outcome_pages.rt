@@ -11,13 +11,13 @@ ghost use Rattle.ccan_lab.specs.Words.{HasNoHistory, IsWithout};
 use crate::choices::all_choices;
 use crate::history_form::HistoryForm;
 use crate::lab_error::LabError;
-use crate::outcome_words::list_of;
+use crate::paging::PageQuestion;
 use crate::paging::history_steps::{opening_of, shown_history};
 use crate::paging::run_steps::ordered_steps;
 use crate::replay::order_to;
 use crate::report::different_lines;
 use crate::summary::{add_same_parts, all_in_order};
-use crate::telling::{Telling, history_to};
+use crate::telling::{Query, Telling, history_to, list_asked};
 use ccan_outcomes::all_ports::AllPorts;
 use ccan_outcomes::{Ending, Histories, History, HistoryStep, looking_once};
 use ccan_page as page;
@@ -80,16 +80,16 @@ fn outcome_at<P: Progress>(
     ending: &Ending,
     place: usize,
 ) -> Result<Outcome, LabError>
-    requires can { CanBeTold (fields_of telling.now.script.now) telling.now.list.now }
+    requires can { CanBeTold (fields_of telling.now.query.now.script.now) telling.now.list.now }
     requires at { slice_get (endings_in telling.now.list.now.words) place ≡ Some ending.now }
     requires few { place + 1 < 2 ^ 64 }
     ensures shown { IfOk result (IsShown (frames_in telling.now.list.now)
-        (fields_of telling.now.script.now) (endings_in telling.now.list.now.words)
+        (fields_of telling.now.query.now.script.now) (endings_in telling.now.list.now.words)
         (all_texts choices.now) place) }
-    ensures without { IfErr result (HasNoHistory (fields_of telling.now.script.now)
-        ⟦<AllPorts as PartialEq>⟧.eq telling.now.most) }
+    ensures without { IfErr result (HasNoHistory (fields_of telling.now.query.now.script.now)
+        ⟦<AllPorts as PartialEq>⟧.eq telling.now.query.now.most) }
 {
-    let script = telling.script;
+    let script = telling.query.script;
     let history = history_to(alloc, telling, histories, place, ending)?;
     let steps = history.steps.as_slice();
     let frames = telling.list.words.numbers.frames;
@@ -119,13 +119,13 @@ fn outcomes_shown<P: Progress>(
     choices: &[Vec<&str>],
     limit: usize,
 ) -> Result<Vec<Outcome>, LabError>
-    requires can { CanBeTold (fields_of telling.now.script.now) telling.now.list.now }
+    requires can { CanBeTold (fields_of telling.now.query.now.script.now) telling.now.list.now }
     ensures shown { IfOk result (λ shown. AreShown (frames_in telling.now.list.now)
-        (fields_of telling.now.script.now) (endings_in telling.now.list.now.words)
+        (fields_of telling.now.query.now.script.now) (endings_in telling.now.list.now.words)
         (all_texts choices.now)
         (min limit (length (endings_in telling.now.list.now.words))) shown.items) }
-    ensures without { IfErr result (HasNoHistory (fields_of telling.now.script.now)
-        ⟦<AllPorts as PartialEq>⟧.eq telling.now.most) }
+    ensures without { IfErr result (HasNoHistory (fields_of telling.now.query.now.script.now)
+        ⟦<AllPorts as PartialEq>⟧.eq telling.now.query.now.most) }
 {
     let mut histories = Histories::new(alloc);
     let mut shown = Vec::new(alloc);
@@ -146,15 +146,15 @@ fn found_page<'a, P: Progress>(
     limit: usize,
     mut page: Page<'a>,
 ) -> Result<Page<'a>, LabError>
-    requires can { CanBeTold (fields_of telling.now.script.now) telling.now.list.now }
+    requires can { CanBeTold (fields_of telling.now.query.now.script.now) telling.now.list.now }
     ensures file { IfOk result (λ made. made.file.now ≡ page.entry.file.now) }
     ensures shows { IfOk result (ShowsEndings (frames_in telling.now.list.now)
-        (fields_of telling.now.script.now) (endings_in telling.now.list.now.words) limit) }
-    ensures without { IfErr result (HasNoHistory (fields_of telling.now.script.now)
-        ⟦<AllPorts as PartialEq>⟧.eq telling.now.most) }
+        (fields_of telling.now.query.now.script.now) (endings_in telling.now.list.now.words) limit) }
+    ensures without { IfErr result (HasNoHistory (fields_of telling.now.query.now.script.now)
+        ⟦<AllPorts as PartialEq>⟧.eq telling.now.query.now.most) }
 {
     let words = &telling.list.words;
-    let rows = all_choices(alloc, telling.script, words)?;
+    let rows = all_choices(alloc, telling.query.script, words)?;
     let choices = all_in_order(alloc, rows.as_slice())?;
     let mut same = String::new(alloc);
     add_same_parts(&mut same, choices.as_slice())?;
@@ -164,30 +164,21 @@ fn found_page<'a, P: Progress>(
     Ok(page)
 }
 
-/// The page with the outcomes of a script, at most so many, of a search that follows so many states at most.
+/// The page with the outcomes of a script, at most so many, as it is asked.
 pub(crate) fn listed_page<'a, P: Progress>(
     alloc: Global,
-    script: &Script,
+    query: &Query<'_, P>,
     limit: usize,
-    frames: bool,
-    most: usize,
     page: Page<'a>,
-    progress: &P,
 ) -> Result<Page<'a>, LabError>
     ensures file { IfOk result (λ made. made.file.now ≡ page.entry.file.now) }
-    ensures outcomes { IfOk result (ShowsList frames (fields_of script.now)
+    ensures outcomes { IfOk result (ShowsList query.now.frames (fields_of query.now.script.now)
         ⟦<Ending as PartialEq>⟧.eq limit) }
-    ensures without { IfErr result
-        (IsWithout frames (fields_of script.now) ⟦<AllPorts as PartialEq>⟧.eq most) }
+    ensures without { IfErr result (IsWithout query.now.frames
+        (fields_of query.now.script.now) ⟦<AllPorts as PartialEq>⟧.eq query.now.most) }
 {
-    let list = list_of(alloc, script, frames, most, progress)?;
-    let telling = Telling {
-        script,
-        list: &list,
-        most,
-        progress,
-        form: HistoryForm::EachStep,
-    };
+    let list = list_asked(alloc, query)?;
+    let telling = Telling { query, list: &list };
     found_page(alloc, &telling, limit, page)
 }
 
@@ -195,16 +186,21 @@ pub(crate) fn listed_page<'a, P: Progress>(
 pub(crate) fn outcomes_page<'a, P: Progress>(
     alloc: Global,
     script: Script,
-    limit: usize,
-    frames: bool,
-    most: usize,
+    question: &PageQuestion<'_>,
     page: Page<'a>,
     progress: &P,
 ) -> Result<Page<'a>, LabError>
     ensures file { IfOk result (λ made. made.file.now ≡ page.entry.file.now) }
-    ensures outcomes { IfOk result (ShowsOutcomes frames (fields_of script)
-        ⟦<Ending as PartialEq>⟧.eq limit) }
+    ensures outcomes { IfOk result (ShowsOutcomes question.now.frames (fields_of script)
+        ⟦<Ending as PartialEq>⟧.eq question.now.limit) }
 {
     let script = looking_once(alloc, script)?;
-    listed_page(alloc, &script, limit, frames, most, page, progress)
+    let query = Query {
+        script: &script,
+        frames: question.frames,
+        most: question.most,
+        progress,
+        form: HistoryForm::EachStep,
+    };
+    listed_page(alloc, &query, question.limit, page)
 }

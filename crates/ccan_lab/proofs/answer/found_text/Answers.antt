@@ -21,9 +21,9 @@ unreachable-requires g c =
 
 pub returns-clause-text : goal.returns-clause-text
 returns-clause-text g c =
-    let script = fields_of c.args.telling.now.script.now in
+    let script = fields_of c.args.telling.now.query.now.script.now in
     let frames = frames_in c.args.telling.now.list.now in
-    let form = c.args.telling.now.form in
+    let form = c.args.telling.now.query.now.form in
     let endings = endings_in c.args.telling.now.list.now.words in
     let rows = c.in_ok-rows.rows.items in
     let sorted = c.in_ok-choices.choices.items in

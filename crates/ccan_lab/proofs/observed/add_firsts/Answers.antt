@@ -19,9 +19,9 @@ loop-number-init g c = (
 pub loop-number-preserved : goal.loop-number-preserved
 loop-number-preserved g c =
     let texts = map string_bytes c.args.texts.now.lines.items in
-    let script = fields_of c.args.telling.now.script.now in
+    let script = fields_of c.args.telling.now.query.now.script.now in
     let frames = frames_in c.args.telling.now.list.now in
-    let form = c.args.telling.now.form in
+    let form = c.args.telling.now.query.now.form in
     let keys = c.args.endings.now in
     let number = c.loop-number.number in
     let count = c.loop-number.count in
@@ -52,9 +52,9 @@ loop-number-preserved g c =
 pub returns-clause-text : goal.returns-clause-text
 returns-clause-text g c =
     let texts = map string_bytes c.args.texts.now.lines.items in
-    let script = fields_of c.args.telling.now.script.now in
+    let script = fields_of c.args.telling.now.query.now.script.now in
     let frames = frames_in c.args.telling.now.list.now in
-    let form = c.args.telling.now.form in
+    let form = c.args.telling.now.query.now.form in
     let keys = c.args.endings.now in
     let number = c.loop-number.number in
     let at_most = c.loop-number.auto.number-end in

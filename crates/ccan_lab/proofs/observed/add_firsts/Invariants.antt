@@ -10,5 +10,5 @@ abbrev pub invariant-loop-number : goal.invariant-loop-number
 invariant-loop-number g l =
     (l.count ≤ l.number) × (l.count ≡ first_count (map string_bytes l.texts.lines.items) l.number)
     × ((added : List ℕ) × (string_bytes l.text ≡ string_bytes l.initial.text ++ added)
-    × AreFirstTexts (IsOutcomeText (frames_in l.telling.list.now) l.telling.form (fields_of l.telling.script.now) l.endings) (map string_bytes l.texts.lines.items)
+    × AreFirstTexts (IsOutcomeText (frames_in l.telling.list.now) l.telling.query.now.form (fields_of l.telling.query.now.script.now) l.endings) (map string_bytes l.texts.lines.items)
     l.number added)

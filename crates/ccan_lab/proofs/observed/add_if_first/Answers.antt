@@ -11,9 +11,9 @@ pub returns-clause-text : goal.returns-clause-text
 returns-clause-text g c =
     let texts = c.args.texts.now.lines.items in
     let number = c.args.number in
-    let script = fields_of c.args.telling.now.script.now in
+    let script = fields_of c.args.telling.now.query.now.script.now in
     let frames = frames_in c.args.telling.now.list.now in
-    let form = c.args.telling.now.form in
+    let form = c.args.telling.now.query.now.form in
     let keys = endings_in c.args.telling.now.list.now.words in
     let repeat = is_repeat (map string_bytes texts) number in
     let lines = text_at (map string_bytes texts) number in

@@ -13,9 +13,9 @@ use Rattle.ccan_lab.proofs.observed.observed_listing.Goals as goal
 
 pub returns-clause-text : goal.returns-clause-text
 returns-clause-text g c =
-    let script = fields_of c.args.telling.now.script.now in
+    let script = fields_of c.args.telling.now.query.now.script.now in
     let frames = frames_in c.args.telling.now.list.now in
-    let form = c.args.telling.now.form in
+    let form = c.args.telling.now.query.now.form in
     let keys = endings_in c.args.telling.now.list.now.words in
     let marks = marks_of (names_in c.args.list.now) script in
     let count = length keys in
@@ -49,8 +49,8 @@ returns-clause-text g c =
 -- there is a text for each outcome
 pub add_firsts-requires-clause-as_many : goal.add_firsts-requires-clause-as_many
 add_firsts-requires-clause-as_many g c =
-    let script = fields_of c.args.telling.now.script.now in
-    let form = c.args.telling.now.form in
+    let script = fields_of c.args.telling.now.query.now.script.now in
+    let form = c.args.telling.now.query.now.form in
     let marks = marks_of (names_in c.args.list.now) script in
     let texts = c.in_ok-lines.lines.items in
     let one = length-map texts string_bytes in

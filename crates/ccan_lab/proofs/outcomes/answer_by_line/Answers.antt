@@ -43,15 +43,15 @@ returns-in-NotFound-clause-told g c =
 
 pub returns-in_err-number-clause-without : goal.returns-in_err-number-clause-without
 returns-in_err-number-clause-without g c =
-    let script = fields_of c.args.telling.now.script.now in
+    let script = fields_of c.args.telling.now.query.now.script.now in
     let frames = c.args.telling.now.list.now.words.numbers.frames in
     IfErr-weaker c.from_residual.result (λ why. why ≡ fault.Memory) _
-    (λ why is. subst (IsUnanswered frames script (texts_of c.args.begins.now) ports_are.eq c.args.telling.now.most) (sym is) (inl tt))
+    (λ why is. subst (IsUnanswered frames script (texts_of c.args.begins.now) ports_are.eq c.args.telling.now.query.now.most) (sym is) (inl tt))
     (search rules)
 
 pub returns-in_err-text-in-Found-clause-without : goal.returns-in_err-text-in-Found-clause-without
 returns-in_err-text-in-Found-clause-without g c =
-    let script = fields_of c.args.telling.now.script.now in
+    let script = fields_of c.args.telling.now.query.now.script.now in
     let frames = c.args.telling.now.list.now.words.numbers.frames in
-    IfErr-weaker c.from_residual-in_err-text-in-Found.result (HasNoHistory script ports_are.eq c.args.telling.now.most) _
-    (no_history frames script (texts_of c.args.begins.now) ports_are.eq c.args.telling.now.most) (search rules)
+    IfErr-weaker c.from_residual-in_err-text-in-Found.result (HasNoHistory script ports_are.eq c.args.telling.now.query.now.most) _
+    (no_history frames script (texts_of c.args.begins.now) ports_are.eq c.args.telling.now.query.now.most) (search rules)

@@ -13,7 +13,7 @@ use Rattle.ccan_lab.proofs.report.add_outcome.Goals as goal
 pub returns-clause-text : goal.returns-clause-text
 returns-clause-text g c =
     let lines = c.args.lines.now in
-    let script = fields_of c.args.telling.now.script.now in
+    let script = fields_of c.args.telling.now.query.now.script.now in
     let frames = frames_in c.args.telling.now.list.now in
     let number = c.args.number in
     let ending = c.args.ending.now in

@@ -16,9 +16,9 @@ loop-number-init g c = record { within = omega arith; told = ([], sym (append-ni
 pub loop-number-preserved : goal.loop-number-preserved
 loop-number-preserved g c =
     let number = c.loop-number.number in
-    let script = fields_of c.args.telling.now.script.now in
+    let script = fields_of c.args.telling.now.query.now.script.now in
     let frames = frames_in c.args.telling.now.list.now in
-    let form = c.args.telling.now.form in
+    let form = c.args.telling.now.query.now.form in
     let endings = endings_in c.args.telling.now.list.now.words in
     let choices = all_texts c.args.choices.now in
     let so_far = c.loop-number.invariant.told in
@@ -44,9 +44,9 @@ loop-number-preserved g c =
 pub returns-in_default-clause-text : goal.returns-in_default-clause-text
 returns-in_default-clause-text g c =
     let number = c.loop-number.number in
-    let script = fields_of c.args.telling.now.script.now in
+    let script = fields_of c.args.telling.now.query.now.script.now in
     let frames = frames_in c.args.telling.now.list.now in
-    let form = c.args.telling.now.form in
+    let form = c.args.telling.now.query.now.form in
     let endings = endings_in c.args.telling.now.list.now.words in
     let choices = all_texts c.args.choices.now in
     let so_far = c.loop-number.invariant.told in

@@ -11,6 +11,6 @@ abbrev pub invariant-loop-number : goal.invariant-loop-number
 invariant-loop-number g l = record {
   within : l.number ≤ length (endings_in l.telling.list.now.words);
   told : (added : List ℕ) × (string_bytes l.text ≡ string_bytes l.initial.text ++ added)
-      × AreOutcomeTexts (frames_in l.telling.list.now) l.telling.form (fields_of l.telling.script.now) (endings_in l.telling.list.now.words) (all_texts l.choices) l.number
+      × AreOutcomeTexts (frames_in l.telling.list.now) l.telling.query.now.form (fields_of l.telling.query.now.script.now) (endings_in l.telling.list.now.words) (all_texts l.choices) l.number
       added;
 }

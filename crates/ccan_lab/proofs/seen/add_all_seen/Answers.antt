@@ -19,9 +19,9 @@ pub loop-place-preserved : goal.loop-place-preserved
 loop-place-preserved g c =
     let texts = map string_bytes c.args.texts.now.lines.items in
     let marks = c.args.marks.now in
-    let script = fields_of c.args.telling.now.script.now in
+    let script = fields_of c.args.telling.now.query.now.script.now in
     let frames = frames_in c.args.telling.now.list.now in
-    let form = c.args.telling.now.form in
+    let form = c.args.telling.now.query.now.form in
     let keys = c.args.shown.now.endings.items in
     let place = c.loop-place.place in
     let count = c.loop-place.count in

@@ -8,9 +8,9 @@ use Rattle.ccan_lab.proofs.seen.seen_listing.Goals as goal
 
 pub returns-clause-text : goal.returns-clause-text
 returns-clause-text g c =
-    let script = fields_of c.args.telling.now.script.now in
+    let script = fields_of c.args.telling.now.query.now.script.now in
     let frames = frames_in c.args.telling.now.list.now in
-    let form = c.args.telling.now.form in
+    let form = c.args.telling.now.query.now.form in
     let marks = c.args.marks.now in
     let keys = c.args.shown.now.endings.items in
     let count = length keys in

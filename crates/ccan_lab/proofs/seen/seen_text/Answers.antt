@@ -11,10 +11,10 @@ use Rattle.ccan_lab.proofs.seen.seen_text.Goals as goal
 
 pub returns-clause-text : goal.returns-clause-text
 returns-clause-text g c =
-    let script = fields_of c.args.script.now in
+    let script = fields_of c.args.query.now.script.now in
     let list = c.in_ok-list.list in
     let endings = endings_in list.words in
-    let form = c.args.form in
+    let form = c.args.query.now.form in
     let marks_are = c.as_slice.ensures.value ∙ c.in_ok-marks.ensures in
     IfOk-weaker c.seen_of_list.result _ _
     (λ text lists. record {
@@ -31,11 +31,11 @@ returns-clause-text g c =
 
 pub returns-clause-without : goal.returns-clause-without
 returns-clause-without g c =
-    let script = fields_of c.args.script.now in
+    let script = fields_of c.args.query.now.script.now in
     let words = c.in_ok-list.list.words in
-    let most = c.args.most in
+    let most = c.args.query.now.most in
     let names = names_in c.args.names.now in
-    let frames = c.args.frames in
+    let frames = c.args.query.now.frames in
     let marks_are = c.as_slice.ensures.value ∙ c.in_ok-marks.ensures in
     IfErr-weaker c.seen_of_list.result
     (λ why. HasNoImages words c.as_slice.result.now most why ⊎ HasNoHistory script ports_are.eq most why) _

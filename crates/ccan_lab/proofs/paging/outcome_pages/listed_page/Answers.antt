@@ -15,12 +15,12 @@ returns-clause-outcomes g c =
       complete = c.in_ok-list.ensures.all;
       runs = c.in_ok-list.ensures.told.runs;
       once = c.in_ok-list.ensures.distinct;
-      shows = subst (λ (it : Bool). ShowsEndings it (fields_of c.args.script.now) (endings_in c.in_ok-list.list.words) c.args.limit made)
+      shows = subst (λ (it : Bool). ShowsEndings it (fields_of c.args.query.now.script.now) (endings_in c.in_ok-list.list.words) c.args.limit made)
           c.in_ok-list.ensures.frames shows;
     })
     c.found_page.ensures.shows
 
 pub returns-clause-without : goal.returns-clause-without
 returns-clause-without g c =
-    IfErr-weaker c.found_page.result (HasNoHistory (fields_of c.args.script.now) ports_are.eq c.args.most) _
+    IfErr-weaker c.found_page.result (HasNoHistory (fields_of c.args.query.now.script.now) ports_are.eq c.args.query.now.most) _
     (λ why none. inr none) c.found_page.ensures.without

@@ -13,7 +13,7 @@ use Rattle.ccan_lab.proofs.paging.outcome_pages.outcome_at.Goals as goal
 
 pub returns-clause-shown : goal.returns-clause-shown
 returns-clause-shown g c =
-    let script = fields_of c.args.telling.now.script.now in
+    let script = fields_of c.args.telling.now.query.now.script.now in
     let frames = frames_in c.args.telling.now.list.now in
     let ending = c.args.ending.now in
     let steps = c.in_ok-history.history.steps.items in

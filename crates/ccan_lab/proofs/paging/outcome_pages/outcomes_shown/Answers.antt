@@ -12,7 +12,7 @@ use Rattle.ccan_lab.proofs.paging.outcome_pages.outcomes_shown.Goals as goal
 pub loop-place-preserved : goal.loop-place-preserved
 loop-place-preserved g c =
     let place = c.loop-place.place in
-    let script = fields_of c.args.telling.now.script.now in
+    let script = fields_of c.args.telling.now.query.now.script.now in
     let frames = frames_in c.args.telling.now.list.now in
     let endings = endings_in c.args.telling.now.list.now.words in
     let ending = c.in-Some.ending in
@@ -40,7 +40,7 @@ returns-in_default-clause-shown g c =
     let none : slice_get endings place ≡ None = sym c.in_ok-ending.ensures ∙ c.in_default.is in
     let past = past_all endings place none in
     let same : place ≡ min c.args.limit (length endings) = omega (arith, low, within, past) in
-    subst (λ (n : ℕ). AreShown (frames_in c.args.telling.now.list.now) (fields_of c.args.telling.now.script.now) endings (all_texts c.args.choices.now) n
+    subst (λ (n : ℕ). AreShown (frames_in c.args.telling.now.list.now) (fields_of c.args.telling.now.query.now.script.now) endings (all_texts c.args.choices.now) n
     c.loop-place.shown.items) same c.loop-place.invariant.are
 
 -- behind as many as are to be shown
@@ -52,5 +52,5 @@ returns-clause-shown g c =
     let end = c.loop-place.auto.place-end in
     let within = c.loop-place.invariant.within in
     let same : place ≡ min c.args.limit (length endings) = omega (arith, high, end, within) in
-    subst (λ (n : ℕ). AreShown (frames_in c.args.telling.now.list.now) (fields_of c.args.telling.now.script.now) endings (all_texts c.args.choices.now) n
+    subst (λ (n : ℕ). AreShown (frames_in c.args.telling.now.list.now) (fields_of c.args.telling.now.query.now.script.now) endings (all_texts c.args.choices.now) n
     c.loop-place.shown.items) same c.loop-place.invariant.are
