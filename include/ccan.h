@@ -200,15 +200,15 @@ typedef struct { bool ccan_private_full; void *ccan_private_at; } ccan_note;
 CCAN_HOLDS(sizeof(ccan_note) == 16 && offsetof(ccan_note, ccan_private_at) == 8);
 #define CCAN_NOTE_EMPTY { false, NULL }
 
-/* Notes all that the handle's port has seen of the chip, its own steps among it. What the note told before is dropped. No step of
+/* Notes all that the handle's port has seen of the chip, its own steps among it. What it held before is dropped. No step of
  * the chip. For two threads that hand something over by a lock of C's own: the one tells before it unlocks, the other heeds after
  * it has locked.
  * CCAN_CLOSED if the handle isn't open; CCAN_NO_MEMORY if malloc refused: the note stays as it was. */
 CCAN_CODE ccan_tell(ccan_host *host, ccan_note *note);
 CCAN_CODE ccan_bus_tell(ccan_bus *bus, ccan_note *note);
 
-/* Shows the handle's port what the note tells, and empties the note: each step that the handle makes from now on comes after all
- * that the teller had done and seen before it told. No step of the chip.
+/* Shows the handle's port what the note holds, and empties it: each step that the handle makes from now on comes after all that
+ * the other handle had done and seen before its ccan_tell. No step of the chip.
  * CCAN_CLOSED if the handle isn't open; CCAN_UNTOLD if the note is empty. Then handle and note stay as they were. */
 CCAN_CODE ccan_heed(ccan_host *host, ccan_note *note);
 CCAN_CODE ccan_bus_heed(ccan_bus *bus, ccan_note *note);
@@ -223,14 +223,14 @@ CCAN_CODE ccan_forget(ccan_note *note);
 typedef struct { uint8_t bytes[1672]; } ccan_saved;
 CCAN_HOLDS(sizeof(ccan_saved) == 1672);
 
-/* Saves a chip: its records, all registers of the controller with what stands behind them (the groups that count on the way back
+/* Saves a chip: its records, all registers of the controller with what is behind them (the groups that count on the way back
  * from bus off, the status interrupts that are pending), the registers of IF1 and IF2, its layout, tries and number of other
  * nodes. Not of the chip, and not saved: the error counters of the other nodes; and that a frame is loaded, since its object stays
- * requested. The three ports meet, so that what is saved is behind all that was done on the three handles; and then the bus's looks
+ * requested. The three ports meet, so that what is saved comes after all that was done on the three handles; and then the bus's looks
  * once at the controller and once at each object. Nothing is changed. CCAN_CLOSED if the chip isn't open; else CCAN_DONE. */
 CCAN_CODE ccan_save(ccan_chip *chip, ccan_saved *out);
 
-/* Opens a chip as the saved one was, all of it or nothing. The other nodes begin anew, error active, and no frame is loaded. The
+/* Opens a chip as the saved one was, all of it or nothing. The other nodes begin again, error active, and no frame is loaded. The
  * chip goes there by steps that every chip can make, and then it is looked at: CCAN_DONE says that the looks found what was saved,
  * and the three ports have then seen it. Else:
  *  - CCAN_NO_SAVED_CHIP: these bytes are none. It never comes of bytes that ccan_save gave.
@@ -254,7 +254,7 @@ CCAN_CODE ccan_reset(ccan_chip *chip);
 
 /* ---- registers by their offsets: each call answers CCAN_CLOSED first, if its handle is closed */
 
-/* The registers of CCAN_LAYOUT_C_CAN. In CCAN_LAYOUT_C_CAN_32 each stands at twice this offset. With 32 objects there are no
+/* The registers of CCAN_LAYOUT_C_CAN. In CCAN_LAYOUT_C_CAN_32 each is at twice this offset. With 32 objects there are no
  * registers 3 and 4 of a flag. */
 enum ccan_offset {
     CCAN_OFFSET_CONTROL = 0x00,       /* Test 7, CCE 6, DAR 5, EIE 3, SIE 2, IE 1, Init 0 */
@@ -338,7 +338,7 @@ CCAN_CODE ccan_write16(ccan_host *host, uint32_t offset, uint16_t value);
 /* Reads the word of 32 bits at an offset of the chip's layout, a multiple of 4. If both halves are registers of one flag, its 32
  * objects are read at one moment. If they are Bit Timing and BRP Extension, as in CCAN_LAYOUT_D_CAN, it is one look at the
  * controller. Else it is as ccan_read16 of its lower half, at the offset, and then, unless that is refused, of
- * its upper half, two bytes on: between these two reads steps of other ports may stand. A half at which no register begins reads 0.
+ * its upper half, two bytes on: between these two reads other ports may make steps. A half at which no register begins reads 0.
  * The first of CCAN_OFFSET_RANGE (also if neither half is a register), CCAN_OTHER_INTERFACE and CCAN_BUSY that applies; else
  * CCAN_DONE. */
 CCAN_CODE ccan_read32(ccan_host *host, uint32_t offset, uint32_t *out);
@@ -467,7 +467,7 @@ enum ccan_round_kind {
     CCAN_NO_ACK,    /* no other node is on, so nobody acknowledged the frame */
     CCAN_FAULT,     /* the fault spoiled the frame */
     CCAN_LOOPED,    /* in loop back mode the controller sent to itself */
-    CCAN_ROUND_BUSY, CCAN_ROUND_SPENT /* a change of `object` was given up; all else stands, see ccan_round */
+    CCAN_ROUND_BUSY, CCAN_ROUND_SPENT /* a change of `object` was given up; all else remains, see ccan_round */
 };
 
 /* The step that was refused. With CCAN_STEP_LOAD no frame was on the bus; with those below it one was. */
@@ -570,7 +570,7 @@ CCAN_CODE ccan_bus_flags(ccan_bus *bus, uint32_t flag, uint64_t *out);
  * bus of several chips ready-made, over these calls.
  *
  * What is decided follows CAN Specification 2.0 (arbitration, acknowledgement, error signalling and fault confinement); the table
- * with each case stands in docs/C_REFERENCE.md. The events of a chip stand in that chip's history, as those of a round do. Of several
+ * with each case is in docs/C_REFERENCE.md. The events of a chip are in that chip's history, as those of a round do. Of several
  * chips no common history is promised: what joins them is that each one's events are its part of the same wires. So what one chip
  * has sent, another member has received, and two that have sent have sent the same frame: if C passes on what it was given, and
  * each chip is still as its ccan_stay found it. */
@@ -631,7 +631,7 @@ CCAN_HOLDS(offsetof(ccan_wire, part) == 24);
 CCAN_CODE ccan_begin(ccan_bus *bus, ccan_member *out);
 
 /* A look at the controller between the start and the end of a frame: what the chip is to the bus from there. If it has left the bus
- * since the start, also if it is back, it is CCAN_ROLE_ABSENT, nothing is loaded, and its object stays requested. */
+ * since the start, even if it is back, it is CCAN_ROLE_ABSENT, nothing is loaded, and its object stays requested. */
 CCAN_CODE ccan_stay(ccan_bus *bus, ccan_member *out);
 
 /* What a frame was to a chip. */

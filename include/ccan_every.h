@@ -27,7 +27,7 @@
 extern "C" {
 #endif
 
-/* Starts a thread, as pthread_create does. `name` stands in the histories, and stays valid. */
+/* Starts a thread, as pthread_create does. `name` is shown in the histories, and has to stay valid. */
 void ccan_thread(const char *name, void (*body)(void));
 
 /* An interrupt. Whenever the chip pulls its line, `handler` may run; while it runs, it doesn't begin again. `cpu` is the processor

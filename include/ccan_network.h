@@ -34,7 +34,7 @@
  *
  * What is exact, and what is not:
  *  - A frame that ends well has its exact length, and so has one that an error passive sender ends alone since nobody acknowledges
- *    it. A frame that an error flag ends is taken as long as it can be: where in the frame an error stands is not known, unless
+ *    it. A frame that an error flag ends is taken as long as it can be: where in the frame an error is, is not known, unless
  *    ccan_network_finish is called then; and how the error flags of several members overlap isn't looked at. See
  *    ccan_network_finish.
  *  - A chip in loop back mode starts its frame when the others start theirs, and not at any time as a part does. If an error flag
@@ -61,10 +61,10 @@ enum ccan_network_numbers {
 /* A time that never comes: nothing happens by itself. */
 #define CCAN_NETWORK_NEVER UINT64_MAX
 
-/* What stands at a place. */
+/* What is at a place. */
 enum ccan_network_kind { CCAN_NETWORK_NOBODY, CCAN_NETWORK_CHIP, CCAN_NETWORK_NODE };
 
-/* What stands at one place of a network. C may read all of it, and may write `node` while no frame is under way. A switch is 0 for
+/* What is at one place of a network. C may read all of it, and may write `node` while no frame is under way. A switch is 0 for
  * no, and 1 for yes. */
 typedef struct {
     uint32_t kind;       /* an enum ccan_network_kind */
@@ -394,7 +394,7 @@ static inline CCAN_CODE ccan_network_private_decide(ccan_network *network, uint6
 }
 
 /* How many bits the longest frame has that is sent, on the bus or only to itself if the bus is idle: 0 if none is. One in loop back
- * mode drives its frame to the end, also if it loses the arbitration. */
+ * mode drives its frame to the end, even if it loses the arbitration. */
 static inline uint32_t ccan_network_private_longest(const ccan_network *network)
 {
     uint32_t longest = 0, bits;
@@ -419,7 +419,7 @@ static inline bool ccan_network_private_passive(const ccan_network *network)
     return found;
 }
 
-/* How many bits stand between the start of a frame and the intermission, if an error that breaks it is found after so many. */
+/* How many bits there are between the start of a frame and the intermission, if an error that breaks it is found after so many. */
 static inline uint64_t ccan_network_private_length(const ccan_network *network, uint64_t passed)
 {
     const uint64_t bits = network->bits;
@@ -443,11 +443,10 @@ static inline uint64_t ccan_network_private_length(const ccan_network *network, 
  * ccan_network_finish then. Else `under_way` is 0, and `until` is when to call it again: during the intermission of 3 bits its end;
  * for a member that may not start yet, since it is error passive and sent the frame before, 8 bits later; for one that is on its
  * way back from bus off the end of the next group of recessive bits, or when its Init is cleared; and CCAN_NETWORK_NEVER if nothing
- * happens by itself. A host's
- * request and ccan_network_offer are seen by the next call, so call it behind these too.
+ * happens by itself. A host's request and ccan_network_offer are seen by the next call, so call it after these too.
  *
- * While a frame is under way nothing is done but to tell its end. Time passes as by ccan_network_pass. A chip in loop back mode
- * with Silent that sends to itself is a frame under way too, also if the bus is idle (`wire.kind` is CCAN_WIRE_IDLE).
+ * While a frame is under way, the call only reports its end. Time passes as by ccan_network_pass. A chip in loop back mode
+ * with Silent that sends to itself is a frame under way too, even if the bus is idle (`wire.kind` is CCAN_WIRE_IDLE).
  *
  * The code is that of the first member with another one than CCAN_DONE, and all else is done: CCAN_CLOSED, it takes no part;
  * CCAN_BUSY, CCAN_SPENT, the start of its object was refused, and it sends nothing, or it has missed groups of recessive bits;
