@@ -16,6 +16,6 @@ returns-clause-told g c =
       are = c.in_ok-list.ensures.all;
       runs = c.in_ok-list.ensures.told.runs;
       once = c.in_ok-list.ensures.distinct;
-      text_is = subst (λ (frames : Bool). Answers frames c.args.query.now.form script outcomes c.args.asked.entry text)
+      text_is = subst (λ (frames : Bool). Answers frames c.args.query.now.form script outcomes c.args.asked text)
           c.in_ok-list.ensures.frames c.in_ok-text.ensures.text;
     }
