@@ -126,125 +126,128 @@ class Script:
         return grew
 
 
-def cases(pairs, otherwise="skip"):
-    """A choice of Promela among conditions, each with what is done."""
-    return "if\n" + "".join(f":: {condition} -> {deed}\n" for condition, deed in pairs) + f":: else -> {otherwise}\nfi"
+class Tables:
+    """Tables of numbers, which the steps of the model look up in C."""
+
+    def __init__(self):
+        self.texts = []
+
+    def of(self, numbers):
+        """The name of a table with these numbers."""
+        name = f"table_{len(self.texts)}"
+        self.texts.append(f"static const short {name}[] = {{ {', '.join(map(str, numbers))} }};\n")
+        return name
 
 
-def is_one_of(place, numbers):
-    """That an object has one of these records."""
-    return "(" + (" || ".join(f"r{place} == {it}" for it in numbers) or "false") + ")"
-
-
-def shows(made, place, flag):
-    """That an object shows a flag."""
-    return is_one_of(place, [number for record, number in made.records[place].items() if model.has_flag(record, flag)])
-
-
-def promela_of_transfer(made, port, line):
+def promela_of_transfer(made, tables, port, line):
     """A transfer, as one step."""
     _, place, given, command = made.hosts[port][line]
-    pairs = []
-    for buffer, here in made.buffers[port][line].items():
-        for record, there in made.records[place].items():
+    to, after = [], []
+    for buffer in made.buffers[port][line]:
+        for record in made.records[place]:
             left, shown = transferred(with_set(buffer, command, given)[0], command, record)
-            to, after = made.records[place][left], made.buffers[port][line + 1][shown]
-            pairs.append((f"b == {here} && r{place} == {there}", f"r{place} = {to}; b = {after}; a_{port}_{line} = {after}"))
-    return f"d_step {{ {cases(pairs, 'assert(0)')} }}"
+            to.append(made.records[place][left])
+            after.append(made.buffers[port][line + 1][shown])
+    at = f"int at = P{port}->b * {len(made.records[place])} + now.r{place};"
+    return f"c_code {{ {at} now.a_{port}_{line} = P{port}->b = {tables.of(after)}[at]; now.r{place} = {tables.of(to)}[at]; }}"
 
 
-def renumbered(made, port, line):
-    """The registers, which a line without a transfer leaves, by their numbers before the next line."""
-    numbers = [(here, made.buffers[port][line + 1][buffer]) for buffer, here in made.buffers[port][line].items()]
-    return "d_step { " + cases([(f"b == {here}", f"b = {after}") for here, after in numbers]) + " }"
+def shows(made, tables, place, flag):
+    """That an object shows a flag."""
+    return f"c_expr {{ {tables.of(int(model.has_flag(record, flag)) for record in made.records[place])}[now.r{place}] }}"
 
 
-def promela_of_looks(made, port, line):
-    """A wait for a flag, the interrupt value, or a flag word: look after look."""
+def promela_of_looks(made, tables, port, line):
+    """A wait for a flag, the interrupt value, or a flag word: look after look. The registers stay, by their numbers before the next
+    line."""
     kind, place, flag, turns = made.hosts[port][line]
     answer, end = f"a_{port}_{line}", f"{port}_{line}"
+    look = "if\n:: atomic {{ {} -> {} }}\n:: else -> skip\nfi;\n".format
     if kind == "until":
-        look = f"if\n:: atomic {{ {shows(made, place, flag)} -> {answer} = 1; goto {end} }}\n:: else -> skip\nfi;\n"
-        looks = look * turns
+        looks = look(shows(made, tables, place, flag), f"{answer} = 1; goto {end}") * turns
     elif kind == "interrupt":
-        deed = lambda it: f"atomic {{ {shows(made, it, 'intpnd')} -> {answer} = {it}; goto {end} }}"
-        looks = "".join(f"if\n:: {deed(it)}\n:: else -> skip\nfi;\n" for it in made.touched)
+        looks = "".join(look(shows(made, tables, it, "intpnd"), f"{answer} = {it}; goto {end}") for it in made.touched)
     else:
-        deed = lambda it: f"d_step {{ {shows(made, it, flag)} -> {answer} = {answer} | {1 << (it - 1)} }}"
-        looks = "".join(f"if\n:: {deed(it)}\n:: else -> skip\nfi;\n" for it in made.touched)
-    return f"{looks}{end}: skip;\n{renumbered(made, port, line)}"
+        looks = "".join(look(shows(made, tables, it, flag), f"{answer} = {answer} | {1 << (it - 1)}") for it in made.touched)
+    after = tables.of(made.buffers[port][line + 1][buffer] for buffer in made.buffers[port][line])
+    return f"{looks}{end}: c_code {{ P{port}->b = {after}[P{port}->b]; }}"
 
 
-def promela_of_host(made, port):
+def promela_of_host(made, tables, port):
     """The process of a host."""
     of = {"transfer": promela_of_transfer}
-    parts = [of.get(kind, promela_of_looks)(made, port, line) for line, (kind, *_) in enumerate(made.hosts[port])]
+    parts = [of.get(kind, promela_of_looks)(made, tables, port, line) for line, (kind, *_) in enumerate(made.hosts[port])]
     return f"active proctype {port}() {{ short b = 0;\n" + ";\n".join([*parts, "ended++"]) + " }\n"
 
 
-def scan(made, fits, becomes, then, mark):
-    """A scan of the message handler: a look at each object, and an attempt if it fits. `then` is what the change sets."""
+def scan(made, tables, fits, becomes, then, mark):
+    """A scan of the message handler: a look at each object, and an attempt if it fits. `then` is what else the change sets, in C,
+    by the record before."""
     text = ""
     for place in made.touched:
-        fitting = {record: number for record, number in made.records[place].items() if fits(record)}
-        if not fitting:
+        fitting = [fits(record) for record in made.records[place]]
+        if not any(fitting):
             continue
-        changes = [
-            (f"r{place} == {number}", f"r{place} = {made.records[place][becomes(record)]}; {then(place, record)}; goto {mark}")
-            for record, number in fitting.items()
-        ]
-        text += f"if\n:: {is_one_of(place, fitting.values())} -> atomic {{ {cases(changes)} }}\n:: else -> skip\nfi;\n"
+        is_fit = f"c_expr {{ {tables.of(map(int, fitting))}[now.r{place}] }}"
+        to = tables.of(made.records[place][becomes(record)] if fits(record) else 0 for record in made.records[place])
+        change = f"c_code {{ {then(place)} now.r{place} = {to}[now.r{place}]; }}; goto {mark}"
+        text += f"if\n:: {is_fit} -> if\n:: atomic {{ {is_fit} -> {change} }}\n:: else -> skip\nfi\n:: else -> skip\nfi;\n"
     return text
 
 
-def promela_of_round(made, line, answers, loads):
+def promela_of_round(made, tables, line, answers, loads):
     """A round of the bus."""
-    offered = made.frames[line]
-    own = {frame: number for frame, number in loads.items()}
+    offered, answer = made.frames[line], f"now.a_bus_{line}"
 
-    def loaded(place, record):
-        return f"loaded = {place}; frame = {own[model.frame_of(model.started(record))]}"
+    def loaded(place):
+        frames = (loads[model.frame_of(model.started(it))] if model.ready(it) else 0 for it in made.records[place])
+        return f"Pbus->loaded = {place}; Pbus->frame = {tables.of(frames)}[now.r{place}];"
 
-    text = "loaded = 0; frame = 0;\n" + scan(made, model.ready, model.started, loaded, f"l{line}") + f"l{line}: skip;\n"
+    def left(place, name, becomes):
+        return tables.of(answers[name, place, made.records[place][becomes(record)]] for record in made.records[place])
+
+    text = "loaded = 0; frame = 0;\n" + scan(made, tables, model.ready, model.started, loaded, f"l{line}") + f"l{line}: skip;\n"
     best = min(offered, key=model.arbitration, default=None)
-    wins = [number for frame, number in own.items() if best is None or model.arbitration(frame) < model.arbitration(best)]
+    wins = [number for frame, number in loads.items() if best is None or model.arbitration(frame) < model.arbitration(best)]
     won = "loaded != 0 && (" + (" || ".join(f"frame == {it}" for it in wins) or "false") + ")"
-    ends = []
+    finish = ""
     for place in made.touched:
-        for record, number in made.records[place].items():
-            to = made.records[place][model.finished(record)]
-            answer = answers["sent", place, to]
-            ends.append((f"loaded == {place} && r{place} == {number}", f"r{place} = {to}; a_bus_{line} = {answer}"))
-    finish = f"d_step {{ {cases(ends, 'assert(0)')} }}"
+        to = tables.of(made.records[place][model.finished(record)] for record in made.records[place])
+        deed = f"{answer} = {left(place, 'sent', model.finished)}[now.r{place}]; now.r{place} = {to}[now.r{place}];"
+        finish += f":: loaded == {place} -> c_code {{ {deed} }}\n"
 
-    def answered(place, record):
-        return f"a_bus_{line} = {answers['stored', place, made.records[place][model.stored(best, record)]]}"
+    def kept(record):
+        return model.stored(best, record) if model.accepts(record, best) else record
 
     if best is None:
         other = f"a_bus_{line} = {answers['idle', 0, 0]}"
     else:
-        store = scan(made, lambda it: model.accepts(it, best), lambda it: model.stored(best, it), answered, f"e{line}")
-        other = store + f"a_bus_{line} = {answers['none', 0, 0]}"
-    return text + f"if\n:: {won} -> {finish}; goto e{line}\n:: else -> skip\nfi;\n{other};\ne{line}: skip"
+        answered = lambda place: f"{answer} = {left(place, 'stored', kept)}[now.r{place}];"
+        other = scan(made, tables, lambda it: model.accepts(it, best), kept, answered, f"e{line}")
+        other += f"a_bus_{line} = {answers['none', 0, 0]}"
+    return text + f"if\n:: {won} -> atomic {{ if\n{finish}fi }}; goto e{line}\n:: else -> skip\nfi;\n{other};\ne{line}: skip"
 
 
 def promela(script):
     """The script as a model of SPIN, which prints each outcome that it comes to."""
-    made, answers, loads = Script(script), Numbers(), {}
+    made, answers, tables, loads = Script(script), Numbers(), Tables(), {}
     for place in made.touched:
         for record in made.records[place]:
             if model.ready(record):
                 loads.setdefault(model.frame_of(model.started(record)), len(loads) + 1)
-    rounds = ";\n".join(promela_of_round(made, line, answers, loads) for line in range(len(made.frames)))
+    rounds = ";\n".join(promela_of_round(made, tables, line, answers, loads) for line in range(len(made.frames)))
+    hosts = "".join(promela_of_host(made, tables, port) for port in ("if1", "if2"))
     told = [f"a_{port}_{line}" for port in ("if1", "if2") for line in range(len(made.hosts[port]))]
     told += [f"a_bus_{line}" for line in range(len(made.frames))]
     told += [f"r{place}" for place in made.touched]
-    text = "".join(f"short {name};\n" for name in told) + "byte ended;\n"
-    text += "".join(promela_of_host(made, port) for port in ("if1", "if2"))
-    text += "active proctype bus() { byte loaded; short frame;\n" + rounds + ";\nloaded = 0; frame = 0; ended++ }\n"
-    shown = " ".join(["%d"] * len(told))
     values = ", ".join(f"now.{name}" for name in told)
-    return text + f'active proctype end() {{ ended == 3; c_code {{ printf("= {shown}\\n", {values}); }} }}\n'
+    shown = f'printf("= {" ".join(["%d"] * len(told))}\\n", {values});'
+    return (
+        f"c_decl {{\n{''.join(tables.texts)}}};\n"
+        + "".join(f"short {name};\n" for name in told)
+        + f"byte ended;\n{hosts}active proctype bus() {{ byte loaded; short frame;\n{rounds};\nloaded = 0; frame = 0; ended++ }}\n"
+        + f"active proctype end() {{ ended == 3; c_code {{ {shown} }} }}\n"
+    )
 
 
 def searched(script, folder, seconds=120):
