@@ -229,7 +229,7 @@ def promela_of_round(made, tables, line, answers, loads):
 
 
 def promela(script):
-    """The script as a model of SPIN, which prints each outcome that it comes to."""
+    """The script as a model of SPIN, which prints each outcome that it comes to, and the tables that it includes as tables.h."""
     made, answers, tables, loads = Script(script), Numbers(), Tables(), {}
     for place in made.touched:
         for record in made.records[place]:
@@ -242,18 +242,16 @@ def promela(script):
     told += [f"r{place}" for place in made.touched]
     values = ", ".join(f"now.{name}" for name in told)
     shown = f'printf("= {" ".join(["%d"] * len(told))}\\n", {values});'
-    return (
-        f"c_decl {{\n{''.join(tables.texts)}}};\n"
-        + "".join(f"short {name};\n" for name in told)
-        + f"byte ended;\n{hosts}active proctype bus() {{ byte loaded; short frame;\n{rounds};\nloaded = 0; frame = 0; ended++ }}\n"
-        + f"active proctype end() {{ ended == 3; c_code {{ {shown} }} }}\n"
-    )
+    text = 'c_decl { \\#include "tables.h"\n};\n' + "".join(f"short {name};\n" for name in told) + f"byte ended;\n{hosts}"
+    text += f"active proctype bus() {{ byte loaded; short frame;\n{rounds};\nloaded = 0; frame = 0; ended++ }}\n"
+    return text + f"active proctype end() {{ ended == 3; c_code {{ {shown} }} }}\n", "".join(tables.texts)
 
 
 def searched(script, folder, seconds=120):
     """What SPIN says of a script: outcomes, states, seconds of the processor and bytes; None if it takes longer."""
-    with open(f"{folder}/script.pml", "w", encoding="utf-8") as file:
-        file.write(promela(script))
+    for name, text in zip(("script.pml", "tables.h"), promela(script)):
+        with open(f"{folder}/{name}", "w", encoding="utf-8") as file:
+            file.write(text)
     run = lambda *words: subprocess.run(words, cwd=folder, check=True, stdout=subprocess.DEVNULL)
     run("spin", "-a", "script.pml")
     run("cc", "-O2", "-w", "-DSAFETY", "-DNOFAIR", "-DMEMLIM=8000", "-o", "pan", "pan.c")
