@@ -12,8 +12,6 @@ import sys
 sys.path.insert(0, os.path.join(os.path.dirname(os.path.dirname(os.path.realpath(__file__))), "test"))
 import second_model as model  # noqa: E402
 
-FIRST = {"dataa1": 0, "dataa2": 2, "datab1": 4, "datab2": 6}
-
 
 class Numbers:
     """Numbers for things, in the order in which they came."""
@@ -23,29 +21,6 @@ class Numbers:
 
     def __getitem__(self, thing):
         return self.of.setdefault(thing, len(self.of))
-
-
-def with_set(buffer, command, given):
-    """The registers of an interface after a line has set some of them."""
-    arb, mask, control, data = buffer
-    data = list(data)
-    for name, text in given.items():
-        word = int(text, 16)
-        if name == "cmask":
-            command = word & 0xFF
-        elif name == "mask1":
-            mask = mask & ~0xFFFF | word
-        elif name == "mask2":
-            mask = mask & 0xFFFF | (word & 0xDFFF) << 16
-        elif name == "arb1":
-            arb = arb & ~0xFFFF | word
-        elif name == "arb2":
-            arb = arb & 0xFFFF | word << 16
-        elif name == "ctrl":
-            control = word & 0xFF8F
-        else:
-            data[FIRST[name]], data[FIRST[name] + 1] = word & 0xFF, word >> 8
-    return (arb, mask, control, tuple(data)), command
 
 
 def transferred(buffer, command, record):
@@ -65,12 +40,6 @@ def transferred(buffer, command, record):
     return left, shown
 
 
-def frame_in(sent):
-    """A frame that a round offers, as the second model has it."""
-    data = bytes.fromhex(sent.get("data", ""))
-    return (sent["id"], int(sent.get("ext", 0)), int(sent.get("rtr", 0)), sent["dlc"], tuple(data) + (0,) * (8 - len(data)))
-
-
 class Script:
     """What a script's steps can make: the records that each object can have, and what each line can leave."""
 
@@ -78,7 +47,7 @@ class Script:
         self.script, self.objects = script, script.get("profile", 1) * 32
         self.hosts = {port: self.host_lines(script.get(port, [])) for port in ("if1", "if2")}
         self.touched = sorted({line[1] for lines in self.hosts.values() for line in lines if line[1]})
-        self.frames = [[frame_in(sent) for sent in line.get("send", [])] for line in script.get("bus", [])]
+        self.frames = [[model.frame_in(sent) for sent in line.get("send", [])] for line in script.get("bus", [])]
         self.records = {place: {model.ZERO: 0} for place in self.touched}
         self.buffers = {port: [{model.ZERO: 0}] + [{} for _ in lines] for port, lines in self.hosts.items()}
         while self.grow():
@@ -90,7 +59,7 @@ class Script:
         for line in lines:
             if line["op"] == "transfer":
                 given = line.get("set", {})
-                _, command = with_set(model.ZERO, command, given)
+                _, command = model.with_set(model.ZERO, command, given)
                 made.append(("transfer", model.number_of(line["request"], self.objects), given, command))
             elif line["op"] == "until":
                 made.append(("until", line["object"], line["flag"], line["turns"]))
@@ -114,7 +83,7 @@ class Script:
                         grew |= self.add(self.buffers[port][number + 1], buffer)
                         continue
                     for record in list(self.records[place]):
-                        left, shown = transferred(with_set(buffer, command, given)[0], command, record)
+                        left, shown = transferred(model.with_set(buffer, command, given)[0], command, record)
                         grew |= self.add(self.records[place], left) | self.add(self.buffers[port][number + 1], shown)
         for place in self.touched:
             for record in list(self.records[place]):
@@ -145,7 +114,7 @@ def promela_of_transfer(made, tables, port, line):
     to, after = [], []
     for buffer in made.buffers[port][line]:
         for record in made.records[place]:
-            left, shown = transferred(with_set(buffer, command, given)[0], command, record)
+            left, shown = transferred(model.with_set(buffer, command, given)[0], command, record)
             to.append(made.records[place][left])
             after.append(made.buffers[port][line + 1][shown])
     at = f"int at = P{port}->b * {len(made.records[place])} + now.r{place};"
