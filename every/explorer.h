@@ -8,6 +8,7 @@
 #include <stddef.h>
 #include <stdint.h>
 #include <stdio.h>
+#include <time.h>
 
 enum { MOST_THREADS = 12, MOST_CPUS = 8, MOST_DEPTH = 20000, MOST_WRITES = 16, STACK_BYTES = 256 * 1024 };
 
@@ -49,6 +50,7 @@ struct thread {
     void *argument, *result, *stack_top, *sp;
     bool is_done, is_interrupt, waits_for_quiet;
     bool may_stay;              /* a run in which its next step is never made is none */
+    struct timespec woke;       /* the time that was up, at the end of its last wait, if it has read no clock since then */
     int cpu;                    /* 0: a processor of its own */
     condition *may;             /* what its next step waits for; NULL: nothing */
     const void *about;
@@ -121,6 +123,7 @@ typedef struct explorer {
     FILE *real_out;
     footprint reach[MOST_THREADS]; /* what each thread has touched or waited for in any run so far */
     bool learning, met_last;    /* the ends of runs are places; whether one was */
+    uintptr_t clock_site;       /* where the program first read a clock; 0: nowhere */
     int arguments;
     char **argument_list;
 } explorer;

@@ -116,19 +116,27 @@ static void draw(const outcome *of, int number)
     E->drawing = false;
 }
 
+/* What it ends in, with the end of its last line. */
+static void print_text(FILE *to, const outcome *of)
+{
+    size_t length = text_length(of->text);
+    fprintf(to, "%s%s", of->text, length && of->text[length - 1] != '\n' ? "\n" : "");
+}
+
 static void print_one(FILE *to, const outcome *of, int number)
 {
     const char *kind = of->is_failure ? "failure" : "outcome", *by = E->figures.counted ? ", by " : "";
     const char *schedules = E->figures.counted ? schedules_text(of->schedules) : "";
     bool with_history = of->is_failure || E->options.histories;
     if (E->options.brief) {
-        fprintf(to, "%s%s%s: %s", kind, E->options.counts ? by : "", E->options.counts ? schedules : "", of->text);
+        fprintf(to, "%s%s%s: ", kind, E->options.counts ? by : "", E->options.counts ? schedules : "");
+        print_text(to, of);
         draw(of, number);
         return;
     }
     fprintf(to, "\n%s %d%s%s", kind, number, by, schedules);
     fprintf(to, "; the shortest that was found has %d step%s\n", of->depth, of->depth == 1 ? "" : "s");
-    fprintf(to, "%s", of->text);
+    print_text(to, of);
     run_again(of->path, of->depth, with_history ? to : NULL);
     print_replay(to, of->is_failure && E->ending == GOES_ON);
     draw(of, number);

@@ -241,10 +241,24 @@ static void print_uncounted(FILE *to)
             E->figures.whole ? "the search that counts them" : "the search");
 }
 
+static void print_clock(FILE *to)
+{
+    if (E->clock_site)
+        fprintf(to, "note: %s reads a clock, and each stands still; only a wait with a time comes to its end by time\n",
+            line_of_code(E->clock_site));
+}
+
 static const char *how_far(void)
 {
     uintptr_t *sites;
-    return !E->figures.whole ? "given up" : outcomes_dropped() ? "whole but for outcomes that are not listed" : counting_sites(&sites) ? "whole but for counted turns" : "whole";
+    bool counts = counting_sites(&sites) != 0;
+    if (!E->figures.whole)
+        return "given up";
+    if (outcomes_dropped())
+        return "whole but for outcomes that are not listed";
+    if (E->clock_site)
+        return counts ? "whole but for clocks and counted turns" : "whole but for clocks";
+    return counts ? "whole but for counted turns" : "whole";
 }
 
 void print_result(void)
@@ -263,6 +277,7 @@ void print_result(void)
     fputc('\n', to);
     print_races(to);
     print_counting(to);
+    print_clock(to);
     if (outcomes_dropped())
         fprintf(to, "warning: there are more outcomes than the %d that are listed and counted\n", outcomes_found());
     if (of->whole && !outcomes_found())

@@ -1,4 +1,4 @@
-/* What the two objects of the library that stand apart call of the others. */
+/* What the objects of the library that stand apart call of the others. */
 #include "explorer.h"
 
 void ccan_private_touch(const void *at, size_t size, bool writes, bool is_atomic, uintptr_t pc)
@@ -10,4 +10,21 @@ void ccan_private_refuse(const char *call, const char *why)
 {
     if (E && E->running)
         stop(2, "the program calls %s: %s", call, why);
+}
+
+void ccan_private_give(void *to, const void *from, size_t size) { give(to, from, size); }
+
+static bool is_later(const struct timespec *one, const struct timespec *other)
+{
+    return one->tv_sec > other->tv_sec || (one->tv_sec == other->tv_sec && one->tv_nsec > other->tv_nsec);
+}
+
+/* What a clock shows the calling thread: the time that was up, if its last wait has ended by that, and else this. */
+struct timespec ccan_private_clock(struct timespec stands_at, uintptr_t site)
+{
+    struct timespec woke = ME->woke;
+    if (!E->clock_site)
+        E->clock_site = site;
+    ME->woke = (struct timespec){ 0 };
+    return is_later(&woke, &stands_at) ? woke : stands_at;
 }

@@ -1,27 +1,34 @@
-/* Mutexes, condition variables, semaphores and the like. What is known of one stands in its own memory, in its first words, so it
- * is a word that threads share like any other; all zero is one that is free, as the initializers make it. */
-#include "explorer.h"
+/* Mutexes, condition variables, semaphores and pthread_once. */
+#include "sync.h"
 #include <errno.h>
 #include <pthread.h>
 #include <semaphore.h>
 
-/* A mutex: who holds it, less 1; how often. A condition variable: who waits, and who was signalled, as sets of threads. A
+/* A mutex: who holds it, less 1; how often. A condition variable: who waits, and was not signalled, as a set of threads. A
  * semaphore: its value. */
-typedef struct { uint32_t first, second; } words;
-static words *words_of(const void *object) { return (words *)(uintptr_t)object; }
-#define PC ((uintptr_t)__builtin_return_address(0))
+static bool is_free(const thread *of) { return !awaited(of)->first; }
+static bool has_value(const thread *of) { return awaited(of)->first > 0; }
+static bool was_signalled(const thread *of) { return !(awaited(of)->first >> (of - R.threads) & 1); }
 
-static bool is_free(const thread *of) { return !words_of(of->about)->first; }
-static bool has_value(const thread *of) { return words_of(of->about)->first > 0; }
-static bool was_signalled(const thread *of) { return !(words_of(of->about)->first >> (of - R.threads) & 1); }
-
-/* A step at an object, when `may` lets it. */
-static void step_at(const void *object, condition *may, uintptr_t pc)
+bool step_in_time(const void *object, condition *may, const struct timespec *until, uintptr_t pc)
 {
-    touch_when(object, sizeof(words), pc, may);
+    bool in_time = step_choosing(2) == 0;
+    ME->may_stay = in_time;
+    step_at(object, in_time ? may : NULL, pc);
+    ME->may_stay = false;
+    if (!in_time)
+        ME->woke = *until;
+    return in_time;
 }
 
 /* ---- mutexes */
+
+static int take_mutex(pthread_mutex_t *mutex)
+{
+    words_of(mutex)->first = (uint32_t)R.me + 1;
+    tell("locks %s", name_of_data((uintptr_t)mutex));
+    return 0;
+}
 
 static int lock_mutex(pthread_mutex_t *mutex, uintptr_t pc)
 {
@@ -32,9 +39,7 @@ static int lock_mutex(pthread_mutex_t *mutex, uintptr_t pc)
     if (of->first == (uint32_t)R.me + 1 && kind == PTHREAD_MUTEX_ERRORCHECK)
         return EDEADLK;
     step_at(mutex, is_free, pc);
-    of->first = (uint32_t)R.me + 1;
-    tell("locks %s", name_of_data((uintptr_t)mutex));
-    return 0;
+    return take_mutex(mutex);
 }
 
 static int unlock_mutex(pthread_mutex_t *mutex, uintptr_t pc)
@@ -67,11 +72,20 @@ int pthread_mutex_unlock(pthread_mutex_t *mutex) { return unlock_mutex(mutex, PC
 int pthread_mutex_trylock(pthread_mutex_t *mutex)
 {
     step_at(mutex, NULL, PC);
-    if (words_of(mutex)->first)
-        return EBUSY;
-    words_of(mutex)->first = (uint32_t)R.me + 1;
-    tell("locks %s", name_of_data((uintptr_t)mutex));
-    return 0;
+    return words_of(mutex)->first ? EBUSY : take_mutex(mutex);
+}
+
+int pthread_mutex_timedlock(pthread_mutex_t *mutex, const struct timespec *until)
+{
+    step_in_time(mutex, is_free, until, PC);
+    return words_of(mutex)->first ? ETIMEDOUT : take_mutex(mutex);
+}
+
+int pthread_mutex_clocklock(pthread_mutex_t *mutex, clockid_t clock, const struct timespec *until)
+{
+    (void)clock;
+    step_in_time(mutex, is_free, until, PC);
+    return words_of(mutex)->first ? ETIMEDOUT : take_mutex(mutex);
 }
 
 /* ---- condition variables: whom a signal wakes is a choice; nobody wakes without one */
@@ -101,18 +115,24 @@ int pthread_cond_wait(pthread_cond_t *variable, pthread_mutex_t *mutex)
     return lock_mutex(mutex, PC);
 }
 
-/* Either the time is up, whenever, or the signal comes. */
+static int wait_in_time(pthread_cond_t *variable, pthread_mutex_t *mutex, const struct timespec *until, uintptr_t pc)
+{
+    wait_for_signal(variable, mutex, pc);
+    bool in_time = step_in_time(variable, was_signalled, until, pc);
+    words_of(variable)->first &= ~(1u << R.me);
+    lock_mutex(mutex, pc);
+    return in_time ? 0 : ETIMEDOUT;
+}
+
 int pthread_cond_timedwait(pthread_cond_t *variable, pthread_mutex_t *mutex, const struct timespec *until)
 {
-    (void)until;
-    wait_for_signal(variable, mutex, PC);
-    bool in_time = step_choosing(2) == 0;
-    ME->may_stay = in_time;
-    step_at(variable, in_time ? was_signalled : NULL, PC);
-    ME->may_stay = false;
-    words_of(variable)->first &= ~(1u << R.me);
-    lock_mutex(mutex, PC);
-    return in_time ? 0 : ETIMEDOUT;
+    return wait_in_time(variable, mutex, until, PC);
+}
+
+int pthread_cond_clockwait(pthread_cond_t *variable, pthread_mutex_t *mutex, clockid_t clock, const struct timespec *until)
+{
+    (void)clock;
+    return wait_in_time(variable, mutex, until, PC);
 }
 
 int pthread_cond_signal(pthread_cond_t *variable)
@@ -145,23 +165,41 @@ int sem_init(sem_t *semaphore, int shared, unsigned value)
 
 int sem_destroy(sem_t *semaphore) { return (void)semaphore, 0; }
 
-int sem_wait(sem_t *semaphore)
+/* Takes one, or says with this error that none is there. */
+static int take_one(sem_t *semaphore, int error)
 {
-    step_at(semaphore, has_value, PC);
+    if (!words_of(semaphore)->first) {
+        errno = error;
+        return -1;
+    }
     words_of(semaphore)->first--;
     tell("takes %s", name_of_data((uintptr_t)semaphore));
     return 0;
 }
 
+int sem_wait(sem_t *semaphore)
+{
+    step_at(semaphore, has_value, PC);
+    return take_one(semaphore, 0);
+}
+
 int sem_trywait(sem_t *semaphore)
 {
     step_at(semaphore, NULL, PC);
-    if (!words_of(semaphore)->first) {
-        errno = EAGAIN;
-        return -1;
-    }
-    words_of(semaphore)->first--;
-    return 0;
+    return take_one(semaphore, EAGAIN);
+}
+
+int sem_timedwait(sem_t *semaphore, const struct timespec *until)
+{
+    step_in_time(semaphore, has_value, until, PC);
+    return take_one(semaphore, ETIMEDOUT);
+}
+
+int sem_clockwait(sem_t *semaphore, clockid_t clock, const struct timespec *until)
+{
+    (void)clock;
+    step_in_time(semaphore, has_value, until, PC);
+    return take_one(semaphore, ETIMEDOUT);
 }
 
 int sem_post(sem_t *semaphore)

@@ -237,6 +237,20 @@ int nanosleep(const struct timespec *time, struct timespec *left)
     return 0;
 }
 
+int thrd_sleep(const struct timespec *time, struct timespec *left)
+{
+    (void)time, (void)left;
+    wait_at(HERE);
+    return 0;
+}
+
+int clock_nanosleep(clockid_t clock, int flags, const struct timespec *time, struct timespec *left)
+{
+    (void)clock, (void)flags, (void)time, (void)left;
+    wait_at(HERE);
+    return 0;
+}
+
 void ccan_quiet(void)
 {
     if (R.alone)

@@ -30,9 +30,14 @@ IsObservingAll list Can = ⊥
 IsObservingAll list Never = ⊥
 IsObservingAll list (Observed names) = ⊥
 
--- a number of states is the one that is given, however large; that it is a number is checked before
+-- a number is the one that is given, however large; that it is a number is checked before
 abbrev pub IsGivenBy : Option (List ℕ) → ℕ → Type 0
-IsGivenBy word most = (n : ℕ) → n < 2 ^ 64 → word ≡ Some (decimal n) → most ≡ n
+IsGivenBy word number = (n : ℕ) → n < 2 ^ 64 → word ≡ Some (decimal n) → number ≡ n
+
+-- the same of a number that may be left out
+abbrev pub IsChosenBy : Option (List ℕ) → Option ℕ → Type 0
+IsChosenBy word number =
+    (word ≡ None → number ≡ None) × ((n : ℕ) → n < 2 ^ 64 → word ≡ Some (decimal n) → number ≡ Some n)
 
 -- a LINE asks for a frame if it begins with `c`, or if it has a `#` or a letter in upper case: no other printed line does
 unfoldable pub is_of_frame : ℕ → Bool
@@ -48,7 +53,8 @@ asks_frame line = begins_with_c line || list_any is_of_frame line
 -- frames are reported if the flag is there, or if a LINE asks for one
 abbrev pub AsksFramesBy : Option (List ℕ) → List (Bor (List ℕ)) → Bool → Type 0
 AsksFramesBy word lines frames =
-    (word ≡ Some (codes "true") → frames ≡ true) × (word ≡ Some (codes "false") → frames ≡ list_any (λ line. asks_frame line.now) lines)
+    (word ≡ Some (codes "true") → frames ≡ true)
+    × (word ≡ Some (codes "false") → frames ≡ list_any (λ line. asks_frame line.now) lines)
 
 -- histories are written in few lines if the flag is there, and else step by step
 abbrev pub IsFormBy : Option (List ℕ) → HistoryForm → Type 0

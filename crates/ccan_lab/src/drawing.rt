@@ -1,8 +1,9 @@
 //! The question `ccan-lab draw`: its words, and the picture.
-ghost use Rattle.std.specs.Prelude.{[], codes};
-ghost use Rattle.clap.specs.Words.{found_of, one_text};
+ghost use Rattle.std.specs.Prelude.{◌≡◌, [], codes};
+ghost use Rattle.std.specs.Option.{option_map};
+ghost use Rattle.clap.specs.Words.{first_value, found_of, one_text};
 ghost use Rattle.ccan_line.specs.Script.{fields_of};
-ghost use Rattle.ccan_lab.specs.Question.{AsksFramesBy, IsGivenBy};
+ghost use Rattle.ccan_lab.specs.Question.{AsksFramesBy, IsChosenBy, IsGivenBy};
 ghost use Rattle.ccan_lab.specs.Telling.{CanBeTold};
 
 use crate::command_words::{command, file, number, switch, with};
@@ -73,14 +74,25 @@ pub fn draw_command<'a>(alloc: Global) -> Result<Command<'a>, AllocError> {
     )
 }
 
+/// The number of the outcome that is to be drawn, if one is given.
+fn outcome_of(words: &ArgMatches<'_>) -> Option<usize>
+    ensures { IsChosenBy (one_text (found_of words.now) (codes "outcome")) result }
+{
+    words.get_one::<usize>("outcome")
+}
+
 /// The question that the words after `draw` ask.
 pub fn draw_question<'a>(words: &ArgMatches<'a>) -> DrawQuestion<'a>
+    ensures outcome { IsChosenBy
+        (one_text (found_of words.entry.now) (codes "outcome")) result.outcome }
     ensures most { IsGivenBy (one_text (found_of words.entry.now) (codes "most")) result.most }
     ensures frames { AsksFramesBy
         (one_text (found_of words.entry.now) (codes "frames")) [] result.frames }
+    ensures file { option_map (λ path. path.now) result.file
+        ≡ first_value (found_of words.entry.now) (codes "file") }
 {
     DrawQuestion {
-        outcome: words.get_one::<usize>("outcome"),
+        outcome: outcome_of(words),
         most: most_of(words),
         frames: words.get_flag("frames"),
         file: words.get_str("file"),

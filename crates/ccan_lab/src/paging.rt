@@ -1,7 +1,7 @@
 //! The question `ccan-lab page`: its words, and the page.
-ghost use Rattle.std.specs.Prelude.{◌≡◌, [], IfErr, IfOk, codes, string_bytes};
+ghost use Rattle.std.specs.Prelude.{◌≡◌, ◌≤◌, [], IfErr, IfOk, codes, string_bytes};
 ghost use Rattle.std.specs.Option.{option_map};
-ghost use Rattle.clap.specs.Words.{found_of, one_text};
+ghost use Rattle.clap.specs.Words.{first_value, found_of, one_text};
 ghost use Rattle.ccan_lab.specs.Answered.{IsUnread};
 ghost use Rattle.ccan_lab.specs.Paging.{IsKindBy, page_name};
 ghost use Rattle.ccan_lab.specs.Question.{AsksFramesBy, IsGivenBy};
@@ -109,17 +109,29 @@ fn kind_asked(words: &ArgMatches<'_>) -> PageKind
     }
 }
 
-/// The question that the words after `page` ask.
+/// How many outcomes a page shows at most: as it is given, or the default.
+fn limit_of(words: &ArgMatches<'_>) -> usize
+    ensures { IsGivenBy (one_text (found_of words.now) (codes "limit")) result }
+{
+    words.get_one::<usize>("limit").unwrap_or(DEFAULT_LIMIT)
+}
+
+/// The question that the words after `page` ask, if a page is to show at least one outcome.
 pub fn page_question<'a>(alloc: Global, words: &ArgMatches<'a>) -> Result<PageQuestion<'a>, Error>
     ensures kind { IfOk result (λ question.
         IsKindBy (one_text (found_of words.entry.now) (codes "run"))
         (one_text (found_of words.entry.now) (codes "outcomes")) question.kind) }
+    ensures limit { IfOk result (λ question.
+        IsGivenBy (one_text (found_of words.entry.now) (codes "limit")) question.limit) }
+    ensures least { IfOk result (λ question. 1 ≤ question.limit) }
     ensures most { IfOk result (λ question.
         IsGivenBy (one_text (found_of words.entry.now) (codes "most")) question.most) }
     ensures frames { IfOk result (λ question. AsksFramesBy
         (one_text (found_of words.entry.now) (codes "frames")) [] question.frames) }
+    ensures file { IfOk result (λ question. option_map (λ path. path.now) question.file
+        ≡ first_value (found_of words.entry.now) (codes "file")) }
 {
-    let limit = words.get_one::<usize>("limit").unwrap_or(DEFAULT_LIMIT);
+    let limit = limit_of(words);
     if limit == 0 {
         return Err(no_outcome_shown(alloc)?);
     }

@@ -65,7 +65,12 @@ WRONG = [
     Fault("sleep sets that nobody leaves", "search.c", "        if (conflict(label, &before->event))\n            continue;\n", ""),
     Fault("a known state from which nothing is done, whoever was asleep", "search.c", "*asleep_before & at->may", "0u"),
     # Threads.
-    Fault("a mutex that two may hold", "sync.c", "{ return !words_of(of->about)->first; }", "{ return of != NULL; }"),
+    Fault("a mutex that two may hold", "sync.c", "{ return !awaited(of)->first; }", "{ return of != NULL; }"),
+    Fault("a lock for readers beside a writer", "locks.c", "{ return !(awaited(of)->first & WRITER); }", "{ return of != NULL; }"),
+    Fault("a spin lock that two may hold", "locks.c", "{ return !*(const uint32_t *)of->about; }", "{ return of != NULL; }"),
+    Fault("a barrier that lets go one too few", "locks.c", "(of->second) == of->first", "(of->second) + 1 == of->first"),
+    Fault("a wait whose time is never up", "sync.c", "bool in_time = step_choosing(2) == 0;", "bool in_time = step_choosing(1) == 0;"),
+    Fault("a clock that has not come to the time that was up", "private.c", "? woke : stands_at;", "? stands_at : stands_at;"),
     Fault("a handler beside a task of its own processor", "steps.c",
           "    if (of->cpu && R.handler_on[of->cpu] && R.handler_on[of->cpu] != number + 1)\n        return false;\n", ""),
     # The chip.
