@@ -7,6 +7,7 @@ pub mod Joined
 pub mod Swapped
 pub mod ToFront
 pub mod Undisturbed
+pub mod Uncontended
 pub mod MostChanges
 pub mod AtOnce
 pub mod Looser
