@@ -8,6 +8,7 @@ pub mod Swapped
 pub mod ToFront
 pub mod Undisturbed
 pub mod Uncontended
+pub mod FreeSteps
 pub mod MostChanges
 pub mod AtOnce
 pub mod Looser
