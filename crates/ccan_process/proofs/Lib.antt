@@ -7,6 +7,8 @@ pub mod Joined
 pub mod Swapped
 pub mod ToFront
 pub mod Undisturbed
+pub mod Uncontended
+pub mod FreeSteps
 pub mod MostChanges
 pub mod AtOnce
 pub mod Looser

@@ -7,6 +7,8 @@ pub mod Machine
 pub mod MachineLaws
 pub mod Quiet
 pub mod UndisturbedLaws
+pub mod Uncontended
+pub mod UncontendedLaws
 pub mod WaitLaws
 pub mod AtOnce
 pub mod AtOnceLaws
