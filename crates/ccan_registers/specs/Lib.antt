@@ -7,6 +7,7 @@ pub mod Resetting
 pub mod AllObjects
 pub mod Clearing
 pub mod Register
+pub mod Bytes
 pub mod Rounds
 pub mod Frames
 pub mod Notes

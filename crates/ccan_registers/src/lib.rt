@@ -24,12 +24,15 @@
 //! A port shows another what it has seen by a note (`tell`, `heed`).
 //!
 //! A word of 32 bits (`read_word`, `write_word`) is two registers, one after the other; two of one flag, and Bit Timing with BRP
-//! Extension, are one access. What a D_CAN does differently from a C_CAN is in `dcan`, and the initialisation of its message RAM
+//! Extension, are one access. A byte (`read_byte`, `write_byte`) is read by a read of its register, and its write leaves the other
+//! byte of the register. What a D_CAN does differently from a C_CAN is in `dcan`, and the initialisation of its message RAM
 //! in `clearing`.
 #![tactic(auto)]
 
 mod access_error;
 mod all_objects;
+mod byte;
+mod bytes;
 mod clearing;
 mod controller;
 mod dcan;
@@ -45,6 +48,7 @@ mod transferring;
 mod words;
 
 pub use access_error::AccessError;
+pub use bytes::{read_byte, write_byte};
 pub use clearing::clear_objects;
 pub use controller::{change, look};
 pub use dcan::reset_of;

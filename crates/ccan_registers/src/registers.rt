@@ -29,7 +29,7 @@ use ccan_ram::{PortName, SharedRam, Tries};
 
 /// Whether the interface is the port's.
 #[inline(always)]
-fn is_own(port: PortName, interface: Interface) -> bool
+pub(crate) fn is_own(port: PortName, interface: Interface) -> bool
     ensures { result ≡ says.is_own port interface }
 {
     match interface {
