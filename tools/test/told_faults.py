@@ -62,7 +62,7 @@ TOLD = [
      ['-:1:37: order: names if1 0 times, and if1 has 1 lines', '-:1:37: order: names bus 1 times, and bus has 0 lines']),
     # tells each fault
     ('{\n"if1": [\n{"op":"x"},\n{"op":"flags","flag":"newdat"},\n{}],\n"if2": [1]\n}',
-     ['-:3:7: if1[0].op: "x" is no operation of a host: transfer, until, interrupt or flags', '-:5:1: if1[2]: "op" is missing', '-:6:9: if2[0]: 1 is not an object', '-:1:1: warning: order: is missing, so all lines of if1 run first, then those of if2, then those of bus']),
+     ['-:3:7: if1[0].op: "x" is no operation of a host: transfer, until, interrupt or flags', '-:5:1: if1[2]: "op" is missing', '-:6:9: if2[0]: 1 is not an object', '-:1:1: warning: order: is missing, so a run in order has all lines of if1 first, then those of if2, then those of bus; outcomes need no order']),
     # tells members of lines
     ('{"if1":[7]}',
      ['-:1:9: if1[0]: 7 is not an object']),
@@ -145,7 +145,7 @@ TOLD = [
     ('{"if1":[{"op":"transfer","request":"0001","set":{"arb2":"848c"}}]}',
      []),
     ('{"if1":[{"op":"interrupt"}],"bus":[{"op":"round"}]}',
-     ['-:1:1: warning: order: is missing, so all lines of if1 run first, then those of if2, then those of bus']),
+     ['-:1:1: warning: order: is missing, so a run in order has all lines of if1 first, then those of if2, then those of bus; outcomes need no order']),
     ('{"if1":[{"op":"interrupt"}],"bus":[{"op":"status"}]}',
      []),
     ('{"quota":1,"quota":2}',

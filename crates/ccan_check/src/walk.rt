@@ -250,7 +250,8 @@ fn warn_of_default(alloc: Global, top: Spot<'_>, report: &mut Report) -> Result<
         let text = joined(
             alloc,
             &[
-                "order: is missing, so all lines of if1 run first, then those of if2, then those of bus",
+                "order: is missing, so a run in order has all lines of if1 first, then those of if2, then those of \
+                 bus; outcomes need no order",
             ],
         )?;
         report.warnings.push(Remark {
