@@ -123,7 +123,8 @@ typedef struct explorer {
     FILE *real_out;
     footprint reach[MOST_THREADS]; /* what each thread has touched or waited for in any run so far */
     bool learning, met_last;    /* the ends of runs are places; whether one was */
-    uintptr_t clock_site;       /* where the program first read a clock; 0: nowhere */
+    bool clocks_stand;          /* the program says that clocks stand still */
+    uintptr_t clock_site;       /* where it first read one; 0: nowhere */
     int arguments;
     char **argument_list;
 } explorer;

@@ -244,7 +244,7 @@ static void print_uncounted(FILE *to)
 static void print_clock(FILE *to)
 {
     if (E->clock_site)
-        fprintf(to, "note: %s reads a clock, and each stands still; only a wait with a time comes to its end by time\n",
+        fprintf(to, "note: the clock that is read at %s stands still; time is only up at the end of a wait\n",
             line_of_code(E->clock_site));
 }
 

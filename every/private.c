@@ -19,10 +19,14 @@ static bool is_later(const struct timespec *one, const struct timespec *other)
     return one->tv_sec > other->tv_sec || (one->tv_sec == other->tv_sec && one->tv_nsec > other->tv_nsec);
 }
 
-/* What a clock shows the calling thread: the time that was up, if its last wait has ended by that, and else this. */
-struct timespec ccan_private_clock(struct timespec stands_at, uintptr_t site)
+/* What a clock shows the calling thread, if clocks stand still: the time that was up, if its last wait has ended by that, and else
+ * this. */
+struct timespec ccan_private_clock(const char *call, struct timespec stands_at, uintptr_t site)
 {
     struct timespec woke = ME->woke;
+    if (!E->clocks_stand)
+        stop(2, "the program calls %s: a schedule has no time; ccan_choose says whether it is up, and ccan_stop_clocks has each clock stand still",
+            call);
     if (!E->clock_site)
         E->clock_site = site;
     ME->woke = (struct timespec){ 0 };

@@ -50,6 +50,11 @@ unsigned ccan_choose(unsigned count);
  * at has changed. If such turns are counted by the thread, the count stays (docs/EVERY.md, "Loops that wait"). */
 void ccan_wait(void);
 
+/* Has each clock stand still, for a program that computes the end of a wait with a time from the time now. Without it a search that
+ * comes to a clock is refused. A wait with a time, such as pthread_cond_timedwait, ends by its time at any moment, and its thread
+ * then reads that time next, once. If a clock is read, the summary says `whole but for clocks`. */
+void ccan_stop_clocks(void);
+
 /* Returns when no other thread can go on: each has ended, waits for what never comes, or looks in vain. Then the caller is alone,
  * and checks what came of it. */
 void ccan_quiet(void);

@@ -37,6 +37,7 @@ int main(void)
 {
     thrd_t thread;
     int result;
+    ccan_stop_clocks();
     mtx_init(&lock, mtx_plain);
     cnd_init(&came);
     thrd_create(&thread, receive, NULL);

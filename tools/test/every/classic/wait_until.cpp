@@ -20,6 +20,7 @@ static void receive()
 
 int main()
 {
+    ccan_stop_clocks();
     std::thread receiver(receive);
     bool in_time;
     {
