@@ -1,6 +1,6 @@
 //! The memory without an end in plain Rust, to tell what the proved one costs beside it: the same words, the same steps,
-//! nothing proved. A read and a write here take the whole record, where the proved ones merge the groups of a command mask, and
-//! a write counts its tries. Prints medians in nanoseconds, of a look, a flag word of 32 objects in one moment, 32 looks of a flag, and
+//! nothing proved. A write merges the groups of its command mask, as the proved one does, but has one try; a read takes the whole
+//! record. Prints medians in nanoseconds, of a look, a flag word of 32 objects in one moment, 32 looks of a flag, and
 //! full writes, alone and by three threads at objects apart and at one. With a word as `look=1000` it makes so many calls of that
 //! kind and prints nothing: of `look`, `read`, `write`, `flags` or `line`.
 use std::hint::black_box;
@@ -9,6 +9,15 @@ use std::sync::Barrier;
 use std::time::Instant;
 
 const OBJECTS: usize = 32;
+/// Bits of a command mask: the groups that a transfer moves, and its request of a transmission.
+const MASK: u16 = 64;
+const ARBITRATION: u16 = 32;
+const CONTROL: u16 = 16;
+const TRANSMISSION: u16 = 4;
+const DATA_A: u16 = 2;
+const DATA_B: u16 = 1;
+/// A write of all groups.
+const ALL: u16 = 0x00f3;
 /// Places of flags among the marks.
 const MSGVAL: u32 = 13;
 const INTPND: u32 = 10;
@@ -84,6 +93,30 @@ impl Record {
     }
 }
 
+impl Record {
+    /// This record, with the groups of the buffer that the command selects.
+    fn merged(&self, command: u16, buffer: &Record) -> Record {
+        let chosen = |group: u16| if command & group != 0 { buffer } else { self };
+        let (mask, arbitration) = (chosen(MASK), chosen(ARBITRATION));
+        let (data_a, data_b) = (chosen(DATA_A), chosen(DATA_B));
+        let control = chosen(CONTROL);
+        let mut bytes = data_a.bytes;
+        bytes[4..].copy_from_slice(&data_b.bytes[4..]);
+        Record {
+            mxtd: mask.mxtd,
+            mdir: mask.mdir,
+            mask: mask.mask,
+            valid: arbitration.valid,
+            xtd: arbitration.xtd,
+            dir: arbitration.dir,
+            id: arbitration.id,
+            txrqst: control.txrqst || command & TRANSMISSION != 0,
+            bytes,
+            ..*control
+        }
+    }
+}
+
 /// The value of an object's word: count above the port, then the port, the low bits of the count, a side, the marks.
 fn value_of(count: u64, port: usize, side: u64, marks: u64) -> u64 {
     count >> 16 << 33 | (port as u64) << 31 | (count & 0xffff) << 15 | side << 14 | marks
@@ -134,13 +167,14 @@ impl Memory {
         }
     }
 
-    /// One try of a write of all parts.
-    fn write(&self, port: &mut Port, object: usize, record: &Record) -> bool {
-        let (value, _found) = self.read(object);
+    /// One try of a write of the groups that the command selects.
+    fn write(&self, port: &mut Port, object: usize, command: u16, buffer: &Record) -> bool {
+        let (value, found) = self.read(object);
         if self.head(object).load(SeqCst) != value {
             return false;
         }
         let side = if port_in(value) == port.port { 1 - side_in(value) } else { 0 };
+        let record = found.merged(command, buffer);
         let body = record.body();
         let place = self.place(port.port, object, side);
         self.words[place].store(body[0], SeqCst);
@@ -181,7 +215,7 @@ fn make_calls(name: &str, calls: u64) {
     let mut registers = message();
     let controller = AtomicU64::new(0);
     for object in 0..OBJECTS {
-        assert!(memory.write(&mut port, object, &message()));
+        assert!(memory.write(&mut port, object, ALL, &message()));
     }
     match name {
         "look" => repeat(calls, || memory.read(black_box(0)).1.valid),
@@ -189,7 +223,7 @@ fn make_calls(name: &str, calls: u64) {
             registers = memory.read(black_box(0)).1;
             black_box(&registers).valid
         }),
-        "write" => repeat(calls, || memory.write(&mut port, 0, black_box(&message()))),
+        "write" => repeat(calls, || memory.write(&mut port, 0, black_box(ALL), black_box(&message()))),
         "flags" => repeat(calls, || memory.flags(black_box(MSGVAL)) == 0xffff_ffff),
         "line" => repeat(calls, || {
             let asks = bit(controller.load(SeqCst), 1);
@@ -224,7 +258,7 @@ fn timed(steps: u64, mut step: impl FnMut(&Memory, &mut Port)) -> f64 {
                 let memory = Memory::new();
                 let mut port = Port { port: 0, used: 0 };
                 for object in 0..OBJECTS {
-                    assert!(memory.write(&mut port, object, &message()));
+                    assert!(memory.write(&mut port, object, ALL, &message()));
                 }
                 let start = Instant::now();
                 for _ in 0..steps {
@@ -252,7 +286,7 @@ fn writers(objects: [usize; 3]) -> f64 {
                                 barrier.wait();
                                 let start = Instant::now();
                                 for _ in 0..CALLS {
-                                    while !memory.write(&mut port, objects[name], black_box(&message())) {}
+                                    while !memory.write(&mut port, objects[name], black_box(ALL), black_box(&message())) {}
                                 }
                                 start.elapsed().as_nanos() as f64 / CALLS as f64
                             })
@@ -283,7 +317,7 @@ fn main() {
     println!("{:<22} {singles:.1} ns", "32 looks of a flag");
     let moment = timed(CALLS, |memory, _| assert_eq!(black_box(memory.flags(MSGVAL)), 0xffff_ffff));
     println!("{:<22} {moment:.1} ns", "32 flags of a moment");
-    let write = timed(CALLS, |memory, port| assert!(memory.write(port, 0, black_box(&message()))));
+    let write = timed(CALLS, |memory, port| assert!(memory.write(port, 0, black_box(ALL), black_box(&message()))));
     println!("{:<22} {write:.1} ns", "full write");
     println!("{:<22} {:.1} ns", "three writers apart", writers([0, 1, 2]));
     println!("{:<22} {:.1} ns", "three writers on one", writers([0, 0, 0]));
