@@ -7,6 +7,7 @@ use Rattle.std.specs.declared.option.Option.{Option}
 use Rattle.std.specs.declared.result.Result.{Result}
 use Rattle.std.specs.List.{list_all}
 use Rattle.ccan_object.specs.declared.record.Record.{Record}
+use Rattle.ccan_object.specs.Interface.{shown}
 use Rattle.ccan_object.specs.Profile.{objects_in}
 use Rattle.ccan_accept.specs.declared.frame.Frame.{Frame}
 use Rattle.ccan_confine.specs.declared.controller.Controller.{Controller}
@@ -62,6 +63,10 @@ use Rattle.ccan_map.specs.declared.register.Register.{Register}
 use Rattle.ccan_map.specs.declared.register.Register.TheVariants as register
 use Rattle.ccan_registers.specs.declared.access_error.AccessError.{AccessError}
 use Rattle.ccan_registers.specs.declared.interface_set.InterfaceSet.{InterfaceSet}
+use Rattle.ccan_registers.specs.declared.byte.Byte.{Byte}
+use Rattle.ccan_registers.specs.declared.byte.Byte.TheVariants.{Lower, Upper}
+use Rattle.ccan_registers.specs.Bytes.{ReadsByte, ResetsInInit, WritesByte, WritesByteOf, WritesLower, WritesTimingByte, WritesUpper}
+use Rattle.ccan_registers.specs.Bytes.{byte_in, has_reset, start_of as start_of_register, with_byte}
 use Rattle.ccan_registers.specs.ChipSteps.{AtController, OnObjects, Then}
 use Rattle.ccan_registers.specs.Frames.{BeginsOnChip, EndsOnChip, StationState}
 use Rattle.ccan_registers.specs.InterfaceSet.{Transferred}
@@ -412,6 +417,101 @@ module _ (terms : Terms) (tries : ℕ) (some : 1 ≤ tries) where
   writes_at_apart layout offset value own left seen added (Some told) alone (r, at, h) =
       (r, at, writes_apart layout r value own left seen added told alone h)
 
+  -- ---- bytes of registers
+
+  reads_byte_apart : (layout : Map) (offset : ℕ) (own : InterfaceSet) (seen added : ChipHistory)
+      (told : Option (Result ℕ AccessError)) → ActsAlone terms.port added
+      → ReadsByte terms tries layout offset own seen added told → ReadsByte single tries layout offset own seen added told
+  reads_byte_apart layout offset own seen added told alone (word, h, is) =
+      (word, reads_at_apart layout (start_of_register offset) own seen added word alone h, is)
+
+  timing_byte_apart : (layout : Map) (byte : Byte) (value : ℕ) (own left : InterfaceSet) (seen added : ChipHistory)
+      (told : Result (Unit {0}) AccessError) → ActsAlone terms.port added
+      → WritesTimingByte terms tries layout byte value own seen added told left
+      → WritesTimingByte single tries layout byte value own seen added told left
+  timing_byte_apart layout byte value own left seen added told alone h = record {
+    found = h.found;
+    steps =
+        then_apart _ _ _ seen added alone
+        (λ s a only. writes_apart layout register.BitTiming (with_byte byte value h.found.timing.register) own left s a told only)
+        h.steps;
+  }
+
+  reset_in_init_apart : (own left : InterfaceSet) (seen added : ChipHistory) (told : Result (Unit {0}) AccessError)
+      → ActsAlone terms.port added
+      → ResetsInInit terms tries own seen added told left → ResetsInInit single tries own seen added told left
+  reset_in_init_apart own left seen added told alone h = record {
+    found = h.found;
+    steps =
+        then_apart _ _ _ seen added alone
+        (λ s a only. passed_or_not h.found.control.init _ _ _ _
+        (λ k. record { resets = chip_reset_apart ResetDcan s a told only k.resets; left_is = k.left_is }) same) h.steps;
+  }
+
+  lower_apart : (layout : Map) (r : Register) (value : ℕ) (own left : InterfaceSet) (seen added : ChipHistory)
+      (told : Result (Unit {0}) AccessError) → ActsAlone terms.port added
+      → WritesLower terms tries layout r value own seen added told left
+      → WritesLower single tries layout r value own seen added told left
+  lower_apart layout register.Control value own left seen added told alone h =
+      writes_apart layout register.Control value own left seen added told alone h
+  lower_apart layout register.Status value own left seen added told alone h =
+      writes_apart layout register.Status value own left seen added told alone h
+  lower_apart layout register.ErrorCounter value own left seen added told alone h =
+      writes_apart layout register.ErrorCounter value own left seen added told alone h
+  lower_apart layout register.BitTiming value own left seen added told alone h =
+      timing_byte_apart layout Lower value own left seen added told alone h
+  lower_apart layout register.Interrupt value own left seen added told alone h =
+      writes_apart layout register.Interrupt value own left seen added told alone h
+  lower_apart layout register.Test value own left seen added told alone h =
+      writes_apart layout register.Test value own left seen added told alone h
+  lower_apart layout register.Extension value own left seen added told alone h =
+      writes_apart layout register.Extension value own left seen added told alone h
+  lower_apart layout (register.Request interface) value own left seen added told alone h =
+      writes_apart layout (register.Request interface) value own left seen added told alone h
+  lower_apart layout (register.Buffer interface reg) value own left seen added told alone h =
+      writes_apart layout (register.Buffer interface reg) (with_byte Lower value (shown reg own.registers)) own left seen added
+      told alone h
+  lower_apart layout (register.Flags flag place) value own left seen added told alone h =
+      writes_apart layout (register.Flags flag place) value own left seen added told alone h
+
+  upper_apart : (layout : Map) (r : Register) (value : ℕ) (own left : InterfaceSet) (seen added : ChipHistory)
+      (told : Result (Unit {0}) AccessError) → ActsAlone terms.port added
+      → WritesUpper terms tries layout r value own seen added told left
+      → WritesUpper single tries layout r value own seen added told left
+  upper_apart layout register.Control value own left seen added told alone h =
+      passed_or_not (has_reset layout value) _ _ _ _ (reset_in_init_apart own left seen added told alone) same h
+  upper_apart layout register.Status value own left seen added told alone h = h
+  upper_apart layout register.ErrorCounter value own left seen added told alone h = h
+  upper_apart layout register.BitTiming value own left seen added told alone h =
+      timing_byte_apart layout Upper value own left seen added told alone h
+  upper_apart layout register.Interrupt value own left seen added told alone h = h
+  upper_apart layout register.Test value own left seen added told alone h = h
+  upper_apart layout register.Extension value own left seen added told alone h = h
+  upper_apart layout (register.Request interface) value own left seen added told alone h = h
+  upper_apart layout (register.Buffer interface reg) value own left seen added told alone h =
+      writes_apart layout (register.Buffer interface reg) (with_byte Upper value (shown reg own.registers)) own left seen added
+      told alone h
+  upper_apart layout (register.Flags flag place) value own left seen added told alone h = h
+
+  byte_of_apart : (byte : Byte) (layout : Map) (r : Register) (value : ℕ) (own left : InterfaceSet) (seen added : ChipHistory)
+      (told : Result (Unit {0}) AccessError) → ActsAlone terms.port added
+      → WritesByteOf byte terms tries layout r value own seen added told left
+      → WritesByteOf byte single tries layout r value own seen added told left
+  byte_of_apart Lower layout r value own left seen added told alone h =
+      lower_apart layout r value own left seen added told alone h
+  byte_of_apart Upper layout r value own left seen added told alone h =
+      upper_apart layout r value own left seen added told alone h
+
+  writes_byte_apart : (layout : Map) (offset value : ℕ) (own left : InterfaceSet) (seen added : ChipHistory)
+      (told : Option (Result (Unit {0}) AccessError)) → ActsAlone terms.port added
+      → WritesByte terms tries layout offset value own seen added told left
+      → WritesByte single tries layout offset value own seen added told left
+  writes_byte_apart layout offset value own left seen added None alone h = h
+  writes_byte_apart layout offset value own left seen added (Some told) alone (r, at, h) =
+      (r, at, byte_of_apart (byte_in offset) layout r value own left seen added told alone h)
+
+  -- ---- words of two registers
+
   halves_apart : (layout : Map) (offset : ℕ) (own : InterfaceSet) (seen added : ChipHistory)
       (told : Option (Result ℕ AccessError)) → ActsAlone terms.port added
       → ReadsHalves terms tries layout offset own seen added told → ReadsHalves single tries layout offset own seen added told
@@ -643,6 +743,10 @@ module _ (terms : Terms) (tries : ℕ) (some : 1 ≤ tries) where
         (λ (code, (shown, shows, m), keeps). (code, (shown, shows, wait_apart object flag turns shown m), keeps))
         same))
         same h
+    host_call_apart (host.read8 offset result out) own left ((told, h, code, is), keeps) =
+        ((told, reads_byte_apart layout offset own seen added told alone h, code, is), keeps)
+    host_call_apart (host.write8 offset value result) own left (told, h, code) =
+        (told, writes_byte_apart layout offset value own left seen added told alone h, code)
     host_call_apart (host.read16 offset result out) own left (h, keeps) = (read_apart offset own result out h, keeps)
     host_call_apart (host.write16 offset value result) own left h = write_apart offset value own left result h
     host_call_apart (host.read32 offset result out) own left ((told, h, code, is), keeps) =
@@ -704,6 +808,10 @@ module _ (terms : Terms) (tries : ℕ) (some : 1 ≤ tries) where
         (passed_or_not (list_all is_frame offers) _ _ _ _
         (known_or_not (fault_numbered number) _ _ _ _ same
         (λ fault. tried_apart nodes offers fault past after result out)) same) same h
+    bus_call_apart nodes (bus.read8 offset result out) past after (own, (told, h, code, read), is) =
+        (own, (told, reads_byte_apart layout offset own seen added told alone h, code, read), is)
+    bus_call_apart nodes (bus.write8 offset value result) past after (own, (told, h, code), is) =
+        (own, (told, writes_byte_apart layout offset value own own seen added told alone h, code), is)
     bus_call_apart nodes (bus.read16 offset result out) past after (own, h, is) =
         (own, read_apart offset own result out h, is)
     bus_call_apart nodes (bus.write16 offset value result) past after (own, h, is) =

@@ -166,6 +166,8 @@ calls_keep terms tries nodes layout (bus.round offers number result out) past af
     (λ fault. tried_keeps terms tries nodes offers fault past after seen added result out))
     (λ rests. same_choice after past rests.leaves))
     (λ rests. same_choice after past rests.leaves) h
+calls_keep terms tries nodes layout (bus.read8 offset result out) past after seen added h = same_choice after past h.2
+calls_keep terms tries nodes layout (bus.write8 offset value result) past after seen added h = same_choice after past h.2
 calls_keep terms tries nodes layout (bus.read16 offset result out) past after seen added h = same_choice after past h.2
 calls_keep terms tries nodes layout (bus.write16 offset value result) past after seen added h = same_choice after past h.2
 calls_keep terms tries nodes layout (bus.read32 offset result out) past after seen added h = same_choice after past h.2

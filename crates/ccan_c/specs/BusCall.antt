@@ -40,7 +40,8 @@ use Rattle.ccan_c.specs.Call.{IsCall}
 use Rattle.ccan_c.specs.Codes.{busy, done, spent, fault_range, flag_range, frame_range, frames_range, groups_range, node_range, senders}
 use Rattle.ccan_c.specs.Held.{IsOpenAs, WorksAsBefore, port_of, station_of}
 use Rattle.ccan_c.specs.Host.{flag_numbered, number_of}
-use Rattle.ccan_c.specs.HostCall.{IsRead, ReadsAtOffset, ReadsWordAtOffset, WritesAtOffset, WritesWordAtOffset, code_of_access}
+use Rattle.ccan_c.specs.HostCall.{IsRead, ReadsAtOffset, ReadsByteAtOffset, ReadsWordAtOffset, code_of_access}
+use Rattle.ccan_c.specs.HostCall.{WritesAtOffset, WritesByteAtOffset, WritesWordAtOffset}
 use Rattle.ccan_c.specs.Load.{c_load}
 use Rattle.ccan_c.specs.Note.{HeedsNote, Tells}
 use Rattle.ccan_c.specs.Outcome.{c_outcome, code_of_round}
@@ -60,6 +61,8 @@ pub data BusCall : Type 0 where
   flags : ℕ → ℕ → ℕ → BusCall
   counters : ℕ → ℕ → ShownCounters → BusCall
   round : List Offer → ℕ → ℕ → ShownOutcome → BusCall
+  read8 : ℕ → ℕ → ℕ → BusCall
+  write8 : ℕ → ℕ → ℕ → BusCall
   read16 : ℕ → ℕ → ℕ → BusCall
   write16 : ℕ → ℕ → ℕ → BusCall
   read32 : ℕ → ℕ → ℕ → BusCall
@@ -82,6 +85,8 @@ code_got (interrupt result out) = result
 code_got (flags number result out) = result
 code_got (counters node result out) = result
 code_got (round offers number result out) = result
+code_got (read8 offset result out) = result
+code_got (write8 offset value result) = result
 code_got (read16 offset result out) = result
 code_got (write16 offset value result) = result
 code_got (read32 offset result out) = result
@@ -190,6 +195,10 @@ BusCallMeans terms tries nodes map (round offers number result out) past seen ad
     (λ fault. RoundTried terms tries nodes offers fault past seen added after result out))
     (Rests frame_range past after added result))
     (Rests frames_range past after added result)
+BusCallMeans terms tries nodes map (read8 offset result out) past seen added after =
+    (own : InterfaceSet) × ReadsByteAtOffset terms tries map offset own seen added result out × (after ≡ past)
+BusCallMeans terms tries nodes map (write8 offset value result) past seen added after =
+    (own : InterfaceSet) × WritesByteAtOffset terms tries map offset value own seen added result own × (after ≡ past)
 BusCallMeans terms tries nodes map (read16 offset result out) past seen added after =
     (own : InterfaceSet) × ReadsAtOffset terms tries map offset own seen added result out × (after ≡ past)
 BusCallMeans terms tries nodes map (write16 offset value result) past seen added after =

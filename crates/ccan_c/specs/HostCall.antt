@@ -14,6 +14,7 @@ use Rattle.ccan_map.specs.declared.map.Map.{Map}
 use Rattle.ccan_registers.specs.declared.access_error.AccessError.{AccessError}
 use Rattle.ccan_registers.specs.declared.access_error.AccessError.TheVariants as why
 use Rattle.ccan_registers.specs.declared.interface_set.InterfaceSet.{InterfaceSet}
+use Rattle.ccan_registers.specs.Bytes.{ReadsByte, WritesByte}
 use Rattle.ccan_registers.specs.ChipSteps.{ChipGoes}
 use Rattle.ccan_registers.specs.Clearing.{ClearsObjects}
 use Rattle.ccan_registers.specs.InterfaceSet.{Transferred}
@@ -40,6 +41,8 @@ pub data HostCall : Type 0 where
   interrupt : ℕ → ℕ → HostCall
   peek : ℕ → ℕ → ShownRecord → HostCall
   until : ℕ → ℕ → ℕ → ℕ → ℕ → HostCall
+  read8 : ℕ → ℕ → ℕ → HostCall
+  write8 : ℕ → ℕ → ℕ → HostCall
   read16 : ℕ → ℕ → ℕ → HostCall
   write16 : ℕ → ℕ → ℕ → HostCall
   read32 : ℕ → ℕ → ℕ → HostCall
@@ -60,6 +63,8 @@ code_got (flags number result out) = result
 code_got (interrupt result out) = result
 code_got (peek object result out) = result
 code_got (until object number turns result out) = result
+code_got (read8 offset result out) = result
+code_got (write8 offset value result) = result
 code_got (read16 offset result out) = result
 code_got (write16 offset value result) = result
 code_got (read32 offset result out) = result
@@ -97,6 +102,17 @@ ReadsAtOffset terms tries map offset own seen added result out =
 abbrev pub WritesAtOffset : Terms → ℕ → Map → ℕ → ℕ → InterfaceSet → ChipHistory → ChipHistory → ℕ → InterfaceSet → Type 0
 WritesAtOffset terms tries map offset value own seen added result left =
     (told : Option (Result (Unit {0}) AccessError)) × WritesAt terms tries map offset value own seen added told left
+    × (result ≡ code_of_access told)
+
+-- the same for the byte at an offset
+abbrev pub ReadsByteAtOffset : Terms → ℕ → Map → ℕ → InterfaceSet → ChipHistory → ChipHistory → ℕ → ℕ → Type 0
+ReadsByteAtOffset terms tries map offset own seen added result out =
+    (told : Option (Result ℕ AccessError)) × ReadsByte terms tries map offset own seen added told
+    × (result ≡ code_of_access told) × IsRead told out
+
+abbrev pub WritesByteAtOffset : Terms → ℕ → Map → ℕ → ℕ → InterfaceSet → ChipHistory → ChipHistory → ℕ → InterfaceSet → Type 0
+WritesByteAtOffset terms tries map offset value own seen added result left =
+    (told : Option (Result (Unit {0}) AccessError)) × WritesByte terms tries map offset value own seen added told left
     × (result ≡ code_of_access told)
 
 -- the same for the word of 32 bits at an offset
@@ -164,6 +180,10 @@ HostCallMeans terms tries map (until object number turns result out) own seen ad
     (Waits terms object flag turns own seen added result out left)
     (Rests turns_range own left added result)))
     (Rests object_range own left added result)
+HostCallMeans terms tries map (read8 offset result out) own seen added left =
+    ReadsByteAtOffset terms tries map offset own seen added result out × (left ≡ own)
+HostCallMeans terms tries map (write8 offset value result) own seen added left =
+    WritesByteAtOffset terms tries map offset value own seen added result left
 HostCallMeans terms tries map (read16 offset result out) own seen added left =
     ReadsAtOffset terms tries map offset own seen added result out × (left ≡ own)
 HostCallMeans terms tries map (write16 offset value result) own seen added left =

@@ -32,6 +32,22 @@ pub(crate) fn code_of_access<T: Copy>(told: &Option<Result<T, AccessError>>) -> 
     }
 }
 
+/// The code of a read of a byte, whose value goes into the place for it.
+pub(crate) fn read_byte_out(told: &Option<Result<u8, AccessError>>, out: &mut u8) -> u32
+    ensures code { result ≡ call.code_of_access told.now }
+    ensures read { IsRead told.now out.new }
+    ensures refused { result ≢ done → out.new ≡ out.old }
+{
+    match told {
+        None => OFFSET_RANGE,
+        Some(Ok(value)) => {
+            *out = *value;
+            DONE
+        }
+        Some(Err(error)) => code_of_error(*error),
+    }
+}
+
 /// The code of a read of a word, whose value goes into the place for it.
 pub(crate) fn read_word_out(told: &Option<Result<u32, AccessError>>, out: &mut u32) -> u32
     ensures code { result ≡ call.code_of_access told.now }

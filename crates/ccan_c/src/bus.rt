@@ -5,7 +5,7 @@ ghost use Rattle.ccan_c.specs.BusCall as bus_call;
 ghost use Rattle.ccan_c.specs.BusCall.{BusCallDoes};
 ghost use Rattle.ccan_c.specs.Codes.{busy, closed, done, spent};
 
-use crate::access_code::{code_of_access, read_out, read_word_out};
+use crate::access_code::{code_of_access, read_byte_out, read_out, read_word_out};
 use crate::bus_handle::BusHandle;
 use crate::bus_lines::{enabling, starting};
 use crate::code::{
@@ -195,6 +195,33 @@ pub extern "C" fn ccan_round(
         }
         None => SENDERS,
     }
+}
+
+/// As `ccan_read8`, by the thread of the bus.
+#[unsafe(no_mangle)]
+pub extern "C" fn ccan_bus_read8(bus: &mut BusHandle, offset: u32, out: &mut u8) -> u32
+    ensures call { BusCallDoes (bus_call.read8 offset result out.new)
+        (held_on bus.old) (held_on bus.new) }
+    ensures refused { result ≢ done → out.new ≡ out.old }
+{
+    if !bus.handle.is_open() {
+        return CLOSED;
+    }
+    let told = bus.handle.seal.as_mut().read_byte(offset);
+    read_byte_out(&told, out)
+}
+
+/// As `ccan_write8`, by the thread of the bus.
+#[unsafe(no_mangle)]
+pub extern "C" fn ccan_bus_write8(bus: &mut BusHandle, offset: u32, value: u8) -> u32
+    ensures { BusCallDoes (bus_call.write8 offset value result)
+        (held_on bus.old) (held_on bus.new) }
+{
+    if !bus.handle.is_open() {
+        return CLOSED;
+    }
+    let told = bus.handle.seal.as_mut().write_byte(offset, value);
+    code_of_access(&told)
 }
 
 /// As `ccan_read16`, by the thread of the bus.

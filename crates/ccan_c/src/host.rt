@@ -5,7 +5,7 @@ ghost use Rattle.ccan_c.specs.Host.{held_by};
 ghost use Rattle.ccan_c.specs.HostCall as host_call;
 ghost use Rattle.ccan_c.specs.HostCall.{HostCallDoes};
 
-use crate::access_code::{code_of_access, read_out, read_word_out};
+use crate::access_code::{code_of_access, read_byte_out, read_out, read_word_out};
 use crate::code::{CLOSED, DONE, FLAG_RANGE, OBJECT_RANGE, REGISTER_RANGE, code_of};
 use crate::host_handle::HostHandle;
 use crate::numbers::{flag_numbered, number_of, register_numbered};
@@ -130,6 +130,34 @@ pub extern "C" fn ccan_until(
         }
         Err(code) => code,
     }
+}
+
+/// Reads the byte at an offset, in bytes from where the chip begins: its register is read, by 16 bits.
+#[unsafe(no_mangle)]
+pub extern "C" fn ccan_read8(host: &mut HostHandle, offset: u32, out: &mut u8) -> u32
+    ensures call { HostCallDoes (host_call.read8 offset result out.new)
+        (held_by host.old) (held_by host.new) }
+    ensures refused { result ≢ done → out.new ≡ out.old }
+{
+    if !host.handle.is_open() {
+        return CLOSED;
+    }
+    let told = host.handle.seal.as_mut().read_byte(offset);
+    read_byte_out(&told, out)
+}
+
+/// Writes the byte at an offset, in bytes from where the chip begins. The other byte of its register stays, unless the write
+/// resets the chip.
+#[unsafe(no_mangle)]
+pub extern "C" fn ccan_write8(host: &mut HostHandle, offset: u32, value: u8) -> u32
+    ensures { HostCallDoes (host_call.write8 offset value result)
+        (held_by host.old) (held_by host.new) }
+{
+    if !host.handle.is_open() {
+        return CLOSED;
+    }
+    let told = host.handle.seal.as_mut().write_byte(offset, value);
+    code_of_access(&told)
 }
 
 /// Reads the 16-bit register at an offset, in bytes from where the chip begins.

@@ -58,9 +58,9 @@ mod timing;
 mod version;
 
 pub use bus::{
-    ccan_bus_flags, ccan_bus_interrupt, ccan_bus_line, ccan_bus_read16, ccan_bus_read32,
-    ccan_bus_write16, ccan_bus_write32, ccan_control, ccan_counters, ccan_init, ccan_load,
-    ccan_loop_back, ccan_recessive, ccan_round, ccan_status,
+    ccan_bus_flags, ccan_bus_interrupt, ccan_bus_line, ccan_bus_read8, ccan_bus_read16,
+    ccan_bus_read32, ccan_bus_write8, ccan_bus_write16, ccan_bus_write32, ccan_control,
+    ccan_counters, ccan_init, ccan_load, ccan_loop_back, ccan_recessive, ccan_round, ccan_status,
 };
 pub use bus_handle::BusHandle;
 pub use chip::Chip;
@@ -69,8 +69,9 @@ pub use ending::ccan_end;
 pub use frame::{ccan_begin, ccan_finish, ccan_retry_event, ccan_stay};
 pub use handle::{Handle, handles_may_cross};
 pub use host::{
-    ccan_clear_objects, ccan_flags, ccan_get, ccan_interrupt, ccan_line, ccan_peek, ccan_read16,
-    ccan_read32, ccan_request, ccan_set, ccan_until, ccan_write16, ccan_write32,
+    ccan_clear_objects, ccan_flags, ccan_get, ccan_interrupt, ccan_line, ccan_peek, ccan_read8,
+    ccan_read16, ccan_read32, ccan_request, ccan_set, ccan_until, ccan_write8, ccan_write16,
+    ccan_write32,
 };
 pub use host_handle::HostHandle;
 pub use meeting::ccan_meet;

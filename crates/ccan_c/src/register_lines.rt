@@ -3,12 +3,14 @@ use crate::held::Held;
 use ccan_confine::Controller;
 use ccan_ram::Flag;
 use ccan_registers::{
-    AccessError, flags, interrupt, interrupt_value, line, read_at, read_word, write_at, write_word,
+    AccessError, flags, interrupt, interrupt_value, line, read_at, read_byte, read_word, write_at,
+    write_byte, write_word,
 };
 
 impl Held {
     ghost use Rattle.std.specs.Prelude.{◌≡◌, false};
     ghost use Rattle.ccan_ram.specs.declared.port.PortName.TheVariants.{Bus};
+    ghost use Rattle.ccan_registers.specs.Bytes.{ReadsByte, WritesByte};
     ghost use Rattle.ccan_registers.specs.Objects.{ShowsFlags, ShowsInterrupt};
     ghost use Rattle.ccan_registers.specs.Register.{InterruptValue, PullsLine, ReadsAt, ReadsWord, WritesAt, WritesWord};
     ghost use Rattle.ccan_c.specs.Held.{pass_of};
@@ -40,6 +42,40 @@ impl Held {
         ensures bus { (pass_of self.old).port ≡ Bus → self.new.own ≡ self.old.own }
     {
         write_at(
+            &mut self.own,
+            &self.ram,
+            &mut self.port,
+            self.map,
+            offset,
+            value,
+            self.tries,
+        )
+    }
+
+    /// Reads the byte at an offset.
+    pub(crate) fn read_byte(&mut self, offset: u32) -> Option<Result<u8, AccessError>>
+        ensures { Steps (λ terms seen added.
+            ReadsByte terms self.old.tries self.old.map offset self.old.own seen added result)
+            self.old self.new }
+    {
+        read_byte(
+            &self.own,
+            &self.ram,
+            &mut self.port,
+            self.map,
+            offset,
+            self.tries,
+        )
+    }
+
+    /// Writes the byte at an offset.
+    pub(crate) fn write_byte(&mut self, offset: u32, value: u8) -> Option<Result<(), AccessError>>
+        ensures steps { HostSteps (λ terms seen added left.
+            WritesByte terms self.old.tries self.old.map offset value self.old.own seen added result
+            left) self.old self.new }
+        ensures bus { (pass_of self.old).port ≡ Bus → self.new.own ≡ self.old.own }
+    {
+        write_byte(
             &mut self.own,
             &self.ram,
             &mut self.port,
