@@ -73,6 +73,7 @@ pub const EVENT_RANGE: u32 = 30;
 pub const COUNTERS_RANGE: u32 = 31;
 
 /// The code of a load.
+#[inline(always)]
 fn code_of_load(loading: &LoadAnswer) -> u32
     ensures { result ≡ code_of (LineAnswer.Load loading.now) }
 {
@@ -84,6 +85,7 @@ fn code_of_load(loading: &LoadAnswer) -> u32
 }
 
 /// The code of a round's answer.
+#[inline(always)]
 fn code_of_reply(reply: &RoundAnswer) -> u32
     ensures { result ≡ code_of (LineAnswer.Round reply.now) }
 {
@@ -102,6 +104,7 @@ fn code_of_reply(reply: &RoundAnswer) -> u32
 }
 
 /// Busy or spent if a step of the memory was, else done.
+#[inline(always)]
 pub(crate) fn code_of(answer: &LineAnswer) -> u32
     ensures { result ≡ code_of answer.now }
 {

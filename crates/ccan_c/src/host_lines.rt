@@ -23,6 +23,7 @@ impl Held {
     ghost use Rattle.ccan_c.specs.Steps.{HostSteps, Steps};
 
     /// Makes the transfer that the Command Mask register says.
+    #[inline(always)]
     pub(crate) fn request(&mut self, request: u16) -> LineAnswer
         ensures { HostSteps (λ terms seen added left.
             Transferred terms self.old.tries request self.old.own seen added result left)
