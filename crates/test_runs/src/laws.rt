@@ -1,7 +1,9 @@
 //! Each law, called once.
 use crate::ladder::Ladder;
 use ccan_outcomes::{place_laws, quiet_laws, same, seat_laws};
-use ccan_process::{line_process_laws, machine_laws, process_laws, undisturbed_laws, wait_laws};
+use ccan_process::{
+    line_process_laws, machine_laws, process_laws, uncontended_laws, undisturbed_laws, wait_laws,
+};
 use ccan_run::laws;
 
 #[test]
@@ -38,6 +40,9 @@ fn laws_of_outcomes_hold() {
     machine_laws::all_outcomes_are_reached();
     machine_laws::walks_are_histories();
     undisturbed_laws::no_end_is_lost();
+    undisturbed_laws::attempts_at_once_lose_no_end();
+    uncontended_laws::contended_tries_can_be_lost();
+    uncontended_laws::no_free_end_is_lost();
     wait_laws::waits_look_once();
     wait_laws::waits_end_alike();
     quiet_laws::hosts_leave_alone();
