@@ -1,6 +1,6 @@
 //! The memory without an end in plain Rust, to tell what the proved one costs beside it: the same words, the same steps,
-//! nothing proved. A write merges the groups of its command mask, and a read fills the interface registers that its command mask
-//! selects, as the proved ones do. Prints medians in nanoseconds, of a look, a flag word of 32 objects in one moment, 32 looks of a flag, and
+//! nothing proved. A write merges the groups of its command mask, and answers with the record that it found and the one that it
+//! left; a read fills the interface registers that its command mask selects: as the proved ones do. Prints medians in nanoseconds, of a look, a flag word of 32 objects in one moment, 32 looks of a flag, and
 //! full writes, alone and by three threads at objects apart and at one. With a word as `look=1000` it makes so many calls of that
 //! kind and prints nothing: of `look`, `read`, `write`, `flags` or `line`.
 use std::hint::black_box;
@@ -211,11 +211,11 @@ impl Memory {
         }
     }
 
-    /// One try of a write of the groups that the command selects.
-    fn write(&self, port: &mut Port, object: usize, command: u16, buffer: &Record) -> bool {
+    /// One try of a write of the groups that the command selects. The record that it found, and the one that it left.
+    fn write(&self, port: &mut Port, object: usize, command: u16, buffer: &Record) -> Option<(Record, Record)> {
         let (value, found) = self.read(object);
         if self.head(object).load(SeqCst) != value {
-            return false;
+            return None;
         }
         let side = if port_in(value) == port.port { 1 - side_in(value) } else { 0 };
         let record = found.merged(command, buffer);
@@ -224,9 +224,9 @@ impl Memory {
         self.words[place].store(body[0], SeqCst);
         self.words[place + 1].store(body[1], SeqCst);
         let new = value_of(port.used + 1, port.port, side, record.marks());
-        let made = self.head(object).compare_exchange(value, new, SeqCst, SeqCst).is_ok();
-        port.used += u64::from(made);
-        made
+        self.head(object).compare_exchange(value, new, SeqCst, SeqCst).ok()?;
+        port.used += 1;
+        Some((found, record))
     }
 
     /// A flag of all objects in one moment, by its place among the marks.
@@ -259,7 +259,7 @@ fn make_calls(name: &str, calls: u64) {
     let mut registers = Registers { mask: [0; 2], arbitration: [0; 2], control: 0, data: [0; 4] };
     let controller = AtomicU64::new(0);
     for object in 0..OBJECTS {
-        assert!(memory.write(&mut port, object, ALL, &message()));
+        assert!(memory.write(&mut port, object, ALL, &message()).is_some());
     }
     match name {
         "look" => repeat(calls, || memory.read(black_box(0)).1.valid),
@@ -267,7 +267,9 @@ fn make_calls(name: &str, calls: u64) {
             registers.fill(black_box(READ), &memory.read(black_box(0)).1);
             black_box(&registers).arbitration[1] >> 15 == 1
         }),
-        "write" => repeat(calls, || memory.write(&mut port, 0, black_box(ALL), black_box(&message()))),
+        "write" => repeat(calls, || {
+            black_box(memory.write(&mut port, 0, black_box(ALL), black_box(&message()))).is_some()
+        }),
         "flags" => repeat(calls, || memory.flags(black_box(MSGVAL)) == 0xffff_ffff),
         "line" => repeat(calls, || {
             let asks = bit(controller.load(SeqCst), 1);
@@ -302,7 +304,7 @@ fn timed(steps: u64, mut step: impl FnMut(&Memory, &mut Port)) -> f64 {
                 let memory = Memory::new();
                 let mut port = Port { port: 0, used: 0 };
                 for object in 0..OBJECTS {
-                    assert!(memory.write(&mut port, object, ALL, &message()));
+                    assert!(memory.write(&mut port, object, ALL, &message()).is_some());
                 }
                 let start = Instant::now();
                 for _ in 0..steps {
@@ -330,7 +332,7 @@ fn writers(objects: [usize; 3]) -> f64 {
                                 barrier.wait();
                                 let start = Instant::now();
                                 for _ in 0..CALLS {
-                                    while !memory.write(&mut port, objects[name], black_box(ALL), black_box(&message())) {}
+                                    while black_box(memory.write(&mut port, objects[name], black_box(ALL), black_box(&message()))).is_none() {}
                                 }
                                 start.elapsed().as_nanos() as f64 / CALLS as f64
                             })
@@ -361,7 +363,9 @@ fn main() {
     println!("{:<22} {singles:.1} ns", "32 looks of a flag");
     let moment = timed(CALLS, |memory, _| assert_eq!(black_box(memory.flags(MSGVAL)), 0xffff_ffff));
     println!("{:<22} {moment:.1} ns", "32 flags of a moment");
-    let write = timed(CALLS, |memory, port| assert!(memory.write(port, 0, black_box(ALL), black_box(&message()))));
+    let write = timed(CALLS, |memory, port| {
+        assert!(black_box(memory.write(port, 0, black_box(ALL), black_box(&message()))).is_some())
+    });
     println!("{:<22} {write:.1} ns", "full write");
     println!("{:<22} {:.1} ns", "three writers apart", writers([0, 1, 2]));
     println!("{:<22} {:.1} ns", "three writers on one", writers([0, 0, 0]));
