@@ -97,6 +97,8 @@ static void hash_thread(uint64_t key[2], const thread *of)
     hash_two(key, bits, (uint64_t)of->may);
     hash_two(key, (uint64_t)of->result, of->passed ? of->base_site + of->passed : 0); /* how far a turn over several waits is */
     hash_two(key, (uint64_t)of->about, (uint64_t)of->sp ^ (uint64_t)(unsigned)of->error_number << 48);
+    hash_two(key, (uint64_t)of->woke.tv_sec, (uint64_t)of->woke.tv_nsec);
+    hash_bytes(key, of->own_values, (size_t)R.keys * sizeof(void *));
     if (!of->is_done)
         hash_bytes(key, of->sp, (size_t)((const char *)of->stack_top - (const char *)of->sp));
 }
@@ -112,6 +114,7 @@ void state_key(uint64_t key[2])
     hash_bytes(key, E->text, R.printed);
     hash_bytes(key, R.handler_on, sizeof R.handler_on);
     hash_bytes(key, R.masked, sizeof R.masked);
+    hash_bytes(key, R.destructors, (size_t)R.keys * sizeof(void *));
     hash_two(key, (uint64_t)R.count, R.alone ? (uint64_t)R.me + 1 : 0);
     for (int number = 0; number < R.count; number++) {
         hash_thread(key, &R.threads[number]);

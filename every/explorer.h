@@ -10,7 +10,7 @@
 #include <stdio.h>
 #include <time.h>
 
-enum { MOST_THREADS = 12, MOST_CPUS = 8, MOST_DEPTH = 20000, MOST_WRITES = 16, STACK_BYTES = 256 * 1024 };
+enum { MOST_THREADS = 12, MOST_CPUS = 8, MOST_DEPTH = 20000, MOST_WRITES = 16, MOST_KEYS = 8, STACK_BYTES = 256 * 1024 };
 
 /* ---- footprints: what a step reads and writes */
 
@@ -67,6 +67,7 @@ struct thread {
     uint32_t written, passed, counted;
     old_word old[MOST_WRITES];
     int error_number;
+    void *own_values[MOST_KEYS];
 };
 
 /* All of a run that is put back with a checkpoint, besides the chip and the memory of the program. */
@@ -77,6 +78,8 @@ typedef struct {
     int masked[MOST_CPUS];
     size_t printed;
     size_t used[MOST_THREADS];  /* of each thread's arena */
+    int keys;
+    void (*destructors[MOST_KEYS])(void *);
     thread threads[MOST_THREADS];
 } run_state;
 
@@ -186,6 +189,14 @@ void apply_event(int thread, const footprint *event); /* what the step of a thre
 
 /* threads.c */
 int begin_thread(const char *name, void *(*body)(void *), void *argument);
+
+/* thread_locals.c */
+void begin_thread_locals(void);
+size_t room_of_thread_locals(void);
+void first_thread_locals(const thread *of);
+void put_thread_locals(const thread *of);   /* into their place, before it runs */
+void keep_thread_locals(const thread *of);  /* at the top of its stack, after it ran */
+void destroy_own_values(void);
 
 /* turns.c */
 void end_turn(int thread);

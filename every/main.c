@@ -1,7 +1,6 @@
 /* The beginning: the options, and the search in place of the program's main. */
 #include "explorer.h"
 #include <elf.h>
-#include <link.h>
 #include <signal.h>
 #include <stdlib.h>
 #include <string.h>
@@ -151,17 +150,6 @@ static void take_signals(void)
     __sigaction(SIGINT, &interrupt, NULL);
 }
 
-/* ---- what is refused at once */
-
-static int look_for_thread_locals(struct dl_phdr_info *info, size_t size, void *unused)
-{
-    (void)size, (void)unused;
-    for (int i = 0; i < info->dlpi_phnum; i++)
-        if (info->dlpi_phdr[i].p_type == PT_TLS && info->dlpi_phdr[i].p_memsz)
-            stop(REFUSED, "the program has thread-local variables, which a search does not tell apart");
-    return 1; /* the first one is the program itself */
-}
-
 /* ---- main */
 
 /* The program's own arguments end at --every. */
@@ -193,7 +181,7 @@ int __wrap_main(int count, char **list)
     take_arguments(count, list);
     if (!has_hooks)
         stop(REFUSED, "the program was compiled without -fsanitize=thread, so its memory can't be seen");
-    dl_iterate_phdr(look_for_thread_locals, NULL);
+    begin_thread_locals();
     begin_shared();
     begin_turns();
     begin_output();

@@ -64,8 +64,6 @@ REFUSED(getrandom, RANDOM)
 
 #define NOT_YET "a search does not have it yet"
 REFUSED(sem_open, NOT_YET)
-REFUSED(pthread_key_create, NOT_YET)
-REFUSED(tss_create, NOT_YET)
 REFUSED(pthread_cancel, NOT_YET)
 REFUSED(setjmp, NOT_YET)
 REFUSED(_setjmp, NOT_YET)

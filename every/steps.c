@@ -42,7 +42,9 @@ void resume(int number)
     R.me = number;
     E->running = true;
     errno = of->error_number;
+    put_thread_locals(of);
     switch_stacks(&E->scheduler_sp, of->sp);
+    keep_thread_locals(of);
     of->error_number = errno;
     E->running = false;
     finish_writes();

@@ -22,6 +22,7 @@ static footprint token(unsigned number, bool writes)
 static void trampoline(void)
 {
     void *result = ME->body(ME->argument);
+    destroy_own_values();
     if (!R.me)
         last_place();
     thread *me = ME;
@@ -64,7 +65,8 @@ int begin_thread(const char *name, void *(*body)(void *), void *argument)
     clear_bytes(of, sizeof *of);
     of->stack_top = E->stacks + (size_t)(number + 1) * STACK_BYTES;
     clear_bytes((char *)of->stack_top - 16384, 16384);
-    uint64_t *top = (uint64_t *)((char *)of->stack_top - 64);
+    first_thread_locals(of);
+    uint64_t *top = (uint64_t *)((char *)of->stack_top - room_of_thread_locals() - 64);
     *--top = 0;
     *--top = (uint64_t)trampoline;
     of->sp = top - 6;
@@ -130,6 +132,7 @@ int pthread_setname_np(pthread_t id, const char *name) { return (void)id, (void)
 
 void pthread_exit(void *result)
 {
+    destroy_own_values();
     if (!R.me)
         last_place();
     thread *me = ME;
