@@ -335,6 +335,26 @@ CCAN_CODE ccan_read16(ccan_host *host, uint32_t offset, uint16_t *out);
  * reset by SWR may be refused at an object: then the controller and the objects before that one were reset. */
 CCAN_CODE ccan_write16(ccan_host *host, uint32_t offset, uint16_t value);
 
+/* Reads the byte at an offset of the chip's layout: at an even one bits 7 to 0 of the register of 16 bits that begins there, at an
+ * odd one bits 15 to 8 of the one that begins at the offset before. It is one ccan_read16 of that register, of which out gets the
+ * byte. So a read of either byte of Status clears what a read of Status clears. The codes are those of ccan_read16:
+ * CCAN_OFFSET_RANGE if no register begins at the even one of the two offsets, as in the upper half of each word of
+ * CCAN_LAYOUT_C_CAN_32. */
+CCAN_CODE ccan_read8(ccan_host *host, uint32_t offset, uint8_t *out);
+
+/* Writes the byte at an offset of the chip's layout, as ccan_read8 has it. What the register has in its other byte stays.
+ *  - Command Request: its lower byte is written as by ccan_write16 with an upper byte of 0, which makes the transfer. A write of
+ *    its upper byte does nothing.
+ *  - The other registers of an interface: the byte is set; no transfer happens.
+ *  - Control, Status, BRP Extension, Test: all bits that can be written are in the lower byte. That is written as by ccan_write16
+ *    with an upper byte of 0, and the upper byte is dropped. But in CCAN_LAYOUT_D_CAN a write of the upper byte of Control with
+ *    SWR, bit 7 of it, is one look at the controller, and then, if that shows Init, the reset of ccan_write16.
+ *  - Bit Timing: one look at the controller, and then as ccan_write16, with the other byte as that look shows it. These are two
+ *    steps: what another handle writes into the other byte between them is lost.
+ *  - Error Counter, Interrupt and the registers of the flags: dropped.
+ * The codes are those of ccan_write16. CCAN_OTHER_INTERFACE is for both bytes of Command Request too. */
+CCAN_CODE ccan_write8(ccan_host *host, uint32_t offset, uint8_t value);
+
 /* Reads the word of 32 bits at an offset of the chip's layout, a multiple of 4. If both halves are registers of one flag, its 32
  * objects are read at one moment. If they are Bit Timing and BRP Extension, as in CCAN_LAYOUT_D_CAN, it is one look at the
  * controller. Else it is as ccan_read16 of its lower half, at the offset, and then, unless that is refused, of
@@ -357,7 +377,7 @@ CCAN_CODE ccan_write32(ccan_host *host, uint32_t offset, uint32_t value);
  * So that a simulator needn't ask after each call, these are the calls that may change the line, by what they do to IE, SIE, EIE,
  * the pending status interrupts and IntPnd (read off their definitions, not proved):
  *  - ccan_request, and a write of Command Request; ccan_clear_objects;
- *  - a read of Status, and a write of Control; ccan_status and ccan_control;
+ *  - a read of Status, and a write of Control, whatever bytes of it; ccan_status and ccan_control;
  *  - ccan_round and ccan_recessive; ccan_finish and ccan_retry_event.
  * No other call on a handle changes it. Of those on the whole chip ccan_reset may, and those that open one. */
 CCAN_CODE ccan_line(ccan_host *host, uint32_t *out);
@@ -366,6 +386,8 @@ CCAN_CODE ccan_line(ccan_host *host, uint32_t *out);
  * alone, and answer CCAN_OTHER_INTERFACE here. */
 CCAN_CODE ccan_bus_read16(ccan_bus *bus, uint32_t offset, uint16_t *out);
 CCAN_CODE ccan_bus_write16(ccan_bus *bus, uint32_t offset, uint16_t value);
+CCAN_CODE ccan_bus_read8(ccan_bus *bus, uint32_t offset, uint8_t *out);
+CCAN_CODE ccan_bus_write8(ccan_bus *bus, uint32_t offset, uint8_t value);
 CCAN_CODE ccan_bus_read32(ccan_bus *bus, uint32_t offset, uint32_t *out);
 CCAN_CODE ccan_bus_write32(ccan_bus *bus, uint32_t offset, uint32_t value);
 CCAN_CODE ccan_bus_line(ccan_bus *bus, uint32_t *out);

@@ -103,6 +103,8 @@ const char *objects_words(uint64_t which);
 unsigned side_of(const ccan_host *host);
 uint16_t get_register(unsigned side, uint32_t reg);
 void set_register(unsigned side, uint32_t reg, uint16_t value);
+void set_byte(unsigned side, uint32_t reg, bool upper, uint8_t value);
+uint16_t with_byte(uint16_t word, bool upper, uint8_t value);
 void transfer(unsigned side, uint16_t request);
 void request_of_d_can(unsigned side, uint16_t request);
 bool is_d_can(void);

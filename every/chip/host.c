@@ -62,6 +62,20 @@ void set_register(unsigned side, uint32_t reg, uint16_t value)
     tell("writes %s", interface_words(side, reg, value));
 }
 
+uint16_t with_byte(uint16_t word, bool upper, uint8_t value)
+{
+    return upper ? (uint16_t)((word & 0xff) | value << 8) : (uint16_t)((word & 0xff00) | value);
+}
+
+void set_byte(unsigned side, uint32_t reg, bool upper, uint8_t value)
+{
+    step_at_interface(side, 0, 1ull << reg);
+    interface before = C.interfaces[side];
+    put(side, reg, with_byte(shown(side, reg), upper, value));
+    changed_interface(side, &before);
+    tell("writes a byte of %s", interface_words(side, reg, shown(side, reg)));
+}
+
 uint16_t get_register(unsigned side, uint32_t reg)
 {
     step_at_interface(side, 1ull << reg, 0);

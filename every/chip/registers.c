@@ -170,6 +170,19 @@ static uint32_t read16(unsigned side, uint32_t offset, uint16_t *out)
     return code;
 }
 
+/* The register is read whole. */
+static uint32_t read8(unsigned side, uint32_t offset, uint8_t *out)
+{
+    reg which = register_at(offset & ~1u);
+    uint32_t code = refusal(which, side);
+    if (code == CCAN_DONE) {
+        uint16_t word = register_read(which);
+        uint8_t value = (uint8_t)(offset & 1 ? word >> 8 : word);
+        give(out, &value, sizeof value);
+    }
+    return code;
+}
+
 /* Why an access to a word is refused, or CCAN_DONE. */
 static uint32_t word_refusal(unsigned side, uint32_t offset, reg *low, reg *high)
 {
@@ -309,6 +322,38 @@ static uint32_t write16(unsigned side, uint32_t offset, uint16_t value)
     return code;
 }
 
+/* SWR of a D_CAN, of which Init is in the other byte. */
+static void reset_in_init(void)
+{
+    step_at_controller(PART_INIT, 0);
+    bool is_init = C.controller.control & INIT;
+    tell("looks at Init: %d", is_init);
+    if (is_init)
+        reset_by_software();
+}
+
+/* The bits of Control, Status, Test and BRP Extension are in the lower byte, and that of Command Request makes the transfer. */
+static void byte_write(reg which, bool upper, uint8_t value)
+{
+    if (which.name == BIT_TIMING)
+        controller_write(BIT_TIMING, with_byte(controller_read(BIT_TIMING), upper, value));
+    else if (which.name == OF_INTERFACE && which.number != COMMAND_REQUEST)
+        set_byte(which.of, which.number, upper, value);
+    else if (!upper)
+        register_write(which, value);
+    else if (is_d_can() && which.name == CONTROL && value & SWR >> 8)
+        reset_in_init();
+}
+
+static uint32_t write8(unsigned side, uint32_t offset, uint8_t value)
+{
+    reg which = register_at(offset & ~1u);
+    uint32_t code = refusal(which, side);
+    if (code == CCAN_DONE)
+        byte_write(which, offset & 1, value);
+    return code;
+}
+
 static uint32_t write32(unsigned side, uint32_t offset, uint32_t value)
 {
     reg low, high;
@@ -343,6 +388,16 @@ uint32_t ccan_write16(ccan_host *host, uint32_t offset, uint16_t value)
     return host->ccan_private_full ? write16(side_of(host), offset, value) : CCAN_CLOSED;
 }
 
+uint32_t ccan_read8(ccan_host *host, uint32_t offset, uint8_t *out)
+{
+    return host->ccan_private_full ? read8(side_of(host), offset, out) : CCAN_CLOSED;
+}
+
+uint32_t ccan_write8(ccan_host *host, uint32_t offset, uint8_t value)
+{
+    return host->ccan_private_full ? write8(side_of(host), offset, value) : CCAN_CLOSED;
+}
+
 uint32_t ccan_read32(ccan_host *host, uint32_t offset, uint32_t *out)
 {
     return host->ccan_private_full ? read32(side_of(host), offset, out) : CCAN_CLOSED;
@@ -363,6 +418,16 @@ uint32_t ccan_bus_read16(ccan_bus *bus, uint32_t offset, uint16_t *out)
 uint32_t ccan_bus_write16(ccan_bus *bus, uint32_t offset, uint16_t value)
 {
     return bus->ccan_private_full ? write16(OF_BUS, offset, value) : CCAN_CLOSED;
+}
+
+uint32_t ccan_bus_read8(ccan_bus *bus, uint32_t offset, uint8_t *out)
+{
+    return bus->ccan_private_full ? read8(OF_BUS, offset, out) : CCAN_CLOSED;
+}
+
+uint32_t ccan_bus_write8(ccan_bus *bus, uint32_t offset, uint8_t value)
+{
+    return bus->ccan_private_full ? write8(OF_BUS, offset, value) : CCAN_CLOSED;
 }
 
 uint32_t ccan_bus_read32(ccan_bus *bus, uint32_t offset, uint32_t *out)

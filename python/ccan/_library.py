@@ -441,7 +441,7 @@ LAYOUT: Dict[Type[ctypes.Structure], Tuple[int, Dict[str, int]]] = {
 # ---- the functions
 
 _host, _bus, _chip = POINTER(ccan_host), POINTER(ccan_bus), POINTER(ccan_chip)
-_u16, _u32, _u64 = POINTER(c_uint16), POINTER(c_uint32), POINTER(c_uint64)
+_u8, _u16, _u32, _u64 = POINTER(c_uint8), POINTER(c_uint16), POINTER(c_uint32), POINTER(c_uint64)
 
 #: The types of the arguments of each function that answers a code.
 CALLS: Dict[str, List[Any]] = {
@@ -459,11 +459,15 @@ CALLS: Dict[str, List[Any]] = {
     "ccan_reset": [_chip],
     "ccan_read16": [_host, c_uint32, _u16],
     "ccan_write16": [_host, c_uint32, c_uint16],
+    "ccan_read8": [_host, c_uint32, _u8],
+    "ccan_write8": [_host, c_uint32, c_uint8],
     "ccan_read32": [_host, c_uint32, _u32],
     "ccan_write32": [_host, c_uint32, c_uint32],
     "ccan_line": [_host, _u32],
     "ccan_bus_read16": [_bus, c_uint32, _u16],
     "ccan_bus_write16": [_bus, c_uint32, c_uint16],
+    "ccan_bus_read8": [_bus, c_uint32, _u8],
+    "ccan_bus_write8": [_bus, c_uint32, c_uint8],
     "ccan_bus_read32": [_bus, c_uint32, _u32],
     "ccan_bus_write32": [_bus, c_uint32, c_uint32],
     "ccan_bus_line": [_bus, _u32],

@@ -92,6 +92,22 @@ class Port:
         """
         self._call(self._prefix + "write16", unsigned(offset, 32, "offset"), unsigned(value, 16, "value"))
 
+    def read8(self, offset: int) -> int:
+        """Reads the byte at an offset, by :meth:`read16` of its register: bits 7 to 0 where that begins, 15 to 8 at the next one.
+
+        So a read of either byte of Status clears what a read of Status clears.
+        """
+        return self._number(self._prefix + "read8", ctypes.c_uint8, unsigned(offset, 32, "offset"))
+
+    def write8(self, offset: int, value: int) -> None:
+        """Writes the byte at an offset, and leaves the other byte of its register.
+
+        The lower byte of Command Request makes the transfer, and the upper byte does nothing. Of Control, Status, Test and BRP
+        Extension the upper byte has nothing to write, except SWR of a D_CAN, which resets the chip if Init is 1. A write of a
+        byte of Bit Timing is a look and then a write: what another port writes in between is lost.
+        """
+        self._call(self._prefix + "write8", unsigned(offset, 32, "offset"), unsigned(value, 8, "value"))
+
     def read32(self, offset: int) -> int:
         """Reads the word of 32 bits at an offset, a multiple of 4: the lower half first; two of a flag, or BTR, at one moment."""
         return self._number(self._prefix + "read32", ctypes.c_uint32, unsigned(offset, 32, "offset"))

@@ -112,6 +112,19 @@ def test_words_of_32_bits() -> None:
         assert chip.bus.read16(0x000) == 0x1403
 
 
+def test_bytes() -> None:
+    """Values of the register table: Bit Timing is 0x2301 after a reset, and is written while Init and CCE are 1."""
+    with ccan.Chip() as chip:
+        assert (chip.if1.read8(Offset.BIT_TIMING), chip.bus.read8(Offset.BIT_TIMING + 1)) == (0x01, 0x23)
+        chip.if1.write8(Offset.CONTROL, 0x41)
+        chip.bus.write8(Offset.BIT_TIMING + 1, 0x1C)
+        assert chip.if1.read16(Offset.BIT_TIMING) == 0x1C01
+        chip.if1.write8(Offset.IF1_COMMAND_REQUEST + 1, 5)
+        assert chip.if1.read8(Offset.IF1_COMMAND_REQUEST) == 1
+        chip.if1.write8(Offset.IF1_COMMAND_REQUEST, 5)
+        assert chip.if1.read8(Offset.IF1_COMMAND_REQUEST) == 5
+
+
 def test_interrupts_flags_and_the_line(chip: ccan.Chip) -> None:
     receive_0x123(chip.if1, 5)
     assert not chip.if2.line()

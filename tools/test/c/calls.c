@@ -628,6 +628,50 @@ static void the_bus_reads_and_writes_words_of_32_bits(void)
     EXPECT(word == 0x00051c00);
 }
 
+/* Receives frames 0x123 in object 5, as `receives` by bytes: the upper byte of Command Request starts nothing. */
+static const struct { uint32_t offset; uint8_t value; } receives_8[] = {
+    { CCAN_OFFSET_IF1_COMMAND_MASK, 0xf3 }, { CCAN_OFFSET_IF1_ARBITRATION_2, 0x8c }, { CCAN_OFFSET_IF1_ARBITRATION_2 + 1, 0x84 },
+    { CCAN_OFFSET_IF1_MESSAGE_CONTROL, 0x88 }, { CCAN_OFFSET_IF1_MESSAGE_CONTROL + 1, 0x04 },
+    { CCAN_OFFSET_IF1_COMMAND_REQUEST + 1, 0x05 } };
+
+static void a_frame_is_received_by_bytes(void)
+{
+    uint8_t byte = 7;
+    reset(&chip, CCAN_LAYOUT_C_CAN);
+    for (size_t i = 0; i < COUNT(receives_8); i++)
+        EXPECT(ccan_write8(&chip.if1, receives_8[i].offset, receives_8[i].value) == CCAN_DONE);
+    EXPECT(reads(&chip.if1, CCAN_OFFSET_IF1_ARBITRATION_2) == 0x848c);
+    EXPECT(reads(&chip.if1, CCAN_OFFSET_MESSAGE_VALID_1) == 0);
+    EXPECT(ccan_write8(&chip.if1, CCAN_OFFSET_IF1_COMMAND_REQUEST, 5) == CCAN_DONE);
+    EXPECT(reads(&chip.if1, CCAN_OFFSET_MESSAGE_VALID_1) == 0x0010);
+    EXPECT(ccan_write8(&chip.if1, CCAN_OFFSET_CONTROL, 0) == CCAN_DONE);
+    EXPECT(played_with(&chip.bus, offer(1)).stored == 5);
+    EXPECT(ccan_write8(&chip.if1, CCAN_OFFSET_IF1_COMMAND_MASK, 0x7f) == CCAN_DONE);
+    EXPECT(ccan_write8(&chip.if1, CCAN_OFFSET_IF1_COMMAND_REQUEST, 5) == CCAN_DONE);
+    EXPECT(ccan_read8(&chip.if1, CCAN_OFFSET_IF1_DATA_A1, &byte) == CCAN_DONE && byte == 0x11);
+    EXPECT(ccan_read8(&chip.if1, CCAN_OFFSET_IF1_DATA_A1 + 1, &byte) == CCAN_DONE && byte == 0x22);
+}
+
+/* Where no register begins at the even offset, and where it is another port's, also the upper byte of Command Request. */
+static void bytes_out_of_range_are_refused(void)
+{
+    uint8_t byte = 7;
+    reset(&chip, CCAN_LAYOUT_C_CAN_32);
+    EXPECT(ccan_read8(&chip.if1, 0x02, &byte) == CCAN_OFFSET_RANGE);
+    EXPECT(ccan_write8(&chip.if1, 0x03, 1) == CCAN_OFFSET_RANGE);
+    EXPECT(ccan_bus_read8(&chip.bus, 0xffffffff, &byte) == CCAN_OFFSET_RANGE);
+    EXPECT(ccan_bus_write8(&chip.bus, 0x800, 1) == CCAN_OFFSET_RANGE);
+    EXPECT(ccan_read8(&chip.if1, 0x81, &byte) == CCAN_OTHER_INTERFACE);
+    EXPECT(ccan_write8(&chip.if1, 0x81, 1) == CCAN_OTHER_INTERFACE);
+    EXPECT(ccan_bus_read8(&chip.bus, 0x20, &byte) == CCAN_OTHER_INTERFACE);
+    EXPECT(ccan_bus_write8(&chip.bus, 0x20, 1) == CCAN_OTHER_INTERFACE);
+    EXPECT(ccan_read8(&other.if1, 0x00, &byte) == CCAN_CLOSED);
+    EXPECT(ccan_write8(&other.if1, 0x00, 0) == CCAN_CLOSED);
+    EXPECT(ccan_bus_read8(&other.bus, 0x00, &byte) == CCAN_CLOSED);
+    EXPECT(ccan_bus_write8(&other.bus, 0x00, 0) == CCAN_CLOSED);
+    EXPECT(byte == 7);
+}
+
 /* At no multiple of 4, where neither half is a register, and where the lower or the upper half is another port's. */
 static void words_out_of_range_are_refused(void)
 {
@@ -1116,6 +1160,8 @@ static const struct { const char *name; void (*run)(void); } tests[] = {
     TEST(a_frame_is_received_by_words_of_32_bits),
     TEST(the_bus_reads_and_writes_words_of_32_bits),
     TEST(words_out_of_range_are_refused),
+    TEST(a_frame_is_received_by_bytes),
+    TEST(bytes_out_of_range_are_refused),
     TEST(an_enable_shows_what_was_raised),
     TEST(loop_back_mode_is_in_the_registers),
     TEST(init_keeps_the_controller_out),

@@ -101,9 +101,11 @@ static void rounds(void)
 /* Calls from which one number or nothing comes. */
 static void numbers(void)
 {
+    GUARDED(uint8_t) byte;
     GUARDED(uint16_t) half;
     GUARDED(uint32_t) word;
     GUARDED(uint64_t) flags;
+    FILL(byte);
     FILL(half);
     FILL(word);
     FILL(flags);
@@ -118,6 +120,9 @@ static void numbers(void)
     EXPECT(ccan_recessive(&chip.bus, 1, &word.out) == CCAN_DONE && INTACT(word) && word.out == CCAN_ACTIVE);
     EXPECT(ccan_read16(&chip.if1, CCAN_OFFSET_IF1_MASK_2, &half.out) == CCAN_DONE && INTACT(half) && half.out == 0xd567);
     EXPECT(ccan_read16(&chip.if1, CCAN_OFFSET_IF2_MASK_2, &half.out) == CCAN_OTHER_INTERFACE && INTACT(half) && half.out == 0xd567);
+    EXPECT(ccan_read8(&chip.if1, CCAN_OFFSET_IF1_MASK_2 + 1, &byte.out) == CCAN_DONE && INTACT(byte) && byte.out == 0xd5);
+    EXPECT(ccan_bus_read8(&chip.bus, CCAN_OFFSET_IF1_MASK_2, &byte.out) == CCAN_OTHER_INTERFACE && byte.out == 0xd5);
+    EXPECT(ccan_bus_read8(&chip.bus, CCAN_OFFSET_INTERRUPT, &byte.out) == CCAN_DONE && INTACT(byte) && byte.out == 5);
     EXPECT(ccan_bus_read16(&chip.bus, CCAN_OFFSET_INTERRUPT, &half.out) == CCAN_DONE && INTACT(half) && half.out == 5);
     EXPECT(ccan_line(&chip.if1, &word.out) == CCAN_DONE && INTACT(word) && word.out == 0);
     EXPECT(ccan_bus_write16(&chip.bus, CCAN_OFFSET_CONTROL, 0x0002) == CCAN_DONE);

@@ -1,7 +1,7 @@
 /* Every register of all three layouts, with 32 and with 64 objects: at which offsets there is one and for which handle, what it
- * reads after a reset, which of its bits can be written and when, what a read leaves, and words of 32 bits. The offsets of D_CAN
- * are those of the AM335x manual, the reset values and bits those of the C_CAN User's Manual, or of the AM335x manual where a
- * D_CAN has others. */
+ * reads after a reset, which of its bits can be written and when, what a read leaves, words of 32 bits, and single bytes. The
+ * offsets of D_CAN are those of the AM335x manual, the reset values and bits those of the C_CAN User's Manual, or of the AM335x
+ * manual where a D_CAN has others. */
 #include <ccan.h>
 #include <stdio.h>
 #include <stdlib.h>
@@ -360,6 +360,109 @@ static void words_written(void)
     EXPECT(get(row) == 0x8010);
 }
 
+static uint32_t read_byte_by(enum owner handle, uint32_t offset, uint8_t *value)
+{
+    return handle == IF1 ? ccan_read8(&chip.if1, offset, value) : handle == IF2 ? ccan_read8(&chip.if2, offset, value)
+        : ccan_bus_read8(&chip.bus, offset, value);
+}
+
+static uint32_t write_byte_by(enum owner handle, uint32_t offset, uint8_t value)
+{
+    return handle == IF1 ? ccan_write8(&chip.if1, offset, value) : handle == IF2 ? ccan_write8(&chip.if2, offset, value)
+        : ccan_bus_write8(&chip.bus, offset, value);
+}
+
+static void put_byte(const struct row *row, uint32_t upper, uint8_t value)
+{
+    EXPECT(ccan_meet(&chip) == CCAN_DONE);
+    EXPECT(write_byte_by(row->owner, place_of(row) + upper, value) == CCAN_DONE);
+}
+
+/* At each offset a byte is a half of the register that begins at the even one, or it is refused and leaves its output. */
+static void bytes_read(void)
+{
+    for (uint32_t offset = 0; offset < PAST; offset++) {
+        const struct row *found = row_at(offset & ~1u), *row = found ? found : &nowhere;
+        uint16_t word = found ? get(found) : 0;
+        for (enum owner handle = ANYBODY; handle <= IF2; handle++) {
+            uint8_t value = 0x5a;
+            uint32_t code = wanted_code(found, handle);
+            EXPECT(read_byte_by(handle, offset, &value) == code);
+            EXPECT(value == (code != CCAN_DONE ? 0x5a : offset & 1 ? word >> 8 : (uint8_t)word));
+            if (code != CCAN_DONE)
+                EXPECT(write_byte_by(handle, offset, 0xff) == code);
+        }
+    }
+}
+
+/* What a register reads once a byte of it was written: the other byte stays. Of those of the controller Bit Timing alone has bits
+ * in its upper byte. */
+static uint16_t with_byte(const struct row *row, uint16_t before, uint32_t upper, uint8_t value)
+{
+    uint16_t set = is_dcan() && row == status ? 0 : bits_in(row) & (upper ? 0xff00 : 0x00ff);
+    return (uint16_t)((before & ~set) | ((upper ? value << 8 : value) & set));
+}
+
+/* Each byte of each register except Command Request, while all bits can be written. */
+static void bytes_written(void)
+{
+    static const uint8_t values[] = { 0xff, 0x5a, 0x25, 0x00 };
+    for (uint32_t i = 0; i < rows_here(); i++) {
+        const struct row *row = &rows[i];
+        for (uint32_t step = 0; step < 8 && i != 7 && i != 18; step++) {
+            uint32_t upper = step / 4;
+            put(control, 0xc1); /* Init, CCE and Test */
+            uint16_t before = get(row);
+            put_byte(row, upper, row == control && upper ? values[step % 4] & 0x7f : values[step % 4]);
+            EXPECT(get(row) == with_byte(row, before, upper, values[step % 4]));
+        }
+    }
+}
+
+/* A byte of Bit Timing is dropped as the register is, and SWR without Init. */
+static void bytes_dropped(void)
+{
+    const struct row *row = timing;
+    put(control, 0x41);
+    put(timing, 0x1c00);
+    put(control, 0x40);
+    put_byte(timing, 0, 0x05);
+    put_byte(timing, 1, 0x23);
+    put_byte(control, 1, 0x80); /* SWR of a D_CAN, but Init is 0 */
+    EXPECT(get(timing) == 0x1c00 && get(control) == (0x40 | fixed_in(control)));
+}
+
+/* The lower byte of Command Request makes the transfer, and the upper one nothing. */
+static void requests_by_bytes(void)
+{
+    const struct row *row = &rows[7];
+    put(&rows[8], 0x0000); /* a Command Mask that moves nothing */
+    put(row, 3);
+    put_byte(row, 1, 0x06);
+    EXPECT(get(row) == 3);
+    put(&rows[8], 0x00b0);  /* write Arbitration and Control */
+    put(&rows[12], 0x8000); /* MsgVal */
+    put(&rows[13], 0);
+    put_byte(row, 1, 0x06);
+    row = &rows[FLAGS + 6];
+    EXPECT((get(row) & 0x0020) == 0);
+    put_byte(&rows[7], 0, 0x06);
+    EXPECT((get(row) & 0x0020) == 0x0020);
+}
+
+/* SWR with Init 1 resets a D_CAN; in the upper byte of Control of a C_CAN there is nothing. */
+static void reset_by_a_byte(void)
+{
+    const struct row *row = control;
+    put(control, 0x41);
+    put(timing, 0x1c00);
+    put_byte(control, 1, 0x7f);
+    EXPECT(get(timing) == 0x1c00);
+    put_byte(control, 1, 0x80);
+    EXPECT(get(timing) == (is_dcan() ? 0x2301 : 0x1c00) && get(control) == (is_dcan() ? 0x1401 : 0x0041));
+    EXPECT((get(&rows[FLAGS + 6]) == 0) == is_dcan()); /* no object is valid */
+}
+
 int main(void)
 {
     static ccan_final last;
@@ -383,6 +486,11 @@ int main(void)
             line();
             words_read();
             words_written();
+            bytes_read();
+            bytes_written();
+            bytes_dropped();
+            requests_by_bytes();
+            reset_by_a_byte();
             EXPECT(ccan_end(&chip, &last) == CCAN_DONE && last.objects == objects);
         }
     }

@@ -148,9 +148,13 @@ static void show_access(const char *name, const char *call, unsigned offset, uin
 static void read_register(const char *name, ccan_host *host, const char *call, unsigned offset)
 {
     char text[9];
+    uint8_t byte = 0;
     uint16_t half = 0;
     uint32_t word = 0, code;
-    if (!strcmp(call, "read16")) {
+    if (!strcmp(call, "read8")) {
+        code = host ? ccan_read8(host, offset, &byte) : ccan_bus_read8(&chip->bus, offset, &byte);
+        snprintf(text, sizeof text, "%02x", (unsigned)byte);
+    } else if (!strcmp(call, "read16")) {
         code = host ? ccan_read16(host, offset, &half) : ccan_bus_read16(&chip->bus, offset, &half);
         snprintf(text, sizeof text, "%04x", (unsigned)half);
     } else {
@@ -163,7 +167,9 @@ static void read_register(const char *name, ccan_host *host, const char *call, u
 static void write_register(const char *name, ccan_host *host, const char *call, unsigned offset, uint32_t value)
 {
     uint32_t code;
-    if (!strcmp(call, "write16"))
+    if (!strcmp(call, "write8"))
+        code = host ? ccan_write8(host, offset, (uint8_t)value) : ccan_bus_write8(&chip->bus, offset, (uint8_t)value);
+    else if (!strcmp(call, "write16"))
         code = host ? ccan_write16(host, offset, (uint16_t)value) : ccan_bus_write16(&chip->bus, offset, (uint16_t)value);
     else
         code = host ? ccan_write32(host, offset, value) : ccan_bus_write32(&chip->bus, offset, value);
@@ -173,9 +179,9 @@ static void write_register(const char *name, ccan_host *host, const char *call, 
 /* A call on a register or the interrupt line, by one of the hosts, or by the bus where there is none. */
 static int is_register_call(const char *name, ccan_host *host, const char *call)
 {
-    if (!strcmp(call, "read16") || !strcmp(call, "read32")) {
+    if (!strcmp(call, "read8") || !strcmp(call, "read16") || !strcmp(call, "read32")) {
         read_register(name, host, call, (unsigned)next_number(16));
-    } else if (!strcmp(call, "write16") || !strcmp(call, "write32")) {
+    } else if (!strcmp(call, "write8") || !strcmp(call, "write16") || !strcmp(call, "write32")) {
         unsigned offset = (unsigned)next_number(16);
         write_register(name, host, call, offset, (uint32_t)next_number(16));
     } else if (!strcmp(call, "line")) {

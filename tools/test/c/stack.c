@@ -21,6 +21,7 @@ static ccan_wire wire;
 static ccan_finished ended;
 static ccan_node node;
 static ccan_note note = CCAN_NOTE_EMPTY;
+static uint8_t byte;
 static uint16_t value;
 static uint32_t number;
 static uint64_t word;
@@ -67,6 +68,15 @@ static uint32_t read_interrupt(void) { return ccan_read16(&chip.if1, CCAN_OFFSET
 static uint32_t read_flags(void) { return ccan_read16(&chip.if1, CCAN_OFFSET_MESSAGE_VALID_4, &value); }
 static uint32_t write_control(void) { return ccan_write16(&chip.if1, CCAN_OFFSET_CONTROL, 0x000e); }
 static uint32_t write_request(void) { return ccan_write16(&chip.if1, CCAN_OFFSET_IF1_COMMAND_REQUEST, 1); }
+static uint32_t read_bytes(void)
+{
+    return ccan_read8(&chip.if1, CCAN_OFFSET_INTERRUPT, &byte) | ccan_bus_read8(&chip.bus, CCAN_OFFSET_STATUS + 1, &byte);
+}
+static uint32_t write_bytes(void)
+{
+    return ccan_write8(&chip.if1, CCAN_OFFSET_BIT_TIMING + 1, 0x23) | ccan_write8(&chip.if1, CCAN_OFFSET_IF1_DATA_A1, 1)
+        | ccan_write8(&chip.if1, CCAN_OFFSET_IF1_COMMAND_REQUEST, 1) | ccan_bus_write8(&chip.bus, CCAN_OFFSET_CONTROL, 0x0e);
+}
 static uint32_t line(void) { return ccan_line(&chip.if1, &number); }
 static uint32_t bus_registers(void)
 {
@@ -103,7 +113,8 @@ static const struct { const char *name; uint32_t (*call)(void); } calls[] = {
     { "status", status }, { "control", control }, { "recessive", recessive }, { "bus flags", bus_flags },
     { "bus interrupt", bus_interrupt }, { "open after a reset", open_reset }, { "read Status", read_status },
     { "read Interrupt", read_interrupt }, { "read flags", read_flags }, { "write Control", write_control },
-    { "write Command Request", write_request }, { "line", line }, { "registers by the bus", bus_registers },
+    { "write Command Request", write_request }, { "read bytes", read_bytes }, { "write bytes", write_bytes }, { "line", line },
+    { "registers by the bus", bus_registers },
     { "open for several chips", open_chip }, { "begin", begin }, { "decide", decide }, { "stay", stay },
     { "decide again", decide_again }, { "finish", finish }, { "retry event", retry_event }, { "node finish", node_finish },
     { "end", end } };

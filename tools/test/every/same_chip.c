@@ -12,6 +12,7 @@
 enum { PROVED, EVERY };
 #define CALL(name) static typeof(ccan_##name) *name##_of[2]
 CALL(open); CALL(open_reset); CALL(is_open); CALL(end); CALL(meet); CALL(reset); CALL(read16); CALL(write16); CALL(read32); CALL(write32);
+CALL(read8); CALL(write8); CALL(bus_read8); CALL(bus_write8);
 CALL(line); CALL(bus_read16); CALL(bus_write16); CALL(bus_read32); CALL(bus_write32); CALL(bus_line); CALL(set); CALL(get);
 CALL(request); CALL(clear_objects); CALL(flags); CALL(interrupt); CALL(peek); CALL(until); CALL(load); CALL(round);
 CALL(status); CALL(counters);
@@ -120,27 +121,38 @@ static uint32_t random_offset(void)
     return chance(2) ? likely[dice(17)] : chance(3) ? dice(0x200) : 2 * dice(0x100);
 }
 
+/* A register, from kind 2 on mostly a word, and from kind 4 on any byte. */
+static uint32_t random_offset_of(unsigned kind)
+{
+    uint32_t offset = random_offset();
+    return kind < 2 ? offset : kind < 4 ? offset & (chance(8) ? ~0u : ~3u) : offset | dice(2);
+}
+
 static void random_host_access(void)
 {
-    unsigned side = dice(2), kind = dice(4);
-    uint32_t offset = kind < 2 ? random_offset() : random_offset() & (chance(8) ? ~0u : ~3u);
+    unsigned side = dice(2), kind = dice(6);
+    uint32_t offset = random_offset_of(kind);
     uint16_t half = word();
     uint32_t whole = (uint32_t)word() << 16 | word();
-    DOING("IF%u access %u at %x, value %x", side + 1, kind, offset, kind == 1 ? half : whole);
+    DOING("IF%u access %u at %x, value %x", side + 1, kind, offset, kind == 1 ? half : kind == 5 ? whole & 0xff : whole);
     if (kind == 0)
         BOTH(uint16_t, read16, host_of(chip, side), offset, to);
     else if (kind == 1)
         BOTH(char, write16, host_of(chip, side), offset, half);
     else if (kind == 2)
         BOTH(uint32_t, read32, host_of(chip, side), offset, to);
-    else
+    else if (kind == 3)
         BOTH(char, write32, host_of(chip, side), offset, whole);
+    else if (kind == 4)
+        BOTH(uint8_t, read8, host_of(chip, side), offset, to);
+    else
+        BOTH(char, write8, host_of(chip, side), offset, (uint8_t)whole);
 }
 
 static void random_bus_access(void)
 {
-    unsigned kind = dice(4);
-    uint32_t offset = kind < 2 ? random_offset() : random_offset() & (chance(8) ? ~0u : ~3u);
+    unsigned kind = dice(6);
+    uint32_t offset = random_offset_of(kind);
     uint16_t half = word();
     uint32_t whole = (uint32_t)word() << 16 | word();
     DOING("bus access %u at %x, value %x", kind, offset, whole);
@@ -150,8 +162,12 @@ static void random_bus_access(void)
         BOTH(char, bus_write16, &chip->bus, offset, half);
     else if (kind == 2)
         BOTH(uint32_t, bus_read32, &chip->bus, offset, to);
-    else
+    else if (kind == 3)
         BOTH(char, bus_write32, &chip->bus, offset, whole);
+    else if (kind == 4)
+        BOTH(uint8_t, bus_read8, &chip->bus, offset, to);
+    else
+        BOTH(char, bus_write8, &chip->bus, offset, (uint8_t)whole);
 }
 
 /* A transfer of an object of the first few, mostly with values that make it take part. */
@@ -354,6 +370,7 @@ static void take_calls(int of, const char *name)
     TAKE(write32); TAKE(line); TAKE(bus_read16); TAKE(bus_write16); TAKE(bus_read32); TAKE(bus_write32); TAKE(bus_line); TAKE(set);
     TAKE(get); TAKE(request); TAKE(clear_objects); TAKE(flags); TAKE(interrupt); TAKE(peek); TAKE(until); TAKE(load);
     TAKE(round); TAKE(status); TAKE(counters); TAKE(control); TAKE(init); TAKE(recessive); TAKE(loop_back); TAKE(bus_interrupt); TAKE(bus_flags); TAKE(version);
+    TAKE(read8); TAKE(write8); TAKE(bus_read8); TAKE(bus_write8);
 }
 
 int main(int count, char **words)

@@ -3,14 +3,15 @@ use crate::expect::same;
 use ccan_c::{
     BusHandle, Chip, HostHandle, Offer, SavedChip, ShownCounters, ShownFinal, ShownFinished,
     ShownFrame, ShownLoad, ShownMember, ShownNode, ShownOutcome, ShownRecord, ShownWire,
-    ccan_begin, ccan_bit_time, ccan_bus_flags, ccan_bus_interrupt, ccan_bus_line, ccan_bus_read16,
-    ccan_bus_read32, ccan_bus_write16, ccan_bus_write32, ccan_clear_objects, ccan_control,
-    ccan_counters, ccan_decide, ccan_decide_again, ccan_end, ccan_finish, ccan_flags,
-    ccan_frame_bits, ccan_get, ccan_init, ccan_interrupt, ccan_is_open, ccan_line, ccan_load,
-    ccan_loop_back, ccan_meet, ccan_node_begin, ccan_node_finish, ccan_node_recessive, ccan_open,
-    ccan_open_reset, ccan_peek, ccan_read16, ccan_read32, ccan_recessive, ccan_request, ccan_reset,
-    ccan_restore, ccan_retry_event, ccan_round, ccan_save, ccan_set, ccan_status, ccan_stay,
-    ccan_until, ccan_write16, ccan_write32,
+    ccan_begin, ccan_bit_time, ccan_bus_flags, ccan_bus_interrupt, ccan_bus_line, ccan_bus_read8,
+    ccan_bus_read16, ccan_bus_read32, ccan_bus_write8, ccan_bus_write16, ccan_bus_write32,
+    ccan_clear_objects, ccan_control, ccan_counters, ccan_decide, ccan_decide_again, ccan_end,
+    ccan_finish, ccan_flags, ccan_frame_bits, ccan_get, ccan_init, ccan_interrupt, ccan_is_open,
+    ccan_line, ccan_load, ccan_loop_back, ccan_meet, ccan_node_begin, ccan_node_finish,
+    ccan_node_recessive, ccan_open, ccan_open_reset, ccan_peek, ccan_read8, ccan_read16,
+    ccan_read32, ccan_recessive, ccan_request, ccan_reset, ccan_restore, ccan_retry_event,
+    ccan_round, ccan_save, ccan_set, ccan_status, ccan_stay, ccan_until, ccan_write8, ccan_write16,
+    ccan_write32,
 };
 use std::alloc::Global;
 use std::process::Abort;
@@ -114,6 +115,14 @@ pub fn until(host: &mut HostHandle, object: u32, flag: u32, turns: u32, shows: &
     ccan_until(host, object, flag, turns, shows)
 }
 
+pub fn read8(host: &mut HostHandle, offset: u32, value: &mut u8) -> u32 {
+    ccan_read8(host, offset, value)
+}
+
+pub fn write8(host: &mut HostHandle, offset: u32, value: u8) -> u32 {
+    ccan_write8(host, offset, value)
+}
+
 pub fn read16(host: &mut HostHandle, offset: u32, value: &mut u16) -> u32 {
     ccan_read16(host, offset, value)
 }
@@ -137,6 +146,20 @@ pub fn reads(rt: &impl Abort, host: &mut HostHandle, offset: u32) -> u16 {
     value
 }
 
+/// The byte at this offset as a host reads it.
+pub fn reads_byte(rt: &impl Abort, host: &mut HostHandle, offset: u32) -> u8 {
+    let mut value = 7;
+    same(rt, ccan_read8(host, offset, &mut value), 0);
+    value
+}
+
+/// Writes bytes, each by its offset.
+pub fn write_bytes(rt: &impl Abort, host: &mut HostHandle, settings: &[(u32, u8)]) {
+    for (offset, value) in settings {
+        same(rt, write8(host, *offset, *value), 0);
+    }
+}
+
 /// Writes registers, each by its offset.
 pub fn write_all(rt: &impl Abort, host: &mut HostHandle, settings: &[(u32, u16)]) {
     for (offset, value) in settings {
@@ -152,6 +175,14 @@ pub fn pulls(rt: &impl Abort, host: &mut HostHandle) -> u32 {
 }
 
 // ---- the bus
+
+pub fn bus_read8(bus: &mut BusHandle, offset: u32, value: &mut u8) -> u32 {
+    ccan_bus_read8(bus, offset, value)
+}
+
+pub fn bus_write8(bus: &mut BusHandle, offset: u32, value: u8) -> u32 {
+    ccan_bus_write8(bus, offset, value)
+}
 
 pub fn bus_read16(bus: &mut BusHandle, offset: u32, value: &mut u16) -> u32 {
     ccan_bus_read16(bus, offset, value)

@@ -1,9 +1,10 @@
 //! What the calls of C come to, each once. `tools/test/c/calls.c` has more of them, from C, with ranges and refusals.
 use super::calls::{
-    bus_flags, bus_interrupt, bus_line, bus_read16, bus_read32, bus_write16, bus_write32,
-    clear_objects, control, counters, end, flags, init, interrupt, is_open, load, loop_back, meet,
-    open, open_reset, opened, peek, pulls, read32, reads, recessive, request, reset,
-    reset_in_place, restore, round, save, set, set_all, shown, status, until, write_all, write32,
+    bus_flags, bus_interrupt, bus_line, bus_read8, bus_read16, bus_read32, bus_write8, bus_write16,
+    bus_write32, clear_objects, control, counters, end, flags, init, interrupt, is_open, load,
+    loop_back, meet, open, open_reset, opened, peek, pulls, read8, read32, reads, reads_byte,
+    recessive, request, reset, reset_in_place, restore, round, save, set, set_all, shown, status,
+    until, write_all, write_bytes, write8, write32,
 };
 use crate::expect::{holds, same};
 use ccan_bus::LoadAnswer;
@@ -354,6 +355,76 @@ fn the_bus_reads_and_writes_words_of_32_bits(rt: HostRuntime) {
     same(&rt, bus_write32(&mut chip.bus, 0x00c, 0x0005_1c00), 0);
     same(&rt, bus_read32(&mut chip.bus, 0x00c, &mut word), 0);
     same(&rt, word, 0x0005_1c00);
+}
+
+/// Bits 7 to 0 of a register are at the offset where it begins, and bits 15 to 8 at the next one. Bit Timing is 0x2301.
+#[test]
+fn a_byte_is_half_of_a_register(rt: HostRuntime) {
+    let mut chip = reset(&rt, rt.alloc(), 1);
+    same(&rt, reads_byte(&rt, &mut chip.if1, 0x0c), 0x01);
+    same(&rt, reads_byte(&rt, &mut chip.if1, 0x0d), 0x23);
+    let mut byte = 7;
+    same(&rt, read8(&mut chip.if1, 0x0e, &mut byte), 20);
+    same(&rt, write8(&mut chip.if1, 0x0f, 0), 20);
+    same(&rt, read8(&mut chip.if1, 0x80, &mut byte), 21);
+    same(&rt, write8(&mut chip.if1, 0x81, 0), 21);
+    same(&rt, byte, 7);
+}
+
+/// Receives frames 0x123 in object 5, as `RECEIVES` by bytes; but the upper byte of Command Request starts nothing.
+const RECEIVES_8: [(u32, u8); 6] = [
+    (0x12, 0xf3),
+    (0x1a, 0x8c),
+    (0x1b, 0x84),
+    (0x1c, 0x88),
+    (0x1d, 0x04),
+    (0x11, 0x05),
+];
+
+#[test]
+fn a_frame_is_received_by_bytes(rt: HostRuntime) {
+    let mut chip = reset(&rt, rt.alloc(), 0);
+    write_bytes(&rt, &mut chip.if1, &RECEIVES_8);
+    same(&rt, reads(&rt, &mut chip.if1, 0x1a), 0x848c);
+    same(&rt, reads(&rt, &mut chip.if1, 0x10), 1);
+    same(&rt, reads(&rt, &mut chip.if1, 0xb0), 0);
+    write_bytes(&rt, &mut chip.if1, &[(0x10, 5), (0x01, 0xff), (0x00, 0)]);
+    same(&rt, played(&rt, &mut chip.bus, &[offer(1)], 0).stored, 5);
+    write_bytes(&rt, &mut chip.if1, &[(0x12, 0x7f), (0x10, 5)]);
+    same(&rt, reads_byte(&rt, &mut chip.if1, 0x1e), 0x11);
+    same(&rt, reads_byte(&rt, &mut chip.if1, 0x1f), 0x22);
+}
+
+/// A byte of Bit Timing leaves the other one, and is dropped without CCE.
+#[test]
+fn the_bus_reads_and_writes_bytes(rt: HostRuntime) {
+    let mut chip = reset(&rt, rt.alloc(), 0);
+    let mut byte = 7;
+    same(&rt, bus_write8(&mut chip.bus, 0x07, 0x1c), 0);
+    same(&rt, bus_read8(&mut chip.bus, 0x07, &mut byte), 0);
+    same(&rt, byte, 0x23);
+    same(&rt, bus_write8(&mut chip.bus, 0x00, 0x41), 0);
+    same(&rt, bus_write8(&mut chip.bus, 0x07, 0x1c), 0);
+    same(&rt, reads(&rt, &mut chip.if1, 0x06), 0x1c01);
+    same(&rt, bus_write8(&mut chip.bus, 0x06, 0x05), 0);
+    same(&rt, reads(&rt, &mut chip.if1, 0x06), 0x1c05);
+}
+
+/// SWR is bit 7 of the upper byte of Control of a D_CAN: it resets the chip while Init is 1, and is dropped while it is 0.
+#[test]
+fn a_dcan_is_reset_by_a_byte(rt: HostRuntime) {
+    let mut chip = reset(&rt, rt.alloc(), 2);
+    write_bytes(
+        &rt,
+        &mut chip.if1,
+        &[(0x00, 0x41), (0x0d, 0x1c), (0x00, 0x40), (0x01, 0x80)],
+    );
+    same(&rt, reads(&rt, &mut chip.if1, 0x0c), 0x1c01);
+    write_bytes(&rt, &mut chip.if1, &[(0x00, 0x41), (0x01, 0x7f)]);
+    same(&rt, reads(&rt, &mut chip.if1, 0x0c), 0x1c01);
+    write_bytes(&rt, &mut chip.if1, &[(0x01, 0x80)]);
+    same(&rt, reads(&rt, &mut chip.if1, 0x0c), 0x2301);
+    same(&rt, reads(&rt, &mut chip.if1, 0x00), 0x1401);
 }
 
 /// Object 2 of a D_CAN sends 0x100 with a byte: Arbitration 2, Message Control, Data A1, the command and its request.
