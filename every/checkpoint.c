@@ -50,11 +50,22 @@ void save_state(checkpoint **where)
         copy_bytes(to, pieces[i].at, pieces[i].size);
 }
 
+/* Arenas as they were when less of them was used: what is behind is zero, as a block has to be that was never given out. */
+static void clear_unused(const size_t *used)
+{
+    for (int number = 0; number < MOST_THREADS; number++)
+        if (used[number] > R.used[number])
+            clear_bytes(E->arena + (size_t)number * ARENA_BYTES + R.used[number], used[number] - R.used[number]);
+}
+
 void restore_state(const checkpoint *from)
 {
     piece pieces[MOST_PIECES];
+    size_t used[MOST_THREADS];
     int threads = ((const run_state *)(const void *)from->bytes)->count;
+    copy_bytes(used, R.used, sizeof used);
     copy_bytes(&R, from->bytes, offsetof(run_state, threads) + (size_t)threads * sizeof(thread));
+    clear_unused(used);
     const char *bytes = from->bytes;
     int count = pieces_of(pieces);
     for (int i = 0; i < count; bytes += pieces[i++].size)

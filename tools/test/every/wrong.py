@@ -70,6 +70,7 @@ WRONG = [
     Fault("a spin lock that two may hold", "locks.c", "{ return !*(const uint32_t *)of->about; }", "{ return of != NULL; }"),
     Fault("a barrier that lets go one too few", "locks.c", "(of->second) == of->first", "(of->second) + 1 == of->first"),
     Fault("a wait whose time is never up", "sync.c", "bool in_time = step_choosing(2) == 0;", "bool in_time = step_choosing(1) == 0;"),
+    Fault("blocks of memory that another way has freed", "checkpoint.c", "    clear_unused(used);\n", "    (void)used, (void)clear_unused;\n"),
     Fault("thread-local variables as another thread left them", "steps.c", "    put_thread_locals(of);\n", ""),
     Fault("a state that has forgotten the time that was up", "checkpoint.c",
           "    hash_two(key, (uint64_t)of->woke.tv_sec, (uint64_t)of->woke.tv_nsec);\n", ""),
