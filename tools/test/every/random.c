@@ -14,7 +14,8 @@
 enum { THREADS = 3, MOST = 6, IF1 = 0, IF2 = 1, BUS = 2 };
 enum kind {
     TRANSFER, MORE_TRANSFER, FLAGS, INTERRUPT, STATUS, CONTROL, LINE, READ_CONTROL, STORE, LOAD, ADD, LOCKED, CHOOSE, MASKED, POLL,
-    POLL_BOTH, COUNTED_POLL, UNTIL, PLAIN, COPY, SIGNAL, AWAIT, POST, TAKE, DELAY, TWO_LOOKS, HOST_KINDS,
+    POLL_BOTH, COUNTED_POLL, UNTIL, PLAIN, COPY, SIGNAL, AWAIT, POST, TAKE, DELAY, TWO_LOOKS, BLOCK, READ_OR_WRITE, TAKE_IN_TIME,
+    COUNT_OWN, HOST_KINDS,
     ROUND, MORE_ROUNDS, LOAD_FRAME, INIT, BUS_KINDS
 };
 typedef struct { int kind, a, b, c; } operation;
@@ -30,6 +31,9 @@ static pthread_mutex_t mutex = PTHREAD_MUTEX_INITIALIZER;
 static pthread_cond_t changed = PTHREAD_COND_INITIALIZER;
 static int gate;
 static sem_t tickets;
+static pthread_rwlock_t lock = PTHREAD_RWLOCK_INITIALIZER;
+static int locked;
+static _Thread_local int own;
 static unsigned long seed;
 
 static unsigned dice(unsigned sides)
@@ -120,6 +124,33 @@ static void open_gate(int wakes_all)
     pthread_mutex_unlock(&mutex);
 }
 
+/* A block of memory, which has what two steps found. */
+static void use_block(int me, const operation *of)
+{
+    int *block = malloc((size_t)(8 + 16 * (of->a % 3)));
+    block[0] = atomic_fetch_add(&cells[of->b & 1], 1);
+    block[1] = atomic_load(&cells[of->c & 1]);
+    SAW(" n%d.%d", block[0], block[1]);
+    free(block);
+}
+
+static void read_or_write(int me, const operation *of)
+{
+    if (of->a & 1)
+        pthread_rwlock_wrlock(&lock);
+    else
+        pthread_rwlock_rdlock(&lock);
+    locked += of->a & 1;
+    SAW(" v%d", locked);
+    pthread_rwlock_unlock(&lock);
+}
+
+static void take_in_time(int me)
+{
+    static const struct timespec end = { .tv_sec = 1 };
+    SAW(" e%d", sem_timedwait(&tickets, &end));
+}
+
 static void work_of_host(int me, ccan_host *host, const operation *of)
 {
     static const uint16_t controls[] = { 2, 14, 0, 3, 6 };
@@ -151,6 +182,10 @@ static void work_of_host(int me, ccan_host *host, const operation *of)
     case TAKE: SAW(" k%d", sem_trywait(&tickets)); break;
     case DELAY: read_one(me, host, CCAN_OFFSET_CONTROL, 'd'); usleep(10); break;
     case TWO_LOOKS: two_looks(me); break;
+    case BLOCK: use_block(me, of); break;
+    case READ_OR_WRITE: read_or_write(me, of); break;
+    case TAKE_IN_TIME: take_in_time(me); break;
+    case COUNT_OWN: own += 1 + of->a % 3; SAW(" y%d", own); break;
     default: break;
     }
 }
