@@ -2,12 +2,12 @@
 //! costs is their difference.
 ghost use Rattle.std.specs.Prelude.{◌≡◌};
 
-use crate::memories::{fill, message, write_all};
+use crate::memories::{fill, message, registers_of_message};
 use anyhow::{Result, bail};
 use ccan_endless::{EndlessRam, Port};
 use ccan_handler::{flags_at_once, until};
 use ccan_object::{Iface, ObjectNo, Profile, Reg};
-use ccan_ram::{Access, Flag, On, SharedRam, Tries};
+use ccan_ram::{Access, Change, Changed, Flag, On, SharedRam, Tries};
 use std::alloc::Global;
 
 /// Waits for a flag that the object has. How often the look showed it.
@@ -45,16 +45,22 @@ fn read<A: Access>(access: &mut A, calls: u32) -> u32 {
     }
 }
 
-/// Writes the message whole. How often that was done.
+/// Writes the message whole, from the interface registers, which then show what it left. How often that was done.
 fn write<A: Access>(access: &mut A, calls: u32) -> u32 {
     let object = ObjectNo::from_request(access.profile(), 1);
     let Some(once) = Tries::new(1) else {
         return 0;
     };
-    let change = write_all();
+    let mut registers = registers_of_message();
+    // 0x00f3, of the message's eight bytes, so that the compiler does not know the command.
+    let length = registers.buffer().dlc.get();
+    registers.set(Reg::CMask, u16::from(length) * 30 + 3);
     let mut made = 0u32;
     for _ in 0..calls {
-        if access.change(object, &change, once).is_ok() {
+        let command = registers.command();
+        let change = Change::Write(command, registers.buffer());
+        if let Ok(Changed::Done { after, .. }) = access.change(object, &change, once) {
+            registers.fill(command, &after);
             made = made.saturating_add(1);
         }
     }

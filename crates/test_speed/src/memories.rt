@@ -27,8 +27,8 @@ pub fn quota_of<R: SharedRam>() -> u64 {
     R::MAX_QUOTA.min(4096)
 }
 
-/// The record that is written: a message with eight bytes.
-pub fn message() -> Record {
+/// The interface registers with what is written: a message with eight bytes.
+pub fn registers_of_message() -> Iface {
     let mut registers = Iface::new();
     registers.set(Reg::Arb2, 0xa48c);
     registers.set(Reg::Ctrl, 0x0088);
@@ -36,7 +36,12 @@ pub fn message() -> Record {
     registers.set(Reg::DataA2, 0x4433);
     registers.set(Reg::DataB1, 0x6655);
     registers.set(Reg::DataB2, 0x8877);
-    registers.buffer()
+    registers
+}
+
+/// The record that is written.
+pub fn message() -> Record {
+    registers_of_message().buffer()
 }
 
 /// A write of all parts of the message.

@@ -1,6 +1,7 @@
 //! The memory without an end in plain Rust, to tell what the proved one costs beside it: the same words, the same steps,
 //! nothing proved. A write merges the groups of its command mask, and answers with the record that it found and the one that it
-//! left; a read fills the interface registers that its command mask selects: as the proved ones do. Prints medians in nanoseconds, of a look, a flag word of 32 objects in one moment, 32 looks of a flag, and
+//! left; a read fills the interface registers that its command mask selects: as the proved ones do. What is counted of a write begins
+//! and ends at those registers. Prints medians in nanoseconds, of a look, a flag word of 32 objects in one moment, 32 looks of a flag, and
 //! full writes, alone and by three threads at objects apart and at one. With a word as `look=1000` it makes so many calls of that
 //! kind and prints nothing: of `look`, `read`, `write`, `flags` or `line`.
 use std::hint::black_box;
@@ -104,6 +105,35 @@ struct Registers {
 }
 
 impl Registers {
+    /// The record that they hold.
+    fn buffer(&self) -> Record {
+        let flag = |place: u32| self.control >> place & 1 == 1;
+        let mut bytes = [0; 8];
+        for (half, word) in self.data.iter().enumerate() {
+            bytes[2 * half..2 * half + 2].copy_from_slice(&word.to_le_bytes());
+        }
+        Record {
+            valid: self.arbitration[1] >> 15 == 1,
+            xtd: self.arbitration[1] >> 14 & 1 == 1,
+            dir: self.arbitration[1] >> 13 & 1 == 1,
+            id: u32::from(self.arbitration[1] & 0x1fff) << 16 | u32::from(self.arbitration[0]),
+            mxtd: self.mask[1] >> 15 == 1,
+            mdir: self.mask[1] >> 14 & 1 == 1,
+            mask: u32::from(self.mask[1] & 0x1fff) << 16 | u32::from(self.mask[0]),
+            newdat: flag(15),
+            msglst: flag(14),
+            intpnd: flag(13),
+            umask: flag(12),
+            txie: flag(11),
+            rxie: flag(10),
+            rmten: flag(9),
+            txrqst: flag(8),
+            eob: flag(7),
+            dlc: (self.control & 15) as u8,
+            bytes,
+        }
+    }
+
     /// Takes the groups of a record that the command selects.
     fn fill(&mut self, command: u16, of: &Record) {
         if command & MASK != 0 {
@@ -257,6 +287,7 @@ fn make_calls(name: &str, calls: u64) {
     let memory = Memory::new();
     let mut port = Port { port: 0, used: 0 };
     let mut registers = Registers { mask: [0; 2], arbitration: [0; 2], control: 0, data: [0; 4] };
+    registers.fill(READ, &message());
     let controller = AtomicU64::new(0);
     for object in 0..OBJECTS {
         assert!(memory.write(&mut port, object, ALL, &message()).is_some());
@@ -268,7 +299,12 @@ fn make_calls(name: &str, calls: u64) {
             black_box(&registers).arbitration[1] >> 15 == 1
         }),
         "write" => repeat(calls, || {
-            black_box(memory.write(&mut port, 0, black_box(ALL), black_box(&message()))).is_some()
+            let command = black_box(ALL);
+            let Some((_, after)) = black_box(memory.write(&mut port, 0, command, &registers.buffer())) else {
+                return false;
+            };
+            registers.fill(command, &after);
+            black_box(&mut registers).control & 15 == 8
         }),
         "flags" => repeat(calls, || memory.flags(black_box(MSGVAL)) == 0xffff_ffff),
         "line" => repeat(calls, || {
