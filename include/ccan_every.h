@@ -12,14 +12,14 @@
  *
  * What a step is. Of a call of ccan.h: each place that ccan.h gives it in the chip's history; a change is one step, so CCAN_BUSY
  * and CCAN_SPENT never come. Of the program's memory: each access to a word that two threads use and one writes. Of a mutex, a
- * condition variable, a semaphore: each call. Memory is sequentially consistent.
+ * condition variable, a semaphore, another lock or a barrier: each call. Memory is sequentially consistent.
  *
  * Nothing of this library is proved. The chip is written in C once more, with steps that can be seen; it is compared with the
  * proved library in a test. The search and what it leaves out are tested against plain searches of all interleavings.
  *
- * Not seen, and refused with a word: files, sockets, signals, clocks, processes, random numbers, thread-local variables, a second
- * chip, and the calls of ccan.h for several chips on one bus, from ccan_begin to ccan_bit_time. Not seen, and not noticed: code
- * that was compiled without -fsanitize=thread, and assembler. */
+ * Not seen, and refused with a word: files, sockets, signals, clocks unless the program has them stand still, processes, random
+ * numbers, jumps, a second chip, and the calls of ccan.h for several chips on one bus, from ccan_begin to ccan_bit_time. Not seen,
+ * and not noticed: code that was compiled without -fsanitize=thread, and assembler. */
 #ifndef CCAN_EVERY_H
 #define CCAN_EVERY_H
 #include "ccan.h"
