@@ -70,6 +70,7 @@ change_adds (change.WriteTiming register extension) c events e = e
 change_adds change.Reset c events e = sym (counts-none true)
 change_adds change.ResetDcan c events e = sym (counts-none true)
 change_adds change.Join c events e = e
+change_adds change.PowerDown c events e = e
 
 pub counters_defined : CountersAreAsDefined
 unfolding controller_of node_events
@@ -98,6 +99,7 @@ hosts_leave (change.WriteTiming register extension) c host other = refl
 hosts_leave change.Reset c host other = absurd cc
 hosts_leave change.ResetDcan c host other = absurd cc
 hosts_leave change.Join c host other = absurd cc
+hosts_leave change.PowerDown c host other = absurd cc
 
 -- Init after new counters
 init_with : (init before after : Bool) → before ≡ false → after ≡ true → (init || (not before && after)) ≡ true
@@ -127,6 +129,7 @@ off_sets_init (change.WriteTiming register extension) c on off = stays (change.W
 off_sets_init change.Reset c on off = refl
 off_sets_init change.ResetDcan c on off = refl
 off_sets_init change.Join c on off = let both : false ≡ true = sym on ∙ off in absurd cc
+off_sets_init change.PowerDown c on off = let both : false ≡ true = sym on ∙ off in absurd cc
 
 -- a step that is no joining leaves a controller that has left as one
 still_left : (z : ControllerChange) (c : Controller) → is_joining z ≡ false → c.has_left ≡ true
@@ -145,6 +148,7 @@ still_left (change.WriteTiming register extension) c other left = or_left c.has_
 still_left change.Reset c other left = refl
 still_left change.ResetDcan c other left = refl
 still_left change.Join c other left = absurd cc
+still_left change.PowerDown c other left = or_left c.has_left _ left
 
 -- Init is 1 only where the controller has left
 init_left : (changes : List ControllerChange) → (controller_of changes).control.init ≡ true
@@ -184,6 +188,7 @@ masks_keep (change.WriteTiming register extension) c control = (refl, refl)
 masks_keep change.Reset c control = (refl, refl)
 masks_keep change.ResetDcan c control = (refl, refl)
 masks_keep change.Join c control = (refl, refl)
+masks_keep change.PowerDown c control = (refl, refl)
 
 -- a flag that is set or stays
 set_by : (b before : Bool) → (before || b) ≡ unwrap_or (cond b (Some true) None) before
@@ -219,6 +224,7 @@ tx_step (change.WriteTiming register extension) c = refl
 tx_step change.Reset c = refl
 tx_step change.ResetDcan c = refl
 tx_step change.Join c = refl
+tx_step change.PowerDown c = refl
 
 rx_step : (z : ControllerChange) (c : Controller) → (controller_after z c).status.rx_ok ≡ unwrap_or (rx_ok_given z) c.status.rx_ok
 rx_step (change.Frame event noted) c = set_by (is_received noted) c.status.rx_ok
@@ -235,6 +241,7 @@ rx_step (change.WriteTiming register extension) c = refl
 rx_step change.Reset c = refl
 rx_step change.ResetDcan c = refl
 rx_step change.Join c = refl
+rx_step change.PowerDown c = refl
 
 pub given_last : FlagsAreGivenLast
 unfolding controller_of newest_given

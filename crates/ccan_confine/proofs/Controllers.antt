@@ -54,8 +54,14 @@ module _ (c : Controller) (w : ℕ) (is : IsController c) (word : packed c ≡ w
   timing : part w 42 19 ≡ packed_timing c
   timing = omega (arith, word, small, few, timely)
 
+  top : (flag c.has_left ≤ 1) × (flag c.control.pdr ≤ 1)
+  top = (flag-le c.has_left, flag-le c.control.pdr)
+
   left_is : bit w 61 ≡ c.has_left
-  left_is = bit-flag w 61 c.has_left (let most = flag-le c.has_left in omega (arith, word, small, few, timely))
+  left_is = bit-flag w 61 c.has_left (omega (arith, word, small, few, timely, top))
+
+  pdr_is : bit w 62 ≡ c.control.pdr
+  pdr_is = bit-flag w 62 c.control.pdr (omega (arith, word, small, few, timely, top))
 
   register_is : register_in (part w 42 15) ≡ c.timing.register
   register_is = omega (arith, timing, is.register)
@@ -140,7 +146,7 @@ module _ (c : Controller) (w : ℕ) (is : IsController c) (word : packed c ≡ w
               groups = groups_is i;
             };
         control =
-            record { init = b5 i; ie = b6 i; sie = b7 i; eie = b8 i; dar = b9 i; cce = b10 i; test = b11 i };
+            record { init = b5 i; ie = b6 i; sie = b7 i; eie = b8 i; dar = b9 i; cce = b10 i; test = b11 i; pdr = pdr_is i };
         status = record { tx_ok = b0 i; rx_ok = b1 i; lec = lec_is i };
         transfer_pending = b2 i;
         level_pending = b3 i;
@@ -206,3 +212,4 @@ host_after (change.WriteTiming register extension) c is = is
 host_after change.Reset c is = refl
 host_after change.ResetDcan c is = refl
 host_after change.Join c is = is
+host_after change.PowerDown c is = is

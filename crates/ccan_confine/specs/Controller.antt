@@ -3,8 +3,8 @@
 -- Register", "Test Register" and "Hardware Reset Description". (own): a status interrupt is raised whatever SIE and EIE say;
 -- groups of recessive bits count on the way back from bus off even while Init is 1 again; that a controller has left the bus
 -- is remembered until the message handler joins again; and the packed word. The clearing read and the reset of a D_CAN: Texas
--- Instruments, AM335x Technical Reference Manual, chapter DCAN, "Error and Status Register" (LEC is 7 after a reset) and "CAN
--- Control Register" (SWR).
+-- Instruments, AM335x Technical Reference Manual, chapter DCAN, "Error and Status Register" (LEC is 7 after a reset; PDA)
+-- and "CAN Control Register" (SWR, PDR) and "Local Power-Down Mode".
 use Rattle.std.specs.Prelude.{ℕ, ◌≡◌, ◌+◌, ◌<◌, ◌≤◌, Bool, true, false, ◌&&◌, ◌||◌, not, nat_le, min, ◌^◌, if◌then◌else◌}
 use Rattle.ccan_confine.specs.declared.status_event.StatusEvent.{StatusEvent}
 use Rattle.ccan_confine.specs.declared.status_event.StatusEvent.TheVariants.{Recovery, Level}
@@ -75,7 +75,7 @@ timed timing c = record c { timing = (if configures c then timing else c.timing)
 -- as it opens: nothing happened, everything is 0
 abbrev pub no_control : ControlRegister
 no_control =
-    record { init = false; ie = false; sie = false; eie = false; dar = false; cce = false; test = false }
+    record { init = false; ie = false; sie = false; eie = false; dar = false; cce = false; test = false; pdr = false }
 
 abbrev pub no_test : TestRegister
 no_test = record { basic = false; silent = false; lback = false }
@@ -102,6 +102,14 @@ abbrev pub reset_controller : Controller
 reset_controller =
     record new_controller { control = record no_control { init = true }; timing = reset_timing; has_left = true }
 
+-- local power down: if PDR asks for it, Init is set
+abbrev pub powered_down : Controller → Controller
+powered_down c = record c { control = record c.control { init = c.control.init || c.control.pdr } }
+
+-- PDA: local power down was asked for, and Init is 1
+abbrev pub is_powered_down : Controller → Bool
+is_powered_down c = c.control.pdr && c.control.init
+
 -- what a step makes of its registers
 abbrev pub changed_by : ControllerChange → Controller → Controller
 changed_by (change.Frame event noted) c = counted noted (counts_after event c.counters) c
@@ -123,6 +131,7 @@ changed_by (change.WriteTiming register extension) c = timed (timing_of register
 changed_by change.Reset c = reset_controller
 changed_by change.ResetDcan c = record reset_controller { status = record { tx_ok = false; rx_ok = false; lec = 7 } }
 changed_by change.Join c = record c { has_left = false }
+changed_by change.PowerDown c = powered_down c
 
 -- what a step makes of a controller: the message handler joins the bus, or the controller leaves it if Init is then 1
 abbrev pub controller_after : ControllerChange → Controller → Controller
@@ -133,13 +142,14 @@ abbrev pub CanMake : ControllerChange → Type 0
 CanMake (change.Frame event noted) = HasFaultCode noted
 CanMake _ = Unit {0}
 
--- The message handler's side makes the ends of frames, the groups of recessive bits, a reset and a joining; a host makes all
--- else; and either makes a reset of a D_CAN.
+-- The message handler's side makes the ends of frames, the groups of recessive bits, a reset, a joining and a power down; a host
+-- makes all else; and either makes a reset of a D_CAN.
 abbrev pub is_handlers : ControllerChange → Bool
 is_handlers (change.Frame event noted) = true
 is_handlers (change.Recessive groups) = true
 is_handlers change.Reset = true
 is_handlers change.Join = true
+is_handlers change.PowerDown = true
 is_handlers _ = false
 
 -- the Interrupt register shows a status interrupt: one that was raised, and is not masked
@@ -178,9 +188,9 @@ packed_flags c =
 abbrev pub packed_timing : Controller → ℕ
 packed_timing c = at 15 c.timing.extension + c.timing.register
 
--- at bit 61 that it has left the bus
+-- at bit 61 that it has left the bus, and at 62 PDR
 abbrev pub packed_left : Controller → ℕ
-packed_left c = at 61 (flag c.has_left)
+packed_left c = at 62 (flag c.control.pdr) + at 61 (flag c.has_left)
 
 -- the word
 abbrev pub packed : Controller → ℕ
@@ -210,6 +220,7 @@ unpacked word =
             dar = bit (flags_part word) 9;
             cce = bit (flags_part word) 10;
             test = bit (flags_part word) 11;
+            pdr = bit word 62;
           };
       status =
           record { tx_ok = bit (flags_part word) 0; rx_ok = bit (flags_part word) 1; lec = part word 24 3 };

@@ -1,6 +1,7 @@
 -- The words of registers that a host reads and writes, by the places of their bits. Source: C_CAN User's Manual 1.2, "CAN
--- Control Register", "Status Register", "Error Counter" and "Test Register". That the Error Counter shows a transmit error
--- count above 255 as 255 is this project's own.
+-- Control Register", "Status Register", "Error Counter" and "Test Register"; of PDR: Texas Instruments, AM335x Technical
+-- Reference Manual, chapter DCAN, "CAN Control Register". That the Error Counter shows a transmit error count above 255 as 255
+-- is this project's own.
 use Rattle.std.specs.Prelude.{ℕ, ◌+◌, ◌%◌, ◌^◌, nat_le, min, if◌then◌else◌}
 use Rattle.ccan_confine.specs.declared.controller.Controller.{Controller}
 use Rattle.ccan_confine.specs.declared.control_register.ControlRegister.{ControlRegister}
@@ -9,12 +10,13 @@ use Rattle.ccan_confine.specs.Bits.{flag, at, bit, part}
 use Rattle.ccan_confine.specs.StatusFlags.{Flags}
 use Rattle.ccan_confine.specs.Counters.{passive_limit}
 
--- Control: Init 0, IE 1, SIE 2, EIE 3, DAR 5, CCE 6, Test 7; the others are 0
+-- Control, its low word: Init 0, IE 1, SIE 2, EIE 3, DAR 5, CCE 6, Test 7; the others are 0
 abbrev pub control_word : ControlRegister → ℕ
 control_word control =
     at 7 (flag control.test) + at 6 (flag control.cce) + at 5 (flag control.dar) + at 3 (flag control.eie)
     + at 2 (flag control.sie) + at 1 (flag control.ie) + flag control.init
 
+-- the register that a word writes; of a D_CAN a word of 32 bits has PDR at 24
 abbrev pub control_in : ℕ → ControlRegister
 control_in word =
     record {
@@ -25,6 +27,7 @@ control_in word =
       dar = bit word 5;
       cce = bit word 6;
       test = bit word 7;
+      pdr = bit word 24;
     }
 
 -- the bits that are 1 in the first as they are in the second, and the others as they are in the third
@@ -38,6 +41,7 @@ control_with which to control =
       dar = (if which.dar then to.dar else control.dar);
       cce = (if which.cce then to.cce else control.cce);
       test = (if which.test then to.test else control.test);
+      pdr = (if which.pdr then to.pdr else control.pdr);
     }
 
 -- Test: Basic 2, Silent 3, LBack 4; the others, of the pins and reserved, are 0

@@ -3,7 +3,8 @@ ghost use Rattle.ccan_confine.specs.RegisterWords.{control_in, control_with, con
 
 use crate::bits::{bit, flag};
 
-/// The Control register (C_CAN User's Manual 1.2, "CAN Control Register"). Every bit is 0 in its `default`.
+/// The Control register (C_CAN User's Manual 1.2, "CAN Control Register"), with one bit more that only a D_CAN has. Every bit is 0
+/// in its `default`.
 #[derive(Clone, Copy, Debug, Default, PartialEq, Eq, Hash)]
 pub struct ControlRegister {
     /// Init, bit 0: the controller takes no part in the traffic.
@@ -20,10 +21,13 @@ pub struct ControlRegister {
     pub cce: bool,
     /// Test, bit 7: the Test register may be written.
     pub test: bool,
+    /// PDR, bit 24, of a D_CAN alone: a host asks for local power down (Texas Instruments, AM335x Technical Reference Manual,
+    /// chapter DCAN, "CAN Control Register").
+    pub pdr: bool,
 }
 
 impl ControlRegister {
-    /// The word of the register, by the places of its bits; the others are 0.
+    /// The low word of the register, by the places of its bits; the others are 0. PDR is not in it.
     #[inline(always)]
     pub fn word(&self) -> u16
         ensures word { result ≡ control_word self.now }
@@ -38,9 +42,9 @@ impl ControlRegister {
             + flag(self.init, 0)) as u16
     }
 
-    /// The register that a host writes with this word. Its reserved bits are dropped.
+    /// The register that a host writes with this word. Its reserved bits are dropped. A word of 16 bits has no PDR.
     #[inline(always)]
-    pub fn of_word(word: u16) -> ControlRegister
+    pub fn of_word(word: u32) -> ControlRegister
         ensures { result ≡ control_in word }
     {
         let word = u64::from(word);
@@ -52,6 +56,7 @@ impl ControlRegister {
             dar: bit(word, 5),
             cce: bit(word, 6),
             test: bit(word, 7),
+            pdr: bit(word, 24),
         }
     }
 
@@ -68,6 +73,7 @@ impl ControlRegister {
             dar: if which.dar { to.dar } else { self.dar },
             cce: if which.cce { to.cce } else { self.cce },
             test: if which.test { to.test } else { self.test },
+            pdr: if which.pdr { to.pdr } else { self.pdr },
         }
     }
 }

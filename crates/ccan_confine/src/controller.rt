@@ -2,6 +2,7 @@ ghost use Rattle.std.specs.Prelude.{◌≡◌, ◌<◌, ◌^◌, false};
 ghost use Rattle.ccan_confine.specs.declared.controller.Controller.{Controller};
 ghost use Rattle.ccan_confine.specs.StatusEvent.{HasFaultCode};
 ghost use Rattle.ccan_confine.specs.Controller.{CanMake, IsController, changed_by, changes_level, controller_after, counted};
+ghost use Rattle.ccan_confine.specs.Controller.{is_powered_down, powered_down};
 ghost use Rattle.ccan_confine.specs.Controller.{leaving};
 ghost use Rattle.ccan_confine.specs.Controller.{controlled, new_controller, packed, packed_flags, packed_numbers, packed_timing};
 ghost use Rattle.ccan_confine.specs.Controller.{recovery_of, reset_controller, shows_interrupt, status_word, timed, unpacked};
@@ -39,7 +40,8 @@ const BIT_TIMING_AT_RESET: u16 = 0x2301;
 /// | 32 | Init | 42 to 56 | Bit Timing |
 /// | | | 57 to 60 | BRP Extension |
 /// | | | 61 | the controller has left the bus |
-/// | | | 62 and 63 | 0 |
+/// | | | 62 | PDR |
+/// | | | 63 | 0 |
 #[derive(Clone, Copy, Debug, PartialEq, Eq, Hash)]
 pub struct Controller {
     /// The error counters, with what the way back from bus off needs.
@@ -145,13 +147,22 @@ impl Controller {
         (flag(rec >= u64::from(PASSIVE), 15) + ((rec % (1 << 7)) << 8) + tec.min(255)) as u16
     }
 
-    /// The registers in one word, below 2^62.
+    /// PDA of a D_CAN, bit 10 of its Error and Status register: PDR asks for local power down, and Init is 1 (Texas
+    /// Instruments, AM335x Technical Reference Manual, chapter DCAN, "Local Power-Down Mode").
+    #[inline(always)]
+    pub fn is_powered_down(&self) -> bool
+        ensures { result ≡ is_powered_down self.now }
+    {
+        self.control.pdr && self.control.init
+    }
+
+    /// The registers in one word, below 2^63.
     #[inline(always)]
     pub fn pack(&self) -> u64
         ensures word { result ≡ packed self.now }
-        ensures small { result < 2 ^ 62 }
+        ensures small { result < 2 ^ 63 }
     {
-        let left = flag(self.has_left, 61);
+        let left = flag(self.control.pdr, 62) + flag(self.has_left, 61);
         left + (self.pack_timing() << 42) + (self.pack_flags() << 27) + self.pack_numbers()
     }
 
@@ -226,6 +237,7 @@ impl Controller {
                 dar: bit(flags, 9),
                 cce: bit(flags, 10),
                 test: bit(flags, 11),
+                pdr: bit(word, 62),
             },
             status: StatusFlags::new(bit(flags, 0), bit(flags, 1), lec),
             transfer_pending: bit(flags, 2),
@@ -285,6 +297,21 @@ impl Controller {
                 has_left: false,
                 ..self
             },
+            ControllerChange::PowerDown => self.powered_down(),
+        }
+    }
+
+    // In local power down, if PDR asks for it.
+    #[inline(always)]
+    fn powered_down(self) -> Controller
+        ensures { result ≡ powered_down self }
+    {
+        Controller {
+            control: ControlRegister {
+                init: self.control.init || self.control.pdr,
+                ..self.control
+            },
+            ..self
         }
     }
 

@@ -47,4 +47,7 @@ pub enum ControllerChange {
     /// The message handler joins the bus again: that the controller had left it is forgotten, unless Init is 1. Made by the
     /// message handler alone (own).
     Join,
+    /// The message handler has nothing to send on an idle bus: Init becomes 1 if PDR is 1, and nothing changes if it is 0 (Texas
+    /// Instruments, AM335x Technical Reference Manual, chapter DCAN, "Local Power-Down Mode"). Made by the message handler alone.
+    PowerDown,
 }
