@@ -1,9 +1,42 @@
 //! How the line of a script ends.
 ghost use Rattle.std.specs.Prelude.{◌≡◌};
-ghost use Rattle.ccan_process.specs.LineEnd.{told_end, unframed};
+ghost use Rattle.ccan_process.specs.LineEnd.{told_answer, told_end, told_round, unframed};
 
 use ccan_accept::Frame;
+use ccan_bus::RoundAnswer;
 use ccan_line::LineAnswer;
+use ccan_object::Record;
+
+/// What came of a round as it is reported. In loop back mode a printed line doesn't show the record of the object that was sent:
+/// zero stands for it.
+fn told_round(round: RoundAnswer) -> RoundAnswer
+    ensures { result ≡ told_round round }
+{
+    match round {
+        RoundAnswer::Looped(object, _, storing) => {
+            RoundAnswer::Looped(object, Record::zero(), storing)
+        }
+        RoundAnswer::Idle
+        | RoundAnswer::Sent(_, _)
+        | RoundAnswer::Received(_)
+        | RoundAnswer::Passed
+        | RoundAnswer::Collision
+        | RoundAnswer::NoAck
+        | RoundAnswer::Fault
+        | RoundAnswer::Busy(_)
+        | RoundAnswer::Spent(_) => round,
+    }
+}
+
+/// An answer as it is reported.
+fn told_answer(answer: LineAnswer) -> LineAnswer
+    ensures { result ≡ told_answer answer }
+{
+    let LineAnswer::Round(round) = answer else {
+        return answer;
+    };
+    LineAnswer::Round(told_round(round))
+}
 
 /// How a line ends: what it answers, and what was on the bus.
 #[derive(Clone, Copy, PartialEq, Eq, Hash, Debug)]
@@ -26,12 +59,12 @@ impl LineEnd {
         }
     }
 
-    /// The end as it is reported, with its frame or without.
+    /// The end as it is reported, with its frame or without, and with zero for a record that no printed line shows.
     pub fn told(&self, frames: bool) -> LineEnd
         ensures { result ≡ told_end frames self.now }
     {
         LineEnd {
-            answer: self.answer,
+            answer: told_answer(self.answer),
             frame: if frames { self.frame } else { None },
         }
     }
