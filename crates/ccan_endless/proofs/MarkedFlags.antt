@@ -8,7 +8,7 @@ use Rattle.ccan_endless.specs.Parts.{marks_of}
 use Rattle.ccan_endless.specs.Picture.{AddsMarks}
 use Rattle.ccan_endless.proofs.Marks.{limits}
 
-is_set : (on : Bool) (b : ℕ) → b ≡ flag on → (b == 1) ≡ on
+pub is_set : (on : Bool) (b : ℕ) → b ≡ flag on → (b == 1) ≡ on
 is_set true b h = ap (λ (n : ℕ). n == 1) h
 is_set false b h = ap (λ (n : ℕ). n == 1) h
 

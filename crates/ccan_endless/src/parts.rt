@@ -6,9 +6,10 @@
 //! body 1   the data, byte 0 lowest
 //! ```
 //!
-//! Both are rearranged from a packed record: Message Control gives up its reserved bits, and MsgVal moves from bit 31
-//! of the first word to the marks.
-ghost use Rattle.std.specs.Prelude.{◌≡◌, ◌<◌};
+//! The body is the first and the last word of a packed record, except that MsgVal, bit 31 of the first, is 0 there: it is
+//! among the marks, above Message Control without its reserved bits.
+ghost use Rattle.std.specs.Prelude.{◌≡◌, ◌<◌, ◌+◌};
+ghost use Rattle.ccan_object.specs.Bits.{flag, at};
 ghost use Rattle.ccan_object.specs.declared.record.Record.{Record};
 ghost use Rattle.ccan_object.specs.Record.{IsRecord};
 ghost use Rattle.ccan_endless.specs.Parts.{body_of, marks_limit, marks_of};
@@ -20,19 +21,35 @@ pub fn marks_of(object: &Record) -> u64
     ensures value { result ≡ marks_of object.now }
     ensures small { result < marks_limit }
 {
-    let control = u64::from(object.control());
-    let below = control / 128 * 16 + control % 16;
-    if object.valid { 8192 + below } else { below }
+    let state = joint(object.valid, object.newdat, object.msglst, object.intpnd);
+    let enables = joint(object.umask, object.txie, object.rxie, object.rmten);
+    let buffer = joint(false, false, object.txrqst, object.eob);
+    ((state * 16 + enables) * 4 + buffer) * 16 + u64::from(object.dlc.get())
 }
 
-/// The body of a record.
+/// Four flags side by side, the first highest. Each step doubles the flags so far and adds one, which a processor does at
+/// once; to shift each flag to its place takes more instructions.
+#[inline(always)]
+fn joint(first: bool, second: bool, third: bool, fourth: bool) -> u64
+    ensures value { result
+        ≡ at 3 (flag first) + at 2 (flag second) + at 1 (flag third) + flag fourth }
+    ensures small { result < 16 }
+{
+    let upper = u64::from(first) * 2 + u64::from(second);
+    (upper * 2 + u64::from(third)) * 2 + u64::from(fourth)
+}
+
+/// The body of a record, in which MsgVal is 0.
 pub fn body_of(object: &Record) -> [u64; 2]
     ensures value { result ≡ body_of object.now }
     ensures is_record { IsRecord object.now }
 {
-    let [identifiers, _control, content] = pack(object);
-    let valid = if object.valid { 2147483648 } else { 0 };
-    [identifiers - valid, content]
+    let unmarked = Record {
+        valid: false,
+        ..*object
+    };
+    let [identifiers, _control, content] = pack(&unmarked);
+    [identifiers, content]
 }
 
 /// The record that has these marks and this body. If no record has them, it is an unspecified record. In a place that
@@ -43,7 +60,10 @@ pub fn joined(marks: u64, body: [u64; 2]) -> Record
         → body_of object ≡ body → result ≡ object }
 {
     let [identifiers, content] = body;
-    let valid = marks / 8192 * 2147483648;
     let control = marks / 16 % 512 * 128 + marks % 16;
-    unpack([identifiers.wrapping_add(valid), control, content]).unwrap_or(Record::zero())
+    let unmarked = unpack([identifiers, control, content]).unwrap_or(Record::zero());
+    Record {
+        valid: marks / 8192 == 1,
+        ..unmarked
+    }
 }
