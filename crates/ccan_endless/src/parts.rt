@@ -21,14 +21,14 @@ pub fn marks_of(object: &Record) -> u64
     ensures value { result ≡ marks_of object.now }
     ensures small { result < marks_limit }
 {
+    // Straight from the flags: those of Message Control would then have to be moved to their places among the marks.
     let state = joint(object.valid, object.newdat, object.msglst, object.intpnd);
     let enables = joint(object.umask, object.txie, object.rxie, object.rmten);
     let buffer = joint(false, false, object.txrqst, object.eob);
     ((state * 16 + enables) * 4 + buffer) * 16 + u64::from(object.dlc.get())
 }
 
-/// Four flags side by side, the first highest. Each step doubles the flags so far and adds one, which a processor does at
-/// once; to shift each flag to its place takes more instructions.
+/// Four flags side by side, the first highest.
 #[inline(always)]
 fn joint(first: bool, second: bool, third: bool, fourth: bool) -> u64
     ensures value { result
