@@ -7,9 +7,9 @@ use Rattle.ccan_ram.specs.declared.flag.Flag.TheVariants.{NewDat, MsgLst, IntPnd
 use Rattle.ccan_map.specs.declared.interface.Interface.{Interface}
 use Rattle.ccan_map.specs.declared.interface.Interface.TheVariants.{One, Two}
 use Rattle.ccan_map.specs.declared.register.Register.{Register}
-use Rattle.ccan_map.specs.declared.register.Register.TheVariants.{Control, Status, ErrorCounter, BitTiming, Interrupt, Test, Extension, Request, Buffer, Flags}
+use Rattle.ccan_map.specs.declared.register.Register.TheVariants.{Control, ControlUpper, Status, ErrorCounter, BitTiming, Interrupt, Test, Extension, Request, Buffer, Flags}
 use Rattle.ccan_map.specs.Dcan.{interface_base, buffer_place, flag_base, dcan_offset, IsAtInterface}
-use Rattle.ccan_map.specs.Register.{HasRegisters, IsIn, IsAtFlag}
+use Rattle.ccan_map.specs.Register.{HasRegisters, IsInDcan, IsAtFlag}
 use Rattle.ccan_map.proofs.Parts.{index-within, index-apart}
 
 buffer-within : (register : Reg) → buffer_place register ≤ 0x16
@@ -23,7 +23,7 @@ buffer-apart a b e = grind arith
 
 module _ (profile : Profile) (offset : ℕ) where
   -- an offset in the block of an interface is of one of its registers
-  pub at_interface : (interface : Interface) (r : Register) → IsIn profile r → dcan_offset r ≡ offset
+  pub at_interface : (interface : Interface) (r : Register) → IsInDcan profile r → dcan_offset r ≡ offset
       → interface_base interface ≤ offset → offset ≤ interface_base interface + 0x16
       → IsAtInterface interface (offset - interface_base interface) r
   at_interface One (Request One) has is low high = (refl, omega arith)
@@ -34,7 +34,7 @@ module _ (profile : Profile) (offset : ℕ) where
   at_interface interface r has is low high = absurd (omega (arith, buffer-within, index-within))
 
   -- an offset in the block of a flag is of one of its registers
-  pub at_flag : (flag : Flag) (r : Register) → HasRegisters flag → IsIn profile r → dcan_offset r ≡ offset
+  pub at_flag : (flag : Flag) (r : Register) → HasRegisters flag → IsInDcan profile r → dcan_offset r ≡ offset
       → flag_base flag ≤ offset → offset ≤ flag_base flag + 0x06
       → IsAtFlag profile flag (offset - flag_base flag) r
   at_flag TxRqst (Flags TxRqst part) shown has is low high = (refl, record { stands = omega arith; has = has.1 })
@@ -48,9 +48,10 @@ module _ (profile : Profile) (offset : ℕ) where
   at_flag flag r shown has is low high = absurd (omega (arith, buffer-within, index-within))
 
 -- two registers of a chip never share an offset
-pub dcan-apart : (profile : Profile) (a b : Register) → IsIn profile a → IsIn profile b
+pub dcan-apart : (profile : Profile) (a b : Register) → IsInDcan profile a → IsInDcan profile b
     → dcan_offset a ≡ dcan_offset b → a ≡ b
 dcan-apart profile Control Control has_a has_b e = refl
+dcan-apart profile ControlUpper ControlUpper has_a has_b e = refl
 dcan-apart profile Status Status has_a has_b e = refl
 dcan-apart profile ErrorCounter ErrorCounter has_a has_b e = refl
 dcan-apart profile BitTiming BitTiming has_a has_b e = refl

@@ -7,9 +7,9 @@ use Rattle.ccan_ram.specs.declared.flag.Flag.TheVariants.{NewDat, MsgLst, IntPnd
 use Rattle.ccan_map.specs.declared.interface.Interface.{Interface}
 use Rattle.ccan_map.specs.declared.interface.Interface.TheVariants.{One, Two}
 use Rattle.ccan_map.specs.declared.register.Register.{Register}
-use Rattle.ccan_map.specs.declared.register.Register.TheVariants.{Control, Status, ErrorCounter, BitTiming, Interrupt, Test, Extension, Request, Buffer, Flags}
+use Rattle.ccan_map.specs.declared.register.Register.TheVariants.{Control, ControlUpper, Status, ErrorCounter, BitTiming, Interrupt, Test, Extension, Request, Buffer, Flags}
 use Rattle.ccan_map.specs.Narrow.{interface_base, buffer_place, flag_base, narrow_offset, IsAtInterface}
-use Rattle.ccan_map.specs.Register.{HasRegisters, IsIn, IsAtFlag}
+use Rattle.ccan_map.specs.Register.{HasRegisters, IsInCcan, IsAtFlag}
 use Rattle.ccan_map.proofs.Parts.{index-within, index-apart}
 
 buffer-within : (register : Reg) → buffer_place register ≤ 0x14
@@ -23,7 +23,7 @@ buffer-apart a b e = grind arith
 
 module _ (profile : Profile) (offset : ℕ) where
   -- an offset in the block of an interface is of one of its registers
-  pub at_interface : (interface : Interface) (r : Register) → IsIn profile r → narrow_offset r ≡ offset
+  pub at_interface : (interface : Interface) (r : Register) → IsInCcan profile r → narrow_offset r ≡ offset
       → interface_base interface ≤ offset → offset ≤ interface_base interface + 0x14
       → IsAtInterface interface (offset - interface_base interface) r
   at_interface One (Request One) has is low high = (refl, omega arith)
@@ -34,7 +34,7 @@ module _ (profile : Profile) (offset : ℕ) where
   at_interface interface r has is low high = absurd (omega (arith, buffer-within, index-within))
 
   -- an offset in the block of a flag is of one of its registers
-  pub at_flag : (flag : Flag) (r : Register) → HasRegisters flag → IsIn profile r → narrow_offset r ≡ offset
+  pub at_flag : (flag : Flag) (r : Register) → HasRegisters flag → IsInCcan profile r → narrow_offset r ≡ offset
       → flag_base flag ≤ offset → offset ≤ flag_base flag + 0x06
       → IsAtFlag profile flag (offset - flag_base flag) r
   at_flag TxRqst (Flags TxRqst part) shown has is low high = (refl, record { stands = omega arith; has = has.1 })
@@ -48,7 +48,7 @@ module _ (profile : Profile) (offset : ℕ) where
   at_flag flag r shown has is low high = absurd (omega (arith, buffer-within, index-within))
 
 -- two registers of a chip never share an offset
-pub narrow-apart : (profile : Profile) (a b : Register) → IsIn profile a → IsIn profile b
+pub narrow-apart : (profile : Profile) (a b : Register) → IsInCcan profile a → IsInCcan profile b
     → narrow_offset a ≡ narrow_offset b → a ≡ b
 narrow-apart profile Control Control has_a has_b e = refl
 narrow-apart profile Status Status has_a has_b e = refl
@@ -65,7 +65,9 @@ narrow-apart profile (Flags TxRqst a) (Flags TxRqst b) has_a has_b e = ap (Flags
 narrow-apart profile (Flags NewDat a) (Flags NewDat b) has_a has_b e = ap (Flags NewDat) (index-apart a b (omega arith))
 narrow-apart profile (Flags IntPnd a) (Flags IntPnd b) has_a has_b e = ap (Flags IntPnd) (index-apart a b (omega arith))
 narrow-apart profile (Flags MsgVal a) (Flags MsgVal b) has_a has_b e = ap (Flags MsgVal) (index-apart a b (omega arith))
+narrow-apart profile ControlUpper b has_a has_b e = absurd has_a
 narrow-apart profile (Flags MsgLst a) b has_a has_b e = absurd has_a.0
+narrow-apart profile a ControlUpper has_a has_b e = absurd has_b
 narrow-apart profile a (Flags MsgLst b) has_a has_b e = absurd has_b.0
 narrow-apart profile a (Request One) has_a has_b e = absurd (omega (arith, buffer-above, buffer-within, index-within))
 narrow-apart profile a (Buffer One b) has_a has_b e = absurd (omega (arith, buffer-above, buffer-within, index-within))

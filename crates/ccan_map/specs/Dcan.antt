@@ -1,6 +1,6 @@
 -- Where the registers are in D_CAN, as the 16-bit halves of its registers of 32 bits. Source: Texas Instruments AM335x
 -- Technical Reference Manual, chapter DCAN; the table reg_map_d_can of the mainline Linux driver c_can has the same offsets.
-use Rattle.std.specs.Prelude.{ℕ, ◌≡◌, ◌+◌, ◌*◌}
+use Rattle.std.specs.Prelude.{ℕ, ◌≡◌, ◌+◌, ◌*◌, ⊤}
 use Rattle.ccan_object.specs.declared.register.Reg.{Reg}
 use Rattle.ccan_object.specs.declared.register.Reg.TheVariants.{CMask, Mask1, Mask2, Arb1, Arb2, Ctrl, DataA1, DataA2, DataB1, DataB2}
 use Rattle.ccan_ram.specs.declared.flag.Flag.{Flag}
@@ -8,7 +8,7 @@ use Rattle.ccan_ram.specs.declared.flag.Flag.TheVariants.{NewDat, MsgLst, IntPnd
 use Rattle.ccan_map.specs.declared.interface.Interface.{Interface}
 use Rattle.ccan_map.specs.declared.interface.Interface.TheVariants.{One, Two}
 use Rattle.ccan_map.specs.declared.register.Register.{Register}
-use Rattle.ccan_map.specs.declared.register.Register.TheVariants.{Control, Status, ErrorCounter, BitTiming, Interrupt, Test, Extension, Request, Buffer, Flags}
+use Rattle.ccan_map.specs.declared.register.Register.TheVariants.{Control, ControlUpper, Status, ErrorCounter, BitTiming, Interrupt, Test, Extension, Request, Buffer, Flags}
 use Rattle.ccan_map.specs.FlagPart.{index_of}
 
 -- where an interface begins
@@ -40,6 +40,7 @@ flag_base MsgLst = 0x00
 -- where a register is
 abbrev pub dcan_offset : Register → ℕ
 dcan_offset Control = 0x00
+dcan_offset ControlUpper = 0x02
 dcan_offset Status = 0x04
 dcan_offset ErrorCounter = 0x08
 dcan_offset BitTiming = 0x0c
@@ -55,3 +56,10 @@ abbrev pub IsAtInterface : Interface → ℕ → Register → Type 0
 IsAtInterface interface place (Request owner) = (owner ≡ interface) × (0 ≡ place)
 IsAtInterface interface place (Buffer owner register) = (owner ≡ interface) × (buffer_place register ≡ place)
 IsAtInterface interface place register = ⊥
+
+-- a register that a chip has once, neither in an interface nor for a flag
+abbrev pub IsGeneral : Register → Type 0
+IsGeneral (Request interface) = ⊥
+IsGeneral (Buffer interface register) = ⊥
+IsGeneral (Flags flag part) = ⊥
+IsGeneral register = ⊤

@@ -9,5 +9,5 @@ use Rattle.ccan_map.specs.Map.{offset_of}
 -- two registers of a chip never share an offset
 abbrev pub RegistersLieApart : Type 0
 RegistersLieApart =
-    (map : Map) (profile : Profile) (a b : Register) → IsIn profile a → IsIn profile b
+    (map : Map) (profile : Profile) (a b : Register) → IsIn map profile a → IsIn map profile b
     → offset_of map a ≡ offset_of map b → a ≡ b

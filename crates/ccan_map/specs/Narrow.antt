@@ -1,7 +1,7 @@
 -- Where the registers are in C_CAN with its 16-bit registers side by side. Source: C_CAN User's Manual 1.2, section 3
 -- (Programmer's Model); the table reg_map_c_can of the mainline Linux driver c_can has the same offsets. The places of the
 -- flags of objects 33 to 64 are this project's own.
-use Rattle.std.specs.Prelude.{ℕ, ◌≡◌, ◌+◌, ◌*◌}
+use Rattle.std.specs.Prelude.{ℕ, ◌≡◌, ◌+◌, ◌*◌, ⊤}
 use Rattle.ccan_object.specs.declared.register.Reg.{Reg}
 use Rattle.ccan_object.specs.declared.register.Reg.TheVariants.{CMask, Mask1, Mask2, Arb1, Arb2, Ctrl, DataA1, DataA2, DataB1, DataB2}
 use Rattle.ccan_ram.specs.declared.flag.Flag.{Flag}
@@ -9,7 +9,7 @@ use Rattle.ccan_ram.specs.declared.flag.Flag.TheVariants.{NewDat, MsgLst, IntPnd
 use Rattle.ccan_map.specs.declared.interface.Interface.{Interface}
 use Rattle.ccan_map.specs.declared.interface.Interface.TheVariants.{One, Two}
 use Rattle.ccan_map.specs.declared.register.Register.{Register}
-use Rattle.ccan_map.specs.declared.register.Register.TheVariants.{Control, Status, ErrorCounter, BitTiming, Interrupt, Test, Extension, Request, Buffer, Flags}
+use Rattle.ccan_map.specs.declared.register.Register.TheVariants.{Control, ControlUpper, Status, ErrorCounter, BitTiming, Interrupt, Test, Extension, Request, Buffer, Flags}
 use Rattle.ccan_map.specs.FlagPart.{index_of}
 
 -- where an interface begins
@@ -38,9 +38,10 @@ flag_base IntPnd = 0xa0
 flag_base MsgVal = 0xb0
 flag_base MsgLst = 0x00
 
--- where a register is
+-- where a register is; there is no upper half of Control, and its number here means nothing
 abbrev pub narrow_offset : Register → ℕ
 narrow_offset Control = 0x00
+narrow_offset ControlUpper = 0x00
 narrow_offset Status = 0x02
 narrow_offset ErrorCounter = 0x04
 narrow_offset BitTiming = 0x06
@@ -56,3 +57,11 @@ abbrev pub IsAtInterface : Interface → ℕ → Register → Type 0
 IsAtInterface interface place (Request owner) = (owner ≡ interface) × (0 ≡ place)
 IsAtInterface interface place (Buffer owner register) = (owner ≡ interface) × (buffer_place register ≡ place)
 IsAtInterface interface place register = ⊥
+
+-- a register that a chip has once, neither in an interface nor for a flag
+abbrev pub IsGeneral : Register → Type 0
+IsGeneral (Request interface) = ⊥
+IsGeneral (Buffer interface register) = ⊥
+IsGeneral (Flags flag part) = ⊥
+IsGeneral ControlUpper = ⊥
+IsGeneral register = ⊤

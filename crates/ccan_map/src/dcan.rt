@@ -2,8 +2,8 @@
 ghost use Rattle.std.specs.Prelude.{◌≡◌, IfSome};
 ghost use Rattle.ccan_object.specs.declared.register.Reg.{Reg};
 ghost use Rattle.ccan_map.specs.declared.register.Register.{Register};
-ghost use Rattle.ccan_map.specs.Dcan.{buffer_place, dcan_offset, IsAtInterface};
-ghost use Rattle.ccan_map.specs.Register.{IsGeneral, IsIn};
+ghost use Rattle.ccan_map.specs.Dcan.{buffer_place, dcan_offset, IsAtInterface, IsGeneral};
+ghost use Rattle.ccan_map.specs.Register.{IsInDcan};
 
 use crate::flags;
 use crate::interface::Interface;
@@ -19,6 +19,7 @@ fn general_at(offset: u32) -> Option<Register>
 {
     match offset {
         0x00 => Some(Register::Control),
+        0x02 => Some(Register::ControlUpper),
         0x04 => Some(Register::Status),
         0x08 => Some(Register::ErrorCounter),
         0x0c => Some(Register::BitTiming),
@@ -68,8 +69,8 @@ fn interface_at(interface: Interface, place: u32) -> Option<Register>
 /// The register at an offset, if a chip with this many objects has one there.
 #[inline(always)]
 pub fn register_at(profile: Profile, offset: u32) -> Option<Register>
-    ensures some { IfSome result (λ r. (dcan_offset r ≡ offset) × IsIn profile r) }
-    ensures each { (r : Register) → IsIn profile r → dcan_offset r ≡ offset → result ≡ Some r }
+    ensures some { IfSome result (λ r. (dcan_offset r ≡ offset) × IsInDcan profile r) }
+    ensures each { (r : Register) → IsInDcan profile r → dcan_offset r ≡ offset → result ≡ Some r }
 {
     match offset {
         0x00..=0x14 => general_at(offset),

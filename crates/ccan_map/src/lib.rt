@@ -1,7 +1,7 @@
 //! The registers of the chip by their offsets.
 //!
 //! A driver finds a register by its offset from where the chip begins, and there are three layouts in which it does
-//! ([`Map`]). Each has the same registers of 16 bits ([`Register`]):
+//! ([`Map`]). Each has the same registers of 16 bits ([`Register`]), and `Dcan` has the upper half of Control too, at 0x02:
 //!
 //! ```text
 //!                     Narrow          Wide            Dcan

@@ -36,11 +36,12 @@ impl Map {
     }
 
     /// The register at this offset, if a chip with this many objects has one there: with 32 objects no offset is a register
-    /// of the flags of objects 33 to 64. No odd offset is a register, nor is the upper half of a word of `Wide`.
+    /// of the flags of objects 33 to 64. No odd offset is a register, nor is the upper half of a word of `Wide`. The upper half of
+    /// Control is one of `Dcan` alone.
     #[inline(always)]
     pub fn register_at(self, profile: Profile, offset: u32) -> Option<Register>
-        ensures some { IfSome result (λ r. (offset_of self r ≡ offset) × IsIn profile r) }
-        ensures each { (r : Register) → IsIn profile r → offset_of self r ≡ offset
+        ensures some { IfSome result (λ r. (offset_of self r ≡ offset) × IsIn self profile r) }
+        ensures each { (r : Register) → IsIn self profile r → offset_of self r ≡ offset
             → result ≡ Some r }
     {
         match self {

@@ -2,8 +2,8 @@
 ghost use Rattle.std.specs.Prelude.{◌≡◌, IfSome};
 ghost use Rattle.ccan_object.specs.declared.register.Reg.{Reg};
 ghost use Rattle.ccan_map.specs.declared.register.Register.{Register};
-ghost use Rattle.ccan_map.specs.Narrow.{buffer_place, narrow_offset, IsAtInterface};
-ghost use Rattle.ccan_map.specs.Register.{IsGeneral, IsIn};
+ghost use Rattle.ccan_map.specs.Narrow.{buffer_place, narrow_offset, IsAtInterface, IsGeneral};
+ghost use Rattle.ccan_map.specs.Register.{IsInCcan};
 
 use crate::flags;
 use crate::interface::Interface;
@@ -68,8 +68,8 @@ fn interface_at(interface: Interface, place: u32) -> Option<Register>
 /// The register at an offset, if a chip with this many objects has one there.
 #[inline(always)]
 pub fn register_at(profile: Profile, offset: u32) -> Option<Register>
-    ensures some { IfSome result (λ r. (narrow_offset r ≡ offset) × IsIn profile r) }
-    ensures each { (r : Register) → IsIn profile r → narrow_offset r ≡ offset → result ≡ Some r }
+    ensures some { IfSome result (λ r. (narrow_offset r ≡ offset) × IsInCcan profile r) }
+    ensures each { (r : Register) → IsInCcan profile r → narrow_offset r ≡ offset → result ≡ Some r }
 {
     match offset {
         0x00..=0x0c => general_at(offset),

@@ -3,11 +3,14 @@ use crate::interface::Interface;
 use ccan_object::Reg;
 use ccan_ram::flag::Flag;
 
-/// A register of the chip, of 16 bits (User's Manual, section 3, Programmer's Model).
+/// A register of the chip, of 16 bits (User's Manual, section 3, Programmer's Model). A D_CAN has one more than a C_CAN.
 #[derive(Clone, Copy, PartialEq, Eq, Debug)]
 pub enum Register {
     /// CAN Control (section 3.2.1).
     Control,
+    /// The upper half of CAN Control, bits 31 to 16, which only a D_CAN has (Texas Instruments AM335x Technical Reference
+    /// Manual, chapter DCAN, "CAN Control Register").
+    ControlUpper,
     /// Status (section 3.2.2).
     Status,
     /// Error Counter (section 3.2.3).
