@@ -1,6 +1,6 @@
 -- What a read and a write of one byte of a register come to. Source: C_CAN User's Manual 1.2, section 3 (Programmer's Model),
 -- for the bits of each register; Texas Instruments AM335x Technical Reference Manual, chapter DCAN, "IF1 and IF2 Command
--- Registers" (a transfer starts when the message number, bits 7 to 0, is written) and "CAN Control Register" (SWR). The rest is
+-- Registers" (a transfer starts when the message number, bits 7 to 0, is written) and "CAN Control Register" (SWR, PDR). The rest is
 -- (own): a register is little-endian, a read of either byte of Status is a read of Status, and a byte of Bit Timing, and SWR, is
 -- written after a look at the controller.
 use Rattle.std.specs.Prelude.{ℕ, ◌≡◌, ◌+◌, ◌-◌, ◌%◌, ◌==◌, if◌then◌else◌, Bool, false, [], MatchBool}
@@ -80,10 +80,12 @@ has_reset Narrow value = false
 has_reset Wide value = false
 has_reset Dcan value = bit value 7
 
--- The lower byte: of a register of the message buffer or the Command Mask, that byte, and the other one stays; of another
--- register, a write of it with an upper byte of 0, since all its bits that can be written are in the lower one.
+-- The lower byte: of a register of the message buffer or the Command Mask, that byte, and the other one stays; of the upper half of
+-- Control, nothing, since PDR is in its upper byte; of another register, a write of it with an upper byte of 0, since all its bits
+-- that can be written are in the lower one.
 abbrev pub WritesLower : Terms → ℕ → Map → Register → ℕ → InterfaceSet → ChipHistory → ChipHistory
     → Result (Unit {0}) AccessError → InterfaceSet → Type 0
+WritesLower terms tries map register.ControlUpper value own seen added told left = IsReadOnly own added told left
 WritesLower terms tries map register.BitTiming value own seen added told left =
     WritesTimingByte terms tries map Lower value own seen added told left
 WritesLower terms tries map (register.Buffer interface reg) value own seen added told left =
@@ -96,6 +98,8 @@ abbrev pub WritesUpper : Terms → ℕ → Map → Register → ℕ → Interfac
     → Result (Unit {0}) AccessError → InterfaceSet → Type 0
 WritesUpper terms tries map register.Control value own seen added told left =
     MatchBool (has_reset map value) (ResetsInInit terms tries own seen added told left) (IsReadOnly own added told left)
+WritesUpper terms tries map register.ControlUpper value own seen added told left =
+    Writes terms tries map register.ControlUpper (with_byte Upper value 0) own seen added told left
 WritesUpper terms tries map register.BitTiming value own seen added told left =
     WritesTimingByte terms tries map Upper value own seen added told left
 WritesUpper terms tries map (register.Request interface) value own seen added told left =

@@ -9,5 +9,6 @@ pub mod Clearing
 pub mod Register
 pub mod Bytes
 pub mod Rounds
+pub mod PowerDown
 pub mod Frames
 pub mod Notes

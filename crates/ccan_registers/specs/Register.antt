@@ -13,7 +13,7 @@ use Rattle.ccan_confine.specs.declared.controller_change.ControllerChange.TheVar
 use Rattle.ccan_confine.specs.declared.test_register.TestRegister.{TestRegister}
 use Rattle.ccan_confine.specs.Bits.{at}
 use Rattle.ccan_confine.specs.RegisterWords.{control_in, error_counter_word, flags_in, test_word}
-use Rattle.ccan_confine.specs.Controller.{shows_interrupt, status_word}
+use Rattle.ccan_confine.specs.Controller.{shows_interrupt}
 use Rattle.ccan_ram.specs.declared.flag.Flag.{Flag}
 use Rattle.ccan_ram.specs.declared.port.PortName.{PortName}
 use Rattle.ccan_ram.specs.declared.port.PortName.TheVariants.{If1, If2}
@@ -39,7 +39,7 @@ use Rattle.ccan_registers.specs.declared.access_error.AccessError.{AccessError}
 use Rattle.ccan_registers.specs.declared.access_error.AccessError.TheVariants.{Busy, OtherInterface, Spent}
 use Rattle.ccan_registers.specs.declared.interface_set.InterfaceSet.{InterfaceSet}
 use Rattle.ccan_registers.specs.ChipSteps.{AtController, Changes, Makes, Then}
-use Rattle.ccan_registers.specs.Dcan.{NamesNone, Sends, asks_for_reset, control_shown, is_object_of, is_sending, number_in, test_written}
+use Rattle.ccan_registers.specs.Dcan.{NamesNone, Sends, asks_for_reset, control_shown, control_written, is_object_of, is_sending, number_in, status_shown, test_written, upper_shown, upper_written}
 use Rattle.ccan_registers.specs.InterfaceSet.{Transferred}
 use Rattle.ccan_registers.specs.Objects.{ShowsFlags, ShowsInterrupt}
 use Rattle.ccan_registers.specs.Resetting.{ResetsChip}
@@ -80,15 +80,15 @@ read_of Wide = change.ReadStatus
 read_of Dcan = change.ReadAndClearStatus
 
 -- the Status register as the read found it, or the read was given up
-abbrev pub status_told : Result ControllerChanged ControllerBusy → Result ℕ AccessError
-status_told (Ok made) = Ok (status_word made.before)
-status_told (Err busy) = Err Busy
+abbrev pub status_told : Map → Result ControllerChanged ControllerBusy → Result ℕ AccessError
+status_told map (Ok made) = Ok (status_shown map made.before)
+status_told map (Err busy) = Err Busy
 
 -- a read of the Status register, which changes the controller
-abbrev pub ReadsStatus : Terms → ControllerChange → ℕ → ChipHistory → ChipHistory → Result ℕ AccessError → Type 0
-ReadsStatus terms z tries seen added told =
-    (outcome : Result ControllerChanged ControllerBusy) × Changes terms.port z tries seen added outcome
-    × (told ≡ status_told outcome)
+abbrev pub ReadsStatus : Terms → Map → ℕ → ChipHistory → ChipHistory → Result ℕ AccessError → Type 0
+ReadsStatus terms map tries seen added told =
+    (outcome : Result ControllerChanged ControllerBusy) × Changes terms.port (read_of map) tries seen added outcome
+    × (told ≡ status_told map outcome)
 
 -- The interrupt value: a look at the controller, which says whether a status interrupt is shown; and then, if none is, the
 -- objects that ask for one in one moment.
@@ -116,7 +116,9 @@ test_shown test = at 7 1 + test_word test
 
 abbrev pub Reads : Terms → ℕ → Map → Register → InterfaceSet → ChipHistory → ChipHistory → Result ℕ AccessError → Type 0
 Reads terms tries map register.Control own seen added told = Shows terms (λ c. control_shown map c.control) seen added told
-Reads terms tries map register.Status own seen added told = ReadsStatus terms (read_of map) tries seen added told
+Reads terms tries map register.ControlUpper own seen added told =
+    Shows terms (λ c. upper_shown map c.control) seen added told
+Reads terms tries map register.Status own seen added told = ReadsStatus terms map tries seen added told
 Reads terms tries map register.ErrorCounter own seen added told = Shows terms error_counter_word seen added told
 Reads terms tries map register.BitTiming own seen added told = Shows terms (λ c. c.timing.register) seen added told
 Reads terms tries map register.Interrupt own seen added told =
@@ -170,7 +172,8 @@ status_written Dcan value = None
 
 -- what a write of this word is to the controller, if the register is one that it has and that can be written
 abbrev pub change_by : Map → Register → ℕ → Option ControllerChange
-change_by map register.Control value = Some (change.WriteControl (control_in value))
+change_by map register.Control value = Some (control_written map value)
+change_by map register.ControlUpper value = upper_written map value
 change_by map register.Status value = status_written map value
 change_by map register.BitTiming value = Some (change.WriteBitTiming value)
 change_by map register.Test value = Some (change.WriteTest (test_written map value))
@@ -222,11 +225,11 @@ Writes terms tries map r value own seen added told left =
 -- the register that a chip of this profile has at this offset
 pub record IsAt (map : Map) (profile : Profile) (offset : ℕ) (r : Register) : Type 0 where
   pub stands : offset_of map r ≡ offset
-  pub has : IsIn profile r
+  pub has : IsIn map profile r
 
 -- a chip of this profile has no register there
 abbrev pub HasNone : Map → Profile → ℕ → Type 0
-HasNone map profile offset = (r : Register) → IsIn profile r → offset_of map r ≡ offset → ⊥
+HasNone map profile offset = (r : Register) → IsIn map profile r → offset_of map r ≡ offset → ⊥
 
 -- a read at an offset: of the register that begins there; if none does, nothing happens
 abbrev pub ReadsAt : Terms → ℕ → Map → ℕ → InterfaceSet → ChipHistory → ChipHistory → Option (Result ℕ AccessError) → Type 0
@@ -295,11 +298,25 @@ pub record ReadsTiming (terms : Terms) (map : Map) (offset : ℕ) (seen added : 
   pub looks : AtController terms.port Look found seen added
   pub told_is : told ≡ Some (Ok (found.timing.extension * 2 ^ 16 + found.timing.register))
 
+-- the halves of the word at an offset are those of CAN Control, of which only a D_CAN has the upper one
+pub record AreControl (map : Map) (profile : Profile) (offset : ℕ) : Type 0 where
+  pub lower : IsAt map profile offset register.Control
+  pub upper : IsAt map profile (offset + 2) register.ControlUpper
+
+-- CAN Control, which is read as a word: one look at the controller
+pub record ReadsControl (terms : Terms) (map : Map) (offset : ℕ) (seen added : ChipHistory)
+    (told : Option (Result ℕ AccessError)) : Type 0 where
+  pub are : AreControl map terms.profile offset
+  pub found : Controller
+  pub looks : AtController terms.port Look found seen added
+  pub told_is : told ≡ Some (Ok (upper_shown map found.control * 2 ^ 16 + control_shown map found.control))
+
 -- any other word: its halves, one after the other
 pub record ReadsApart (terms : Terms) (tries : ℕ) (map : Map) (offset : ℕ) (own : InterfaceSet) (seen added : ChipHistory)
     (told : Option (Result ℕ AccessError)) : Type 0 where
   pub no_flags : (flag : Flag) (low high : FlagPart) → AreFlags map terms.profile offset flag low high → ⊥
   pub no_timing : AreTiming map terms.profile offset → ⊥
+  pub no_control : AreControl map terms.profile offset → ⊥
   pub halves : ReadsHalves terms tries map offset own seen added told
 
 -- A read of the word at an offset. An offset that is not a multiple of 4 is not that of a word.
@@ -307,7 +324,7 @@ abbrev pub ReadsWord : Terms → ℕ → Map → ℕ → InterfaceSet → ChipHi
 ReadsWord terms tries map offset own seen added told =
     MatchBool (offset % 4 == 0)
     (ReadsFlags terms map offset seen added told ⊎ ReadsTiming terms map offset seen added told
-    ⊎ ReadsApart terms tries map offset own seen added told)
+    ⊎ ReadsControl terms map offset seen added told ⊎ ReadsApart terms tries map offset own seen added told)
     ((added ≡ []) × (told ≡ None))
 
 -- how both halves were written, the upper one, which was not refused, before the lower one
@@ -336,10 +353,26 @@ pub record WritesTiming (terms : Terms) (tries : ℕ) (map : Map) (offset value 
       WritesController terms (change.WriteTiming (value % 2 ^ 16) (value / 2 ^ 16)) tries own seen added ended left
   pub told_is : told ≡ Some ended
 
+-- a write of CAN Control, both halves of it: one change of the controller, or a software reset if the lower half asks for one
+abbrev pub WritesControlWord : Terms → ℕ → Map → ℕ → InterfaceSet → ChipHistory → ChipHistory → Result (Unit {0}) AccessError
+    → InterfaceSet → Type 0
+WritesControlWord terms tries map value own seen added told left =
+    MatchBool (asks_for_reset map register.Control (value % 2 ^ 16)) (ResetsBySoftware terms tries own seen added told left)
+    (WritesController terms (change.WriteControl (control_in value)) tries own seen added told left)
+
+-- CAN Control, which is written as a word
+pub record WritesControl (terms : Terms) (tries : ℕ) (map : Map) (offset value : ℕ) (own : InterfaceSet)
+    (seen added : ChipHistory) (told : Option (Result (Unit {0}) AccessError)) (left : InterfaceSet) : Type 0 where
+  pub are : AreControl map terms.profile offset
+  pub ended : Result (Unit {0}) AccessError
+  pub writes : WritesControlWord terms tries map value own seen added ended left
+  pub told_is : told ≡ Some ended
+
 -- any other word: its halves, one after the other
 pub record WritesApart (terms : Terms) (tries : ℕ) (map : Map) (offset value : ℕ) (own : InterfaceSet)
     (seen added : ChipHistory) (told : Option (Result (Unit {0}) AccessError)) (left : InterfaceSet) : Type 0 where
   pub no_timing : AreTiming map terms.profile offset → ⊥
+  pub no_control : AreControl map terms.profile offset → ⊥
   pub halves : WritesHalves terms tries map offset value own seen added told left
 
 -- A write of the word at an offset. An offset that is not a multiple of 4 is not that of a word.
@@ -348,5 +381,6 @@ abbrev pub WritesWord : Terms → ℕ → Map → ℕ → ℕ → InterfaceSet �
 WritesWord terms tries map offset value own seen added told left =
     MatchBool (offset % 4 == 0)
     (WritesTiming terms tries map offset value own seen added told left
+    ⊎ WritesControl terms tries map offset value own seen added told left
     ⊎ WritesApart terms tries map offset value own seen added told left)
     ((added ≡ []) × (told ≡ None) × (left ≡ own))

@@ -102,9 +102,9 @@ fn reset_in_init(
     }
 }
 
-/// Writes the lower byte of a register. A register of the message buffer and the Command Mask register keep their upper byte; of
-/// the others the upper byte is written as 0, since it has no bits that can be written. That of a Command Request register starts
-/// the transfer.
+/// Writes the lower byte of a register. A register of the message buffer and the Command Mask register keep their upper byte; that
+/// of the upper half of Control has no bits that can be written; of the others the upper byte is written as 0, since it has none.
+/// That of a Command Request register starts the transfer.
 fn write_lower(
     own: &mut InterfaceSet,
     ram: &EndlessRam,
@@ -120,6 +120,7 @@ fn write_lower(
     ensures bus { (port_at holder.old).pass.port ≡ BusPort → own.new ≡ own.old }
 {
     match register {
+        Register::ControlUpper => Ok(()),
         Register::BitTiming => {
             write_timing_byte(own, ram, holder, map, Byte::Lower, value, tries)
         }
@@ -141,7 +142,7 @@ fn write_lower(
 }
 
 /// Writes the upper byte of a register. A register of the message buffer, the Command Mask register and Bit Timing keep their
-/// lower byte. SWR of a D_CAN resets the chip if Init is 1. Of the others the upper byte has no bits that can be written; that of
+/// lower byte. SWR of a D_CAN resets the chip if Init is 1, and that of the upper half of Control sets PDR. Of the others the upper byte has no bits that can be written; that of
 /// a Command Request register starts no transfer.
 fn write_upper(
     own: &mut InterfaceSet,
@@ -159,6 +160,10 @@ fn write_upper(
 {
     match register {
         Register::Control if has_reset(map, value) => reset_in_init(own, ram, holder, tries),
+        Register::ControlUpper => {
+            let word = Byte::Upper.set(value, 0);
+            write(own, ram, holder, map, register, word, tries)
+        }
         Register::BitTiming => {
             write_timing_byte(own, ram, holder, map, Byte::Upper, value, tries)
         }

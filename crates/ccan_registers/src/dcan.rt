@@ -11,7 +11,7 @@ ghost use Rattle.ccan_registers.specs.PortHolder.{port_at};
 use crate::access_error::AccessError;
 use crate::interface_set::InterfaceSet;
 use crate::port_holder::PortHolder;
-use ccan_confine::{ControlRegister, ControllerChange, TestRegister};
+use ccan_confine::{ControlRegister, Controller, ControllerChange, TestRegister};
 use ccan_endless::{EndlessRam, Port};
 use ccan_map::{Map, Register};
 use ccan_object::{CommandMask, ObjectNo, Profile};
@@ -35,7 +35,13 @@ pub fn reset_of(map: Map) -> ControllerChange
     }
 }
 
-/// What Control reads.
+/// PDR of the upper half of Control, bit 8: bit 24 of the whole.
+const PDR: u16 = 1 << 8;
+
+/// PDA of Error and Status, bit 10.
+const PDA: u16 = 1 << 10;
+
+/// What the low half of Control reads.
 #[inline(always)]
 pub(crate) fn control_shown(map: Map, control: &ControlRegister) -> u16
     ensures { result ≡ says.control_shown map control.now }
@@ -44,6 +50,93 @@ pub(crate) fn control_shown(map: Map, control: &ControlRegister) -> u16
         Map::Narrow => control.word(),
         Map::Wide => control.word(),
         Map::Dcan => NO_PARITY + control.word(),
+    }
+}
+
+/// What the upper half of Control reads. A C_CAN has none.
+#[inline(always)]
+pub(crate) fn upper_shown(map: Map, control: &ControlRegister) -> u16
+    ensures { result ≡ says.upper_shown map control.now }
+{
+    match map {
+        Map::Narrow => 0,
+        Map::Wide => 0,
+        Map::Dcan if control.pdr => PDR,
+        Map::Dcan => 0,
+    }
+}
+
+/// The bits of Control that a write of its low half sets.
+#[inline(always)]
+fn low_bits() -> ControlRegister
+    ensures { result ≡ says.low_bits }
+{
+    ControlRegister {
+        init: true,
+        ie: true,
+        sie: true,
+        eie: true,
+        dar: true,
+        cce: true,
+        test: true,
+        pdr: false,
+    }
+}
+
+/// A Control register in which all bits are 0, except PDR if it is on.
+#[inline(always)]
+fn pdr_bit(on: bool) -> ControlRegister
+    ensures { result ≡ says.pdr_bit on }
+{
+    ControlRegister {
+        init: false,
+        ie: false,
+        sie: false,
+        eie: false,
+        dar: false,
+        cce: false,
+        test: false,
+        pdr: on,
+    }
+}
+
+/// What a write of the low half of Control is to the controller: in a D_CAN PDR stays.
+#[inline(always)]
+pub(crate) fn control_written(map: Map, word: u16) -> ControllerChange
+    ensures { result ≡ says.control_written map word }
+{
+    let written = ControlRegister::of_word(u32::from(word));
+    match map {
+        Map::Narrow => ControllerChange::WriteControl(written),
+        Map::Wide => ControllerChange::WriteControl(written),
+        Map::Dcan => ControllerChange::WriteControlBits(low_bits(), written),
+    }
+}
+
+/// What a write of the upper half of Control is to the controller: PDR alone is set. A C_CAN has no upper half.
+#[inline(always)]
+pub(crate) fn upper_written(map: Map, word: u16) -> Option<ControllerChange>
+    ensures { result ≡ says.upper_written map word }
+{
+    let on = (word >> 8) % 2 == 1;
+    match map {
+        Map::Narrow => None,
+        Map::Wide => None,
+        Map::Dcan => Some(ControllerChange::WriteControlBits(pdr_bit(true), pdr_bit(on))),
+    }
+}
+
+/// What the Status register reads: in a D_CAN with PDA.
+#[inline(always)]
+pub(crate) fn status_shown(map: Map, found: &Controller) -> u16
+    ensures { result ≡ says.status_shown map found.now }
+{
+    let word = found.status_word();
+    match map {
+        Map::Narrow => word,
+        Map::Wide => word,
+        Map::Dcan if found.is_powered_down() => PDA + word,
+        Map::Dcan => word,
     }
 }
 
@@ -73,6 +166,7 @@ pub(crate) fn asks_for_reset(map: Map, register: Register, word: u16) -> bool
         Map::Wide => false,
         Map::Dcan => match register {
             Register::Control => word >= 1 << 15 && word % 2 == 1,
+            Register::ControlUpper => false,
             Register::Status => false,
             Register::ErrorCounter => false,
             Register::BitTiming => false,

@@ -23,10 +23,10 @@
 //!
 //! A port shows another what it has seen by a note (`tell`, `heed`).
 //!
-//! A word of 32 bits (`read_word`, `write_word`) is two registers, one after the other; two of one flag, and Bit Timing with BRP
-//! Extension, are one access. A byte (`read_byte`, `write_byte`) is read by a read of its register, and its write leaves the other
-//! byte of the register. What a D_CAN does differently from a C_CAN is in `dcan`, and the initialisation of its message RAM
-//! in `clearing`.
+//! A word of 32 bits (`read_word`, `write_word`) is two registers, one after the other; two of one flag, Bit Timing with BRP
+//! Extension, and both halves of CAN Control are one access. A byte (`read_byte`, `write_byte`) is read by a read of its register, and its write leaves the other
+//! byte of the register. What a D_CAN does differently from a C_CAN is in `dcan`, the initialisation of its message RAM in
+//! `clearing`, and its local power down in `powering`.
 #![tactic(auto)]
 
 mod access_error;
@@ -41,6 +41,7 @@ mod interface_set;
 mod notes;
 mod objects;
 mod port_holder;
+mod powering;
 mod registers;
 mod resetting;
 mod rounds;
@@ -57,6 +58,7 @@ pub use interface_set::InterfaceSet;
 pub use notes::{heed, tell};
 pub use objects::{flags, interrupt, peek, transfer, wait};
 pub use port_holder::PortHolder;
+pub use powering::power_down;
 pub use registers::{
     interrupt_value, line, read, read_at, read_status, write, write_at, write_controller,
 };

@@ -13,12 +13,15 @@ ghost use Rattle.ccan_registers.specs.declared.access_error.AccessError.TheVaria
 
 use crate::access_error::AccessError;
 use crate::controller::{change, look};
-use crate::dcan::{asks_for_reset, control_shown, is_sending, object_named, send, test_written};
+use crate::dcan::{
+    asks_for_reset, control_shown, control_written, is_sending, object_named, send, status_shown,
+    test_written, upper_shown, upper_written,
+};
 use crate::interface_set::InterfaceSet;
 use crate::objects::{flags, interrupt};
 use crate::port_holder::PortHolder;
 use crate::resetting::reset;
-use ccan_confine::{ControlRegister, Controller, ControllerChange, StatusFlags, TestRegister};
+use ccan_confine::{Controller, ControllerChange, StatusFlags, TestRegister};
 use ccan_endless::EndlessRam;
 use ccan_line::LineAnswer;
 use ccan_map::{Interface, Map, Register};
@@ -73,10 +76,10 @@ pub fn read_status(
 ) -> Result<u16, AccessError>
     requires memory { (port_at holder.old).pass.memory ≡ ram.now.words }
     ensures { ChipGoes (port_at holder.old) (port_at holder.new) (λ terms seen added.
-        ReadsStatus terms (says.read_of map) tries seen added result) }
+        ReadsStatus terms map tries seen added result) }
 {
     match change(ram, holder, &read_of(map), tries) {
-        Ok(made) => Ok(made.before.status_word()),
+        Ok(made) => Ok(status_shown(map, &made.before)),
         Err(_) => Err(AccessError::Busy),
     }
 }
@@ -155,6 +158,7 @@ pub fn read(
 {
     match register {
         Register::Control => Ok(control_shown(map, &look(ram, holder).control)),
+        Register::ControlUpper => Ok(upper_shown(map, &look(ram, holder).control)),
         Register::Status => read_status(ram, holder, map, tries),
         Register::ErrorCounter => Ok(look(ram, holder).error_counter_word()),
         Register::BitTiming => Ok(look(ram, holder).timing.register()),
@@ -319,7 +323,8 @@ fn change_by(map: Map, register: Register, value: u16) -> Option<ControllerChang
     ensures { result ≡ says.change_by map register value }
 {
     match register {
-        Register::Control => Some(ControllerChange::WriteControl(ControlRegister::of_word(value))),
+        Register::Control => Some(control_written(map, value)),
+        Register::ControlUpper => upper_written(map, value),
         Register::Status => status_written(map, value),
         Register::BitTiming => Some(ControllerChange::WriteBitTiming(value)),
         Register::Test => Some(ControllerChange::WriteTest(test_written(map, value))),
@@ -361,6 +366,7 @@ pub fn write(
         Register::Request(_) => Err(AccessError::OtherInterface),
         Register::Buffer(interface, reg) => write_own(own, holder.name(), interface, reg, value),
         Register::Control
+        | Register::ControlUpper
         | Register::Status
         | Register::ErrorCounter
         | Register::BitTiming

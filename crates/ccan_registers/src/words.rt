@@ -7,16 +7,20 @@ ghost use Rattle.ccan_confine.specs.declared.controller_change.ControllerChange.
 ghost use Rattle.ccan_registers.specs.ChipSteps.{ChipGoes, Makes};
 ghost use Rattle.ccan_registers.specs.PortHolder.{port_at};
 ghost use Rattle.ccan_registers.specs.Register as says;
-ghost use Rattle.ccan_registers.specs.Register.{AreFlags, AreTiming, ReadsApart, ReadsFlags, ReadsHalves, ReadsTiming, ReadsWord};
-ghost use Rattle.ccan_registers.specs.Register.{WritesApart, WritesHalves, WritesTiming, WritesWord};
+ghost use Rattle.ccan_registers.specs.Dcan as part;
+ghost use Rattle.ccan_registers.specs.Register.{AreControl, AreFlags, AreTiming, ReadsApart, ReadsControl, ReadsFlags};
+ghost use Rattle.ccan_registers.specs.Register.{ReadsHalves, ReadsTiming, ReadsWord, WritesApart};
+ghost use Rattle.ccan_registers.specs.Register.{WritesControl, WritesControlWord, WritesHalves, WritesTiming, WritesWord};
 
 use crate::access_error::AccessError;
 use crate::controller::look;
+use crate::dcan::{asks_for_reset, control_shown, upper_shown};
 use crate::interface_set::InterfaceSet;
 use crate::objects::flags;
 use crate::port_holder::PortHolder;
 use crate::registers::{read_at, write_at, write_controller};
-use ccan_confine::{BitTiming, ControllerChange};
+use crate::resetting::reset;
+use ccan_confine::{BitTiming, ControlRegister, ControllerChange};
 use ccan_endless::EndlessRam;
 use ccan_map::{FlagPart, Map, Register};
 use ccan_object::Profile;
@@ -91,6 +95,7 @@ fn flag_shown(register: Option<Register>) -> Option<(Flag, FlagPart)>
     match register? {
         Register::Flags(flag, part) => Some((flag, part)),
         Register::Control
+        | Register::ControlUpper
         | Register::Status
         | Register::ErrorCounter
         | Register::BitTiming
@@ -139,6 +144,27 @@ fn timing_word(timing: BitTiming) -> u32
     (u32::from(timing.extension()) << 16) + u32::from(timing.register())
 }
 
+/// Whether the halves of the word at an offset are those of CAN Control.
+fn is_control(map: Map, profile: Profile, offset: u32) -> bool
+    requires small { offset + 2 < 2 ^ 32 }
+    ensures yes { result ≡ true → AreControl map profile offset }
+    ensures no { result ≡ false → AreControl map profile offset → ⊥ }
+{
+    let lower = map.register_at(profile, offset);
+    let upper = map.register_at(profile, offset + 2);
+    matches!(
+        (lower, upper),
+        (Some(Register::Control), Some(Register::ControlUpper))
+    )
+}
+
+/// What CAN Control reads, with both its halves.
+fn control_word(map: Map, control: &ControlRegister) -> u32
+    ensures { result ≡ part.upper_shown map control.now * 2 ^ 16 + part.control_shown map control.now }
+{
+    (u32::from(upper_shown(map, control)) << 16) + u32::from(control_shown(map, control))
+}
+
 /// Reads the word of 32 bits at an offset that is a multiple of 4, if it is not one of flags.
 fn read_other(
     own: &InterfaceSet,
@@ -154,10 +180,14 @@ fn read_other(
         → AreFlags map ram.now.words.profile offset flag low high → ⊥ }
     ensures { ChipGoes (port_at holder.old) (port_at holder.new) (λ terms seen added.
         ReadsTiming terms map offset seen added result
+        ⊎ ReadsControl terms map offset seen added result
         ⊎ ReadsApart terms tries map offset own.now seen added result) }
 {
     if is_timing(map, ram.profile(), offset) {
         return Some(Ok(timing_word(look(ram, holder).timing)));
+    }
+    if is_control(map, ram.profile(), offset) {
+        return Some(Ok(control_word(map, &look(ram, holder).control)));
     }
     read_halves(own, ram, holder, map, offset, tries)
 }
@@ -176,6 +206,7 @@ fn read_aligned(
     ensures { ChipGoes (port_at holder.old) (port_at holder.new) (λ terms seen added.
         ReadsFlags terms map offset seen added result
         ⊎ ReadsTiming terms map offset seen added result
+        ⊎ ReadsControl terms map offset seen added result
         ⊎ ReadsApart terms tries map offset own.now seen added result) }
 {
     match flags_at(map, ram.profile(), offset) {
@@ -188,8 +219,8 @@ fn read_aligned(
 }
 
 /// Reads the word of 32 bits at an offset, in bytes from where the chip begins. If both halves are registers of one flag, or Bit
-/// Timing and BRP Extension, it is of one moment; otherwise its lower half is read, and then its upper one. A half without a
-/// register reads 0. None if the offset is not a multiple of 4, or neither half has a register.
+/// Timing and BRP Extension, or those of CAN Control, it is of one moment; otherwise its lower half is read, and then its upper one.
+/// A half without a register reads 0. None if the offset is not a multiple of 4, or neither half has a register.
 pub fn read_word(
     own: &InterfaceSet,
     ram: &EndlessRam,
@@ -256,6 +287,26 @@ fn write_timing(
     )
 }
 
+/// Writes CAN Control by one change of the controller, or resets the chip by software if the lower half asks for it.
+fn write_control(
+    own: &InterfaceSet,
+    ram: &EndlessRam,
+    holder: &mut PortHolder,
+    map: Map,
+    value: u32,
+    tries: Tries,
+) -> Result<(), AccessError>
+    requires memory { (port_at holder.old).pass.memory ≡ ram.now.words }
+    ensures { ChipGoes (port_at holder.old) (port_at holder.new) (λ terms seen added.
+        WritesControlWord terms tries map value own.now seen added result own.now) }
+{
+    if asks_for_reset(map, Register::Control, (value % (1 << 16)) as u16) {
+        return reset(ram, holder, &ControllerChange::ResetDcan, tries);
+    }
+    let written = ControlRegister::of_word(value);
+    write_controller(ram, holder, &ControllerChange::WriteControl(written), tries)
+}
+
 /// Writes the word of 32 bits at an offset that is a multiple of 4.
 fn write_aligned(
     own: &mut InterfaceSet,
@@ -270,17 +321,21 @@ fn write_aligned(
     requires small { offset + 2 < 2 ^ 32 }
     ensures goes { ChipGoes (port_at holder.old) (port_at holder.new) (λ terms seen added.
         WritesTiming terms tries map offset value own.old seen added result own.new
+        ⊎ WritesControl terms tries map offset value own.old seen added result own.new
         ⊎ WritesApart terms tries map offset value own.old seen added result own.new) }
     ensures bus { (port_at holder.old).pass.port ≡ BusPort → own.new ≡ own.old }
 {
     if is_timing(map, ram.profile(), offset) {
         return Some(write_timing(ram, holder, value, tries));
     }
+    if is_control(map, ram.profile(), offset) {
+        return Some(write_control(own, ram, holder, map, value, tries));
+    }
     write_halves(own, ram, holder, map, offset, value, tries)
 }
 
 /// Writes the word of 32 bits at an offset, in bytes from where the chip begins. If its halves are Bit Timing and BRP Extension,
-/// that is one change of the controller. Otherwise its upper half is written, and then its lower one, so that a command of a
+/// or those of CAN Control, that is one change of the controller, unless it asks for a software reset. Otherwise its upper half is written, and then its lower one, so that a command of a
 /// D_CAN is there before its request. A half without a register drops its bits. None if the offset is not a multiple of 4, or
 /// neither half has a register.
 pub fn write_word(
