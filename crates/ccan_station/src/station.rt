@@ -1,4 +1,4 @@
-ghost use Rattle.std.specs.Prelude.{◌≡◌, ◌<◌, None};
+ghost use Rattle.std.specs.Prelude.{◌≡◌, ◌<◌, None, is_some};
 ghost use Rattle.std.specs.Option.{ForSome};
 ghost use Rattle.ccan_object.specs.Profile.{Holds};
 ghost use Rattle.ccan_ram.specs.declared.port.PortName.TheVariants.{Bus as BusPort};
@@ -85,6 +85,14 @@ impl Station {
         ensures { result ≡ member_now self.now.under_way }
     {
         member_now(&self.under_way)
+    }
+
+    /// Whether a frame is under way for the chip: from its start to its end, or until a look in between finds that the controller has
+    /// left the bus.
+    pub fn is_under_way(&self) -> bool
+        ensures { result ≡ is_some self.now.under_way }
+    {
+        self.under_way.is_some()
     }
 
     /// Drops what is loaded, and takes no more part in a frame that is under way, as a reset does. An object that was started with
