@@ -108,4 +108,24 @@ TOLD = [
             ["if1 write 01 00000000 00000000 0000 0000000000000000", "if2 busy 01"],
         ],
     ),
+    # IF1 makes object 2 valid, requests object 1, and then sets IntPnd of object 1 and takes the request back. In loop back mode the
+    # round sends object 1 to object 2 if it finds the request, and else nothing. Where it sends, the last write comes before
+    # the end of the transmission, or between this end and the store, or after both. The record that the end leaves of object 1
+    # has IntPnd in the first alone, but no line shows that record, so these are one outcome.
+    (
+        {
+            "if1": [
+                transfer("0002", cmask="00b0", arb2="8000", ctrl="0080"),
+                transfer("0001", arb2="a000", ctrl="0100"),
+                transfer("0001", cmask="0090", ctrl="2000"),
+            ],
+            "bus": [{"op": "loopback", "on": 1}, {"op": "round"}],
+        },
+        None,
+        "bus",
+        [
+            ["bus loopback 1", "bus idle"],
+            ["bus loopback 1", "bus looped 01 02 80000000 00000000 8080 0000000000000000"],
+        ],
+    ),
 ]

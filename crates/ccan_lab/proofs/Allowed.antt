@@ -11,7 +11,7 @@ use Rattle.ccan_object.specs.Profile.{objects_in}
 use Rattle.ccan_object.specs.Record.{zero_record}
 use Rattle.ccan_run.specs.declared.outcome.Outcome.{Outcome}
 use Rattle.ccan_outcomes.specs.declared.ending.Ending.{Ending}
-use Rattle.ccan_outcomes.specs.Ending.{AreAllEnds, AreOfRuns, AreOutcomes, IsOfEnd, Shows}
+use Rattle.ccan_outcomes.specs.Ending.{AreAllEnds, AreOfRuns, AreOutcomes, IsOfEnd, Reports}
 use Rattle.ccan_outcomes.specs.Waits.{HaveSameEnds, HaveSameOutcomes}
 use Rattle.ccan_lab.specs.declared.asked.Asked.{Asked}
 use Rattle.ccan_lab.specs.declared.asked.Asked.TheVariants.{Summary, All, Json, Can, Never, Observed, AllObserved}
@@ -109,32 +109,33 @@ module _ (script searched : ScriptFields) (same : HaveSameEnds script searched) 
   all_ends : (endings : List Ending) → AreAllEnds frames searched endings → AreAllEnds frames script endings
   all_ends endings are told = (λ inside. end_there told ((are told).0 inside), λ of. (are told).1 (end_back told of))
 
--- what shows of an outcome is by the profile
-shows_by : (one other : ScriptFields) → one.profile ≡ other.profile → (ending : Ending) (outcome : Outcome)
-    → Shows one ending outcome → Shows other ending outcome
-shows_by one other profile ending outcome shows = record {
-  if1 = shows.if1;
-  if2 = shows.if2;
-  bus = shows.bus;
-  profile_is = shows.profile_is ∙ profile;
-  last = shows.last
-      ∙ ap (λ (p : Profile). ending.records ++ replicate (objects_in Two - objects_in p) zero_record) profile;
+-- what is reported of an outcome is by the profile
+reports_by : (one other : ScriptFields) → one.profile ≡ other.profile → (told : Ending) (outcome : Outcome)
+    → Reports one told outcome → Reports other told outcome
+reports_by one other profile told outcome reports = record {
+  if1 = reports.if1;
+  if2 = reports.if2;
+  bus = reports.bus;
+  profile_is = reports.profile_is ∙ profile;
+  last = reports.last
+      ∙ ap (λ (p : Profile). told.records ++ replicate (objects_in Two - objects_in p) zero_record) profile;
 }
 
 module _ (script searched : ScriptFields) (profile : searched.profile ≡ script.profile) (same : HaveSameOutcomes script searched)
   where
     are_outcomes : (endings : List Ending) → AreOutcomes searched endings → AreOutcomes script endings
     are_outcomes endings are outcome = (
-      λ runs. let listed = (are outcome).0 ((same outcome).0 runs) in
-          (listed.0, listed.1, shows_by searched script profile listed.0 outcome listed.2),
-      λ listed. (same outcome).1 ((are outcome).1
-          (listed.0, listed.1, shows_by script searched (sym profile) listed.0 outcome listed.2)),
+      λ is. let listed = (are outcome).0 (is.0, (same is.0).0 is.1, is.2) in
+          (listed.0, listed.1, reports_by searched script profile listed.0 outcome listed.2),
+      λ listed. let is = (are outcome).1
+          (listed.0, listed.1, reports_by script searched (sym profile) listed.0 outcome listed.2) in
+          (is.0, (same is.0).1 is.1, is.2),
     )
 
     are_of_runs : (endings : List Ending) → AreOfRuns searched endings → AreOfRuns script endings
-    are_of_runs endings runs ending inside =
-        let of = runs ending inside in
-        (of.0, (same of.0).1 of.1, shows_by searched script profile ending of.0 of.2)
+    are_of_runs endings runs told inside =
+        let of = runs told inside in
+        (of.0, (same of.0).1 of.1, reports_by searched script profile told of.0 of.2)
 
     -- and so is the number of outcomes
     pub counts_so : HaveSameEnds script searched → (frames : Bool) (eq : Ending → Ending → Bool) (text : List ℕ)

@@ -5,6 +5,7 @@ pub mod ByAsked
 pub mod Differ
 pub mod Formed
 pub mod Most
+pub mod ToldLines
 pub mod Taken
 pub mod Texts
 pub mod Ordered

@@ -1,14 +1,15 @@
 -- The beginnings of lines that outcomes have are taken.
-use Rattle.std.proofs.Common.{ℕ, zero, suc, ◌≡◌, ◌+◌, ◌<◌, ◌==◌, ◌&&◌, ◌||◌, not, Bool, true, false, cond, List, [], ◌∷◌, Option, Some, None, length, map, get_or, refl, ap, ◌∙◌, arith}
+use Rattle.std.proofs.Common.{ℕ, zero, suc, ◌≡◌, ◌+◌, ◌<◌, ◌==◌, ◌&&◌, ◌||◌, not, Bool, true, false, cond, List, [], ◌∷◌, Option, Some, None, length, map, get_or, refl, ap, subst, ◌∙◌, arith}
 use Rattle.std.specs.List.{Contains, position_or_len, prefix_len}
 use Rattle.std.proofs.lemmas.Bool.{false≢true, lt-ltb, ne_eqb}
 use Rattle.ccan_language.proofs.Grown.{first_in, later_in}
 use Rattle.ccan_line.specs.Script.{ScriptFields}
 use Rattle.ccan_outcomes.specs.declared.ending.Ending.{Ending}
-use Rattle.ccan_outcomes.specs.Ending.{AreOutcomes}
+use Rattle.ccan_outcomes.specs.Ending.{AreOutcomes, AreToldAlike}
 use Rattle.ccan_lab.specs.Answer.{IsOfSomeOutcome, are_refused, first_with, is_none_so, is_refused}
 use Rattle.ccan_lab.specs.Beginnings.{can_begin}
 use Rattle.ccan_lab.specs.Rows.{has_line, has_lines, lines_of}
+use Rattle.ccan_lab.proofs.ToldLines.{end_prints, end_reported, end_shows}
 
 -- an element that passes is found before the end
 pub found_within : {X Y : Type 0} (f : X → Y) (p : Y → Bool) (xs : List X) (k : ℕ) (x : X) → k < length xs → get_or xs k x ≡ x
@@ -61,6 +62,9 @@ none_refused script endings (begin ∷ begins) each =
 pub taken_of_outcomes : (script : ScriptFields) (endings : List Ending) (begins : List (List ℕ)) → AreOutcomes script endings
     → ((begin : List ℕ) → Contains begins begin → IsOfSomeOutcome script begin) → are_refused script endings begins ≡ false
 taken_of_outcomes script endings begins are each = none_refused script endings begins (λ begin inside.
-    let of = each begin inside in
-    let listed = (are of.1).0 of.2 in
-    taken script endings listed.0 begin listed.1 of.0 (of.3 listed.0 listed.2))
+    let (some, outcome, runs, has) = each begin inside in
+    let itself : AreToldAlike outcome outcome = record { if1 = refl; if2 = refl; bus = refl; last = refl } in
+    let (told, listed, reports) = (are outcome).0 (outcome, runs, itself) in
+    taken script endings told begin listed some
+    (subst (λ (lines : List (List ℕ)). has_line begin lines ≡ true) (end_prints script told outcome reports)
+    (has (end_reported outcome told) (end_shows script told outcome reports))))

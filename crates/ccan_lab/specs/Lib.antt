@@ -28,3 +28,4 @@ pub mod LineSigns
 pub mod Brief
 pub mod Moved
 pub mod OutcomeText
+pub mod ToldLines

@@ -10,6 +10,7 @@ ghost use Rattle.ccan_outcomes.specs.OutcomeWords.{AreOfLines, endings_in};
 use crate::expect::{holds, same};
 use crate::runs::read;
 use ccan_accept::Frame;
+use ccan_bus::RoundAnswer;
 use ccan_object::{ObjectNo, Record};
 use ccan_outcomes::all_ports::AllPorts;
 use ccan_outcomes::{
@@ -54,6 +55,13 @@ const WRITE_BEFORE_A_ROUND: &str = r#"{
     "if1":[{"op":"transfer","request":"0001","set":{"cmask":"00B2","arb2":"A48C","ctrl":"0182","dataa1":"1111"}},
            {"op":"transfer","request":"0001","set":{"cmask":"0082","dataa1":"2222"}}],
     "bus":[{"op":"round"}]
+}"#;
+
+/// The same writes, and a round in loop back mode.
+const WRITE_BEFORE_A_LOOP: &str = r#"{
+    "if1":[{"op":"transfer","request":"0001","set":{"cmask":"00B2","arb2":"A48C","ctrl":"0182","dataa1":"1111"}},
+           {"op":"transfer","request":"0001","set":{"cmask":"0082","dataa1":"2222"}}],
+    "bus":[{"op":"loopback","on":1},{"op":"round"}]
 }"#;
 
 /// Holds a history to four steps, each of line 1 at object 1, the last of which writes.
@@ -468,4 +476,34 @@ fn tells_an_end_with_its_frame_or_without(rt: HostRuntime) {
         &rt,
         ended.told(false) == LineEnd::unframed(LineAnswer::Init),
     );
+}
+
+#[test]
+fn tells_no_record_that_no_line_shows(rt: HostRuntime) {
+    // The round is before the first write, and sends nothing; or it sends the data of the first write, and the second comes before
+    // the end of the transmission or after it; or it sends those of the second. The end leaves object 1 with the data that it has
+    // then, which no line shows: so the last three are one outcome, and two by the frames.
+    let framed = words_with(&rt, rt.alloc(), WRITE_BEFORE_A_LOOP, true);
+    same(&rt, framed.count(), 3);
+    let unframed = words_with(&rt, rt.alloc(), WRITE_BEFORE_A_LOOP, false);
+    same(&rt, unframed.count(), 2);
+}
+
+#[test]
+fn tells_an_end_without_the_record_of_a_sent_object(rt: HostRuntime) {
+    let Some(object) = ObjectNo::new(1) else {
+        panic!(rt; "no object")
+    };
+    let zero = Record::zero();
+    let mut left = zero;
+    left.valid = true;
+    let stored = Some((object, left));
+    let looped = LineAnswer::Round(RoundAnswer::Looped(object, left, stored));
+    let told = LineAnswer::Round(RoundAnswer::Looped(object, zero, stored));
+    holds(
+        &rt,
+        LineEnd::unframed(looped).told(true) == LineEnd::unframed(told),
+    );
+    let sent = LineEnd::unframed(LineAnswer::Round(RoundAnswer::Sent(object, left)));
+    holds(&rt, sent.told(true) == sent);
 }
