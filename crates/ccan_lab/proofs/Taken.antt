@@ -1,5 +1,5 @@
 -- The beginnings of lines that outcomes have are taken.
-use Rattle.std.proofs.Common.{ℕ, zero, suc, ◌≡◌, ◌+◌, ◌<◌, ◌==◌, ◌&&◌, ◌||◌, not, Bool, true, false, cond, List, [], ◌∷◌, Option, Some, None, length, map, get_or, refl, ap, subst, ◌∙◌, arith}
+use Rattle.std.proofs.Common.{ℕ, zero, suc, ◌≡◌, ◌+◌, ◌<◌, ◌==◌, ◌&&◌, ◌||◌, not, Bool, true, false, cond, List, [], ◌∷◌, Option, Some, None, length, map, get_or, refl, sym, ap, subst, ◌∙◌, arith}
 use Rattle.std.specs.List.{Contains, position_or_len, prefix_len}
 use Rattle.std.proofs.lemmas.Bool.{false≢true, lt-ltb, ne_eqb}
 use Rattle.ccan_language.proofs.Grown.{first_in, later_in}
@@ -9,7 +9,7 @@ use Rattle.ccan_outcomes.specs.Ending.{AreOutcomes, AreToldAlike}
 use Rattle.ccan_lab.specs.Answer.{IsOfSomeOutcome, are_refused, first_with, is_none_so, is_refused}
 use Rattle.ccan_lab.specs.Beginnings.{can_begin}
 use Rattle.ccan_lab.specs.Rows.{has_line, has_lines, lines_of}
-use Rattle.ccan_lab.proofs.ToldLines.{end_prints, end_reported, end_shows}
+use Rattle.ccan_lab.proofs.ToldLines.{prints_its_outcome}
 
 -- an element that passes is found before the end
 pub found_within : {X Y : Type 0} (f : X → Y) (p : Y → Bool) (xs : List X) (k : ℕ) (x : X) → k < length xs → get_or xs k x ≡ x
@@ -66,5 +66,5 @@ taken_of_outcomes script endings begins are each = none_refused script endings b
     let itself : AreToldAlike outcome outcome = record { if1 = refl; if2 = refl; bus = refl; last = refl } in
     let (told, listed, reports) = (are outcome).0 (outcome, runs, itself) in
     taken script endings told begin listed some
-    (subst (λ (lines : List (List ℕ)). has_line begin lines ≡ true) (end_prints script told outcome reports)
-    (has (end_reported outcome told) (end_shows script told outcome reports))))
+    (let prints = prints_its_outcome script told outcome reports in
+    subst (λ (lines : List (List ℕ)). has_line begin lines ≡ true) (sym prints.lines) (has prints.ending prints.shows)))

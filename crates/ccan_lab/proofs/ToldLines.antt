@@ -17,7 +17,7 @@ use Rattle.ccan_outcomes.specs.declared.ending.Ending.{Ending}
 use Rattle.ccan_outcomes.specs.Behind.{told_ends}
 use Rattle.ccan_outcomes.specs.Ending.{Reports, Shows, told_ending}
 use Rattle.ccan_lab.specs.Rows.{end_lines, final_rows, frame_lines, frame_row, lines_of, row_text, rows_of}
-use Rattle.ccan_lab.specs.ToldLines.{PrintsAlike, PrintsItsLine}
+use Rattle.ccan_lab.specs.ToldLines.{PrintsAlike, PrintsItsLine, PrintsItsOutcome}
 
 round_alike : (reply : RoundAnswer) → round_text (told_round reply) ≡ round_text reply
 unfolding round_text
@@ -112,6 +112,18 @@ lines_are port (reply ∷ replies) (end ∷ ends) is =
     let rest = lines_are port replies ends later in
     λ i. (line i ∷ frame_lines end.frame) ++ rest i
 
+rows_are : (port : PortName) (replies : List LineAnswer) (ends : List LineEnd) → as_told replies ≡ answers_of ends
+    → map (row_text port) (answered replies ends) ≡ map (row_text port) ends
+rows_are port [] [] is = refl
+rows_are port [] (end ∷ ends) is = absurd cc
+rows_are port (reply ∷ replies) [] is = absurd cc
+rows_are port (reply ∷ replies) (end ∷ ends) is =
+    let first : told_answer reply ≡ end.answer = cc in
+    let later : as_told replies ≡ answers_of ends = cc in
+    let line : line_text port reply ≡ line_text port end.answer = sym (line_alike port reply) ∙ ap (line_text port) first in
+    let rest = rows_are port replies ends later in
+    λ i. (line i ++ frame_row end.frame) ∷ rest i
+
 abbrev pub end_reported : Outcome → Ending → Ending
 end_reported outcome told =
     record {
@@ -140,3 +152,21 @@ end_prints script told outcome reports =
     let if2 = lines_are If2 outcome.if2.items told.if2 reports.if2 in
     let bus = lines_are Bus outcome.bus.items told.bus reports.bus in
     λ i. if1 i ++ (if2 i ++ (bus i ++ final_rows told.records))
+
+end_rows : (script : ScriptFields) (told : Ending) (outcome : Outcome) → Reports script told outcome
+    → rows_of (end_reported outcome told) ≡ rows_of told
+unfolding rows_of
+end_rows script told outcome reports =
+    let if1 = rows_are If1 outcome.if1.items told.if1 reports.if1 in
+    let if2 = rows_are If2 outcome.if2.items told.if2 reports.if2 in
+    let bus = rows_are Bus outcome.bus.items told.bus reports.bus in
+    λ i. if1 i ++ (if2 i ++ (bus i ++ final_rows told.records))
+
+pub prints_its_outcome : (script : ScriptFields) (told : Ending) (outcome : Outcome) → Reports script told outcome
+    → PrintsItsOutcome script told outcome
+prints_its_outcome script told outcome reports = record {
+  ending = end_reported outcome told;
+  shows = end_shows script told outcome reports;
+  lines = sym (end_prints script told outcome reports);
+  rows = sym (end_rows script told outcome reports);
+}

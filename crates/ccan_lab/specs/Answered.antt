@@ -171,7 +171,8 @@ names_its_file (AllObserved names) = false
 
 -- ---- what is counted of a file
 
--- what is printed is the number of outcomes that the promise allows of the script in these bytes, told apart by frames or not
+-- what is printed is the number of outcomes that the promise allows of the script in these bytes, told apart by what is
+-- printed, with frames or without
 pub record AnswersCount (frames : Bool) (bytes : List ℕ) (answer : FileAnswer) : Type 0 where
   pub script : ScriptFields
   pub read : reader.Shows bytes (Ok script)

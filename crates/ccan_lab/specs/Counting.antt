@@ -15,7 +15,8 @@ abbrev pub count_text : ℕ → List ℕ
 count_text number =
     (if number == greatest then codes "at least " else codes "") ++ (counted_text number (codes "outcome") ++ codes "\n")
 
--- the number is that of a list that has each outcome that the promise allows, once, and no other; each is that of a run
+-- the number is that of a list that has each outcome that the promise allows, as it is printed, once, and no other; each is
+-- that of a run
 pub record IsCount (frames : Bool) (script : ScriptFields) (eq : Ending → Ending → Bool) (number : ℕ) : Type 0 where
   pub outcomes : List Ending
   pub ends : AreAllEnds frames script outcomes

@@ -31,8 +31,8 @@ Answers frames form script endings (Observed names) text = ⊥
 Answers frames form script endings (AllObserved names) text =
     IsObservedListing frames form (names_in names.now) script endings text
 
--- the text answers what is asked of a list that has each outcome that the promise allows, once, and no other, with the frames that
--- won the bus if they are asked for; each is that of a run
+-- the text answers what is asked of a list that has each outcome that the promise allows, as it is printed, once, and no other,
+-- with the frames that won the bus if they are asked for; each is that of a run
 pub record TellsAll (frames : Bool) (form : HistoryForm) (script : ScriptFields) (eq : Ending → Ending → Bool) (asked : Asked)
     (text : List ℕ) : Type 0 where
   pub outcomes : List Ending

@@ -72,7 +72,8 @@ pub record ShowsEndings (frames : Bool) (script : ScriptFields) (endings : List 
   pub same_is : string_bytes page.same ≡ same_parts choices
   pub are_shown : AreShown frames script endings choices (min limit (length endings)) page.outcomes.items
 
--- it does so of a list that has each outcome that the promise allows, once, and no other; each is that of a run
+-- it does so of a list that has each outcome that the promise allows, as it is printed, once, and no other; each is that of a
+-- run
 pub record ShowsList (frames : Bool) (script : ScriptFields) (eq : Ending → Ending → Bool) (limit : ℕ) (page : Page) : Type 0 where
   pub endings : List Ending
   pub ends : AreAllEnds frames script endings

@@ -78,7 +78,7 @@ ListsSeen frames form script marks endings text =
     (shown : List Ending) × AreShownOf marks endings shown × IsSeenListing frames form script marks shown text
 
 -- the text lists what can be told apart, if the places of these names are looked at, of a list that has each outcome that the
--- promise allows, once, and no other; each is that of a run
+-- promise allows, as it is printed, once, and no other; each is that of a run
 pub record TellsSeen (frames : Bool) (form : HistoryForm) (names : List (List ℕ)) (script : ScriptFields)
     (eq : Ending → Ending → Bool) (text : List ℕ) : Type 0 where
   pub outcomes : List Ending

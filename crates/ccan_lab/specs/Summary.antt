@@ -81,7 +81,8 @@ pub record IsSummary (script : ScriptFields) (endings : List Ending) (text : Lis
   pub text_is : text ≡ count_text (min (length endings) greatest) ++ (same_parts choices
       ++ (choice_parts choices (name_in script) ++ closing_text (min (length endings) greatest)))
 
--- the text is the short list of a list that has each outcome that the promise allows, once, and no other; each is that of a run
+-- the text is the short list of a list that has each outcome that the promise allows, as it is printed, once, and no other;
+-- each is that of a run
 pub record TellsSummary (frames : Bool) (script : ScriptFields) (eq : Ending → Ending → Bool) (text : List ℕ) : Type 0 where
   pub outcomes : List Ending
   pub ends : AreAllEnds frames script outcomes

@@ -1,11 +1,13 @@
 -- What is reported of an end of a line, or of an outcome, prints the very lines that it has. Source: this project's own.
 use Rattle.std.specs.Prelude.{◌≡◌, ◌++◌, ◌∷◌, Bool, true, None, if◌then◌else◌}
+use Rattle.ccan_line.specs.Script.{ScriptFields}
 use Rattle.ccan_ram.specs.declared.port.PortName.{PortName}
+use Rattle.ccan_run.specs.declared.outcome.Outcome.{Outcome}
 use Rattle.ccan_script.specs.Print.{line_text}
 use Rattle.ccan_process.specs.declared.line_end.LineEnd.{LineEnd}
 use Rattle.ccan_process.specs.LineEnd.{told_end}
 use Rattle.ccan_outcomes.specs.declared.ending.Ending.{Ending}
-use Rattle.ccan_outcomes.specs.Ending.{told_ending}
+use Rattle.ccan_outcomes.specs.Ending.{Reports, Shows, told_ending}
 use Rattle.ccan_lab.specs.Rows.{end_lines, frame_lines, frame_row, lines_of, row_text, rows_of}
 
 -- what is reported of the end prints the line of its answer, byte by byte, and below it the frame that won the bus, if one did and
@@ -27,3 +29,15 @@ pub record PrintsAlike (ending : Ending) : Type 0 where
 
 abbrev pub ToldOutcomesPrintAlike : Type 0
 ToldOutcomesPrintAlike = (ending : Ending) → PrintsAlike ending
+
+-- what reports an outcome prints all that an end of this outcome would print
+pub record PrintsItsOutcome (script : ScriptFields) (told : Ending) (outcome : Outcome) : Type 0 where
+  pub ending : Ending
+  pub shows : Shows script ending outcome
+  pub lines : lines_of told ≡ lines_of ending
+  pub rows : rows_of told ≡ rows_of ending
+
+abbrev pub ReportsPrintTheirOutcomes : Type 0
+ReportsPrintTheirOutcomes =
+    (script : ScriptFields) (told : Ending) (outcome : Outcome) → Reports script told outcome
+    → PrintsItsOutcome script told outcome

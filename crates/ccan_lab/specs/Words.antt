@@ -49,8 +49,8 @@ IsSearched script endings begins (NotFound text) =
     SaysNone endings begins (string_bytes text) × (are_refused script endings begins ≡ false)
 IsSearched script endings begins Refused = are_refused script endings begins ≡ true
 
--- the text says that none has the lines, of a list that has each outcome that the promise allows, once, and no other; each is
--- that of a run
+-- the text says that none has the lines, of a list that has each outcome that the promise allows, as it is printed, once, and
+-- no other; each is that of a run
 pub record TellsNone (frames : Bool) (script : ScriptFields) (eq : Ending → Ending → Bool) (begins : List (List ℕ))
     (text : List ℕ) : Type 0 where
   pub outcomes : List Ending
@@ -67,8 +67,8 @@ RefusesLine frames script begins =
     (endings : List Ending) × AreAllEnds frames script endings × AreOutcomes script endings
     × (are_refused script endings begins ≡ true)
 
--- the text shows an outcome that has the lines, of a list that has each outcome that the promise allows, once, and no other;
--- each is that of a run
+-- the text shows an outcome that has the lines, of a list that has each outcome that the promise allows, as it is printed,
+-- once, and no other; each is that of a run
 pub record TellsFound (frames : Bool) (form : HistoryForm) (script : ScriptFields) (eq : Ending → Ending → Bool)
     (begins : List (List ℕ)) (text : List ℕ) : Type 0 where
   pub outcomes : List Ending
