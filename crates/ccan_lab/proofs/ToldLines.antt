@@ -15,7 +15,7 @@ use Rattle.ccan_process.specs.declared.line_end.LineEnd.{LineEnd}
 use Rattle.ccan_process.specs.LineEnd.{answers_of, as_told, told_answer, told_round}
 use Rattle.ccan_outcomes.specs.declared.ending.Ending.{Ending}
 use Rattle.ccan_outcomes.specs.Behind.{told_ends}
-use Rattle.ccan_outcomes.specs.Ending.{Reports, Shows, told_ending}
+use Rattle.ccan_outcomes.specs.Ending.{Reports, Shows}
 use Rattle.ccan_lab.specs.Rows.{end_lines, final_rows, frame_lines, frame_row, lines_of, row_text, rows_of}
 use Rattle.ccan_lab.specs.ToldLines.{PrintsAlike, PrintsItsLine, PrintsItsOutcome}
 
