@@ -484,7 +484,8 @@ fn tells_no_record_that_no_line_shows(rt: HostRuntime) {
     // The round finds no request, before the first write or after the second, and sends nothing. Or it sends object 1, and the
     // second write comes before the end of the transmission or after it. That end leaves IntPnd in the one case alone, but no line
     // shows what it leaves: so these are one outcome, also by their frames.
-    same(&rt, told(&rt, rt.alloc(), WRITE_BEFORE_A_LOOP), 2);
+    let unframed = words_with(&rt, rt.alloc(), WRITE_BEFORE_A_LOOP, false);
+    same(&rt, unframed.count(), 2);
     let framed = words_with(&rt, rt.alloc(), WRITE_BEFORE_A_LOOP, true);
     same(&rt, framed.count(), 2);
 }
