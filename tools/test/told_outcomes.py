@@ -1,7 +1,8 @@
 """Scripts whose hosts and bus race, and what can come of each, worked by hand from the rules: how many states the search keeps
 (None where that was not worked out), how the lines begin that are looked at, and these lines of each outcome. Kept are the state in
 which the ports begin, those from which more than one step is followed, and those in which all lines have run. States that differ
-only in what was answered are one."""
+only in what was answered are one, and so are those that differ in how many changes were made, if no port can come to have none
+left."""
 
 
 def transfer(request, **registers):
@@ -95,12 +96,13 @@ TOLD = [
         "if1",
         [["if1 until 01 newdat yes"], ["if1 until 01 newdat no"]],
     ),
-    # Each host writes object 1 with one try. Kept are the beginning, one host or the other in its try, both in it, the two states in
-    # which one has written and the other's try is contended, and the three ends, which differ in who has changed it. Where one
-    # has written before the other looked, that one's look and write come at once.
+    # Each host writes object 1 with one try, and leaves it as it was. Kept are the beginning, one host or the other in its try, both
+    # in it, the two states in which one has written and the other's try is contended, and the end: who has changed it is not kept,
+    # since no host can make more changes than its quota. Where one has written before the other looked, that one's look and write
+    # come at once.
     (
         {"tries": 1, "if1": [transfer("0001", cmask="0080")], "if2": [transfer("0001", cmask="0080")]},
-        9,
+        7,
         "if",
         [
             ["if1 write 01 00000000 00000000 0000 0000000000000000", "if2 write 01 00000000 00000000 0000 0000000000000000"],

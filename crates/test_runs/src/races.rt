@@ -140,8 +140,9 @@ fn makes_each_attempt_at_once(rt: HostRuntime) {
 
 #[test]
 fn finds_who_loses_the_only_try(rt: HostRuntime) {
-    // Either host may write last, or look before the other one writes and so be busy.
-    same(&rt, ends(&rt, rt.alloc(), ONE_TRY), 4);
+    // Either host's data stand at the end, whether the other wrote before or was busy: the answers are not kept, nor how many
+    // changes each made, since none can make more than it may.
+    same(&rt, ends(&rt, rt.alloc(), ONE_TRY), 2);
 }
 
 /// The outcomes of a script as words, told apart by the frames that won the bus or not.
