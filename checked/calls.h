@@ -77,6 +77,7 @@ CALL(uint32_t, ccan_counters, (ccan_bus *bus, uint32_t node, ccan_counts *out), 
 CALL(uint32_t, ccan_control, (ccan_bus *bus, uint32_t sie, uint32_t eie), (bus, sie, eie), BUS(bus))
 CALL(uint32_t, ccan_init, (ccan_bus *bus), (bus), BUS(bus))
 CALL(uint32_t, ccan_recessive, (ccan_bus *bus, uint32_t groups, uint32_t *out), (bus, groups, out), BUS(bus) WRITES(out, 1))
+CALL(uint32_t, ccan_power_down, (ccan_bus *bus, uint32_t *out), (bus, out), BUS(bus) WRITES(out, 1))
 CALL(uint32_t, ccan_loop_back, (ccan_bus *bus, uint32_t on), (bus, on), BUS(bus))
 CALL(uint32_t, ccan_bus_interrupt, (ccan_bus *bus, uint16_t *out), (bus, out), BUS(bus) WRITES(out, 1))
 CALL(uint32_t, ccan_bus_flags, (ccan_bus *bus, uint32_t flag, uint64_t *out), (bus, flag, out), BUS(bus) WRITES(out, 1))

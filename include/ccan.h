@@ -169,8 +169,8 @@ enum ccan_layout {
     CCAN_LAYOUT_C_CAN,    /* C_CAN: the registers side by side, at the offsets of enum ccan_offset */
     CCAN_LAYOUT_C_CAN_32, /* C_CAN: each register at twice that offset, alone in a word of 32 bits */
     CCAN_LAYOUT_D_CAN     /* D_CAN: the halves of its registers of 32 bits, see docs/REGISTERS.md. What differs from a C_CAN is said
-                           * at the calls; what a D_CAN has beside that, as parity, auto bus on, power down, DMA, IF3 and a second
-                           * interrupt line, is left out (docs/C_REFERENCE.md) */
+                           * at the calls; what a D_CAN has beside that, as parity, auto bus on, DMA, IF3 and a second interrupt
+                           * line, is left out (docs/C_REFERENCE.md) */
 };
 
 /* Opens a chip as a part is after its reset, all of it or nothing: Init is 1, so that it takes part only once a write of Control
@@ -310,7 +310,9 @@ enum ccan_offset {
  *    255, RP and the low seven bits of REC.
  *  - Status: as it is; and the pending status interrupts are cleared, and in CCAN_LAYOUT_D_CAN also TxOk and RxOk, and LEC becomes
  *    7. That is a change of the controller, so this read alone may answer CCAN_BUSY: then nothing was read and nothing cleared,
- *    and the call may be made again.
+ *    and the call may be made again. In CCAN_LAYOUT_D_CAN it shows PDA too, bit 10: the controller is in local power down, PDR and
+ *    Init are both 1 (ccan_power_down).
+ *  - In CCAN_LAYOUT_D_CAN the upper half of Control, at 0x02: PDR, bit 8 of it. One look at the controller.
  *  - Interrupt: 0x8000 if a status interrupt is shown: SIE is 1 and a transfer or an error was since the last read of Status,
  *    or EIE is 1 and BOff or EWarn has changed since. Else the number of the first object with IntPnd, or 0.
  *  - The registers of an interface: what they hold. Command Request has the number of the object that was requested last, and
@@ -323,16 +325,19 @@ CCAN_CODE ccan_read16(ccan_host *host, uint32_t offset, uint16_t *out);
  *  - Control: as it is written. Init from 1 to 0 starts the way back of a controller that is bus off. In CCAN_LAYOUT_D_CAN a write
  *    with SWR, bit 15, and Init resets the chip: the controller's registers have their reset values, MsgVal, NewDat, IntPnd and
  *    TxRqst of each message object become 0, and what was loaded is dropped. The registers of IF1 and IF2 stay. That is one change
- *    of the controller and then one of each object, which may be refused as those of ccan_reset. SWR without Init is dropped.
+ *    of the controller and then one of each object, which may be refused as those of ccan_reset. SWR without Init is dropped. PDR
+ *    stays, except in a reset.
+ *  - In CCAN_LAYOUT_D_CAN the upper half of Control, at 0x02: PDR as it is written in bit 8, by one change of the controller. All
+ *    else of Control stays, Init too: see ccan_power_down.
  *  - Status: TxOk, RxOk and LEC are set as written, the other bits dropped; in CCAN_LAYOUT_D_CAN all are.
  *  - Bit Timing, BRP Extension: taken only if Init and CCE are 1, else dropped. Test: only if Test of Control is 1.
  *  - Command Request: the transfer that Command Mask says, as ccan_request. In CCAN_LAYOUT_D_CAN the number has eight bits, and one
  *    that no object has moves nothing; and a write with TxRqst/NewDat sets NewDat of the object too.
  *  - The other registers of an interface: as ccan_set.
  *  - Error Counter, Interrupt and the registers of the flags: dropped.
- * The first of CCAN_OFFSET_RANGE and CCAN_OTHER_INTERFACE that applies. Else CCAN_DONE; CCAN_BUSY, of Control, Status, Bit Timing,
- * BRP Extension, Test and Command Request: nothing was changed, and the call may be made again; CCAN_SPENT, of Command Request. A
- * reset by SWR may be refused at an object: then the controller and the objects before that one were reset. */
+ * The first of CCAN_OFFSET_RANGE and CCAN_OTHER_INTERFACE that applies. Else CCAN_DONE; CCAN_BUSY, of Control, its upper half,
+ * Status, Bit Timing, BRP Extension, Test and Command Request: nothing was changed, and the call may be made again; CCAN_SPENT, of
+ * Command Request. A reset by SWR may be refused at an object: then the controller and the objects before that one were reset. */
 CCAN_CODE ccan_write16(ccan_host *host, uint32_t offset, uint16_t value);
 
 /* Reads the byte at an offset of the chip's layout: at an even one bits 7 to 0 of the register of 16 bits that begins there, at an
@@ -349,6 +354,8 @@ CCAN_CODE ccan_read8(ccan_host *host, uint32_t offset, uint8_t *out);
  *  - Control, Status, BRP Extension, Test: all bits that can be written are in the lower byte. That is written as by ccan_write16
  *    with an upper byte of 0, and the upper byte is dropped. But in CCAN_LAYOUT_D_CAN a write of the upper byte of Control with
  *    SWR, bit 7 of it, is one look at the controller, and then, if that shows Init, the reset of ccan_write16.
+ *  - In CCAN_LAYOUT_D_CAN the upper half of Control: its bit is in the upper byte, at 0x03, which is written as by ccan_write16. The
+ *    lower byte, at 0x02, is dropped.
  *  - Bit Timing: one look at the controller, and then as ccan_write16, with the other byte as that look shows it. These are two
  *    steps: what another handle writes into the other byte between them is lost.
  *  - Error Counter, Interrupt and the registers of the flags: dropped.
@@ -356,17 +363,18 @@ CCAN_CODE ccan_read8(ccan_host *host, uint32_t offset, uint8_t *out);
 CCAN_CODE ccan_write8(ccan_host *host, uint32_t offset, uint8_t value);
 
 /* Reads the word of 32 bits at an offset of the chip's layout, a multiple of 4. If both halves are registers of one flag, its 32
- * objects are read at one moment. If they are Bit Timing and BRP Extension, as in CCAN_LAYOUT_D_CAN, it is one look at the
- * controller. Else it is as ccan_read16 of its lower half, at the offset, and then, unless that is refused, of
+ * objects are read at one moment. If they are both halves of Control, or Bit Timing and BRP Extension, as in CCAN_LAYOUT_D_CAN, it
+ * is one look at the controller. Else it is as ccan_read16 of its lower half, at the offset, and then, unless that is refused, of
  * its upper half, two bytes on: between these two reads other ports may make steps. A half at which no register begins reads 0.
  * The first of CCAN_OFFSET_RANGE (also if neither half is a register), CCAN_OTHER_INTERFACE and CCAN_BUSY that applies; else
  * CCAN_DONE. */
 CCAN_CODE ccan_read32(ccan_host *host, uint32_t offset, uint32_t *out);
 
 /* Writes the word of 32 bits at an offset of the chip's layout, a multiple of 4. If its halves are Bit Timing and BRP Extension,
- * as in CCAN_LAYOUT_D_CAN, both are set by one change of the controller, if Init and CCE are 1. Else it is as ccan_write16 of
- * its upper half, two bytes on, and then, unless that is refused, of its lower half. So the mask of a command of
- * CCAN_LAYOUT_D_CAN is there before its request makes the transfer. What is for a half at which no register begins is dropped.
+ * as in CCAN_LAYOUT_D_CAN, both are set by one change of the controller, if Init and CCE are 1. If they are both halves of Control,
+ * that is one change too, with PDR at bit 24; or with SWR and Init the reset of ccan_write16. Else it is as ccan_write16 of its upper
+ * half, two bytes on, and then, unless that is refused, of its lower half. So the mask of a command of CCAN_LAYOUT_D_CAN is there
+ * before its request makes the transfer. What is for a half at which no register begins is dropped.
  * CCAN_OFFSET_RANGE (also if neither half is a register) and CCAN_OTHER_INTERFACE: nothing was written. Else CCAN_DONE;
  * CCAN_BUSY and CCAN_SPENT as with ccan_write16, of the half that was refused: if that is the lower one, the upper one is
  * written, and after CCAN_BUSY the call may be made again. */
@@ -564,6 +572,15 @@ CCAN_CODE ccan_init(ccan_bus *bus);
 /* Lets 1 to 10000 groups of eleven recessive bits pass, and gives the controller's state, an enum ccan_state.
  * CCAN_GROUPS_RANGE. CCAN_BUSY: no node has seen any group, and the call may be made again. */
 CCAN_CODE ccan_recessive(ccan_bus *bus, uint32_t groups, uint32_t *out);
+
+/* Lets a D_CAN enter local power down (AM335x Technical Reference Manual, chapter DCAN, "Local Power-Down Mode"): to be called when
+ * the bus is idle, that is after eleven recessive bits. If PDR is 1, Init is 0 and no object has TxRqst, it sets Init, and PDA then
+ * reads 1. `out` is 1 if the controller is in local power down, PDR and Init both 1, else 0; in the other layouts it is always 0. A
+ * host asks for power down by PDR, and wakes the chip by clearing PDR and then Init.
+ * The call looks at the controller; if PDR is 1 and Init 0, at TxRqst of all objects in one moment; and if none is set, it changes
+ * the controller, which sets Init only if PDR is still 1. Between a ccan_begin and its ccan_finish it answers 0, without a step.
+ * CCAN_BUSY: Init was not set, and the call may be made again. */
+CCAN_CODE ccan_power_down(ccan_bus *bus, uint32_t *out);
 
 /* Sets loop back mode, a switch: on sets Test of Control, and then LBack of Test, with Basic and Silent 0; off clears Test of
  * Control, and LBack stays and doesn't count. CCAN_BUSY: after that of the second step Test of Control is set; the call may be made

@@ -340,6 +340,23 @@ static inline uint64_t ccan_network_private_back(const ccan_network *network, co
     return init ? at->comes_on : network->group_began + 11;
 }
 
+/* Lets each chip enter local power down that asks for it by PDR and has nothing to send. One that waits has a frame to send. */
+static inline CCAN_CODE ccan_network_private_power_down(const ccan_network *network)
+{
+    uint32_t told = CCAN_DONE, code, is_down;
+    for (uint32_t k = 0; k < network->places; k++) {
+        const ccan_network_member *at = &network->at[k];
+        if (at->kind != CCAN_NETWORK_CHIP || at->waits)
+            continue;
+        code = ccan_power_down(at->chip, &is_down);
+        for (uint32_t i = 0; i < CCAN_NETWORK_TRIES && code == CCAN_BUSY; i++)
+            code = ccan_power_down(at->chip, &is_down);
+        if (told == CCAN_DONE)
+            told = code;
+    }
+    return told;
+}
+
 /* When to ask an idle bus again: the first time at which a member may send that may not yet. */
 static inline uint64_t ccan_network_private_until(const ccan_network *network)
 {
@@ -438,6 +455,21 @@ static inline uint64_t ccan_network_private_length(const ccan_network *network, 
     }
 }
 
+/* Ends what ccan_begin began at each chip, if nobody sends: nothing is under way there, and what is loaded stays. */
+static inline CCAN_CODE ccan_network_private_rest(const ccan_network *network)
+{
+    ccan_finished nothing;
+    uint32_t told = CCAN_DONE, code;
+    for (uint32_t k = 0; k < network->places; k++) {
+        if (network->at[k].kind != CCAN_NETWORK_CHIP)
+            continue;
+        code = ccan_finish(network->at[k].chip, &network->wire, k, CCAN_QUIET, &nothing);
+        if (told == CCAN_DONE)
+            told = code;
+    }
+    return told;
+}
+
 /* At the time `now`: begins a frame, if the bus is free and a member wants to send. `under_way` of the network then is 1, `wire`
  * and each member's `member` say what is on the bus, and `until` is when the frame ends if nothing disturbs it: call
  * ccan_network_finish then. Else `under_way` is 0, and `until` is when to call it again: during the intermission of 3 bits its end;
@@ -448,13 +480,17 @@ static inline uint64_t ccan_network_private_length(const ccan_network *network, 
  * While a frame is under way, the call only reports its end. Time passes as by ccan_network_pass. A chip in loop back mode
  * with Silent that sends to itself is a frame under way too, even if the bus is idle (`wire.kind` is CCAN_WIRE_IDLE).
  *
+ * Local power down of a D_CAN: if the bus is free, a chip whose PDR is 1 and that has nothing to send enters it first, by
+ * ccan_power_down, so it has no part in a frame that begins now. From the end of the intermission on the bus is idle: with the last
+ * bits of the frame before it these are eleven recessive bits. A host's write of PDR is seen by the next call.
+ *
  * The code is that of the first member with another one than CCAN_DONE, and all else is done: CCAN_CLOSED, it takes no part;
- * CCAN_BUSY, CCAN_SPENT, the start of its object was refused, and it sends nothing, or it has missed groups of recessive bits;
- * CCAN_COUNTERS_RANGE, C has written counters to a node that it can't have, and it takes no part. */
+ * CCAN_BUSY, CCAN_SPENT, the start of its object was refused, and it sends nothing, or it has missed groups of recessive bits, or it
+ * has not entered local power down; CCAN_COUNTERS_RANGE, C has written counters to a node that it can't have, and it takes no part. */
 static inline CCAN_CODE ccan_network_start(ccan_network *network, uint64_t now, uint64_t *until)
 {
     const ccan_wire last = network->wire;
-    uint32_t passed, code, bits;
+    uint32_t passed, code, rest, bits;
     if (network->under_way) {
         *until = network->ended;
         return CCAN_DONE;
@@ -464,12 +500,15 @@ static inline CCAN_CODE ccan_network_start(ccan_network *network, uint64_t now, 
         *until = network->free;
         return passed;
     }
+    code = ccan_network_private_power_down(network);
+    passed = passed != CCAN_DONE ? passed : code;
     code = ccan_network_private_decide(network, now);
     bits = ccan_network_private_longest(network);
     if (bits == 0) {
+        rest = ccan_network_private_rest(network);
         network->wire = last;
         *until = ccan_network_private_until(network);
-        return passed != CCAN_DONE ? passed : code;
+        return passed != CCAN_DONE ? passed : code != CCAN_DONE ? code : rest;
     }
     network->under_way = 1;
     network->has_lost = 0;
@@ -555,6 +594,7 @@ static inline CCAN_CODE ccan_network_private_end(ccan_network *network, bool sen
         if (told == CCAN_DONE)
             told = at->code;
         at->was_sender = network->wire.part[k] != CCAN_PART_LISTENER;
+        at->waits = 0;
         at->fault = CCAN_QUIET;
     }
     return told;

@@ -108,6 +108,7 @@ void changed_controller(const controller *before)
     parts |= before->extension != now->extension ? PART_EXTENSION : 0;
     parts |= before->test != now->test ? PART_TEST : 0;
     parts |= before->has_left != now->has_left ? PART_LEFT : 0;
+    parts |= before->pdr != now->pdr ? PART_POWER : 0;
     if (from->tec != to->tec || from->rec != to->rec || from->groups != to->groups || from->init_cleared != to->init_cleared)
         parts |= PART_COUNTERS;
     E->event->writes[ROW_CONTROLLER] |= parts;

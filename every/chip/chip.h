@@ -15,12 +15,13 @@ enum { IDENTIFIER = 0x1fffffff, STANDARD = 0x1ffc0000, DIR = 1 << 29, XTD = 1 <<
 #define MXTD 0x80000000u
 enum { INIT = 0x01, IE = 0x02, SIE = 0x04, EIE = 0x08, CCE = 0x40, TEST = 0x80 };  /* in Control */
 enum { SWR = 0x8000, PMD_OFF = 0x1400 };                                          /* in Control of a D_CAN */
+enum { PDR = 0x0100, PDA = 0x0400 };                                              /* in its upper half, and in Status of a D_CAN */
 enum { LBACK = 0x10, RX_RECESSIVE = 0x80 };                                       /* in Test */
 
 /* Parts of the controller: bits of ROW_CONTROLLER. */
 enum {
     PART_INIT = 1, PART_IE = 2, PART_ENABLES = 4, PART_CONTROL = 8, PART_FLAGS = 16, PART_PENDING = 32, PART_COUNTERS = 64,
-    PART_TIMING = 128, PART_EXTENSION = 256, PART_TEST = 512, PART_LEFT = 1024, ALL_PARTS = 2047
+    PART_TIMING = 128, PART_EXTENSION = 256, PART_TEST = 512, PART_LEFT = 1024, PART_POWER = 2048, ALL_PARTS = 4095
 };
 
 /* A node's error counters. */
@@ -31,6 +32,7 @@ typedef struct {
     uint8_t flags;    /* RxOk 4, TxOk 3, LEC 2 to 0 */
     uint8_t pending;  /* status interrupts: 1 a transfer or an error, 2 a change of BOff or EWarn */
     bool has_left;    /* Init was 1 since the bus joined the controller last */
+    bool pdr;         /* PDR of a D_CAN: a host asks for local power down */
     counters counters;
 } controller;
 
@@ -71,6 +73,7 @@ void count(counters *of, enum counted what);
 void let_groups_pass(counters *of, uint32_t groups, bool is_host);
 uint8_t levels_of(const counters *of);
 bool shows_status(void);
+bool is_powered_down(void);
 uint16_t status_word(void);
 uint16_t error_counter_word(void);
 void set_control(uint16_t value);
@@ -90,7 +93,7 @@ const char *text_of(const frame *of);
 /* words.c */
 enum { COMMAND_REQUEST = 10 }; /* of an interface, behind the registers of ccan.h */
 enum reg_name {
-    CONTROL, STATUS, ERROR_COUNTER, BIT_TIMING, INTERRUPT, TEST_REGISTER, EXTENSION, OF_INTERFACE, OF_FLAG, NO_REGISTER
+    CONTROL, STATUS, ERROR_COUNTER, BIT_TIMING, INTERRUPT, TEST_REGISTER, EXTENSION, CONTROL_UPPER, OF_INTERFACE, OF_FLAG, NO_REGISTER
 };
 const char *interface_words(unsigned side, uint32_t reg, uint16_t value);
 const char *controller_words(enum reg_name name, uint16_t value);

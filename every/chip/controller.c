@@ -63,6 +63,8 @@ bool shows_status(void)
     return ((control & SIE) && (C.controller.pending & 1)) || ((control & EIE) && (C.controller.pending & 2));
 }
 
+bool is_powered_down(void) { return C.controller.pdr && (C.controller.control & INIT); }
+
 uint16_t status_word(void)
 {
     const counters *of = &C.controller.counters;

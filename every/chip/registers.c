@@ -5,6 +5,7 @@
 /* A register: its number within an interface or a flag, and the interface or the flag. */
 typedef struct { enum reg_name name; unsigned number, of; } reg;
 enum { OF_BUS = 2 };
+enum { PARTS_OF_CONTROL = PART_INIT | PART_IE | PART_ENABLES | PART_CONTROL }; /* of its lower half */
 static const reg none = { NO_REGISTER, 0, 0 };
 
 /* ---- layouts */
@@ -60,6 +61,7 @@ static reg d_can_at(uint32_t offset)
     static const uint32_t flags[] = { 0x88, 0x9c, 0xb0, 0xc4 };
     switch (offset) {
     case 0x00: return (reg){ CONTROL, 0, 0 };
+    case 0x02: return (reg){ CONTROL_UPPER, 0, 0 };
     case 0x04: return (reg){ STATUS, 0, 0 };
     case 0x08: return (reg){ ERROR_COUNTER, 0, 0 };
     case 0x0c: return (reg){ BIT_TIMING, 0, 0 };
@@ -88,14 +90,14 @@ static reg register_at(uint32_t offset)
 
 /* ---- reads */
 
-/* Reads Status, and clears what a read clears. */
-static uint16_t status_read(bool clears_flags)
+/* Reads Status, and clears what a read clears. As the register of a D_CAN it has PDA, and its flags are cleared too. */
+static uint16_t status_read(bool of_d_can)
 {
-    step_at_controller(PART_FLAGS | PART_COUNTERS, PART_PENDING | (clears_flags ? PART_FLAGS : 0));
+    step_at_controller(PART_FLAGS | PART_COUNTERS | (of_d_can ? PART_INIT | PART_POWER : 0), PART_PENDING | (of_d_can ? PART_FLAGS : 0));
     controller before = C.controller;
-    uint16_t value = status_word();
+    uint16_t value = status_word() | (of_d_can && is_powered_down() ? PDA : 0);
     C.controller.pending = 0;
-    if (clears_flags)
+    if (of_d_can)
         C.controller.flags = 7;
     changed_controller(&before);
     tell("reads %s", controller_words(STATUS, value));
@@ -126,15 +128,18 @@ bool read_line(void)
     return pulled;
 }
 
+static uint16_t control_word(void) { return C.controller.control | (is_d_can() ? PMD_OFF : 0); }
+static uint16_t control_upper(void) { return C.controller.pdr ? PDR : 0; }
+
 static uint16_t controller_read(enum reg_name name)
 {
     static const uint64_t parts[] = {
-        [CONTROL] = PART_INIT | PART_IE | PART_ENABLES | PART_CONTROL, [ERROR_COUNTER] = PART_COUNTERS, [BIT_TIMING] = PART_TIMING,
-        [TEST_REGISTER] = PART_TEST, [EXTENSION] = PART_EXTENSION };
+        [CONTROL] = PARTS_OF_CONTROL, [ERROR_COUNTER] = PART_COUNTERS, [BIT_TIMING] = PART_TIMING,
+        [TEST_REGISTER] = PART_TEST, [EXTENSION] = PART_EXTENSION, [CONTROL_UPPER] = PART_POWER };
     step_at_controller(parts[name], 0);
     const controller *of = &C.controller;
-    uint16_t value = name == CONTROL ? of->control | (is_d_can() ? PMD_OFF : 0) : name == ERROR_COUNTER ? error_counter_word() :
-        name == BIT_TIMING ? of->timing : name == TEST_REGISTER ? of->test | RX_RECESSIVE : of->extension;
+    uint16_t value = name == CONTROL ? control_word() : name == ERROR_COUNTER ? error_counter_word() : name == BIT_TIMING ? of->timing :
+        name == TEST_REGISTER ? of->test | RX_RECESSIVE : name == CONTROL_UPPER ? control_upper() : of->extension;
     tell("reads %s", controller_words(name, value));
     return value;
 }
@@ -146,7 +151,8 @@ static uint16_t register_read(reg which)
     case INTERRUPT: return read_interrupt();
     case OF_INTERFACE: return get_register(which.of, which.number);
     case OF_FLAG: return (uint16_t)(flags_now(which.of, 0xffffull << 16 * which.number) >> 16 * which.number);
-    case CONTROL: case ERROR_COUNTER: case BIT_TIMING: case TEST_REGISTER: case EXTENSION: return controller_read(which.name);
+    case CONTROL: case ERROR_COUNTER: case BIT_TIMING: case TEST_REGISTER: case EXTENSION: case CONTROL_UPPER:
+        return controller_read(which.name);
     case NO_REGISTER: break;
     }
     return 0;
@@ -210,6 +216,22 @@ static uint32_t bit_timing_read(void)
     return (uint32_t)of->extension << 16 | of->timing;
 }
 
+/* The halves are those of Control of a D_CAN. */
+static bool is_control(reg low, reg high) { return low.name == CONTROL && high.name == CONTROL_UPPER; }
+
+static void tell_control(const char *does, uint32_t value)
+{
+    tell("%s %s%s", does, controller_words(CONTROL, (uint16_t)value), value >> 16 & PDR ? ", PDR" : "");
+}
+
+static uint32_t control_read(void)
+{
+    step_at_controller(PARTS_OF_CONTROL | PART_POWER, 0);
+    uint32_t value = (uint32_t)control_upper() << 16 | control_word();
+    tell_control("reads", value);
+    return value;
+}
+
 static uint32_t read32(unsigned side, uint32_t offset, uint32_t *out)
 {
     reg low, high;
@@ -220,6 +242,8 @@ static uint32_t read32(unsigned side, uint32_t offset, uint32_t *out)
         value = (uint32_t)(flags_now(low.of, 0xffffffffull << 16 * low.number) >> 16 * low.number);
     } else if (is_bit_timing(low, high)) {
         value = bit_timing_read();
+    } else if (is_control(low, high)) {
+        value = control_read();
     } else {
         value = register_read(low);
         value |= (uint32_t)register_read(high) << 16;
@@ -245,16 +269,18 @@ static void controller_written(enum reg_name name, uint16_t value)
         of->timing = value & 0x7fff;
     else if (name == EXTENSION && may_configure)
         of->extension = value & 0x0f;
+    else if (name == CONTROL_UPPER)
+        of->pdr = value & PDR;
 }
 
 static void controller_write(enum reg_name name, uint16_t value)
 {
     static const uint64_t reads[] = {
         [CONTROL] = PART_COUNTERS, [STATUS] = 0, [BIT_TIMING] = PART_INIT | PART_CONTROL, [TEST_REGISTER] = PART_CONTROL,
-        [EXTENSION] = PART_INIT | PART_CONTROL };
+        [EXTENSION] = PART_INIT | PART_CONTROL, [CONTROL_UPPER] = 0 };
     static const uint64_t writes[] = {
-        [CONTROL] = PART_INIT | PART_IE | PART_ENABLES | PART_CONTROL | PART_COUNTERS | PART_LEFT, [STATUS] = PART_FLAGS,
-        [BIT_TIMING] = PART_TIMING, [TEST_REGISTER] = PART_TEST, [EXTENSION] = PART_EXTENSION };
+        [CONTROL] = PARTS_OF_CONTROL | PART_COUNTERS | PART_LEFT, [STATUS] = PART_FLAGS, [BIT_TIMING] = PART_TIMING,
+        [TEST_REGISTER] = PART_TEST, [EXTENSION] = PART_EXTENSION, [CONTROL_UPPER] = PART_POWER };
     step_at_controller(reads[name], writes[name]);
     controller before = C.controller;
     controller_written(name, value);
@@ -270,6 +296,16 @@ static void bit_timing_write(uint16_t register_value, uint16_t extension)
     controller_written(EXTENSION, extension);
     changed_controller(&before);
     tell_bit_timing("writes", register_value, extension);
+}
+
+static void control_write(uint32_t value)
+{
+    step_at_controller(PART_COUNTERS, PARTS_OF_CONTROL | PART_COUNTERS | PART_LEFT | PART_POWER);
+    controller before = C.controller;
+    controller_written(CONTROL, (uint16_t)value);
+    controller_written(CONTROL_UPPER, (uint16_t)(value >> 16));
+    changed_controller(&before);
+    tell_control("writes", value);
 }
 
 /* A software reset of a D_CAN: the controller, and then each object. */
@@ -290,9 +326,12 @@ static void reset_by_software(void)
     }
 }
 
+/* Whether a write of Control is the software reset of a D_CAN. */
+static bool resets(uint32_t value) { return is_d_can() && (value & SWR) && (value & INIT); }
+
 static void register_write(reg which, uint16_t value)
 {
-    if (is_d_can() && which.name == CONTROL && (value & SWR) && (value & INIT)) {
+    if (which.name == CONTROL && resets(value)) {
         reset_by_software();
         return;
     }
@@ -305,7 +344,7 @@ static void register_write(reg which, uint16_t value)
         else
             set_register(which.of, which.number, value);
         break;
-    case CONTROL: case STATUS: case BIT_TIMING: case TEST_REGISTER: case EXTENSION:
+    case CONTROL: case STATUS: case BIT_TIMING: case TEST_REGISTER: case EXTENSION: case CONTROL_UPPER:
         controller_write(which.name, value);
         break;
     case ERROR_COUNTER: case INTERRUPT: case OF_FLAG: case NO_REGISTER:
@@ -332,13 +371,18 @@ static void reset_in_init(void)
         reset_by_software();
 }
 
-/* The bits of Control, Status, Test and BRP Extension are in the lower byte, and that of Command Request makes the transfer. */
+/* The bits of Control, Status, Test and BRP Extension are in the lower byte, PDR is in the upper one, and the lower one of Command
+ * Request makes the transfer. */
 static void byte_write(reg which, bool upper, uint8_t value)
 {
     if (which.name == BIT_TIMING)
         controller_write(BIT_TIMING, with_byte(controller_read(BIT_TIMING), upper, value));
     else if (which.name == OF_INTERFACE && which.number != COMMAND_REQUEST)
         set_byte(which.of, which.number, upper, value);
+    else if (which.name == CONTROL_UPPER && upper)
+        register_write(which, (uint16_t)(value << 8));
+    else if (which.name == CONTROL_UPPER)
+        return;
     else if (!upper)
         register_write(which, value);
     else if (is_d_can() && which.name == CONTROL && value & SWR >> 8)
@@ -362,6 +406,10 @@ static uint32_t write32(unsigned side, uint32_t offset, uint32_t value)
         return code;
     if (is_bit_timing(low, high)) {
         bit_timing_write((uint16_t)value, (uint16_t)(value >> 16));
+    } else if (is_control(low, high) && resets(value)) {
+        reset_by_software();
+    } else if (is_control(low, high)) {
+        control_write(value);
     } else {
         register_write(high, (uint16_t)(value >> 16));
         register_write(low, (uint16_t)value);

@@ -373,6 +373,33 @@ uint32_t ccan_recessive(ccan_bus *bus, uint32_t groups, uint32_t *out)
     return CCAN_DONE;
 }
 
+/* Local power down: whether the controller is in it, or enters it since PDR is 1 and nothing is to be sent. */
+static bool enters_power_down(void)
+{
+    step_at_controller(PART_INIT | PART_POWER, 0);
+    tell("looks at PDR %u and Init %u", C.controller.pdr, C.controller.control & INIT);
+    if (!C.controller.pdr || (C.controller.control & INIT))
+        return is_powered_down();
+    if (flags_now(CCAN_TXRQST, all_objects()))
+        return false;
+    step_at_controller(PART_POWER, PART_INIT | PART_LEFT);
+    controller before = C.controller;
+    if (C.controller.pdr)
+        set_control(C.controller.control | INIT);
+    changed_controller(&before);
+    tell("local power down: PDR is %u, and Init %u", C.controller.pdr, C.controller.control & INIT);
+    return is_powered_down();
+}
+
+uint32_t ccan_power_down(ccan_bus *bus, uint32_t *out)
+{
+    if (!bus->ccan_private_full)
+        return CCAN_CLOSED;
+    uint32_t is_down = enters_power_down();
+    give(out, &is_down, sizeof is_down);
+    return CCAN_DONE;
+}
+
 uint32_t ccan_loop_back(ccan_bus *bus, uint32_t on)
 {
     if (!bus->ccan_private_full)

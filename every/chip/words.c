@@ -100,8 +100,9 @@ const char *interface_words(unsigned side, uint32_t reg, uint16_t value)
 static const named_bit in_control[] = {
     { SWR, "SWR" }, { TEST, "Test" }, { CCE, "CCE" }, { 0x20, "DAR" }, { EIE, "EIE" }, { SIE, "SIE" }, { IE, "IE" },
     { INIT, "Init" }, { 0, NULL } };
+static const named_bit in_control_upper[] = { { PDR, "PDR" }, { 0, NULL } };
 static const named_bit in_status[] = {
-    { 0x80, "BOff" }, { 0x40, "EWarn" }, { 0x20, "EPass" }, { 0x10, "RxOk" }, { 0x08, "TxOk" }, { 0, NULL } };
+    { PDA, "PDA" }, { 0x80, "BOff" }, { 0x40, "EWarn" }, { 0x20, "EPass" }, { 0x10, "RxOk" }, { 0x08, "TxOk" }, { 0, NULL } };
 static const named_bit in_test[] = {
     { RX_RECESSIVE, "Rx" }, { LBACK, "LBack" }, { 0x08, "Silent" }, { 0x04, "Basic" }, { 0, NULL } };
 
@@ -132,7 +133,8 @@ static void add_interrupt(words *to, uint16_t value)
 
 const char *controller_words(enum reg_name name, uint16_t value)
 {
-    static const char *const names[] = { "Control", "Status", "Error Counter", "Bit Timing", "Interrupt", "Test", "BRP Extension" };
+    static const char *const names[] = {
+        "Control", "Status", "Error Counter", "Bit Timing", "Interrupt", "Test", "BRP Extension", "the upper half of Control" };
     static char text[160];
     words to = WORDS_IN(text);
     add(&to, "%s %04x:", names[name], value);
@@ -144,6 +146,7 @@ const char *controller_words(enum reg_name name, uint16_t value)
     case INTERRUPT: add_interrupt(&to, value); break;
     case TEST_REGISTER: add_bits(&to, value, in_test); break;
     case EXTENSION: add(&to, " BRPE %u", value & 15); break;
+    case CONTROL_UPPER: add_bits(&to, value, in_control_upper); break;
     case OF_INTERFACE: case OF_FLAG: case NO_REGISTER: break;
     }
     if (text[to.length - 1] == ':')

@@ -9,9 +9,9 @@ import functools
 
 from frame_bits import arbitration_bits, checked_bits, stuffed, stuffed_part
 from second_model import (
-    C_CAN, C_CAN_32, CONTROL, COUNTER, D_CAN, EIE, INIT, INTERRUPT, LBACK, LINE, PORTS, SIE, STATUS, TEST, TEST_REGISTER, ZERO,
-    Change, Chip, Node, accepts, finished, frame_in, frame_of, host_lines, length, made_frame, number_asked, ready, register_line,
-    shown, started, stored,
+    C_CAN, C_CAN_32, CONTROL, COUNTER, D_CAN, EIE, INIT, INTERRUPT, LBACK, LINE, PDR, PORTS, SIE, STATUS, TEST, TEST_REGISTER, UPPER,
+    ZERO, Change, Chip, Node, accepts, finished, frame_in, frame_of, host_lines, length, made_frame, number_asked, power_down, ready,
+    register_line, shown, started, stored,
 )
 
 SILENT_BIT, DAR = 0x08, 0x20
@@ -367,7 +367,14 @@ class ChipMember:
 
     def at_once(self, line):
         """A line of the bus's port, on registers."""
-        running = register_line(line, "bus", self.chip, self.objects, self.touched)
+        return self.run(register_line(line, "bus", self.chip, self.objects, self.touched))
+
+    def power_down(self):
+        """Local power down, if it may come: whether the chip is in it."""
+        return self.run(power_down(self.chip, self.touched))
+
+    def run(self, running):
+        """What the bus's port does, to its end."""
         try:
             asked = running.send(None)
             while True:
@@ -470,7 +477,7 @@ class Network:
         self.members = [ChipMember(each) if "chip" in each else Plain() for each in script["members"]]
         self.flaws, self.was_sender = ["none"] * len(self.members), [False] * len(self.members)
         self.now = self.free = self.recessive = 0
-        self.wire, self.under_way, self.texts = None, False, []
+        self.wire, self.under_way, self.texts, self.waits = None, False, [], [False] * len(self.members)
 
     def run(self):
         """All lines, in their order, and what they come to."""
@@ -509,6 +516,11 @@ class Network:
     def counters(self, line):
         self.texts.append(f"{line['member']} counters {self.members[line['member']].counters()}")
 
+    def powerdown(self, line):
+        """The call for local power down, between frames."""
+        if not self.under_way:
+            self.texts.append(f"{line['member']} powerdown {int(self.members[line['member']].power_down())}")
+
     def wait(self, line):
         """So many recessive bits, or groups of them where there is no clock."""
         if self.under_way:
@@ -544,7 +556,11 @@ class Network:
 
     def ask(self):
         """Asks all members what they are to the bus, and plays the frame as it is if nothing happens to it. Answers whether there
-        is one, also one that a member sends to itself alone."""
+        is one, also one that a member sends to itself alone. With a clock chips that have nothing to send are put into local power
+        down before, if their hosts ask for it: the bus is idle."""
+        for member, waits in zip(self.members, self.waits) if self.timed else ():
+            if isinstance(member, ChipMember) and not waits:
+                member.power_down()
         asked = [member.begin() for member in self.members]
         self.waits = [self.timed and role == PASSIVE and sends is not None and self.was_sender[number]
                       and self.now < self.free + SUSPENDED for number, (role, sends) in enumerate(asked)]
@@ -585,6 +601,7 @@ class Network:
             self.was_sender[number] = self.parts[number] != LISTENER
         self.tell_wire()
         self.under_way, self.flaws = False, ["none"] * len(self.members)
+        self.waits = [False] * len(self.members)
         if self.timed:
             self.end_of_frame(line["after"])
 
@@ -677,6 +694,7 @@ class Maker:
         self.members = [made_chip(dice) if is_chip else {} for is_chip in kinds]
         self.chips = [number for number, member in enumerate(self.members) if member]
         self.nodes = [number for number, member in enumerate(self.members) if not member]
+        self.d_cans = [number for number in self.chips if self.members[number]["chip"]["layout"] == D_CAN]
 
     def net(self, op, **more):
         self.order.append({"op": op, **more})
@@ -781,6 +799,23 @@ class Maker:
             self.sends_and_finds(passive, "none")
             self.net("wait", bits=self.dice.randrange(1, 30))
 
+    def sleep(self):
+        """A host asks for local power down of a D_CAN, perhaps with a frame that is still to be sent, and wakes it again."""
+        member = self.dice.choice(self.d_cans)
+        if self.dice.randrange(3):
+            self.write(member, CONTROL, self.dice.choice((0, 0, DAR)))
+        if self.dice.randrange(2):
+            self.host(member, made_request(self.dice))
+        self.write(member, UPPER, PDR)
+        for _ in range(self.dice.choice((0, 1, 2, 3))):
+            self.dice.choice((self.frame, lambda: self.net("powerdown", member=member)))()
+        for offset in (UPPER, STATUS, CONTROL):
+            self.net("read16", member=member, offset=offset)
+        if self.dice.randrange(4):
+            self.write(member, UPPER, 0)
+        if self.dice.randrange(4):
+            self.write(member, CONTROL, 0)
+
     def sends_and_finds(self, member, flaw):
         """A frame, in which this member is told to find an error."""
         if member in self.nodes:
@@ -790,8 +825,10 @@ class Maker:
         self.net("finish", after=500)
 
     def block(self):
-        kind = self.dice.randrange(17)
-        if kind < 9:
+        kind = self.dice.randrange(19)
+        if kind >= 17 and self.d_cans:
+            self.sleep()
+        elif kind < 9:
             for _ in range(self.dice.choice((1, 2, 3))):
                 self.frame()
         elif kind < 11:

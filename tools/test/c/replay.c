@@ -83,6 +83,10 @@ static void bus_call(const char *call)
         uint32_t state;
         need(ccan_recessive(&chip->bus, (uint32_t)next_number(10), &state), "ccan_recessive");
         printf("bus recessive %s\n", states[state]);
+    } else if (!strcmp(call, "powerdown")) {
+        uint32_t is_down;
+        need(ccan_power_down(&chip->bus, &is_down), "ccan_power_down");
+        printf("bus powerdown %u\n", (unsigned)is_down);
     } else {
         uint32_t on = (uint32_t)next_number(10);
         need(ccan_loop_back(&chip->bus, on), "ccan_loop_back");

@@ -217,6 +217,15 @@ static void fault(unsigned k)
     faults_found[k] = found;
 }
 
+static void power_down(unsigned k)
+{
+    uint32_t is_down;
+    if (timed ? network.under_way : under_way)
+        return;
+    need(ccan_power_down(&chips[k].bus, &is_down), "ccan_power_down");
+    printf("%u powerdown %u\n", k, (unsigned)is_down);
+}
+
 static void wait_for(unsigned bits)
 {
     if (timed && !network.under_way) {
@@ -251,6 +260,8 @@ static void step(const char *name)
             withdraw(k);
         else if (!strcmp(name, "fault"))
             fault(k);
+        else if (!strcmp(name, "powerdown"))
+            power_down(k);
     }
 }
 
