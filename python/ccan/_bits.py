@@ -14,6 +14,7 @@ class Control(enum.IntFlag):
     DAR = 1 << 5  #: stored, and not heeded here
     CCE = 1 << 6  #: with Init, Bit Timing and BRP Extension may be written
     TEST = 1 << 7  #: the Test register may be written, and counts
+    PDR = 1 << 24  #: of a D_CAN, in the word of 32 bits: local power down is asked for
 
 
 class Status(enum.IntFlag):
@@ -24,6 +25,7 @@ class Status(enum.IntFlag):
     EPASS = 1 << 5  #: an error counter is at least 128
     EWARN = 1 << 6  #: an error counter is at least 96
     BOFF = 1 << 7  #: the controller is bus off
+    PDA = 1 << 10  #: of a D_CAN: it is in local power down
 
 
 class LastError(enum.IntEnum):

@@ -486,6 +486,7 @@ CALLS: Dict[str, List[Any]] = {
     "ccan_control": [_bus, c_uint32, c_uint32],
     "ccan_init": [_bus],
     "ccan_recessive": [_bus, c_uint32, _u32],
+    "ccan_power_down": [_bus, _u32],
     "ccan_loop_back": [_bus, c_uint32],
     "ccan_bus_interrupt": [_bus, _u16],
     "ccan_bus_flags": [_bus, c_uint32, _u64],

@@ -67,7 +67,8 @@ class Port:
     def read16(self, offset: int) -> int:
         """Reads the register of 16 bits at an offset of the chip's layout.
 
-        A read of Status clears the pending status interrupts, and on a D_CAN also TxOk, RxOk and the last error code.
+        A read of Status clears the pending status interrupts, and on a D_CAN also TxOk, RxOk and the last error code. There it
+        shows PDA too, and 0x02 is the upper half of Control, with PDR at bit 8.
 
         Raises
         ------
@@ -103,17 +104,23 @@ class Port:
         """Writes the byte at an offset, and leaves the other byte of its register.
 
         The lower byte of Command Request makes the transfer, and the upper byte does nothing. Of Control, Status, Test and BRP
-        Extension the upper byte has nothing to write, except SWR of a D_CAN, which resets the chip if Init is 1. A write of a
-        byte of Bit Timing is a look and then a write: what another port writes in between is lost.
+        Extension the upper byte has nothing to write, except SWR of a D_CAN, which resets the chip if Init is 1. PDR of a D_CAN is
+        bit 0 of the byte at 0x03. A write of a byte of Bit Timing is a look and then a write: what another port writes in between is lost.
         """
         self._call(self._prefix + "write8", unsigned(offset, 32, "offset"), unsigned(value, 8, "value"))
 
     def read32(self, offset: int) -> int:
-        """Reads the word of 32 bits at an offset, a multiple of 4: the lower half first; two of a flag, or BTR, at one moment."""
+        """Reads the word of 32 bits at an offset, a multiple of 4: the lower half first.
+
+        Two of a flag, and Control and BTR of a D_CAN, are read at one moment.
+        """
         return self._number(self._prefix + "read32", ctypes.c_uint32, unsigned(offset, 32, "offset"))
 
     def write32(self, offset: int, value: int) -> None:
-        """Writes the word of 32 bits at an offset, a multiple of 4: the upper half first; BTR of a D_CAN at one moment."""
+        """Writes the word of 32 bits at an offset, a multiple of 4: the upper half first.
+
+        Control and BTR of a D_CAN are written at one moment.
+        """
         self._call(self._prefix + "write32", unsigned(offset, 32, "offset"), unsigned(value, 32, "value"))
 
     def line(self) -> bool:
@@ -286,6 +293,19 @@ class BusPort(Port):
     def recessive(self, groups: int = 1) -> State:
         """Lets 1 to 10000 groups of eleven recessive bits pass, and gives the controller's state."""
         return State(self._number("ccan_recessive", ctypes.c_uint32, unsigned(groups, 32, "groups")))
+
+    def power_down(self) -> bool:
+        """Lets a D_CAN enter local power down, if PDR asks for it and no object has TxRqst: whether it is in it.
+
+        To be called when the bus is idle. Init is then 1, and PDA of Status reads 1. A host wakes the chip by clearing PDR and
+        then Init.
+
+        Raises
+        ------
+        BusyError
+            Init was not set.
+        """
+        return self._number("ccan_power_down", ctypes.c_uint32) != 0
 
     def loop_back(self, on: bool) -> None:
         """Sets loop back mode on or off."""

@@ -112,6 +112,29 @@ def test_words_of_32_bits() -> None:
         assert chip.bus.read16(0x000) == 0x1403
 
 
+def test_local_power_down() -> None:
+    """PDR is bit 24 of Control and PDA bit 10 of Error and Status (AM335x manual, chapter DCAN). What is requested is sent first."""
+    with ccan.Chip(other_nodes=1, layout=Layout.D_CAN) as chip:
+        chip.if1.write32(0x000, ccan.Control.PDR)
+        chip.if1.transfer(1, cmask=0x00F3, arb2=0xA400, ctrl=0x0181)
+        assert not chip.bus.power_down()
+        assert chip.bus.round().kind is RoundKind.SENT
+        assert chip.if1.read16(0x004) & ccan.Status.PDA == 0
+        assert chip.bus.power_down()
+        assert chip.if1.read32(0x000) == ccan.Control.PDR | ccan.Control.INIT | 0x1400
+        assert chip.if1.read16(0x004) & ccan.Status.PDA == 0x0400
+        assert chip.bus.round(Frame(0x123)).kind is RoundKind.NO_ACK
+        chip.if1.write16(0x002, 0)
+        assert chip.if1.read16(0x004) & ccan.Status.PDA == 0
+        chip.if1.write16(0x000, 0)
+        assert not chip.bus.power_down()
+        assert chip.bus.round(Frame(0x123)).kind is RoundKind.RECEIVED
+
+
+def test_a_c_can_has_no_power_down(chip: ccan.Chip) -> None:
+    assert not chip.bus.power_down()
+
+
 def test_bytes() -> None:
     """Values of the register table: Bit Timing is 0x2301 after a reset, and is written while Init and CCE are 1."""
     with ccan.Chip() as chip:
