@@ -340,23 +340,6 @@ static inline uint64_t ccan_network_private_back(const ccan_network *network, co
     return init ? at->comes_on : network->group_began + 11;
 }
 
-/* Lets each chip enter local power down that asks for it by PDR and has nothing to send. One that waits has a frame to send. */
-static inline CCAN_CODE ccan_network_private_power_down(const ccan_network *network)
-{
-    uint32_t told = CCAN_DONE, code, is_down;
-    for (uint32_t k = 0; k < network->places; k++) {
-        const ccan_network_member *at = &network->at[k];
-        if (at->kind != CCAN_NETWORK_CHIP || at->waits)
-            continue;
-        code = ccan_power_down(at->chip, &is_down);
-        for (uint32_t i = 0; i < CCAN_NETWORK_TRIES && code == CCAN_BUSY; i++)
-            code = ccan_power_down(at->chip, &is_down);
-        if (told == CCAN_DONE)
-            told = code;
-    }
-    return told;
-}
-
 /* When to ask an idle bus again: the first time at which a member may send that may not yet. */
 static inline uint64_t ccan_network_private_until(const ccan_network *network)
 {
@@ -453,6 +436,23 @@ static inline uint64_t ccan_network_private_length(const ccan_network *network, 
     default:
         return bits;
     }
+}
+
+/* Lets each chip enter local power down that asks for it by PDR and has nothing to send. One that waits has a frame to send. */
+static inline CCAN_CODE ccan_network_private_power_down(const ccan_network *network)
+{
+    uint32_t told = CCAN_DONE, code, is_down;
+    for (uint32_t k = 0; k < network->places; k++) {
+        const ccan_network_member *at = &network->at[k];
+        if (at->kind != CCAN_NETWORK_CHIP || at->waits)
+            continue;
+        code = ccan_power_down(at->chip, &is_down);
+        for (uint32_t i = 0; i < CCAN_NETWORK_TRIES && code == CCAN_BUSY; i++)
+            code = ccan_power_down(at->chip, &is_down);
+        if (told == CCAN_DONE)
+            told = code;
+    }
+    return told;
 }
 
 /* Ends what ccan_begin began at each chip, if nobody sends: nothing is under way there, and what is loaded stays. */

@@ -452,7 +452,7 @@ static void a_layout_has_its_offsets(void)
     EXPECT(reads(&wide->if1, 0x0c) == 0x2301);
     reset(dcan, CCAN_LAYOUT_D_CAN);
     EXPECT(reads(&dcan->if1, 0x0c) == 0x2301);
-    EXPECT(ccan_read16(&dcan->if1, 0x02, &value) == CCAN_OFFSET_RANGE);
+    EXPECT(ccan_read16(&dcan->if1, 0x06, &value) == CCAN_OFFSET_RANGE);
     EXPECT(ccan_write16(&wide->if1, 0x0e, 0) == CCAN_OFFSET_RANGE);
     EXPECT(value == 7);
 }
@@ -599,6 +599,105 @@ static void a_dcan_is_reset_by_software(void)
     EXPECT(played_alone(&chip.bus).kind == CCAN_IDLE);
 }
 
+/* ---- local power down of a D_CAN: PDR is bit 24 of Control, PDA bit 10 of Error and Status */
+
+enum { UPPER_CONTROL = 0x02, ERROR_AND_STATUS = 0x04, PDR = 0x0100, PDA = 0x0400 };
+
+/* Whether the chip is in local power down. */
+static uint32_t powers_down(ccan_bus *bus)
+{
+    uint32_t is_down = 7;
+    EXPECT(ccan_power_down(bus, &is_down) == CCAN_DONE);
+    return is_down;
+}
+
+/* What is requested is sent first. Then Init is set, and nobody acknowledges what node 1 sends, until a host has cleared PDR and then
+ * Init. */
+static void a_dcan_powers_down_and_wakes(void)
+{
+    reset(&chip, CCAN_LAYOUT_D_CAN);
+    sends_by_dcan();
+    EXPECT(powers_down(&chip.bus) == 0);
+    EXPECT(ccan_write16(&chip.if2, UPPER_CONTROL, 0xffff) == CCAN_DONE);
+    EXPECT(reads(&chip.if1, UPPER_CONTROL) == PDR && reads(&chip.if1, 0x00) == 0x1400);
+    EXPECT(powers_down(&chip.bus) == 0);
+    EXPECT((reads(&chip.if1, ERROR_AND_STATUS) & PDA) == 0);
+    EXPECT(played_alone(&chip.bus).kind == CCAN_SENT);
+    EXPECT(powers_down(&chip.bus) == 1);
+    EXPECT(reads(&chip.if1, 0x00) == 0x1401 && reads(&chip.if1, UPPER_CONTROL) == PDR);
+    EXPECT(reads(&chip.if1, ERROR_AND_STATUS) == (PDA | 0x0008) && reads(&chip.if1, ERROR_AND_STATUS) == (PDA | 0x0007));
+    EXPECT(played_with(&chip.bus, offer(1)).kind == CCAN_NO_ACK);
+    EXPECT(ccan_write16(&chip.if1, UPPER_CONTROL, 0xfeff) == CCAN_DONE);
+    EXPECT(reads(&chip.if1, ERROR_AND_STATUS) == 0x0007 && reads(&chip.if1, 0x00) == 0x1401);
+    EXPECT(powers_down(&chip.bus) == 0);
+    write_control(&chip.if1, 0);
+    EXPECT(powers_down(&chip.bus) == 0);
+    EXPECT(played_with(&chip.bus, offer(1)).kind == CCAN_RECEIVED);
+}
+
+/* A frame that is requested in local power down waits for Init. */
+static void a_request_waits_for_a_dcan_to_wake(void)
+{
+    reset(&chip, CCAN_LAYOUT_D_CAN);
+    write_control(&chip.if1, 0);
+    EXPECT(ccan_write8(&chip.if1, UPPER_CONTROL, 0xff) == CCAN_DONE && reads(&chip.if1, UPPER_CONTROL) == 0);
+    EXPECT(ccan_write8(&chip.if1, UPPER_CONTROL + 1, 0xff) == CCAN_DONE && reads(&chip.if1, UPPER_CONTROL) == PDR);
+    EXPECT(powers_down(&chip.bus) == 1);
+    asks_to_send(&chip.if1);
+    EXPECT(loads(&chip.bus) == 0 && powers_down(&chip.bus) == 1);
+    EXPECT(ccan_write32(&chip.if1, 0x00, 0) == CCAN_DONE && reads(&chip.if1, UPPER_CONTROL) == 0);
+    EXPECT(played_alone(&chip.bus).kind == CCAN_SENT);
+}
+
+/* Each reset clears PDR, and a write of the lower half of Control leaves it. PDA is 1 too if a host has set Init. */
+static void a_reset_clears_pdr(void)
+{
+    reset(&chip, CCAN_LAYOUT_D_CAN);
+    EXPECT(ccan_write16(&chip.if1, UPPER_CONTROL, PDR) == CCAN_DONE);
+    write_control(&chip.if1, 0x0041);
+    EXPECT(reads(&chip.if1, UPPER_CONTROL) == PDR);
+    EXPECT(powers_down(&chip.bus) == 1 && reads(&chip.if1, ERROR_AND_STATUS) == (PDA | 0x0007));
+    EXPECT(ccan_write32(&chip.if1, 0x00, 0x01008001) == CCAN_DONE);
+    EXPECT(reads(&chip.if1, UPPER_CONTROL) == 0 && reads(&chip.if1, 0x00) == 0x1401);
+    EXPECT(ccan_write16(&chip.if1, UPPER_CONTROL, PDR) == CCAN_DONE && ccan_write16(&chip.if1, 0x00, 0x8001) == CCAN_DONE);
+    EXPECT(reads(&chip.if1, UPPER_CONTROL) == 0);
+    EXPECT(ccan_write16(&chip.if1, UPPER_CONTROL, PDR) == CCAN_DONE && ccan_reset(&chip) == CCAN_DONE);
+    EXPECT(reads(&chip.if1, UPPER_CONTROL) == 0 && powers_down(&chip.bus) == 0);
+}
+
+/* A C_CAN has no PDR, whatever is written to it, and ccan_status has no PDA. */
+static void only_a_dcan_powers_down(void)
+{
+    uint32_t is_down = 7;
+    uint16_t status = 7;
+    EXPECT(ccan_power_down(&other.bus, &is_down) == CCAN_CLOSED && is_down == 7);
+    reset(&chip, CCAN_LAYOUT_C_CAN);
+    write_control(&chip.if1, 0);
+    EXPECT(ccan_write32(&chip.if1, 0x00, 0x01000000) == CCAN_DONE && powers_down(&chip.bus) == 0);
+    reset(&other, CCAN_LAYOUT_C_CAN_32);
+    EXPECT(ccan_write32(&other.if1, 0x00, 0x01000000) == CCAN_DONE && powers_down(&other.bus) == 0);
+    EXPECT(ccan_write16(&other.if1, 0x02, PDR) == CCAN_OFFSET_RANGE);
+    reset(&chip, CCAN_LAYOUT_D_CAN);
+    EXPECT(ccan_write16(&chip.if1, UPPER_CONTROL, PDR) == CCAN_DONE && powers_down(&chip.bus) == 1);
+    EXPECT(ccan_status(&chip.bus, &status) == CCAN_DONE && status == 0x0007);
+}
+
+/* PDR is saved with the chip: bit 62 of the controller's word, which begins at byte 48. */
+static void a_saved_dcan_is_in_power_down(void)
+{
+    static ccan_saved saved;
+    reset(&chip, CCAN_LAYOUT_D_CAN);
+    EXPECT(ccan_save(&chip, &saved) == CCAN_DONE && saved.bytes[55] == 0x20); /* has left the bus, bit 61 */
+    EXPECT(ccan_write16(&chip.if1, UPPER_CONTROL, PDR) == CCAN_DONE && ccan_save(&chip, &saved) == CCAN_DONE);
+    EXPECT(saved.bytes[55] == 0x60);
+    EXPECT(ccan_restore(&other, &saved) == CCAN_DONE && powers_down(&other.bus) == 1);
+    EXPECT(reads(&other.if1, UPPER_CONTROL) == PDR && reads(&other.if1, ERROR_AND_STATUS) == (PDA | 0x0007));
+    saved.bytes[55] = 0xa0; /* no chip has bit 63 */
+    EXPECT(ccan_restore(&other, &saved) == CCAN_NO_SAVED_CHIP && powers_down(&other.bus) == 1);
+}
+
+/* ---- words of 32 bits, and bytes */
+
 /* Receives frames 0x123 in object 5 of a D_CAN: Arbitration, Message Control, and the command with its mask above. */
 static const struct { uint32_t offset, value; } receives_32[] = {
     { 0x108, 0x848c0000 }, { 0x10c, 0x00000488 }, { 0x100, 0x00f30005 }, { 0x000, 0 } };
@@ -615,12 +714,15 @@ static void a_frame_is_received_by_words_of_32_bits(void)
     EXPECT(word == 0x00002211);
 }
 
-/* Bit Timing is the lower half of its word, and BRP Extension the upper one. */
+/* Of Control the upper half has PDR alone; Bit Timing is the lower half of its word, and BRP Extension the upper one. */
 static void the_bus_reads_and_writes_words_of_32_bits(void)
 {
     uint32_t word = 7;
     reset(&chip, CCAN_LAYOUT_D_CAN);
     EXPECT(ccan_bus_write32(&chip.bus, 0x000, 0xffff0041) == CCAN_DONE);
+    EXPECT(ccan_bus_read32(&chip.bus, 0x000, &word) == CCAN_DONE);
+    EXPECT(word == 0x01001441);
+    EXPECT(ccan_bus_write32(&chip.bus, 0x000, 0xfeff0041) == CCAN_DONE);
     EXPECT(ccan_bus_read32(&chip.bus, 0x000, &word) == CCAN_DONE);
     EXPECT(word == 0x00001441);
     EXPECT(ccan_bus_write32(&chip.bus, 0x00c, 0x00051c00) == CCAN_DONE);
@@ -1070,6 +1172,21 @@ static void members_out_of_range_are_refused(void)
     EXPECT(ccan_decide(many, 32, &wire) == CCAN_DONE && ccan_decide(many, 0, &wire) == CCAN_DONE);
 }
 
+/* From its start to its end no frame is interrupted, and the end of one that nobody sends is an end too. */
+static void a_dcan_powers_down_between_frames(void)
+{
+    static const ccan_wire idle = { .kind = CCAN_WIRE_IDLE };
+    ccan_finished ended = { .event = 77 };
+    reset(&chip, CCAN_LAYOUT_D_CAN);
+    write_control(&chip.if1, 0);
+    EXPECT(ccan_write16(&chip.if1, UPPER_CONTROL, PDR) == CCAN_DONE);
+    EXPECT(is_member(begun(&chip.bus), CCAN_ROLE_ACTIVE, 0));
+    EXPECT(powers_down(&chip.bus) == 0 && reads(&chip.if1, 0x00) == 0x1400);
+    EXPECT(ccan_finish(&chip.bus, &idle, 0, CCAN_QUIET, &ended) == CCAN_DONE && ended.event == CCAN_EVENT_NONE);
+    EXPECT(powers_down(&chip.bus) == 1);
+    EXPECT(is_member(begun(&chip.bus), CCAN_ROLE_ABSENT, 0) && powers_down(&chip.bus) == 1);
+}
+
 static void a_node_takes_part(void)
 {
     const ccan_wire wire = wire_of(sends(1), listens(CCAN_ROLE_ACTIVE, CCAN_QUIET));
@@ -1157,6 +1274,11 @@ static const struct { const char *name; void (*run)(void); } tests[] = {
     TEST(a_read_of_status_clears_a_dcan),
     TEST(a_command_of_a_dcan_sends_new_data),
     TEST(a_dcan_is_reset_by_software),
+    TEST(a_dcan_powers_down_and_wakes),
+    TEST(a_request_waits_for_a_dcan_to_wake),
+    TEST(a_reset_clears_pdr),
+    TEST(only_a_dcan_powers_down),
+    TEST(a_saved_dcan_is_in_power_down),
     TEST(a_frame_is_received_by_words_of_32_bits),
     TEST(the_bus_reads_and_writes_words_of_32_bits),
     TEST(words_out_of_range_are_refused),
@@ -1181,6 +1303,7 @@ static const struct { const char *name; void (*run)(void); } tests[] = {
     TEST(events_that_are_none_are_refused),
     TEST(ends_out_of_range_are_refused),
     TEST(members_out_of_range_are_refused),
+    TEST(a_dcan_powers_down_between_frames),
     TEST(a_node_takes_part),
     TEST(nodes_out_of_range_are_refused),
     TEST(frames_and_bits_have_lengths),

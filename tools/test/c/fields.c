@@ -118,6 +118,7 @@ static void numbers(void)
     EXPECT(ccan_until(&chip.if2, 5, CCAN_NEWDAT, 1, &word.out) == CCAN_DONE && INTACT(word) && word.out == 1);
     EXPECT(ccan_until(&chip.if2, 5, CCAN_MSGLST, 1, &word.out) == CCAN_DONE && INTACT(word) && word.out == 0);
     EXPECT(ccan_recessive(&chip.bus, 1, &word.out) == CCAN_DONE && INTACT(word) && word.out == CCAN_ACTIVE);
+    EXPECT(ccan_power_down(&chip.bus, &word.out) == CCAN_DONE && INTACT(word) && word.out == 0);
     EXPECT(ccan_read16(&chip.if1, CCAN_OFFSET_IF1_MASK_2, &half.out) == CCAN_DONE && INTACT(half) && half.out == 0xd567);
     EXPECT(ccan_read16(&chip.if1, CCAN_OFFSET_IF2_MASK_2, &half.out) == CCAN_OTHER_INTERFACE && INTACT(half) && half.out == 0xd567);
     EXPECT(ccan_read8(&chip.if1, CCAN_OFFSET_IF1_MASK_2 + 1, &byte.out) == CCAN_DONE && INTACT(byte) && byte.out == 0xd5);

@@ -675,6 +675,107 @@ static void a_chip_is_removed_in_mid_frame(void)
     end_all();
 }
 
+/* ---- local power down of a D_CAN: PDR is bit 8 of the upper half of Control, PDA bit 10 of Error and Status */
+
+enum { UPPER_CONTROL = 0x02, ERROR_AND_STATUS = 0x04, PDR = 0x0100, PDA = 0x0400, DAR = 0x20 };
+
+/* A network of a D_CAN, with this word in Control. */
+static void open_d_can(uint16_t control)
+{
+    ccan_network_init(&network, 0);
+    EXPECT(ccan_open_reset(&chips[0], 1, 0, 1000, CCAN_LAYOUT_D_CAN) == CCAN_DONE);
+    write_register(&chips[0], CCAN_OFFSET_CONTROL, control);
+    EXPECT(add_chip(&chips[0]) == 0);
+}
+
+static bool is_down(void)
+{
+    uint16_t status = 0;
+    EXPECT(ccan_bus_read16(&chips[0].bus, ERROR_AND_STATUS, &status) == CCAN_DONE);
+    return (status & PDA) != 0;
+}
+
+/* What is requested is sent first; then the bus is idle behind the intermission. The chip acknowledges nothing until it is awake. */
+static void a_d_can_powers_down(void)
+{
+    open_d_can(0);
+    const uint32_t b = add_node();
+    asks_to_send(&chips[0], 0x123, 0x11);
+    write_register(&chips[0], UPPER_CONTROL, PDR);
+    starts(0);
+    EXPECT(network.under_way && network.wire.part[0] == CCAN_PART_SENDER);
+    finishes(53);
+    EXPECT(network.at[0].ended.event == CCAN_EVENT_SENT && !is_down());
+    starts(55);
+    EXPECT(!network.under_way && until == 56 && !is_down());
+    EXPECT(ccan_network_offer(&network, b, &frame) == CCAN_DONE);
+    starts(56);
+    EXPECT(is_down() && network.at[0].member.role == CCAN_ROLE_ABSENT && network.wire.kind == CCAN_WIRE_UNHEARD);
+    finishes(until);
+    write_register(&chips[0], UPPER_CONTROL, 0);
+    EXPECT(!is_down() && has_init(&chips[0]));
+    write_register(&chips[0], CCAN_OFFSET_CONTROL, 0);
+    starts(until);
+    EXPECT(network.wire.kind == CCAN_WIRE_CARRIED && !has_init(&chips[0]));
+    finishes(until);
+    EXPECT(network.at[0].ended.event == CCAN_EVENT_RECEIVED);
+    end_all();
+}
+
+/* So it is if the bus has been idle before, and a request on an idle bus is sent first. */
+static void a_d_can_powers_down_on_an_idle_bus(void)
+{
+    open_d_can(0);
+    add_node();
+    starts(0);
+    EXPECT(!network.under_way && until == CCAN_NETWORK_NEVER);
+    write_register(&chips[0], UPPER_CONTROL, PDR);
+    starts(100);
+    EXPECT(is_down() && !network.under_way && until == CCAN_NETWORK_NEVER);
+    asks_to_send(&chips[0], 0x123, 0x11);
+    starts(200);
+    EXPECT(!network.under_way && is_down());
+    write_register(&chips[0], UPPER_CONTROL, 0);
+    write_register(&chips[0], CCAN_OFFSET_CONTROL, 0);
+    starts(300);
+    EXPECT(network.under_way);
+    write_register(&chips[0], UPPER_CONTROL, PDR);
+    finishes(until);
+    EXPECT(network.at[0].ended.event == CCAN_EVENT_SENT && !is_down());
+    starts(until);
+    EXPECT(!network.under_way && is_down());
+    end_all();
+}
+
+/* An error passive sender that waits is not put into power down, even if its frame is tried once, so that TxRqst is 0 from its start
+ * on; once another's frame comes first, nothing is left to send. */
+static void a_d_can_that_waits_stays_awake(void)
+{
+    for (int another = 0; another < 2; another++) {
+        open_d_can(DAR);
+        makes_errors(&chips[0], 16);
+        asks_to_send(&chips[0], 0x123, 0x11);
+        starts(0);
+        finishes(59);
+        EXPECT(network.at[0].ended.event == CCAN_EVENT_ERROR && until == 62);
+        asks_to_send(&chips[0], 0x123, 0x22);
+        write_register(&chips[0], UPPER_CONTROL, PDR);
+        starts(62);
+        EXPECT(!network.under_way && network.at[0].waits && until == 70);
+        starts(69);
+        EXPECT(!network.under_way && network.at[0].waits && !is_down());
+        if (another)
+            EXPECT(ccan_network_offer(&network, add_node(), &frame) == CCAN_DONE);
+        starts(another ? 69 : 70);
+        EXPECT(network.under_way && network.wire.part[0] == (another ? CCAN_PART_LISTENER : CCAN_PART_SENDER));
+        finishes(until);
+        EXPECT(!is_down());
+        starts(until);
+        EXPECT(!network.under_way && is_down());
+        end_all();
+    }
+}
+
 /* ---- events that are lost at first */
 
 static const ccan_finished *loses; /* what the next end of a frame tells, whose event is lost; null for none */
@@ -908,7 +1009,8 @@ static const struct { const char *name; void (*run)(void); } tests[] = {
     RUN(groups_pass_behind_an_unheard_frame), RUN(a_chip_comes_back), RUN(a_chip_comes_on_by_itself),
     RUN(a_call_goes_past_the_time), RUN(a_host_is_faster), RUN(a_chip_in_hot_self_test),
     RUN(a_chip_in_loop_back_mode),
-    RUN(a_host_sets_init_in_mid_frame), RUN(a_chip_is_removed_in_mid_frame), RUN(lost_events_are_made) };
+    RUN(a_host_sets_init_in_mid_frame), RUN(a_chip_is_removed_in_mid_frame), RUN(a_d_can_powers_down),
+    RUN(a_d_can_powers_down_on_an_idle_bus), RUN(a_d_can_that_waits_stays_awake), RUN(lost_events_are_made) };
 
 int main(int count, char **words)
 {

@@ -65,7 +65,7 @@ static int all_calls(ccan_chip *chip)
         && !ccan_clear_objects(&chip->if1) && !ccan_peek(&chip->if1, 7, &found) && found.control == 0
         && !ccan_load(&chip->bus, &loaded) && !ccan_round(&chip->bus, &none, 0, CCAN_QUIET, &outcome)
         && !ccan_status(&chip->bus, &value) && !ccan_control(&chip->bus, 1, 1) && !ccan_init(&chip->bus)
-        && !ccan_recessive(&chip->bus, 128, &number) && !ccan_loop_back(&chip->bus, 0)
+        && !ccan_recessive(&chip->bus, 128, &number) && !ccan_power_down(&chip->bus, &number) && !ccan_loop_back(&chip->bus, 0)
         && !ccan_write16(&chip->if1, CCAN_OFFSET_CONTROL, 0x000e) && !ccan_read16(&chip->if2, CCAN_OFFSET_STATUS, &value)
         && !ccan_write16(&chip->if1, CCAN_OFFSET_IF1_COMMAND_REQUEST, 7)
         && !ccan_read16(&chip->if2, CCAN_OFFSET_INTERRUPT, &value) && !ccan_line(&chip->if1, &number)

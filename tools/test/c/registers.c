@@ -11,6 +11,9 @@
 
 enum owner { ANYBODY, IF1, IF2 };
 
+/* The offset of a register that a C_CAN hasn't. */
+#define NOWHERE 0x80000000u
+
 /* A register: its offset with C_CAN and with D_CAN, who may use it, what it reads after a reset, and which bits a write sets. */
 struct row { const char *name; uint32_t c_can, d_can; enum owner owner; uint16_t reset, bits; };
 
@@ -44,6 +47,7 @@ static const struct row rows[] = {
     { "IF2 Data A2", CCAN_OFFSET_IF2_DATA_A2, 0x132, IF2, 0, 0xffff },
     { "IF2 Data B1", CCAN_OFFSET_IF2_DATA_B1, 0x134, IF2, 0, 0xffff },
     { "IF2 Data B2", CCAN_OFFSET_IF2_DATA_B2, 0x136, IF2, 0, 0xffff },
+    { "Control, upper half", NOWHERE, 0x02, ANYBODY, 0, 0x0100 },
     { "Transmission Request 1", CCAN_OFFSET_TRANSMISSION_REQUEST_1, 0x88, ANYBODY, 0, 0 },
     { "Transmission Request 2", CCAN_OFFSET_TRANSMISSION_REQUEST_2, 0x8a, ANYBODY, 0, 0 },
     { "New Data 1", CCAN_OFFSET_NEW_DATA_1, 0x9c, ANYBODY, 0, 0 },
@@ -61,15 +65,16 @@ static const struct row rows[] = {
     { "Message Valid 3", CCAN_OFFSET_MESSAGE_VALID_3, 0xc8, ANYBODY, 0, 0 },
     { "Message Valid 4", CCAN_OFFSET_MESSAGE_VALID_4, 0xca, ANYBODY, 0, 0 } };
 
-enum { ROWS = sizeof rows / sizeof rows[0], ROWS_OF_32 = ROWS - 8, FLAGS = 29, PAST = 0x400 };
+enum { ROWS = sizeof rows / sizeof rows[0], ROWS_OF_32 = ROWS - 8, FLAGS = 30, PAST = 0x400 };
 
 static const struct row nowhere = { "that is none", 0, 0, ANYBODY, 0, 0 };
 static const struct row *const control = &rows[0], *const status = &rows[1], *const timing = &rows[3],
-    *const test = &rows[5], *const extension = &rows[6];
+    *const test = &rows[5], *const extension = &rows[6], *const upper_control = &rows[29];
 static ccan_chip chip = CCAN_CHIP_CLOSED;
 static uint32_t layout, objects;
 
 static uint32_t rows_here(void) { return objects == 64 ? ROWS : ROWS_OF_32; }
+static bool is_here(const struct row *row) { return row->c_can != NOWHERE || layout == CCAN_LAYOUT_D_CAN; }
 
 static uint32_t place_of(const struct row *row)
 {
@@ -96,7 +101,7 @@ static uint16_t bits_in(const struct row *row) { return is_dcan() && row == test
 static const struct row *row_at(uint32_t offset)
 {
     for (uint32_t i = 0; i < rows_here(); i++)
-        if (place_of(&rows[i]) == offset)
+        if (is_here(&rows[i]) && place_of(&rows[i]) == offset)
             return &rows[i];
     return NULL;
 }
@@ -119,10 +124,12 @@ static uint32_t write_by(enum owner handle, uint32_t offset, uint16_t value)
         : ccan_bus_write16(&chip.bus, offset, value);
 }
 
-/* What a register reads, by its own handle or by that of the bus, once the handles have met. */
+/* What a register reads, by its own handle or by that of the bus, once the handles have met; 0 if the chip hasn't it. */
 static uint16_t get(const struct row *row)
 {
     uint16_t value = 0x5a5a;
+    if (!is_here(row))
+        return 0;
     EXPECT(ccan_meet(&chip) == CCAN_DONE);
     EXPECT(read_by(row->owner, place_of(row), &value) == CCAN_DONE);
     return value;
@@ -234,6 +241,20 @@ static void status_read(void)
     EXPECT(ccan_status(&chip.bus, &value) == CCAN_DONE && value == 0x000a); /* it clears no flag */
     EXPECT(get(status) == 0x000a);
     put(status, 0);
+}
+
+/* PDA of Status: PDR and Init are both 1. A write of one half of Control leaves the other. */
+static void power_down_shown(void)
+{
+    const struct row *row = upper_control;
+    bits_of(upper_control);
+    put(upper_control, 0x0100);
+    for (uint16_t value = 0; value < 2; value++) {
+        put(control, value);
+        EXPECT(get(upper_control) == 0x0100 && get(status) == (value ? 0x0407 : 0x0007));
+    }
+    put(upper_control, 0);
+    EXPECT(get(control) == 0x1401 && get(status) == 0x0007);
 }
 
 /* Registers of an interface, and Command Request, which reads the number of the object, without Busy. */
@@ -352,6 +373,10 @@ static void words_written(void)
         put(control, 0x01);
         EXPECT(ccan_meet(&chip) == CCAN_DONE);
         EXPECT(ccan_write32(&chip.if1, 0x0c, 0x00002301) == CCAN_DONE && get(timing) == 0x1c00 && get(extension) == 0x0005);
+        EXPECT(ccan_meet(&chip) == CCAN_DONE && ccan_write32(&chip.if1, 0x00, 0xffff0041) == CCAN_DONE);
+        EXPECT(get(control) == 0x1441 && get(upper_control) == 0x0100);
+        EXPECT(ccan_meet(&chip) == CCAN_DONE && ccan_write32(&chip.if1, 0x00, 0xfeff0001) == CCAN_DONE);
+        EXPECT(get(control) == 0x1401 && get(upper_control) == 0);
     }
     row = &rows[FLAGS + 6];
     put(&rows[8], 0x0000);  /* a Command Mask that moves nothing */
@@ -395,8 +420,8 @@ static void bytes_read(void)
     }
 }
 
-/* What a register reads once a byte of it was written: the other byte stays. Of those of the controller Bit Timing alone has bits
- * in its upper byte. */
+/* What a register reads once a byte of it was written: the other byte stays. Of those of the controller Bit Timing and the upper half
+ * of Control have bits in their upper byte. */
 static uint16_t with_byte(const struct row *row, uint16_t before, uint32_t upper, uint8_t value)
 {
     uint16_t set = is_dcan() && row == status ? 0 : bits_in(row) & (upper ? 0xff00 : 0x00ff);
@@ -409,7 +434,7 @@ static void bytes_written(void)
     static const uint8_t values[] = { 0xff, 0x5a, 0x25, 0x00 };
     for (uint32_t i = 0; i < rows_here(); i++) {
         const struct row *row = &rows[i];
-        for (uint32_t step = 0; step < 8 && i != 7 && i != 18; step++) {
+        for (uint32_t step = 0; step < 8 && i != 7 && i != 18 && is_here(row); step++) {
             uint32_t upper = step / 4;
             put(control, 0xc1); /* Init, CCE and Test */
             uint16_t before = get(row);
@@ -458,8 +483,11 @@ static void reset_by_a_byte(void)
     put(timing, 0x1c00);
     put_byte(control, 1, 0x7f);
     EXPECT(get(timing) == 0x1c00);
+    if (is_dcan())
+        put(upper_control, 0x0100);
     put_byte(control, 1, 0x80);
     EXPECT(get(timing) == (is_dcan() ? 0x2301 : 0x1c00) && get(control) == (is_dcan() ? 0x1401 : 0x0041));
+    EXPECT(get(upper_control) == 0);
     EXPECT((get(&rows[FLAGS + 6]) == 0) == is_dcan()); /* no object is valid */
 }
 
@@ -477,6 +505,8 @@ int main(void)
             bits_of(&rows[2]);
             bits_of(&rows[4]);
             status_read();
+            if (is_dcan())
+                power_down_shown();
             configured(timing);
             configured(extension);
             tested();

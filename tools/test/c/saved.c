@@ -55,6 +55,16 @@ static void access_both(void)
     }
 }
 
+/* The upper half of Control of a D_CAN is written at each of both, or the bus lets them enter local power down. */
+static void power_both(void)
+{
+    uint32_t value = number(0x10000), down = 9, as_down = 9;
+    if (value % 3)
+        EXPECT(ccan_bus_write16(&chip.bus, 2, (uint16_t)value) == CCAN_DONE && ccan_bus_write16(&twin.bus, 2, (uint16_t)value) == CCAN_DONE);
+    else
+        EXPECT(ccan_power_down(&chip.bus, &down) == CCAN_DONE && ccan_power_down(&twin.bus, &as_down) == CCAN_DONE && down == as_down);
+}
+
 /* A round at each of both, with a frame of node 1 or none, spoiled where it is the controller's own. What the first answers. */
 static ccan_outcome play_both(uint32_t frames, uint32_t fault)
 {
@@ -134,6 +144,8 @@ static void run(uint32_t profile, uint32_t layout)
             groups = 9;
         if (groups != 9)
             EXPECT(ccan_recessive(&twin.bus, (seed >> 8) % 40 + 1, &as_groups) == CCAN_DONE && groups == as_groups);
+        if (layout == CCAN_LAYOUT_D_CAN && number(12) == 0)
+            power_both();
         if (number(8) == 0) {
             play_out();
             swap_chip();

@@ -60,6 +60,11 @@ static uint32_t round_looped(void) { return ccan_loop_back(&chip.bus, 1) | sende
 static uint32_t status(void) { return ccan_status(&chip.bus, &value) | ccan_counters(&chip.bus, 0, &counts); }
 static uint32_t control(void) { return ccan_control(&chip.bus, 1, 1) | ccan_init(&chip.bus); }
 static uint32_t recessive(void) { return ccan_recessive(&chip.bus, 10000, &number); }
+static uint32_t power_down(void)
+{
+    return ccan_open_reset(&chip, 2, 1, 3, CCAN_LAYOUT_D_CAN) | ccan_write32(&chip.if1, 0x00, 0x01000000)
+        | ccan_power_down(&chip.bus, &number) | (number != 1);
+}
 static uint32_t bus_flags(void) { return ccan_bus_flags(&chip.bus, CCAN_MSGVAL, &word); }
 static uint32_t bus_interrupt(void) { return ccan_bus_interrupt(&chip.bus, &value); }
 static uint32_t open_reset(void) { return ccan_open_reset(&chip, 2, 1, 3, CCAN_LAYOUT_C_CAN); }
@@ -114,7 +119,7 @@ static const struct { const char *name; uint32_t (*call)(void); } calls[] = {
     { "bus interrupt", bus_interrupt }, { "open after a reset", open_reset }, { "read Status", read_status },
     { "read Interrupt", read_interrupt }, { "read flags", read_flags }, { "write Control", write_control },
     { "write Command Request", write_request }, { "read bytes", read_bytes }, { "write bytes", write_bytes }, { "line", line },
-    { "registers by the bus", bus_registers },
+    { "registers by the bus", bus_registers }, { "power down", power_down },
     { "open for several chips", open_chip }, { "begin", begin }, { "decide", decide }, { "stay", stay },
     { "decide again", decide_again }, { "finish", finish }, { "retry event", retry_event }, { "node finish", node_finish },
     { "end", end } };

@@ -16,7 +16,7 @@ CALL(read8); CALL(write8); CALL(bus_read8); CALL(bus_write8);
 CALL(line); CALL(bus_read16); CALL(bus_write16); CALL(bus_read32); CALL(bus_write32); CALL(bus_line); CALL(set); CALL(get);
 CALL(request); CALL(clear_objects); CALL(flags); CALL(interrupt); CALL(peek); CALL(until); CALL(load); CALL(round);
 CALL(status); CALL(counters);
-CALL(control); CALL(init); CALL(recessive); CALL(loop_back); CALL(bus_interrupt); CALL(bus_flags); CALL(version);
+CALL(control); CALL(init); CALL(recessive); CALL(power_down); CALL(loop_back); CALL(bus_interrupt); CALL(bus_flags); CALL(version);
 
 static ccan_chip chips[2];
 static unsigned long made;
@@ -237,7 +237,7 @@ static void random_round(void)
 
 static void random_bus_call(void)
 {
-    unsigned first = dice(4), second = dice(2), groups = chance(30) ? dice(20000) : 1 + dice(90), flag = dice(chance(20) ? 7 : 5), kind = dice(11);
+    unsigned first = dice(4), second = dice(2), groups = chance(30) ? dice(20000) : 1 + dice(90), flag = dice(chance(20) ? 7 : 5), kind = dice(12);
     DOING("bus call %u with %u %u %u %u", kind, first, second, groups, flag);
     switch (kind) {
     case 0: BOTH(ccan_loaded, load, &chip->bus, to); break;
@@ -251,6 +251,7 @@ static void random_bus_call(void)
             BOTH(char, loop_back, &chip->bus, second);
         break;
     case 9: BOTH(uint16_t, bus_interrupt, &chip->bus, to); break;
+    case 10: BOTH(uint32_t, power_down, &chip->bus, to); break;
     default: BOTH(uint64_t, bus_flags, &chip->bus, flag, to); break;
     }
     if (chance(10))
@@ -267,6 +268,24 @@ static void random_absence(void)
         BOTH(ccan_loaded, load, &chip->bus, to);
     BOTH(char, init, &chip->bus);
     BOTH(ccan_loaded, load, &chip->bus, to);
+}
+
+/* PDR, which a D_CAN has, is set, a frame is sent or not, and power down is entered or not; at times the chip is woken again. */
+static void random_power_down(void)
+{
+    ccan_offer none = { .node = 1 };
+    uint8_t asks = !chance(4);
+    uint32_t wakes = chance(2) ? 0x00000002 : 0x01000002;
+    DOING("PDR %u, perhaps a round, and power down", asks);
+    BOTH(char, bus_write16, &chip->bus, CCAN_OFFSET_CONTROL, 0x0002);
+    BOTH(char, bus_write8, &chip->bus, 3, asks);
+    if (chance(2))
+        BOTH(ccan_outcome, round, &chip->bus, &none, 0, CCAN_QUIET, to);
+    BOTH(uint32_t, power_down, &chip->bus, to);
+    BOTH(uint16_t, bus_read16, &chip->bus, 4, to);
+    if (chance(2))
+        BOTH(char, bus_write32, &chip->bus, 0, wakes);
+    BOTH(uint32_t, bus_read32, &chip->bus, 0, to);
 }
 
 /* A frame of the chip, and so many spoiled rounds that it may go bus off. */
@@ -339,6 +358,8 @@ static void random_call(void)
         BOTH(char, meet, chip);
     if (chance(30))
         random_absence();
+    if (chance(60))
+        random_power_down();
     if (chance(400))
         random_storm();
     if (chance(400)) {
@@ -369,7 +390,7 @@ static void take_calls(int of, const char *name)
     TAKE(open); TAKE(open_reset); TAKE(is_open); TAKE(end); TAKE(meet); TAKE(reset); TAKE(read16); TAKE(write16); TAKE(read32);
     TAKE(write32); TAKE(line); TAKE(bus_read16); TAKE(bus_write16); TAKE(bus_read32); TAKE(bus_write32); TAKE(bus_line); TAKE(set);
     TAKE(get); TAKE(request); TAKE(clear_objects); TAKE(flags); TAKE(interrupt); TAKE(peek); TAKE(until); TAKE(load);
-    TAKE(round); TAKE(status); TAKE(counters); TAKE(control); TAKE(init); TAKE(recessive); TAKE(loop_back); TAKE(bus_interrupt); TAKE(bus_flags); TAKE(version);
+    TAKE(round); TAKE(status); TAKE(counters); TAKE(control); TAKE(init); TAKE(recessive); TAKE(power_down); TAKE(loop_back); TAKE(bus_interrupt); TAKE(bus_flags); TAKE(version);
     TAKE(read8); TAKE(write8); TAKE(bus_read8); TAKE(bus_write8);
 }
 
