@@ -98,15 +98,15 @@ static ccan_outcome play(struct device *device, const ccan_offer *offers, size_t
     return outcome;
 }
 
-/* Lets the controller send what it has to send: at most a frame of each object. With Init 1 it sends nothing. */
+/* Lets the controller send what it has to send: at most a frame of each object. With Init 1 it sends nothing. Then the bus is idle, and
+ * a D_CAN enters local power down if its guest asks for it. */
 void device_run(struct device *device)
 {
     static const ccan_offer none;
-    for (int frame = 0; frame < 64; frame++) {
-        uint32_t kind = play(device, &none, 0, CCAN_QUIET).kind;
-        if (kind != CCAN_SENT && kind != CCAN_LOOPED)
-            return;
-    }
+    uint32_t is_down, kind = CCAN_SENT;
+    for (int frame = 0; frame < 64 && (kind == CCAN_SENT || kind == CCAN_LOOPED); frame++)
+        kind = play(device, &none, 0, CCAN_QUIET).kind;
+    must(ccan_power_down(&device->chip.bus, &is_down));
 }
 
 /* A frame of another node: frames of the controller that win against it are sent first. */
@@ -209,6 +209,9 @@ static void run_d_can(const ccan_offer *offer)
     device_write32(&device, 0x100, 0x007f0000 | cause);
     uint32_t data = device_read32(&device, 0x110), status = device_read32(&device, 0x004); /* IF1 Data A; Error and Status */
     printf("D_CAN: object %u, data %08x, status %08x, then %08x\n", cause, data, status, device_read32(&device, 0x004));
+    device_write32(&device, 0x000, 0x01000000 | IE | EIE); /* PDR: local power down */
+    device_run(&device);
+    printf("D_CAN: in local power down control %08x, status %08x\n", device_read32(&device, 0x000), device_read32(&device, 0x004));
     must(ccan_end(&device.chip, &last));
 }
 

@@ -13,6 +13,8 @@
  *   - The driver's statistics are those of the frames, and its state and its error counters are those of the chip at the end.
  *   - No handle is in two calls at once, and IF2 is used by the sender alone.
  *   - The controller is back from bus off after 128 groups of recessive bits; a D_CAN is at once, by its software reset.
+ *   - A D_CAN enters local power down on an idle bus as the driver asks for it, so that the driver sees PDA, and is awake again as
+ *     the driver wakes it: c_can_power_down, c_can_power_up.
  * Usage: run FRAMES LAYOUT OBJECTS PACE OFFS [SEED [TRIES]]. FRAMES of each side; LAYOUT is an enum ccan_layout; OBJECTS 32 or 64;
  * PACE how many frames may wait in the chip, 0 for any number; OFFS how often the controller goes bus off; TRIES are those of
  * ccan_open_reset, 1000 if left out. */
@@ -627,6 +629,44 @@ static void check_statistics(void)
         fault("the driver's error counters are not those of the chip", counts.txerr);
 }
 
+/* The bus once all frames were sent: it is idle, round after round. */
+static atomic_int awake;
+static void *idle_bus(void *unused)
+{
+    const ccan_offer none = { 0 };
+    ccan_outcome outcome;
+    u32 is_down, code;
+    (void)unused;
+    while (!atomic_load(&awake)) {
+        code = ccan_round(&chip.bus, &none, 0, CCAN_QUIET, &outcome);
+        if (code == CCAN_DONE)
+            code = ccan_power_down(&chip.bus, &is_down);
+        if (code != CCAN_BUSY)
+            must(code, "an idle bus");
+        sched_yield();
+    }
+    return NULL;
+}
+
+/* The driver lets its D_CAN enter local power down, as in a suspend, and wakes it. */
+static void power_down_and_up(void)
+{
+    struct c_can_priv *priv = netdev_priv(device);
+    pthread_t thread;
+    device->flags |= IFF_UP;
+    pthread_create(&thread, NULL, idle_bus, NULL);
+    if (c_can_power_down(device))
+        fault("the driver sees no PDA", 0);
+    if (!(read_one(priv, C_CAN_CTRL_REG) & 1) || read_one(priv, C_CAN_CTRL_EX_REG) != 0x0100)
+        fault("the chip is not in local power down", 0);
+    if (c_can_power_up(device))
+        fault("the driver still sees PDA", 0);
+    if ((read_one(priv, C_CAN_CTRL_REG) & 1) || read_one(priv, C_CAN_CTRL_EX_REG) || (read_one(priv, C_CAN_STS_REG) & 0x0400))
+        fault("the chip is not awake", 0);
+    atomic_store(&awake, 1);
+    pthread_join(thread, NULL);
+}
+
 static void *zeros(size_t size)
 {
     void *at = calloc(frames + 1u, size);
@@ -699,6 +739,8 @@ int main(int count, char **words)
     u32 lost = check_other();
     check_statistics();
     show(took, lost);
+    if (layout == CCAN_LAYOUT_D_CAN)
+        power_down_and_up();
     device->netdev_ops->ndo_stop(device);
     unregister_c_can_dev(device);
     free_c_can_dev(device);

@@ -50,6 +50,18 @@ static inline void change_bit(unsigned place, unsigned long *word)
 static inline void udelay(unsigned long microseconds) { (void)microseconds; sched_yield(); }
 static inline void msleep(unsigned milliseconds) { (void)milliseconds; sched_yield(); }
 
+/* The kernel's time as the driver waits by it: it passes with turns of its loops, and not by a clock. */
+static __maybe_unused unsigned long jiffies;
+#define msecs_to_jiffies(milliseconds) ((unsigned long)(milliseconds))
+#define time_after(later, earlier) ((long)((earlier) - (later)) < 0)
+static inline void cpu_relax(void)
+{
+    static unsigned turns;
+    jiffies += ++turns % 100000 == 0;
+    sched_yield();
+}
+#define WARN_ON(holds) ((void)(holds))
+
 /* ---- power and pins: none */
 
 struct device { struct device *parent; };
