@@ -164,7 +164,8 @@ CCAN_HOLDS(sizeof(ccan_final) == 1284 && offsetof(ccan_final, records) == 4);
  * open ends, without its records, if it answers CCAN_DONE. */
 CCAN_CODE ccan_open(ccan_chip *chip, uint32_t profile, uint32_t nodes, uint32_t tries);
 
-/* How the registers lie, in bytes from where the chip begins. All have the same registers of 16 bits. */
+/* How the registers lie, in bytes from where the chip begins. All have the same registers of 16 bits, and a D_CAN has the upper half of
+ * Control too, at 0x02. */
 enum ccan_layout {
     CCAN_LAYOUT_C_CAN,    /* C_CAN: the registers side by side, at the offsets of enum ccan_offset */
     CCAN_LAYOUT_C_CAN_32, /* C_CAN: each register at twice that offset, alone in a word of 32 bits */
