@@ -301,8 +301,9 @@ frame_refused call (Some held) is h = (
 
 -- what a call does that leaves all but the port
 pub frame_looked : (call : FrameCall) (old new : Held) (what : Terms → ChipHistory → ChipHistory → Type 0) → Steps what old new
-    → ((state : BusState) (seen added : ChipHistory) → what (terms_at (port_of old)) seen added
-    → FrameCallMeans (terms_at (port_of old)) old.tries call state seen added state)
+    → ((past : BusPast) (seen added : ChipHistory) → what (terms_at (port_of old)) seen added
+    → FrameCallMeans (terms_at (port_of old)) old.tries call (record { past = past; station = station_of old }) seen added
+    (record { past = past; station = station_of old }))
     → IsOpenAs (FrameRuns call old) (Some new)
 frame_looked call old new what does f = (
   new,
@@ -317,7 +318,7 @@ frame_looked call old new what does f = (
           subst (λ (s : StationState). FrameCallMeans (terms_at (port_of old)) old.tries call
           (record { past = past; station = station_of old }) seen added (record { past = past; station = s }))
           (sym does.kept.station)
-          (f (record { past = past; station = station_of old }) seen added h)),
+          (f past seen added h)),
     );
   },
 )

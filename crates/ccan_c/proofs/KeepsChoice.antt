@@ -199,6 +199,7 @@ frames_keep terms tries (frame.retry lost result) old new seen added h =
     known_or_not (event_in lost) _ _ _
     (λ rests. same_past new old rests.leaves)
     (λ own (made, is). same_past new old is) h
+frames_keep terms tries (frame.power_down result out) old new seen added (h, is) = same_past new old is
 
 pub calls_on_bus_keep : CallsKeepTheChoice
 calls_on_bus_keep terms tries nodes layout (of_rounds call) old new seen added h =

@@ -8,6 +8,7 @@ pub mod Looping
 pub mod Steps
 pub mod KeepsChoice
 pub mod ThreadsFit
+pub mod AccessesApart
 pub mod CallsApart
 pub mod TurnsInOrder
 pub mod SharedFrames

@@ -5,7 +5,6 @@ use Rattle.std.specs.List.{list_all}
 use Rattle.ccan_ram.specs.Terms.{Terms}
 use Rattle.ccan_confine.specs.declared.controller.Controller.{Controller}
 use Rattle.ccan_confine.specs.declared.controller_change.ControllerChange.{ControllerChange}
-use Rattle.ccan_confine.specs.declared.controller_change.ControllerChange.TheVariants.{ReadStatus}
 use Rattle.ccan_confine.specs.Counters.{AreAfter, Counts, state_of}
 use Rattle.ccan_bus.specs.declared.answer.LoadAnswer.{LoadAnswer}
 use Rattle.ccan_bus.specs.declared.round_line.Fault.{Fault}
@@ -22,6 +21,7 @@ use Rattle.ccan_endless.specs.Note.{Told}
 use Rattle.ccan_line.specs.declared.line_answer.LineAnswer.TheVariants as answer
 use Rattle.ccan_line.specs.Limits.{most_frames, most_groups}
 use Rattle.ccan_map.specs.declared.map.Map.{Map}
+use Rattle.ccan_map.specs.declared.map.Map.TheVariants.{Narrow}
 use Rattle.ccan_registers.specs.declared.access_error.AccessError.{AccessError}
 use Rattle.ccan_registers.specs.declared.interface_set.InterfaceSet.{InterfaceSet}
 use Rattle.ccan_registers.specs.ChipSteps.{AtController, ChipGoes, Makes, Then}
@@ -117,7 +117,7 @@ LoopsBack terms tries false seen added result = MakesChange terms (testing false
 -- the Status register is read, as a C_CAN does it
 abbrev pub TellsStatus : Terms → ℕ → ChipHistory → ChipHistory → ℕ → ℕ → Type 0
 TellsStatus terms tries seen added result out =
-    (told : Result ℕ AccessError) × ReadsStatus terms ReadStatus tries seen added told
+    (told : Result ℕ AccessError) × ReadsStatus terms Narrow tries seen added told
     × (result ≡ code_of_access (Some told)) × IsRead (Some told) out
 
 -- how groups of recessive bits end, with what C gets

@@ -1,6 +1,6 @@
--- The calls on the bus's handle by which a chip takes part in a frame on a bus of several, and what each stands for in the history
--- of the chip; and all calls on that handle. Source: this project's own, over the definitions of a chip's part.
-use Rattle.std.specs.Prelude.{ℕ, ◌≡◌, Option, Result, Ok, Err, MatchBool, MatchOption, nat_lt}
+-- The calls on the bus's handle by which a chip takes part in a frame on a bus of several, or powers down in between, and what each
+-- stands for in the history of the chip; and all calls on that handle. Source: this project's own, over the definitions of a chip's part.
+use Rattle.std.specs.Prelude.{ℕ, ◌≡◌, Bool, false, Option, Some, Result, Ok, Err, MatchBool, MatchOption, is_some, nat_lt}
 use Rattle.ccan_ram.specs.Terms.{Terms}
 use Rattle.ccan_ram.specs.Tries.{most_tries}
 use Rattle.ccan_confine.specs.declared.bus_event.BusEvent.{BusEvent}
@@ -14,8 +14,11 @@ use Rattle.ccan_endless.specs.declared.controller_changed.ControllerChanged.{Con
 use Rattle.ccan_endless.specs.Chip.{ChipHistory}
 use Rattle.ccan_line.specs.declared.line_answer.LineAnswer.TheVariants as answer
 use Rattle.ccan_map.specs.declared.map.Map.{Map}
+use Rattle.ccan_registers.specs.declared.access_error.AccessError.{AccessError}
 use Rattle.ccan_registers.specs.ChipSteps.{Changes, ChipGoes}
 use Rattle.ccan_registers.specs.Frames.{BeginsOnChip, EndsOnChip, StationState, StaysOnChip}
+use Rattle.ccan_registers.specs.PowerDown.{PowersDown}
+use Rattle.ccan_registers.specs.Register.{IsQuiet}
 use Rattle.ccan_station.specs.declared.begun.Begun.{Begun}
 use Rattle.ccan_station.specs.declared.ended.Ended.{Ended}
 use Rattle.ccan_station.specs.declared.stayed.Stayed.{Stayed}
@@ -29,6 +32,8 @@ use Rattle.ccan_c.specs.Call.{IsCall}
 use Rattle.ccan_c.specs.Codes.{busy, done, event_range, fault_range, place_range, wire_range}
 use Rattle.ccan_c.specs.Finished.{c_finished, code_of_end, event_in}
 use Rattle.ccan_c.specs.Held.{IsOpenAs, WorksAsBefore, port_of, station_of}
+use Rattle.ccan_c.specs.Host.{number_of}
+use Rattle.ccan_c.specs.HostCall.{code_of_access}
 use Rattle.ccan_c.specs.Step.{Rests}
 use Rattle.ccan_c.specs.Wire.{c_member, flaw_in, is_flaw, is_wire, most_members, wire_in}
 
@@ -43,12 +48,14 @@ pub data FrameCall : Type 0 where
   stay : ℕ → ShownMember → FrameCall
   finish : ShownWire → ℕ → ℕ → ℕ → ShownFinished → FrameCall
   retry : ShownFinished → ℕ → FrameCall
+  power_down : ℕ → ℕ → FrameCall
 
 abbrev pub frame_code : FrameCall → ℕ
 frame_code (begin result out) = result
 frame_code (stay result out) = result
 frame_code (finish on place fault result out) = result
 frame_code (retry lost result) = result
+frame_code (power_down result out) = result
 
 -- the code of a change of the controller
 abbrev pub code_of_change : Result ControllerChanged ControllerBusy → ℕ
@@ -70,6 +77,16 @@ RetriesEvent terms own seen added result =
     (outcome : Result ControllerChanged ControllerBusy)
     × Changes terms.port (Frame own.0 own.1) most_tries seen added outcome × (result ≡ code_of_change outcome)
 
+-- local power down: while a frame is under way the chip is not powered down, and makes no step
+abbrev pub PowersDownBetween : Terms → ℕ → Bool → ChipHistory → ChipHistory → Result Bool AccessError → Type 0
+PowersDownBetween terms tries under_way seen added told =
+    MatchBool under_way (IsQuiet added told false) (PowersDown terms tries seen added told)
+
+-- whether the chip is powered down, as C gets it
+abbrev pub IsPower : Result Bool AccessError → ℕ → Type 0
+IsPower (Ok down) out = out ≡ number_of down
+IsPower (Err why) out = Unit {0}
+
 -- The events that the call adds, what C gets, and what the bus's handle is after it. The start of a frame drops what an earlier
 -- load for a round has loaded.
 abbrev pub FrameCallMeans : Terms → ℕ → FrameCall → BusState → ChipHistory → ChipHistory → BusState → Type 0
@@ -89,6 +106,9 @@ FrameCallMeans terms tries (finish on place fault result out) old seen added new
 FrameCallMeans terms tries (retry lost result) old seen added new =
     MatchOption (event_in lost) (Rests event_range old new added result)
     (λ own. RetriesEvent terms own seen added result × (new ≡ old))
+FrameCallMeans terms tries (power_down result out) old seen added new =
+    ((told : Result Bool AccessError) × PowersDownBetween terms tries (is_some old.station.under_way) seen added told
+    × (result ≡ code_of_access (Some told)) × IsPower told out) × (new ≡ old)
 
 -- a call on an open handle
 pub record FrameRuns (call : FrameCall) (old new : Held) : Type 0 where

@@ -1,10 +1,12 @@
 //! What C gets from an access to a register.
-ghost use Rattle.std.specs.Prelude.{◌≡◌, ◌≢◌};
+ghost use Rattle.std.specs.Prelude.{◌≡◌, ◌≢◌, Some};
 ghost use Rattle.ccan_c.specs.Codes.{done};
+ghost use Rattle.ccan_c.specs.FrameCall.{IsPower};
 ghost use Rattle.ccan_c.specs.HostCall as call;
 ghost use Rattle.ccan_c.specs.HostCall.{IsRead};
 
 use crate::code::{BUSY, DONE, OFFSET_RANGE, OTHER_INTERFACE, SPENT};
+use crate::numbers::number_of;
 use ccan_registers::AccessError;
 
 /// The code of an error.
@@ -78,5 +80,20 @@ pub(crate) fn read_out(told: &Option<Result<u16, AccessError>>, out: &mut u16) -
             DONE
         }
         Some(Err(error)) => code_of_error(*error),
+    }
+}
+
+/// The code of a power down, and whether the chip is powered down in the place for it.
+pub(crate) fn power_out(told: &Result<bool, AccessError>, out: &mut u32) -> u32
+    ensures code { result ≡ call.code_of_access (Some told.now) }
+    ensures power { IsPower told.now out.new }
+    ensures refused { result ≢ done → out.new ≡ out.old }
+{
+    match told {
+        Ok(down) => {
+            *out = number_of(*down);
+            DONE
+        }
+        Err(error) => code_of_error(*error),
     }
 }

@@ -266,7 +266,7 @@ pub extern "C" fn ccan_bus_line(bus: &mut BusHandle, out: &mut u32) -> u32
 }
 
 /// Reads the word of 32 bits at an offset, in bytes from where the chip begins: its lower half and then its upper one, or both
-/// at one moment, if they are of one flag or the bit timing.
+/// at one moment, if they are of one flag, or the bit timing, or those of CAN Control.
 #[unsafe(no_mangle)]
 pub extern "C" fn ccan_bus_read32(bus: &mut BusHandle, offset: u32, out: &mut u32) -> u32
     ensures call { BusCallDoes (bus_call.read32 offset result out.new)
@@ -281,7 +281,7 @@ pub extern "C" fn ccan_bus_read32(bus: &mut BusHandle, offset: u32, out: &mut u3
 }
 
 /// Writes the word of 32 bits at an offset, in bytes from where the chip begins: its upper half and then its lower one, or both
-/// at one moment, if they are the bit timing.
+/// at one moment, if they are the bit timing or those of CAN Control.
 #[unsafe(no_mangle)]
 pub extern "C" fn ccan_bus_write32(bus: &mut BusHandle, offset: u32, value: u32) -> u32
     ensures { BusCallDoes (bus_call.write32 offset value result)

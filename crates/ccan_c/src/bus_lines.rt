@@ -21,11 +21,11 @@ impl Held {
     ghost use Rattle.ccan_bus.specs.Bus.{LedTo};
     ghost use Rattle.ccan_bus.specs.Past.{BusPast};
     ghost use Rattle.ccan_bus.specs.RoundLine.{AreSenders};
-    ghost use Rattle.ccan_confine.specs.declared.controller_change.ControllerChange.TheVariants.{ReadStatus};
     ghost use Rattle.ccan_confine.specs.Counters.{AreAfter};
     ghost use Rattle.ccan_ram.specs.declared.port.PortName.TheVariants.{Bus};
     ghost use Rattle.ccan_endless.specs.declared.chip.ControllerStep.TheVariants.{Look};
     ghost use Rattle.ccan_endless.specs.Chip.{MayMake};
+    ghost use Rattle.ccan_map.specs.declared.map.Map.TheVariants.{Narrow};
     ghost use Rattle.ccan_registers.specs.ChipSteps.{AtController, Makes};
     ghost use Rattle.ccan_registers.specs.Dcan.{reset_of};
     ghost use Rattle.ccan_registers.specs.Frames.{at_rest};
@@ -116,7 +116,7 @@ impl Held {
     /// Reads the Status register, as a C_CAN does it.
     pub(crate) fn status(&mut self) -> Result<u16, AccessError>
         ensures { Steps (λ terms seen added.
-            ReadsStatus terms ReadStatus self.old.tries seen added result) self.old self.new }
+            ReadsStatus terms Narrow self.old.tries seen added result) self.old self.new }
     {
         read_status(&self.ram, &mut self.port, Map::Narrow, self.tries)
     }
@@ -209,6 +209,7 @@ fn bits(init: bool, sie: bool, eie: bool, test: bool) -> ControlRegister
         dar: false,
         cce: false,
         test,
+        pdr: false,
     }
 }
 

@@ -1,10 +1,11 @@
-//! The calls by which a chip takes part in a frame on a bus of several.
+//! The calls by which a chip takes part in a frame on a bus of several, or powers down in between.
 ghost use Rattle.std.specs.Prelude.{◌≡◌, ◌≢◌};
 ghost use Rattle.ccan_c.specs.Bus.{held_on};
 ghost use Rattle.ccan_c.specs.Codes.{busy, closed, done, spent};
 ghost use Rattle.ccan_c.specs.FrameCall as frame_call;
 ghost use Rattle.ccan_c.specs.FrameCall.{FrameCallDoes};
 
+use crate::access_code::power_out;
 use crate::bus_handle::BusHandle;
 use crate::code::{BUSY, CLOSED, DONE, EVENT_RANGE, FAULT_RANGE, PLACE_RANGE, WIRE_RANGE, code_of};
 use crate::shown_finished::{ShownFinished, code_of_end};
@@ -92,4 +93,20 @@ pub extern "C" fn ccan_retry_event(bus: &mut BusHandle, lost: &ShownFinished) ->
         Ok(_) => DONE,
         Err(_) => BUSY,
     }
+}
+
+/// The bus is idle: the controller of a D_CAN powers down if its driver has set PDR and no object requests a transmission. Reports 1
+/// if it is in local power down then, as PDA of its Error and Status register shows it, and 0 if it is not. While a frame is under
+/// way for the chip, from its start to its end, it reports 0 and makes no step. What a load for a round has loaded is not looked at.
+#[unsafe(no_mangle)]
+pub extern "C" fn ccan_power_down(bus: &mut BusHandle, out: &mut u32) -> u32
+    ensures call { FrameCallDoes (frame_call.power_down result out.new)
+        (held_on bus.old) (held_on bus.new) }
+    ensures refused { result ≢ done → out.new ≡ out.old }
+{
+    if !bus.handle.is_open() {
+        return CLOSED;
+    }
+    let told = bus.handle.seal.as_mut().power_down();
+    power_out(&told, out)
 }

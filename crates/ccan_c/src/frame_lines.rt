@@ -5,12 +5,12 @@ use crate::held::Held;
 use ccan_chip::{OwnEvent, own_tries};
 use ccan_confine::ControllerChange;
 use ccan_endless::{ControllerBusy, ControllerChanged};
-use ccan_registers::{begin, change, end, stay};
+use ccan_registers::{AccessError, begin, change, end, power_down, stay};
 use ccan_station::{Begun, Ended, Stayed};
 use ccan_wire::{Flaw, Wire};
 
 impl Held {
-    ghost use Rattle.std.specs.Prelude.{◌<◌};
+    ghost use Rattle.std.specs.Prelude.{◌<◌, is_some};
     ghost use Rattle.ccan_bus.specs.Bus.{LedTo};
     ghost use Rattle.ccan_bus.specs.Past.{BusPast};
     ghost use Rattle.ccan_chip.specs.Arrival.{unloaded};
@@ -20,7 +20,8 @@ impl Held {
     ghost use Rattle.ccan_ram.specs.Tries.{most_tries};
     ghost use Rattle.ccan_registers.specs.ChipSteps.{Changes};
     ghost use Rattle.ccan_registers.specs.Frames.{BeginsOnChip, EndsOnChip, StaysOnChip};
-    ghost use Rattle.ccan_c.specs.Held.{pass_of};
+    ghost use Rattle.ccan_c.specs.FrameCall.{PowersDownBetween};
+    ghost use Rattle.ccan_c.specs.Held.{pass_of, station_of};
     ghost use Rattle.ccan_c.specs.Steps.{StationSteps, Steps};
     ghost use Rattle.ccan_c.specs.Wire.{most_members};
 
@@ -79,5 +80,19 @@ impl Held {
         let (event, status) = own;
         let made = ControllerChange::Frame(event, status);
         change(&self.ram, &mut self.port, &made, own_tries())
+    }
+
+    /// Powers the controller down, if its driver asks for it and nothing is to be sent. Whether it is powered down. While a frame is
+    /// under way it is not, and no step is made.
+    pub(crate) fn power_down(&mut self) -> Result<bool, AccessError>
+        requires { (pass_of self.old).port ≡ Bus }
+        ensures { Steps (λ terms seen added.
+            PowersDownBetween terms self.old.tries (is_some (station_of self.old).under_way)
+            seen added result) self.old self.new }
+    {
+        if self.station.is_under_way() {
+            return Ok(false);
+        }
+        power_down(&self.ram, &mut self.port, self.tries)
     }
 }

@@ -66,7 +66,7 @@ pub use bus_handle::BusHandle;
 pub use chip::Chip;
 pub use deciding::{ccan_decide, ccan_decide_again};
 pub use ending::ccan_end;
-pub use frame::{ccan_begin, ccan_finish, ccan_retry_event, ccan_stay};
+pub use frame::{ccan_begin, ccan_finish, ccan_power_down, ccan_retry_event, ccan_stay};
 pub use handle::{Handle, handles_may_cross};
 pub use host::{
     ccan_clear_objects, ccan_flags, ccan_get, ccan_interrupt, ccan_line, ccan_peek, ccan_read8,
