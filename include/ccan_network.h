@@ -438,7 +438,8 @@ static inline uint64_t ccan_network_private_length(const ccan_network *network, 
     }
 }
 
-/* Lets each chip enter local power down that asks for it by PDR and has nothing to send. One that waits has a frame to send. */
+/* On an idle bus: lets each chip enter local power down that asks for it by PDR and has nothing to send. One that waits has a frame
+ * to send. */
 static inline CCAN_CODE ccan_network_private_power_down(const ccan_network *network)
 {
     uint32_t told = CCAN_DONE, code, is_down;
@@ -470,6 +471,13 @@ static inline CCAN_CODE ccan_network_private_rest(const ccan_network *network)
     return told;
 }
 
+/* What a start comes to if nobody sends. */
+static inline CCAN_CODE ccan_network_private_idle(const ccan_network *network)
+{
+    const uint32_t rest = ccan_network_private_rest(network), down = ccan_network_private_power_down(network);
+    return rest != CCAN_DONE ? rest : down;
+}
+
 /* At the time `now`: begins a frame, if the bus is free and a member wants to send. `under_way` of the network then is 1, `wire`
  * and each member's `member` say what is on the bus, and `until` is when the frame ends if nothing disturbs it: call
  * ccan_network_finish then. Else `under_way` is 0, and `until` is when to call it again: during the intermission of 3 bits its end;
@@ -480,9 +488,9 @@ static inline CCAN_CODE ccan_network_private_rest(const ccan_network *network)
  * While a frame is under way, the call only reports its end. Time passes as by ccan_network_pass. A chip in loop back mode
  * with Silent that sends to itself is a frame under way too, even if the bus is idle (`wire.kind` is CCAN_WIRE_IDLE).
  *
- * Local power down of a D_CAN: if the bus is free, a chip whose PDR is 1 and that has nothing to send enters it first, by
- * ccan_power_down, so it has no part in a frame that begins now. From the end of the intermission on the bus is idle: with the last
- * bits of the frame before it these are eleven recessive bits. A host's write of PDR is seen by the next call.
+ * Local power down of a D_CAN: if the bus is free and nobody sends, it is idle, and a chip whose PDR is 1 and that has nothing to
+ * send enters it, by ccan_power_down. A host's write of PDR is seen by the next call. A chip has its part in a frame that begins
+ * before the bus was idle.
  *
  * The code is that of the first member with another one than CCAN_DONE, and all else is done: CCAN_CLOSED, it takes no part;
  * CCAN_BUSY, CCAN_SPENT, the start of its object was refused, and it sends nothing, or it has missed groups of recessive bits, or it
@@ -490,7 +498,7 @@ static inline CCAN_CODE ccan_network_private_rest(const ccan_network *network)
 static inline CCAN_CODE ccan_network_start(ccan_network *network, uint64_t now, uint64_t *until)
 {
     const ccan_wire last = network->wire;
-    uint32_t passed, code, rest, bits;
+    uint32_t passed, code, bits;
     if (network->under_way) {
         *until = network->ended;
         return CCAN_DONE;
@@ -500,15 +508,14 @@ static inline CCAN_CODE ccan_network_start(ccan_network *network, uint64_t now, 
         *until = network->free;
         return passed;
     }
-    code = ccan_network_private_power_down(network);
-    passed = passed != CCAN_DONE ? passed : code;
     code = ccan_network_private_decide(network, now);
+    passed = passed != CCAN_DONE ? passed : code;
     bits = ccan_network_private_longest(network);
     if (bits == 0) {
-        rest = ccan_network_private_rest(network);
+        code = ccan_network_private_idle(network);
         network->wire = last;
         *until = ccan_network_private_until(network);
-        return passed != CCAN_DONE ? passed : code != CCAN_DONE ? code : rest;
+        return passed != CCAN_DONE ? passed : code;
     }
     network->under_way = 1;
     network->has_lost = 0;
@@ -516,7 +523,7 @@ static inline CCAN_CODE ccan_network_start(ccan_network *network, uint64_t now, 
     network->began = now;
     network->ended = now + ccan_network_private_length(network, UINT64_MAX);
     *until = network->ended;
-    return passed != CCAN_DONE ? passed : code;
+    return passed;
 }
 
 /* ---- its end */

@@ -556,11 +556,7 @@ class Network:
 
     def ask(self):
         """Asks all members what they are to the bus, and plays the frame as it is if nothing happens to it. Answers whether there
-        is one, also one that a member sends to itself alone. With a clock chips that have nothing to send are put into local power
-        down before, if their hosts ask for it: the bus is idle."""
-        for member, waits in zip(self.members, self.waits) if self.timed else ():
-            if isinstance(member, ChipMember) and not waits:
-                member.power_down()
+        is one, also one that a member sends to itself alone. With a clock the bus is idle if there is none."""
         asked = [member.begin() for member in self.members]
         self.waits = [self.timed and role == PASSIVE and sends is not None and self.was_sender[number]
                       and self.now < self.free + SUSPENDED for number, (role, sends) in enumerate(asked)]
@@ -569,11 +565,18 @@ class Network:
         wire = Wire([Seat(role, sends) for role, sends in self.begun])
         alone = wire.kind == IDLE and any(role == ALONE and sends for role, sends in self.begun)
         if self.timed and wire.kind == IDLE and not alone:
+            self.power_down()
             return False
         self.wire, self.parts, self.under_way, self.began = wire, wire.parts, True, self.now
         self.bits = max((len(coded(sends).bits) for (role, sends), part in zip(self.begun, wire.parts) if sends
                          and (part == SENDER or role == LOOPED or alone)), default=0)
         return True
+
+    def power_down(self):
+        """On an idle bus chips that have nothing to send are put into local power down, if their hosts ask for it."""
+        for member, waits in zip(self.members, self.waits):
+            if isinstance(member, ChipMember) and not waits:
+                member.power_down()
 
     def tell_start(self):
         for number, (role, sends) in enumerate(self.begun):

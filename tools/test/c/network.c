@@ -695,7 +695,8 @@ static bool is_down(void)
     return (status & PDA) != 0;
 }
 
-/* What is requested is sent first; then the bus is idle behind the intermission. The chip acknowledges nothing until it is awake. */
+/* What is requested is sent first. While frames follow each other the bus is not idle, and the chip has its part in them. Then it
+ * acknowledges nothing until it is awake. */
 static void a_d_can_powers_down(void)
 {
     open_d_can(0);
@@ -710,7 +711,14 @@ static void a_d_can_powers_down(void)
     EXPECT(!network.under_way && until == 56 && !is_down());
     EXPECT(ccan_network_offer(&network, b, &frame) == CCAN_DONE);
     starts(56);
-    EXPECT(is_down() && network.at[0].member.role == CCAN_ROLE_ABSENT && network.wire.kind == CCAN_WIRE_UNHEARD);
+    EXPECT(network.wire.kind == CCAN_WIRE_CARRIED && !is_down());
+    finishes(until);
+    EXPECT(network.at[0].ended.event == CCAN_EVENT_RECEIVED && !is_down());
+    starts(until);
+    EXPECT(!network.under_way && is_down());
+    EXPECT(ccan_network_offer(&network, b, &frame) == CCAN_DONE);
+    starts(1000);
+    EXPECT(network.at[0].member.role == CCAN_ROLE_ABSENT && network.wire.kind == CCAN_WIRE_UNHEARD);
     finishes(until);
     write_register(&chips[0], UPPER_CONTROL, 0);
     EXPECT(!is_down() && has_init(&chips[0]));
