@@ -4,8 +4,9 @@ ghost use Rattle.ccan_confine.specs.Controller.{CanMake};
 
 use crate::expect::{holds, same};
 use ccan_confine::ControllerChange::{
-    Frame, Join, ReadAndClearStatus, ReadStatus, Recessive, Reset, ResetDcan, WriteBitTiming,
-    WriteControl, WriteControlBits, WriteExtension, WriteStatus, WriteTest, WriteTiming,
+    Frame, Join, PowerDown, ReadAndClearStatus, ReadStatus, Recessive, Reset, ResetDcan,
+    WriteBitTiming, WriteControl, WriteControlBits, WriteExtension, WriteStatus, WriteTest,
+    WriteTiming,
 };
 use ccan_confine::{
     BitTiming, BusEvent, ControlRegister, Controller, ControllerChange, NodeState, StatusEvent,
@@ -21,7 +22,7 @@ fn after(controller: Controller, change: ControllerChange) -> Controller
 }
 
 /// A controller whose Control register was written: Init 0, IE 1, SIE 2, EIE 3, DAR 5, CCE 6, Test 7.
-fn controlled(controller: Controller, word: u16) -> Controller {
+fn controlled(controller: Controller, word: u32) -> Controller {
     controller.after(&WriteControl(ControlRegister::of_word(word)))
 }
 
@@ -32,7 +33,7 @@ fn testing(word: u16) -> Controller {
 }
 
 /// A controller as it opens, after a write of its Control, Bit Timing and BRP Extension registers, in this order.
-fn timed(word: u16, register: u16, extension: u16) -> Controller {
+fn timed(word: u32, register: u16, extension: u16) -> Controller {
     let opened = controlled(Controller::new(), word);
     let written = opened.after(&WriteBitTiming(register));
     written.after(&WriteExtension(extension))
@@ -220,8 +221,12 @@ fn registers_have_their_words(rt: HostRuntime) {
         (0x80, ControlRegister { test: true, ..none }),
     ] {
         same(&rt, ControlRegister::of_word(word), register);
-        same(&rt, register.word(), word);
+        same(&rt, u32::from(register.word()), word);
     }
+    // PDR, bit 24 of a D_CAN's, is not in the low half.
+    let asks = ControlRegister { pdr: true, ..none };
+    same(&rt, ControlRegister::of_word(0x0100_0000), asks);
+    same(&rt, asks.word(), 0);
     let off = TestRegister::default();
     for (word, register) in [
         (0x04, TestRegister { basic: true, ..off }),
@@ -238,7 +243,7 @@ fn registers_have_their_words(rt: HostRuntime) {
         same(&rt, register.word(), word);
     }
     // Reserved bits, and those of the pins, are dropped.
-    same(&rt, ControlRegister::of_word(0xff10), none);
+    same(&rt, ControlRegister::of_word(0xfeff_ff10), none);
     same(&rt, TestRegister::of_word(0xffe3), off);
     for (word, flags) in [
         (0x0008, StatusFlags::new(true, false, 0)),
@@ -269,6 +274,7 @@ fn each_register_has_its_bits_of_the_word(rt: HostRuntime) {
         (0x20, 1 << 36),
         (0x40, 1 << 37),
         (0x80, 1 << 38),
+        (0x0100_0000, 1 << 62),
     ] {
         packs(&rt, controlled(Controller::new(), bits), word);
     }
@@ -299,6 +305,20 @@ fn each_register_has_its_bits_of_the_word(rt: HostRuntime) {
     let begun = controlled(after_send_faults(32), 0xee);
     let word = LEFT + (0x7e << 32) + (0b111 << 29) + (5 << 24) + (100 << 17) + (256 << 8);
     packs(&rt, after(begun, Recessive(100)), word);
+}
+
+/// PDR asks for local power down, and PDA shows it once Init is 1 (AM335x manual, Local Power-Down Mode).
+#[test]
+fn a_controller_powers_down_if_it_is_asked_to(rt: HostRuntime) {
+    let awake = controlled(Controller::new(), 0x0000_0002);
+    same(&rt, after(awake, PowerDown), awake);
+    let asked = controlled(awake, 0x0100_0002);
+    same(&rt, asked.is_powered_down(), false);
+    let down = after(asked, PowerDown);
+    same(&rt, down.is_powered_down(), true);
+    same(&rt, words(&down).0, 0x0003);
+    same(&rt, down.has_left, true);
+    same(&rt, controlled(down, 0x0000_0003).is_powered_down(), false);
 }
 
 /// The laws do nothing: they are called so that each is seen to hold.

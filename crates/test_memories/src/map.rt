@@ -3,7 +3,8 @@
 use crate::expect::same;
 use ccan_map::Interface::{One, Two};
 use ccan_map::Register::{
-    BitTiming, Buffer, Control, ErrorCounter, Extension, Flags, Interrupt, Request, Status, Test,
+    BitTiming, Buffer, Control, ControlUpper, ErrorCounter, Extension, Flags, Interrupt, Request,
+    Status, Test,
 };
 use ccan_map::{FlagPart, Map, Register, laws};
 use ccan_object::Profile;
@@ -11,9 +12,10 @@ use ccan_object::Reg::{Arb1, Arb2, CMask, Ctrl, DataA1, DataA2, DataB1, DataB2, 
 use ccan_ram::flag::Flag;
 use std::process::Abort;
 
-/// The registers in the order in which the tables below list their offsets: those that occur once, IF1, IF2, and the flags of
-/// objects 1 to 32.
-const COMMON: [Register; 37] = [
+/// The registers in the order in which the tables below list their offsets: the upper half of Control, the others that occur once,
+/// IF1, IF2, and the flags of objects 1 to 32.
+const COMMON: [Register; 38] = [
+    ControlUpper,
     Control,
     Status,
     ErrorCounter,
@@ -67,13 +69,16 @@ const FURTHER: [Register; 8] = [
 
 /// Where the registers are: those of every chip, and those that only a chip with 64 objects has.
 struct Places {
-    common: [u32; 37],
+    common: [u32; 38],
     further: [u32; 8],
 }
 
+/// A place for a register that a layout has not: the tests ask for none so high.
+const NOWHERE: u32 = 0x200;
+
 const NARROW: Places = Places {
     common: [
-        0x00, 0x02, 0x04, 0x06, 0x08, 0x0a, 0x0c, // those that stand once
+        NOWHERE, 0x00, 0x02, 0x04, 0x06, 0x08, 0x0a, 0x0c, // those that stand once
         0x10, 0x12, 0x14, 0x16, 0x18, 0x1a, 0x1c, 0x1e, 0x20, 0x22, 0x24, // IF1
         0x40, 0x42, 0x44, 0x46, 0x48, 0x4a, 0x4c, 0x4e, 0x50, 0x52, 0x54, // IF2
         0x80, 0x82, 0x90, 0x92, 0xa0, 0xa2, 0xb0, 0xb2, // the flags
@@ -83,7 +88,7 @@ const NARROW: Places = Places {
 
 const WIDE: Places = Places {
     common: [
-        0x00, 0x04, 0x08, 0x0c, 0x10, 0x14, 0x18, // those that stand once
+        NOWHERE, 0x00, 0x04, 0x08, 0x0c, 0x10, 0x14, 0x18, // those that stand once
         0x20, 0x24, 0x28, 0x2c, 0x30, 0x34, 0x38, 0x3c, 0x40, 0x44, 0x48, // IF1
         0x80, 0x84, 0x88, 0x8c, 0x90, 0x94, 0x98, 0x9c, 0xa0, 0xa4, 0xa8, // IF2
         0x100, 0x104, 0x120, 0x124, 0x140, 0x144, 0x160, 0x164, // the flags
@@ -93,7 +98,7 @@ const WIDE: Places = Places {
 
 const DCAN: Places = Places {
     common: [
-        0x00, 0x04, 0x08, 0x0c, 0x10, 0x14, 0x0e, // those that stand once
+        0x02, 0x00, 0x04, 0x08, 0x0c, 0x10, 0x14, 0x0e, // those that stand once
         0x100, 0x102, 0x104, 0x106, 0x108, 0x10a, 0x10c, 0x110, 0x112, 0x114, 0x116, // IF1
         0x120, 0x122, 0x124, 0x126, 0x128, 0x12a, 0x12c, 0x130, 0x132, 0x134, 0x136, // IF2
         0x88, 0x8a, 0x9c, 0x9e, 0xb0, 0xb2, 0xc4, 0xc6, // the flags

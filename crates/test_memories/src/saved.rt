@@ -41,19 +41,23 @@ fn next(seed: u32) -> u32 {
 fn event(kind: u32, word: u16) -> ControllerChange
     ensures { MayMake Bus result }
 {
-    match kind % 25 {
+    match kind % 26 {
         0..=4 => ControllerChange::Frame(BusEvent::SendFault, StatusEvent::Fault(4)),
         5..=8 => ControllerChange::Frame(BusEvent::Sent, StatusEvent::Sent),
         9..=12 => ControllerChange::Frame(BusEvent::ReceiveFault, StatusEvent::Fault(1)),
         13 => ControllerChange::Frame(BusEvent::Received, StatusEvent::Received),
         14 => ControllerChange::Frame(BusEvent::SendNoAck, StatusEvent::Fault(3)),
         15 | 16 => ControllerChange::Recessive(word % 60),
-        17 | 18 => ControllerChange::WriteControl(ControlRegister::of_word(word)),
+        17 | 18 => {
+            let both = u32::from(word) * 0x0001_0001;
+            ControllerChange::WriteControl(ControlRegister::of_word(both))
+        }
         19 => ControllerChange::ReadStatus,
         20 => ControllerChange::WriteStatus(StatusFlags::of_word(word)),
         21 => ControllerChange::WriteTest(TestRegister::of_word(word)),
         22 => ControllerChange::WriteBitTiming(word),
         23 => ControllerChange::Join,
+        24 => ControllerChange::PowerDown,
         _ => ControllerChange::WriteExtension(word),
     }
 }
@@ -167,7 +171,7 @@ fn climb(rt: &impl Abort, alloc: Global, event: BusEvent, times: u32) {
 
 #[test]
 fn a_saved_chip_comes_back(rt: HostRuntime) {
-    walk(&rt, rt.alloc(), Profile::One, 25, 4000);
+    walk(&rt, rt.alloc(), Profile::One, 26, 4000);
     walk(&rt, rt.alloc(), Profile::One, 15, 2000);
     walk(&rt, rt.alloc(), Profile::Two, 9, 1000);
     climb(&rt, rt.alloc(), BusEvent::ReceiveFault, 258);

@@ -62,7 +62,7 @@ fn bytes_are_read_by_their_table(rt: HostRuntime) {
     refuses(&rt, 24, 3, FormatError::Range(Field::Map));
     refuses(&rt, 32, 1001, FormatError::Range(Field::Tries));
     refuses(&rt, 40, 9, FormatError::Range(Field::Others));
-    refuses(&rt, 48, 1 << 62, FormatError::Range(Field::Controller));
+    refuses(&rt, 48, 1 << 63, FormatError::Range(Field::Controller));
     refuses(&rt, 56, 33, FormatError::Range(Field::If1));
     refuses(&rt, 64, 256, FormatError::Range(Field::If1));
     refuses(&rt, 96, 0, FormatError::Range(Field::If2));

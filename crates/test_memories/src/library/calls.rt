@@ -8,10 +8,10 @@ use ccan_c::{
     ccan_clear_objects, ccan_control, ccan_counters, ccan_decide, ccan_decide_again, ccan_end,
     ccan_finish, ccan_flags, ccan_frame_bits, ccan_get, ccan_init, ccan_interrupt, ccan_is_open,
     ccan_line, ccan_load, ccan_loop_back, ccan_meet, ccan_node_begin, ccan_node_finish,
-    ccan_node_recessive, ccan_open, ccan_open_reset, ccan_peek, ccan_read8, ccan_read16,
-    ccan_read32, ccan_recessive, ccan_request, ccan_reset, ccan_restore, ccan_retry_event,
-    ccan_round, ccan_save, ccan_set, ccan_status, ccan_stay, ccan_until, ccan_write8, ccan_write16,
-    ccan_write32,
+    ccan_node_recessive, ccan_open, ccan_open_reset, ccan_peek, ccan_power_down, ccan_read8,
+    ccan_read16, ccan_read32, ccan_recessive, ccan_request, ccan_reset, ccan_restore,
+    ccan_retry_event, ccan_round, ccan_save, ccan_set, ccan_status, ccan_stay, ccan_until,
+    ccan_write8, ccan_write16, ccan_write32,
 };
 use std::alloc::Global;
 use std::process::Abort;
@@ -238,6 +238,13 @@ pub fn init(bus: &mut BusHandle) -> u32 {
 
 pub fn recessive(bus: &mut BusHandle, groups: u32, state: &mut u32) -> u32 {
     ccan_recessive(bus, groups, state)
+}
+
+/// Whether the chip is in local power down, 1 or 0, at a moment when the bus is idle.
+pub fn powers_down(rt: &impl Abort, bus: &mut BusHandle) -> u32 {
+    let mut down = 7;
+    same(rt, ccan_power_down(bus, &mut down), 0);
+    down
 }
 
 pub fn loop_back(bus: &mut BusHandle, on: u32) -> u32 {

@@ -2,9 +2,9 @@
 use super::calls::{
     bus_flags, bus_interrupt, bus_line, bus_read8, bus_read16, bus_read32, bus_write8, bus_write16,
     bus_write32, clear_objects, control, counters, end, flags, init, interrupt, is_open, load,
-    loop_back, meet, open, open_reset, opened, peek, pulls, read8, read32, reads, reads_byte,
-    recessive, request, reset, reset_in_place, restore, round, save, set, set_all, shown, status,
-    until, write_all, write_bytes, write8, write32,
+    loop_back, meet, open, open_reset, opened, peek, powers_down, pulls, read8, read32, reads,
+    reads_byte, recessive, request, reset, reset_in_place, restore, round, save, set, set_all,
+    shown, status, until, write_all, write_bytes, write8, write32,
 };
 use crate::expect::{holds, same};
 use ccan_bus::LoadAnswer;
@@ -351,7 +351,7 @@ fn the_bus_reads_and_writes_words_of_32_bits(rt: HostRuntime) {
     same(&rt, word, 0x0000_2301);
     same(&rt, bus_write32(&mut chip.bus, 0x000, 0xffff_0041), 0);
     same(&rt, bus_read32(&mut chip.bus, 0x000, &mut word), 0);
-    same(&rt, word, 0x0000_1441);
+    same(&rt, word, 0x0100_1441);
     same(&rt, bus_write32(&mut chip.bus, 0x00c, 0x0005_1c00), 0);
     same(&rt, bus_read32(&mut chip.bus, 0x00c, &mut word), 0);
     same(&rt, word, 0x0005_1c00);
@@ -425,6 +425,62 @@ fn a_dcan_is_reset_by_a_byte(rt: HostRuntime) {
     write_bytes(&rt, &mut chip.if1, &[(0x01, 0x80)]);
     same(&rt, reads(&rt, &mut chip.if1, 0x0c), 0x2301);
     same(&rt, reads(&rt, &mut chip.if1, 0x00), 0x1401);
+}
+
+/// A word of 32 bits, as the bus's thread reads it.
+fn bus_word(rt: &impl Abort, bus: &mut BusHandle, offset: u32) -> u32 {
+    let mut word = 7;
+    same(rt, bus_read32(bus, offset, &mut word), 0);
+    word
+}
+
+/// PDR is bit 24 of CAN Control, and PDA bit 10 of Error and Status, where LEC is 7 after a reset and after each read (AM335x
+/// manual, Local Power-Down Mode). A write of the low half of Control leaves PDR.
+#[test]
+fn a_dcan_powers_down_and_wakes(rt: HostRuntime) {
+    let mut chip = reset(&rt, rt.alloc(), 2);
+    same(&rt, bus_word(&rt, &mut chip.bus, 0x000), 0x0000_1401);
+    same(&rt, write32(&mut chip.if1, 0x000, 0x0100_0000), 0);
+    write_all(&rt, &mut chip.if1, &[(0x00, 0x0002)]);
+    same(&rt, reads(&rt, &mut chip.if1, 0x02), 0x0100);
+    same(&rt, bus_word(&rt, &mut chip.bus, 0x004), 0x0000_0007);
+    same(&rt, powers_down(&rt, &mut chip.bus), 1);
+    same(&rt, bus_word(&rt, &mut chip.bus, 0x000), 0x0100_1403);
+    same(&rt, bus_word(&rt, &mut chip.bus, 0x004), 0x0000_0407);
+    same(&rt, powers_down(&rt, &mut chip.bus), 1);
+    // The driver clears PDR, and then Init.
+    write_all(&rt, &mut chip.if1, &[(0x02, 0x0000)]);
+    same(&rt, bus_word(&rt, &mut chip.bus, 0x004), 0x0000_0007);
+    write_all(&rt, &mut chip.if1, &[(0x00, 0x0002)]);
+    same(&rt, bus_word(&rt, &mut chip.bus, 0x000), 0x0000_1402);
+    same(&rt, powers_down(&rt, &mut chip.bus), 0);
+}
+
+/// PDR is bit 0 of the byte at 0x03. What is requested is sent first.
+#[test]
+fn a_dcan_sends_before_it_powers_down(rt: HostRuntime) {
+    let mut chip = reset(&rt, rt.alloc(), 2);
+    write_all(&rt, &mut chip.if1, &SENDS_OF_DCAN);
+    write_bytes(
+        &rt,
+        &mut chip.if1,
+        &[(0x02, 0xff), (0x03, 0x01), (0x00, 0x02)],
+    );
+    same(&rt, reads_byte(&rt, &mut chip.if1, 0x03), 0x01);
+    same(&rt, powers_down(&rt, &mut chip.bus), 0);
+    same(&rt, played(&rt, &mut chip.bus, &[], 0).kind, 1);
+    same(&rt, powers_down(&rt, &mut chip.bus), 1);
+    same(&rt, reads(&rt, &mut chip.if1, 0x00), 0x1403);
+}
+
+/// A C_CAN has no PDR: bit 8 of Control and the upper half of its word are dropped.
+#[test]
+fn a_c_can_never_powers_down(rt: HostRuntime) {
+    let mut chip = reset(&rt, rt.alloc(), 1);
+    write_all(&rt, &mut chip.if1, &[(0x00, 0x0100)]);
+    same(&rt, write32(&mut chip.if1, 0x000, 0x0100_0000), 0);
+    same(&rt, bus_word(&rt, &mut chip.bus, 0x000), 0);
+    same(&rt, powers_down(&rt, &mut chip.bus), 0);
 }
 
 /// Object 2 of a D_CAN sends 0x100 with a byte: Arbitration 2, Message Control, Data A1, the command and its request.

@@ -2,7 +2,8 @@
 //! `tools/test/c/network.c`.
 use super::calls::{
     begin, bit_time, bus_write16, counters, decide, decide_again, finish, frame_bits, node_begin,
-    node_finish, node_recessive, opened, request, retry_event, set_all, stay,
+    node_finish, node_recessive, opened, powers_down, request, reset, retry_event, set_all, stay,
+    write_all,
 };
 use crate::expect::same;
 use ccan_c::{
@@ -142,6 +143,20 @@ fn a_closed_chip_has_no_part_in_a_frame(rt: HostRuntime) {
     );
     same(&rt, retry_event(&mut chip.bus, &finished), 1);
     same(&rt, finished.event, 77);
+}
+
+/// From the start of a frame to its end a D_CAN whose driver has set PDR takes part; after it, it powers down.
+#[test]
+fn a_chip_powers_down_between_frames(rt: HostRuntime) {
+    let mut chip = reset(&rt, rt.alloc(), 2);
+    write_all(&rt, &mut chip.if1, &[(0x00, 0), (0x02, 0x0100)]);
+    let own = member(&rt, &mut chip.bus);
+    same(&rt, own.role, 4);
+    same(&rt, powers_down(&rt, &mut chip.bus), 0);
+    let on = wire(&rt, &[own, sends(4, 0, 1)]);
+    same(&rt, end_of(&rt, &mut chip.bus, &on, 0, 0).refused, 0);
+    same(&rt, powers_down(&rt, &mut chip.bus), 1);
+    same(&rt, member(&rt, &mut chip.bus).role, 0);
 }
 
 /// The chip is at position 0, and an active member at position 1 acknowledges: TxIE of the object sets IntPnd.
