@@ -90,7 +90,8 @@ pub fn history_by_word<P: Progress>(
     ensures history { IfOk result (λ history.
         IsHistoryOf (frames_in telling.now.list.now) (fields_of telling.now.query.now.script.now)
         ending.now history.steps.items) }
-    ensures states { IfOk result (λ history. AreAllOrNone (fields_of telling.now.query.now.script.now)
+    ensures states { IfOk result (λ history.
+        AreAllOrNone (fields_of telling.now.query.now.script.now)
         history.steps.items history.states.items) }
     ensures without { IfErr result (HasNoHistory (fields_of telling.now.query.now.script.now)
         ⟦<AllPorts as PartialEq>⟧.eq telling.now.query.now.most) }
@@ -127,7 +128,8 @@ pub fn history_to<P: Progress>(
     ensures history { IfOk result (λ history.
         IsHistoryOf (frames_in telling.now.list.now) (fields_of telling.now.query.now.script.now)
         ending.now history.steps.items) }
-    ensures states { IfOk result (λ history. AreAllOrNone (fields_of telling.now.query.now.script.now)
+    ensures states { IfOk result (λ history.
+        AreAllOrNone (fields_of telling.now.query.now.script.now)
         history.steps.items history.states.items) }
     ensures without { IfErr result (HasNoHistory (fields_of telling.now.query.now.script.now)
         ⟦<AllPorts as PartialEq>⟧.eq telling.now.query.now.most) }
