@@ -96,6 +96,34 @@ TOLD = [
         "if1",
         [["if1 until 01 newdat yes"], ["if1 until 01 newdat no"]],
     ),
+    # Each port may make one change, each change has one try, and leaves object 1 as it was. IF1 writes twice: if its first write is
+    # made, its second finds the change spent; if that is busy, the second is made. So who has made a change is kept. Kept are the
+    # beginning, one host or the other in its first try, both in it, IF1 before its second write with IF2 before its try, in it, and in
+    # it contended, IF2 in that with IF1 done, IF1 in its contended try with IF2 done, and the two ends, in which IF2 has made its
+    # change or not.
+    (
+        {
+            "quota": 1,
+            "tries": 1,
+            "if1": [transfer("0001", cmask="0080"), transfer("0001")],
+            "if2": [transfer("0001", cmask="0080")],
+        },
+        11,
+        "if",
+        [
+            [
+                "if1 busy 01",
+                "if1 write 01 00000000 00000000 0000 0000000000000000",
+                "if2 write 01 00000000 00000000 0000 0000000000000000",
+            ],
+            ["if1 write 01 00000000 00000000 0000 0000000000000000", "if1 spent 01", "if2 busy 01"],
+            [
+                "if1 write 01 00000000 00000000 0000 0000000000000000",
+                "if1 spent 01",
+                "if2 write 01 00000000 00000000 0000 0000000000000000",
+            ],
+        ],
+    ),
     # Each host writes object 1 with one try, and leaves it as it was. Kept are the beginning, one host or the other in its try, both
     # in it, the two states in which one has written and the other's try is contended, and the end: who has changed it is not kept,
     # since no host can make more changes than its quota. Where one has written before the other looked, that one's look and write
