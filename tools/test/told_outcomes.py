@@ -98,9 +98,9 @@ TOLD = [
     ),
     # Each port may make one change, each change has one try, and leaves object 1 as it was. IF1 writes twice: if its first write is
     # made, its second finds the change spent; if that is busy, the second is made. So who has made a change is kept. Kept are the
-    # beginning, one host or the other in its first try, both in it, IF1 before its second write with IF2 before its try, in it, and in
-    # it contended, IF2 in that with IF1 done, IF1 in its contended try with IF2 done, and the two ends, in which IF2 has made its
-    # change or not.
+    # beginning, one host or the other in its first try, both in it, IF1 before its second write with IF2 before its try, in it, and
+    # in it contended, IF2 in that with IF1 done, IF1 in its contended try with IF2 done, and the two ends, in which IF2 has made
+    # its change or not.
     (
         {
             "quota": 1,
