@@ -579,9 +579,9 @@ CCAN_CODE ccan_recessive(ccan_bus *bus, uint32_t groups, uint32_t *out);
  * reads 1. `out` is 1 if the controller is in local power down, PDR and Init both 1, else 0. A host asks for power down by PDR, and
  * wakes the chip by clearing PDR and then Init; in the other layouts no host can set PDR.
  * The call looks at the controller; if PDR is 1 and Init 0, at TxRqst of all objects in one moment; and if none is set, it changes
- * the controller, which sets Init only if PDR is still 1. From a ccan_begin of a chip that takes part to its ccan_finish it answers 0,
- * without a step; if nobody sends, ccan_finish with CCAN_WIRE_IDLE ends that. CCAN_BUSY: Init was not set, and the call may be made
- * again. */
+ * the controller, which sets Init only if PDR is still 1. From ccan_begin to ccan_finish the call makes no step and `out` is 0, also
+ * of a chip that is in power down; if nobody sends, ccan_finish with CCAN_WIRE_IDLE ends that. CCAN_BUSY: Init was not set, and the
+ * call may be made again. */
 CCAN_CODE ccan_power_down(ccan_bus *bus, uint32_t *out);
 
 /* Sets loop back mode, a switch: on sets Test of Control, and then LBack of Test, with Basic and Silent 0; off clears Test of

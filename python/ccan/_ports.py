@@ -297,8 +297,8 @@ class BusPort(Port):
     def power_down(self) -> bool:
         """Lets a D_CAN enter local power down, if PDR asks for it and no object has TxRqst: whether it is in it.
 
-        To be called when the bus is idle. Init is then 1, and PDA of Status reads 1. A host wakes the chip by clearing PDR and
-        then Init.
+        To be called when the bus is idle; while a frame is under way it makes no step and answers False. Init is then 1, and PDA
+        of Status reads 1. A host wakes the chip by clearing PDR and then Init.
 
         Raises
         ------

@@ -1184,7 +1184,8 @@ static void a_dcan_powers_down_between_frames(void)
     EXPECT(powers_down(&chip.bus) == 0 && reads(&chip.if1, 0x00) == 0x1400);
     EXPECT(ccan_finish(&chip.bus, &idle, 0, CCAN_QUIET, &ended) == CCAN_DONE && ended.event == CCAN_EVENT_NONE);
     EXPECT(powers_down(&chip.bus) == 1);
-    EXPECT(is_member(begun(&chip.bus), CCAN_ROLE_ABSENT, 0) && powers_down(&chip.bus) == 1);
+    EXPECT(is_member(begun(&chip.bus), CCAN_ROLE_ABSENT, 0) && powers_down(&chip.bus) == 0);
+    EXPECT(ccan_finish(&chip.bus, &idle, 0, CCAN_QUIET, &ended) == CCAN_DONE && powers_down(&chip.bus) == 1);
 }
 
 static void a_node_takes_part(void)
