@@ -313,12 +313,13 @@ fn a_controller_powers_down_if_it_is_asked_to(rt: HostRuntime) {
     let awake = controlled(Controller::new(), 0x0000_0002);
     same(&rt, after(awake, PowerDown), awake);
     let asked = controlled(awake, 0x0100_0002);
-    same(&rt, asked.is_powered_down(), false);
     let down = after(asked, PowerDown);
+    let woken = controlled(down, 0x0000_0003);
+    same(&rt, asked.is_powered_down(), false);
     same(&rt, down.is_powered_down(), true);
     same(&rt, words(&down).0, 0x0003);
     same(&rt, down.has_left, true);
-    same(&rt, controlled(down, 0x0000_0003).is_powered_down(), false);
+    same(&rt, woken.is_powered_down(), false);
 }
 
 /// The laws do nothing: they are called so that each is seen to hold.

@@ -497,8 +497,10 @@ fn tells_an_end_without_the_record_of_a_sent_object(rt: HostRuntime) {
         panic!(rt; "no object")
     };
     let zero = Record::zero();
-    let mut left = zero;
-    left.valid = true;
+    let left = Record {
+        valid: true,
+        ..Record::zero()
+    };
     let stored = Some((object, left));
     let looped = LineAnswer::Round(RoundAnswer::Looped(object, left, stored));
     let told = LineAnswer::Round(RoundAnswer::Looped(object, zero, stored));
