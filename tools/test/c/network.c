@@ -293,6 +293,8 @@ static void members_come_and_go(void)
     EXPECT(ccan_network_fault(&network, 0, 6) == CCAN_FAULT_RANGE);
     end_all();
     EXPECT(ccan_network_start(&network, 0, &until) == CCAN_CLOSED && network.at[0].code == CCAN_CLOSED && !network.under_way);
+    EXPECT(ccan_network_offer(&network, 1, &frame) == CCAN_DONE);
+    EXPECT(ccan_network_start(&network, 0, &until) == CCAN_CLOSED && network.at[7].code == CCAN_CLOSED && network.under_way);
 }
 
 /* A frame has its exact length, and 3 bits of intermission follow. What is offered is gone once it was sent. */
