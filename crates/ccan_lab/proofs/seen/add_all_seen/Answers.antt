@@ -1,4 +1,4 @@
-use Rattle.std.proofs.Common.{◌≡◌, ◌≤◌, ◌+◌, ◌++◌, ℕ, Bool, [], ap, ◌∙◌, if◌then◌else◌, map, string_bytes, sym, refl, le_refl, append-nil, add-one, subst, rules}
+use Rattle.std.proofs.Common.{◌≡◌, ◌≤◌, ◌+◌, ◌++◌, ℕ, Bool, [], ap, ◌∙◌, if◌then◌else◌, map, string_bytes, sym, refl, le_refl, length, append-nil, add-one, arith, subst, rules}
 use Rattle.ccan_line.specs.Script.{fields_of}
 use Rattle.ccan_lab.specs.Observed.{AreFirstTexts}
 use Rattle.ccan_lab.specs.Seen.{IsSeenText}
@@ -44,4 +44,22 @@ loop-place-preserved g c =
         subst (λ (n : ℕ). AreFirstTexts (IsSeenText frames form script marks keys texts) texts n (so_far.0 ++ last)) (sym (add-one place))
             (so_far.0, last, refl, so_far.2, c.in_ok-add_if_new.ensures.text.2),
       ),
+    )
+
+pub returns-clause-text : goal.returns-clause-text
+returns-clause-text g c =
+    let texts = map string_bytes c.args.texts.now.lines.items in
+    let marks = c.args.marks.now in
+    let script = fields_of c.args.telling.now.query.now.script.now in
+    let frames = frames_in c.args.telling.now.list.now in
+    let form = c.args.telling.now.query.now.form in
+    let keys = c.args.shown.now.endings.items in
+    let place = c.loop-place.place in
+    let at_most = c.loop-place.auto.place-end in
+    let past = c.loop-place-test.false in
+    let all : place ≡ length keys = omega (arith, at_most, past) in
+    let so_far = c.loop-place.invariant.2 in (
+      so_far.0,
+      so_far.1,
+      subst (λ (n : ℕ). AreFirstTexts (IsSeenText frames form script marks keys texts) texts n so_far.0) all so_far.2,
     )

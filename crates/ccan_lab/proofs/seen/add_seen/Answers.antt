@@ -1,4 +1,5 @@
-use Rattle.std.proofs.Common.{ℕ, ◌≡◌, ◌++◌, List, Some, IfSome, slice_get, ap, subst, refl, ◌∙◌, string_bytes}
+use Rattle.std.proofs.Common.{ℕ, ◌≡◌, ◌++◌, List, Some, IfSome, Contains, slice_get, ap, subst, refl, sym, ◌∙◌, string_bytes}
+use Rattle.std.proofs.lemmas.List.Elements.{Contains-get_or}
 use Rattle.std.proofs.lemmas.Option.{get_or_from_slice_get}
 use Rattle.ccan_line.specs.Script.{fields_of}
 use Rattle.ccan_outcomes.specs.declared.ending.Ending.{Ending}
@@ -8,6 +9,12 @@ use Rattle.ccan_lab.specs.Seen.{ReplaysShown}
 use Rattle.ccan_lab.specs.Telling.{frames_in}
 use Rattle.ccan_lab.proofs.Told.{names_in, names_lead}
 use Rattle.ccan_lab.proofs.seen.add_seen.Goals as goal
+
+pub history_by_word-requires-clause-listed : goal.history_by_word-requires-clause-listed
+history_by_word-requires-clause-listed g c =
+    let keys = c.args.shown.now.endings.items in
+    c.requires.listed c.index-ending.result.now
+    (subst (λ (e : Ending). Contains keys e) (sym c.index-ending.ensures) (Contains-get_or keys c.args.place _ c.requires.within))
 
 pub returns-clause-text : goal.returns-clause-text
 returns-clause-text g c =
