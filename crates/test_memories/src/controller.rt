@@ -311,10 +311,11 @@ fn each_register_has_its_bits_of_the_word(rt: HostRuntime) {
 #[test]
 fn a_controller_powers_down_if_it_is_asked_to(rt: HostRuntime) {
     let awake = controlled(Controller::new(), 0x0000_0002);
-    same(&rt, after(awake, PowerDown), awake);
+    let still = after(awake, PowerDown);
     let asked = controlled(awake, 0x0100_0002);
     let down = after(asked, PowerDown);
     let woken = controlled(down, 0x0000_0003);
+    holds(&rt, still == awake);
     same(&rt, asked.is_powered_down(), false);
     same(&rt, down.is_powered_down(), true);
     same(&rt, words(&down).0, 0x0003);

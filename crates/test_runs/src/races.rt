@@ -491,23 +491,27 @@ fn tells_no_record_that_no_line_shows(rt: HostRuntime) {
     same(&rt, framed.count(), 2);
 }
 
+/// The end of a round in loop back mode: object 1 was sent, with this record after its finish, and stored the frame as this one.
+fn looped(object: ObjectNo, finished: Record, stored: Record) -> LineEnd {
+    let storing = Some((object, stored));
+    LineEnd::unframed(LineAnswer::Round(RoundAnswer::Looped(object, finished, storing)))
+}
+
+/// A record with MsgVal alone.
+fn valid() -> Record {
+    Record {
+        valid: true,
+        ..Record::zero()
+    }
+}
+
 #[test]
 fn tells_an_end_without_the_record_of_a_sent_object(rt: HostRuntime) {
     let Some(object) = ObjectNo::new(1) else {
         panic!(rt; "no object")
     };
-    let zero = Record::zero();
-    let left = Record {
-        valid: true,
-        ..Record::zero()
-    };
-    let stored = Some((object, left));
-    let looped = LineAnswer::Round(RoundAnswer::Looped(object, left, stored));
-    let told = LineAnswer::Round(RoundAnswer::Looped(object, zero, stored));
-    holds(
-        &rt,
-        LineEnd::unframed(looped).told(true) == LineEnd::unframed(told),
-    );
-    let sent = LineEnd::unframed(LineAnswer::Round(RoundAnswer::Sent(object, left)));
+    let told = looped(object, Record::zero(), valid());
+    holds(&rt, looped(object, valid(), valid()).told(true) == told);
+    let sent = LineEnd::unframed(LineAnswer::Round(RoundAnswer::Sent(object, valid())));
     holds(&rt, sent.told(true) == sent);
 }
