@@ -601,7 +601,6 @@ static inline CCAN_CODE ccan_network_private_end(ccan_network *network, bool sen
         if (told == CCAN_DONE)
             told = at->code;
         at->was_sender = network->wire.part[k] != CCAN_PART_LISTENER;
-        at->waits = 0;
         at->fault = CCAN_QUIET;
     }
     return told;
