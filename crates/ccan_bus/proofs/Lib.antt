@@ -19,3 +19,4 @@ pub mod LoadLaws
 pub mod ArbitrationLaws
 pub mod OffLaws
 pub mod Controllers
+pub mod NewParts

@@ -170,7 +170,7 @@ unfolding is_on_now
 on_below bus node few on = let within = nat_le-true node bus.others (and_left _ _ on) in omega arith
 
 -- nothing happened yet
-none_yet : (host : Bool) → AreAfter host [] (new_counts host)
+pub none_yet : (host : Bool) → AreAfter host [] (new_counts host)
 unfolding counts_of life_of levels_of since_off since_clearing
 none_yet false = refl
 none_yet true = refl

@@ -15,3 +15,4 @@ pub mod Complete
 pub mod RoundReport
 pub mod Controller
 pub mod Laws
+pub mod Renewed

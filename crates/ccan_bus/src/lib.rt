@@ -37,6 +37,7 @@ mod loop_back;
 pub mod memory_step;
 mod nodes;
 mod own;
+mod renewed;
 mod round;
 pub mod round_end;
 pub mod round_line;

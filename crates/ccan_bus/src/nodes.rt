@@ -1,6 +1,6 @@
 //! What a call makes of the error counters of all nodes at once.
 
-ghost use Rattle.std.specs.Prelude.{ℕ, ◌≡◌, ◌<◌, ◌==◌, length, if◌then◌else◌};
+ghost use Rattle.std.specs.Prelude.{ℕ, ◌≡◌, ◌<◌, ◌==◌, true, false, ◌∷◌, length, replicate, if◌then◌else◌};
 ghost use Rattle.ccan_confine.specs.Counters.{is_off, new_counts};
 ghost use Rattle.ccan_bus.specs.Nodes.{AreCounted, HaveGroups, sends_at, count_at};
 
@@ -10,6 +10,7 @@ use ccan_confine::{BusEvent, Counters, NodeState};
 pub(crate) fn new_nodes() -> [Counters; 9]
     ensures all { length result ≡ 9 }
     ensures each { (node : ℕ) → node < 9 → count_at result node ≡ new_counts (node == 0) }
+    ensures value { result ≡ new_counts true ∷ replicate 8 (new_counts false) }
 {
     let mut nodes = [Counters::new(false); 9];
     nodes[0] = Counters::new(true);
