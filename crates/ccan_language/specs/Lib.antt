@@ -1,5 +1,6 @@
 pub mod Answers
 pub mod Count
+pub mod Hashing
 pub mod Images
 pub mod Memo
 pub mod Parts

@@ -7,6 +7,7 @@
 
 pub mod answers;
 pub mod graph;
+pub mod hashing;
 pub mod images;
 pub mod letter;
 pub mod memo;

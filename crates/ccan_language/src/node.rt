@@ -1,3 +1,5 @@
+ghost use Rattle.std.specs.Prelude.{true, ◌≡◌, ◌↔◌};
+
 use crate::letter::Letter;
 
 /// An edge from one node to another, which has a letter, and what is beside it.
@@ -22,4 +24,16 @@ pub enum Node {
     End,
     /// The words that go on by an edge, and those beside it.
     Fork(Edge),
+}
+
+impl Node {
+    /// Whether it has no word.
+    pub fn is_nothing(self) -> bool
+        ensures { (result ≡ true) ↔ (self ≡ Node.Nothing) }
+    {
+        match self {
+            Node::Nothing => true,
+            Node::End | Node::Fork(_) => false,
+        }
+    }
 }
