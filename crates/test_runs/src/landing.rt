@@ -55,8 +55,14 @@ impl Labelled for Landing {
         }
     }
 
-    fn may_pass(&self, _state: &u64) -> bool {
-        true
+    fn sole_move(&self, _alloc: Global, from: &u64) -> Result<Option<Move<u64, u64>>, AllocError> {
+        if *from == 0 || *from == self.at {
+            return Ok(None);
+        }
+        Ok(Some(Move {
+            to: *from - 1,
+            label: 1,
+        }))
     }
 
     fn copy(&self, _alloc: Global, state: &u64) -> Result<u64, AllocError> {

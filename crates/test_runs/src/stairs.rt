@@ -51,8 +51,8 @@ impl Labelled for Stairs {
         }
     }
 
-    fn may_pass(&self, _state: &u64) -> bool {
-        false
+    fn sole_move(&self, _alloc: Global, _from: &u64) -> Result<Option<Move<u64, u64>>, AllocError> {
+        Ok(None)
     }
 
     fn copy(&self, _alloc: Global, state: &u64) -> Result<u64, AllocError> {
