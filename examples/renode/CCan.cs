@@ -165,7 +165,8 @@ namespace Antmicro.Renode.Peripherals.CAN
             IRQ.Set(pulled != 0);
         }
 
-        // Lets the controller send what it has to send, at most a frame of each object. With Init 1 it sends nothing.
+        // Lets the controller send what it has to send, at most a frame of each object. With Init 1 it sends nothing. Then the bus is
+        // idle, and a D_CAN enters local power down if its guest asks for it.
         private void SendAll(List<CANMessageFrame> sent)
         {
             var none = new Library.Offer { Bytes = new byte[8] };
@@ -173,6 +174,7 @@ namespace Antmicro.Renode.Peripherals.CAN
             {
                 // One more was sent.
             }
+            Must(Again(() => Library.ccan_power_down(chip + BusOffset, out _)));
             UpdateLine();
         }
 
@@ -292,6 +294,9 @@ namespace Antmicro.Renode.Peripherals.CAN
 
             [DllImport(Name)]
             public static extern uint ccan_round(IntPtr bus, ref Offer offers, UIntPtr count, uint fault, out Outcome outcome);
+
+            [DllImport(Name)]
+            public static extern uint ccan_power_down(IntPtr bus, out uint isDown);
 
             private const string Name = "libccan.so.0";
 

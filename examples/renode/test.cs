@@ -145,6 +145,19 @@ static class Test
         }
     }
 
+    static void PowersDown()
+    {
+        using(var can = new CCan(layout: 2))
+        {
+            can.WriteDoubleWord(0x000, 0x01000002); // PDR and IE, with Init 0: the bus is idle, so Init is set
+            Expect("Control in local power down", 0x01001403u, can.ReadDoubleWord(0x000)); // PMD reads 0101
+            Expect("PDA", 0x400u, can.ReadDoubleWord(0x004) & 0x400);
+            can.WriteDoubleWord(0x000, 0x00000002);
+            Expect("PDA once PDR and Init are 0", 0u, can.ReadDoubleWord(0x004) & 0x400);
+            Expect("Control then", 0x00001402u, can.ReadDoubleWord(0x000));
+        }
+    }
+
     static int Main()
     {
         ResetValues();
@@ -152,6 +165,7 @@ static class Test
         Sends();
         Waits();
         DCan();
+        PowersDown();
         Console.WriteLine($"{seen} facts seen of the peripheral, {wrong} wrong");
         return wrong == 0 ? 0 : 1;
     }
