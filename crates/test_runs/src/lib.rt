@@ -35,7 +35,6 @@ mod reader;
 mod runs;
 #[cfg(test)]
 mod searches;
-#[cfg(test)]
 mod shared_word;
 #[cfg(test)]
 mod stairs;
