@@ -1,5 +1,6 @@
--- The calls on the bus's handle by which a chip takes part in a frame on a bus of several, or powers down in between, and what each
--- stands for in the history of the chip; and all calls on that handle. Source: this project's own, over the definitions of a chip's part.
+-- The calls on the bus's handle by which a chip takes part in a frame on a bus of several, or powers down in between, and what
+-- each stands for in the history of the chip; and all calls on that handle. Source: this project's own, over the definitions of
+-- a chip's part.
 use Rattle.std.specs.Prelude.{ℕ, ◌≡◌, Bool, false, Option, Some, Result, Ok, Err, MatchBool, MatchOption, is_some, nat_lt}
 use Rattle.ccan_ram.specs.Terms.{Terms}
 use Rattle.ccan_ram.specs.Tries.{most_tries}

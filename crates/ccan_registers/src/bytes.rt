@@ -142,8 +142,8 @@ fn write_lower(
 }
 
 /// Writes the upper byte of a register. A register of the message buffer, the Command Mask register and Bit Timing keep their
-/// lower byte. SWR of a D_CAN resets the chip if Init is 1, and that of the upper half of Control sets PDR. Of the others the upper byte has no bits that can be written; that of
-/// a Command Request register starts no transfer.
+/// lower byte. SWR of a D_CAN resets the chip if Init is 1, and that of the upper half of Control sets PDR. Of the others the
+/// upper byte has no bits that can be written; that of a Command Request register starts no transfer.
 fn write_upper(
     own: &mut InterfaceSet,
     ram: &EndlessRam,

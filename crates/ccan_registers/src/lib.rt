@@ -24,9 +24,9 @@
 //! A port shows another what it has seen by a note (`tell`, `heed`).
 //!
 //! A word of 32 bits (`read_word`, `write_word`) is two registers, one after the other; two of one flag, Bit Timing with BRP
-//! Extension, and both halves of CAN Control are one access. A byte (`read_byte`, `write_byte`) is read by a read of its register, and its write leaves the other
-//! byte of the register. What a D_CAN does differently from a C_CAN is in `dcan`, the initialisation of its message RAM in
-//! `clearing`, and its local power down in `powering`.
+//! Extension, and both halves of CAN Control are one access. A byte (`read_byte`, `write_byte`) is read by a read of its register,
+//! and its write leaves the other byte of the register. What a D_CAN does differently from a C_CAN is in `dcan`, the
+//! initialisation of its message RAM in `clearing`, and its local power down in `powering`.
 #![tactic(auto)]
 
 mod access_error;

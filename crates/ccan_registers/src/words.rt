@@ -335,9 +335,9 @@ fn write_aligned(
 }
 
 /// Writes the word of 32 bits at an offset, in bytes from where the chip begins. If its halves are Bit Timing and BRP Extension,
-/// or those of CAN Control, that is one change of the controller, unless it asks for a software reset. Otherwise its upper half is written, and then its lower one, so that a command of a
-/// D_CAN is there before its request. A half without a register drops its bits. None if the offset is not a multiple of 4, or
-/// neither half has a register.
+/// or those of CAN Control, that is one change of the controller, unless it asks for a software reset. Otherwise its upper half
+/// is written, and then its lower one, so that a command of a D_CAN is there before its request. A half without a register drops
+/// its bits. None if the offset is not a multiple of 4, or neither half has a register.
 pub fn write_word(
     own: &mut InterfaceSet,
     ram: &EndlessRam,
