@@ -148,6 +148,11 @@ impl Bench {
         whole == steps
     }
 
+    /// The bus as it is.
+    pub fn bus(&self) -> Bus {
+        self.bus
+    }
+
     /// What waits to be sent.
     pub fn loaded(&self) -> Option<(ObjectNo, Record)> {
         self.bus.loaded()

@@ -6,7 +6,7 @@ ghost use Rattle.ccan_ram.specs.Port.{IsQuota};
 use super::bench::{Bench, object};
 use crate::expect::{BYTES, MESSAGE, empty_frame, frame, holds, same};
 use ccan_accept::Frame;
-use ccan_bus::{Choice, Decision, Fault, LoadAnswer, MemoryStep};
+use ccan_bus::{Bus, Choice, Decision, Fault, LoadAnswer, MemoryStep};
 use ccan_confine::NodeState;
 use ccan_object::Reg;
 
@@ -49,6 +49,36 @@ fn decides_by_the_frames(rt: HostRuntime) {
     let mut alone = bench(0, 64);
     let decided = Some(Decision::NoAck(0, own()));
     holds(&rt, alone.decides(&[], Fault::Quiet) == decided);
+}
+
+/// What the Status register reads and the controller's TEC.
+fn status_and_tec(bus: Bus) -> (u16, u16) {
+    let mut bus = bus;
+    (bus.status_read(), bus.counters(0).tec())
+}
+
+#[test]
+fn a_part_of_the_bus_is_renewed(rt: HostRuntime) {
+    let mut spoiled = bench(1, 64);
+    for _ in 0..3 {
+        let _fault = spoiled.round(&[], Fault::Crc);
+    }
+    let bus = spoiled.bus();
+    // LEC 6, and 8 for each error of a sender
+    same(&rt, status_and_tec(bus), (0x0006, 24));
+    let status = bus.with_new_status();
+    same(&rt, status_and_tec(status), (0x0000, 24));
+    let counters = bus.with_new_counters();
+    same(&rt, status_and_tec(counters), (0x0006, 0));
+    same(
+        &rt,
+        (status.loaded(), counters.loaded()),
+        (bus.loaded(), bus.loaded()),
+    );
+    // 28 rounds more bring TEC to at most 248, and 29 may bring it to 256, which is off
+    holds(&rt, bus.are_low(28) && !bus.are_low(29));
+    holds(&rt, counters.are_low(31) && !counters.are_low(32));
+    holds(&rt, !counters.are_low(u64::MAX));
 }
 
 #[test]
