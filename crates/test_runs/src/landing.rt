@@ -55,14 +55,12 @@ impl Labelled for Landing {
         }
     }
 
-    fn sole_move(&self, _alloc: Global, from: &u64) -> Result<Option<Move<u64, u64>>, AllocError> {
-        if *from == 0 || *from == self.at {
+    fn pass(&self, _alloc: Global, state: &mut u64) -> Result<Option<u64>, AllocError> {
+        if *state == 0 || *state == self.at {
             return Ok(None);
         }
-        Ok(Some(Move {
-            to: *from - 1,
-            label: 1,
-        }))
+        *state -= 1;
+        Ok(Some(1))
     }
 
     fn copy(&self, _alloc: Global, state: &u64) -> Result<u64, AllocError> {

@@ -51,7 +51,7 @@ impl Labelled for Stairs {
         }
     }
 
-    fn sole_move(&self, _alloc: Global, _from: &u64) -> Result<Option<Move<u64, u64>>, AllocError> {
+    fn pass(&self, _alloc: Global, _state: &mut u64) -> Result<Option<u64>, AllocError> {
         Ok(None)
     }
 
