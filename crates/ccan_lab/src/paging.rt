@@ -130,6 +130,8 @@ pub fn page_question<'a>(alloc: Global, words: &ArgMatches<'a>) -> Result<PageQu
         (one_text (found_of words.entry.now) (codes "frames")) [] question.frames) }
     ensures file { IfOk result (λ question. option_map (λ path. path.now) question.file
         ≡ first_value (found_of words.entry.now) (codes "file")) }
+    ensures refused { IfErr result (λ why.
+        IsGivenBy (one_text (found_of words.entry.now) (codes "limit")) 0) }
 {
     let limit = limit_of(words);
     if limit == 0 {
