@@ -12,6 +12,7 @@ pub mod Reached
 pub mod Said
 pub mod Same
 pub mod Union
+pub mod Ways
 pub mod With
 pub mod Needed
 pub mod Added

@@ -4,6 +4,7 @@ pub mod Hashing
 pub mod Images
 pub mod Memo
 pub mod Parts
+pub mod Said
 pub mod Signs
 pub mod States
 pub mod Words

@@ -7,7 +7,7 @@ use std::alloc::{AllocError, Global};
 use std::collections::BTreeSet;
 
 /// Marks for the nodes up to this one, of which only this one is marked.
-fn first_marks(alloc: Global, index: usize) -> Result<Vec<bool>, AllocError>
+pub(crate) fn first_marks(alloc: Global, index: usize) -> Result<Vec<bool>, AllocError>
     ensures { IfOk result (λ marks. IsMarkedAlone marks.items index) }
 {
     let mut marks = Vec::new(alloc);
