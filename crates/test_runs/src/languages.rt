@@ -3,7 +3,9 @@
 //! and with answer 1 at place 1 to 2. So its words are 0 0 and 1 1, and 0 1 and 1 0 are none. Two steps leave 5, which come to
 //! the same word in either order: with answer 0 at place 0 to 1, and with answer 0 at place 1 to 3.
 use crate::expect::holds;
-use ccan_language::{Graph, Letter, NoRoom, State, Step, steps_lead_back, words_of_each};
+use ccan_language::{
+    Graph, Letter, NoRoom, State, Step, letters_said, steps_lead_back, words_of_each,
+};
 use std::alloc::{AllocError, Global};
 use std::process::Abort;
 
@@ -94,6 +96,50 @@ fn knows_a_step_that_leads_on(rt: HostRuntime) {
         panic!(&rt; "no memory")
     };
     holds(&rt, !steps_lead_back(&[one]));
+}
+
+/// States of which 0 ends, and from 1 no way leads on. From 2 one says answer 0 at place 0 and comes to 0, and from 3 answer 1 at
+/// place 0. Two steps leave 4: with answer 0 at place 1 to 2, and with answer 1 at place 1 to 1. So from 4 the only word is 0 0.
+fn states_with_a_way_to_no_end(alloc: Global) -> Result<Vec<State>, AllocError> {
+    let mut all = Vec::new(alloc);
+    all.push(State {
+        ends: true,
+        steps: Vec::new(alloc),
+    })?;
+    all.push(state(alloc, &[])?)?;
+    all.push(state(alloc, &[(letter(0, 0), 0)])?)?;
+    all.push(state(alloc, &[(letter(0, 1), 0)])?)?;
+    all.push(state(alloc, &[(letter(1, 0), 2), (letter(1, 1), 1)])?)?;
+    Ok(all)
+}
+
+/// How often this letter is one of these.
+fn times(letters: &[Letter], wanted: Letter) -> usize {
+    let mut times: usize = 0;
+    for other in letters {
+        if *other == wanted {
+            times = times.saturating_add(1);
+        }
+    }
+    times
+}
+
+/// The letters of the step to a state from which no way leads to an end don't count, nor those of a state to which none leads.
+#[test]
+fn says_the_letters_of_the_ways_to_an_end(rt: HostRuntime) {
+    let Ok(all) = states_with_a_way_to_no_end(rt.alloc()) else {
+        panic!(&rt; "no memory")
+    };
+    let states = all.as_slice();
+    if !steps_lead_back(states) || states.len() <= 4 {
+        panic!(&rt; "a step leads on")
+    }
+    let Ok(letters) = letters_said(rt.alloc(), states, 4) else {
+        panic!(&rt; "no memory")
+    };
+    holds(&rt, letters.len() == 2);
+    holds(&rt, times(letters.as_slice(), letter(0, 0)) == 1);
+    holds(&rt, times(letters.as_slice(), letter(1, 0)) == 1);
 }
 
 /// The words of one node are no longer so many, once it is united with another: the empty word and one of a letter.

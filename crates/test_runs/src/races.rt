@@ -4,6 +4,7 @@ ghost use Rattle.std.specs.Prelude.{◌≡◌, Some, false, slice_get};
 ghost use Rattle.ccan_line.specs.Script.{fields_of};
 ghost use Rattle.ccan_outcomes.specs.AnswerGraph.{IsOfMachine};
 ghost use Rattle.ccan_outcomes.specs.Ending.{AreAllEnds};
+ghost use Rattle.ccan_outcomes.specs.LineEnds.{AreSaidOfLines};
 ghost use Rattle.ccan_outcomes.specs.Observed.{AreImages};
 ghost use Rattle.ccan_outcomes.specs.OutcomeWords.{AreOfLines, endings_in};
 
@@ -14,8 +15,9 @@ use ccan_bus::RoundAnswer;
 use ccan_object::{ObjectNo, Record};
 use ccan_outcomes::all_ports::AllPorts;
 use ccan_outcomes::{
-    AnswerGraph, Ending, Histories, HistoryKind, HistoryStep, Observed, OutcomeWords, all_outcomes,
-    answer_graph, history_of, searched_history, words_of_graph,
+    AnswerGraph, ByLine, Ending, Histories, HistoryKind, HistoryStep, LineEnds, Observed,
+    OutcomeWords, all_outcomes, answer_graph, history_of, line_ends_of, searched_history,
+    words_of_graph,
 };
 use ccan_process::LineEnd;
 use ccan_ram::PortName;
@@ -223,42 +225,69 @@ fn says_each_outcome_by_its_number(rt: HostRuntime) {
 }
 
 /// In how many ways a line of a port ends in the outcomes.
-fn ends_at(
+fn ends_at<L: ByLine>(
     rt: &impl Abort,
-    words: &OutcomeWords,
+    outcomes: &L,
     alloc: Global,
     port: PortName,
     line: usize,
 ) -> usize
-    requires { AreOfLines words.now }
+    requires { L.has_all outcomes.now }
 {
-    match words.ends_at(alloc, port, line) {
+    match outcomes.ends_at(alloc, port, line) {
         Ok(ends) => ends.len(),
         Err(_) => panic!(rt; "memory"),
     }
 }
 
 /// How many memories the outcomes end with.
-fn memories(rt: &impl Abort, words: &OutcomeWords, alloc: Global) -> usize
-    requires { AreOfLines words.now }
+fn memories<L: ByLine>(rt: &impl Abort, outcomes: &L, alloc: Global) -> usize
+    requires { L.has_all outcomes.now }
 {
-    match words.memories(alloc) {
+    match outcomes.memories(alloc) {
         Ok(memories) => memories.len(),
         Err(_) => panic!(rt; "memory"),
     }
 }
 
+/// Holds what the lines of two reads may answer. IF1 writes once. Each read of IF2 shows what was there before the write, or what it
+/// left, and so ends each outcome.
+fn hold_two_reads<L: ByLine>(rt: &impl Abort, outcomes: &L, alloc: Global)
+    requires { L.has_all outcomes.now }
+{
+    same(rt, ends_at(rt, outcomes, alloc, PortName::If1, 0), 1);
+    same(rt, ends_at(rt, outcomes, alloc, PortName::If2, 0), 2);
+    same(rt, ends_at(rt, outcomes, alloc, PortName::If2, 1), 2);
+    // There are no such lines.
+    same(rt, ends_at(rt, outcomes, alloc, PortName::If2, 2), 0);
+    same(rt, ends_at(rt, outcomes, alloc, PortName::Bus, 0), 0);
+    same(rt, memories(rt, outcomes, alloc), 1);
+}
+
 #[test]
 fn says_what_each_line_may_answer(rt: HostRuntime) {
-    // IF1 writes once. Each read of IF2 shows what was there before the write, or what it left, and so ends each outcome.
     let words = words(&rt, rt.alloc(), TWO_READS);
-    same(&rt, ends_at(&rt, &words, rt.alloc(), PortName::If1, 0), 1);
-    same(&rt, ends_at(&rt, &words, rt.alloc(), PortName::If2, 0), 2);
-    same(&rt, ends_at(&rt, &words, rt.alloc(), PortName::If2, 1), 2);
-    // There are no such lines.
-    same(&rt, ends_at(&rt, &words, rt.alloc(), PortName::If2, 2), 0);
-    same(&rt, ends_at(&rt, &words, rt.alloc(), PortName::Bus, 0), 0);
-    same(&rt, memories(&rt, &words, rt.alloc()), 1);
+    hold_two_reads(&rt, &words, rt.alloc());
+}
+
+/// How each line of a script may end, without the words of its outcomes.
+fn line_ends(rt: &impl Abort, alloc: Global, text: &str) -> LineEnds
+    ensures { AreSaidOfLines result }
+{
+    let script = read(rt, alloc, text);
+    match answer_graph(alloc, &script, 1000, &Untold) {
+        Ok(Some(graph)) => match line_ends_of(alloc, &script, &graph, false) {
+            Ok(lines) => lines,
+            Err(_) => panic!(rt; "memory"),
+        },
+        Ok(None) | Err(_) => panic!(rt; "not all outcomes"),
+    }
+}
+
+#[test]
+fn says_what_each_line_may_answer_without_words(rt: HostRuntime) {
+    let lines = line_ends(&rt, rt.alloc(), TWO_READS);
+    hold_two_reads(&rt, &lines, rt.alloc());
 }
 
 /// What the first object holds at the end of this outcome, by the first data byte.
