@@ -26,10 +26,10 @@ each_more {A} P xs x count long each last k y at =
         subst (λ (n : ℕ). P n y) here (subst (P count) (ap unwrap there) last)
     by (suc j) is there = absurd cc
 
-pub port_more : (endings : List Ending) (port : PortName) (count : ℕ) (old new after : List (List (List ℕ)))
-    (texts : List (List ℕ)) → HasPort endings port count old new → AreLinesOf endings port count texts
-    → after ≡ new ++ texts ∷ [] → HasPort endings port (count + 1) old after
-port_more endings port count old new after texts has are is = record {
+pub port_more : (IsOutcome : Ending → Type 0) (port : PortName) (count : ℕ) (old new after : List (List (List ℕ)))
+    (texts : List (List ℕ)) → HasPort IsOutcome port count old new → AreLinesOf IsOutcome port count texts
+    → after ≡ new ++ texts ∷ [] → HasPort IsOutcome port (count + 1) old after
+port_more IsOutcome port count old new after texts has are is = record {
   more = has.more ++ texts ∷ [];
   new_is = is ∙ (ap (λ (l : List (List (List ℕ))). l ++ texts ∷ []) has.new_is ∙ append_assoc old has.more (texts ∷ []));
   as_many =
@@ -37,11 +37,11 @@ port_more endings port count old new after texts has are is = record {
       let one : length (texts ∷ []) ≡ 1 = refl in
       let many = has.as_many in
       omega (arith, sum, one, many);
-  are = each_more (AreLinesOf endings port) has.more texts count has.as_many has.are are;
+  are = each_more (AreLinesOf IsOutcome port) has.more texts count has.as_many has.are are;
 }
 
-pub port_none : (endings : List Ending) (port : PortName) (all : List (List (List ℕ))) → HasPort endings port 0 all all
-port_none endings port all = record { more = []; new_is = sym (append-nil all); as_many = refl; are = λ line texts at. absurd cc }
+pub port_none : (IsOutcome : Ending → Type 0) (port : PortName) (all : List (List (List ℕ))) → HasPort IsOutcome port 0 all all
+port_none IsOutcome port all = record { more = []; new_is = sym (append-nil all); as_many = refl; are = λ line texts at. absurd cc }
 
 pub objects_more : (memories : List (List Record)) (count : ℕ) (old new after : List (List (List ℕ)))
     (texts : List (List ℕ)) → HasObjects memories count old new → texts ≡ map (final_of (count + 1)) memories

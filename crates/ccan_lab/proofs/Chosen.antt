@@ -11,7 +11,7 @@ use Rattle.ccan_object.specs.Profile.{objects_in}
 use Rattle.ccan_ram.specs.declared.port.PortName.{PortName}
 use Rattle.ccan_ram.specs.declared.port.PortName.TheVariants.{If1, If2, Bus}
 use Rattle.ccan_outcomes.specs.declared.ending.Ending.{Ending}
-use Rattle.ccan_outcomes.specs.OutcomeWords.{AreComplete, EndsSo, IsLeft}
+use Rattle.ccan_outcomes.specs.OutcomeWords.{EndsSo, IsComplete, IsLeft}
 use Rattle.ccan_lab.specs.Choices.{AreLinesOf, HasObjects, HasPort, final_of}
 use Rattle.ccan_lab.specs.Observed.{places_of}
 use Rattle.ccan_lab.specs.Rows.{final_row, final_rows, line_at, rows_of, row_text}
@@ -116,10 +116,10 @@ final_none records index at =
 
 -- ---- what a line answers, as it is printed
 
-pub lines_printed : (endings : List Ending) (port : PortName) (line : ℕ) (ends : List LineEnd)
-    → ((end : LineEnd) → Contains ends end ↔ EndsSo endings port line end)
-    → AreLinesOf endings port line (map (row_text port) ends)
-lines_printed endings port line ends are = record {
+pub lines_printed : (IsOutcome : Ending → Type 0) (port : PortName) (line : ℕ) (ends : List LineEnd)
+    → ((end : LineEnd) → Contains ends end ↔ EndsSo IsOutcome port line end)
+    → AreLinesOf IsOutcome port line (map (row_text port) ends)
+lines_printed IsOutcome port line ends are = record {
   right = λ text inside.
       let of = image_of (row_text port) ends text inside in
       (of.0, (are of.0).0 of.1, of.2);
@@ -184,9 +184,10 @@ module _ (ending : Ending) where
 
 -- ---- the lines that stand in a place
 
-module _ (script : ScriptFields) (endings : List Ending) (have : AreComplete script endings) where
-  at_if1 : (line : ℕ) (texts : List (List ℕ)) → line < length script.if1 → AreLinesOf endings If1 line texts
-      → AreLinesAt endings line texts
+module _ (script : ScriptFields) (IsOutcome : Ending → Type 0)
+    (have : (ending : Ending) → IsOutcome ending → IsComplete script ending) where
+  at_if1 : (line : ℕ) (texts : List (List ℕ)) → line < length script.if1 → AreLinesOf IsOutcome If1 line texts
+      → AreLinesAt IsOutcome line texts
   at_if1 line texts low are = record {
     right = λ text inside.
         let of = are.right text inside in
@@ -199,8 +200,8 @@ module _ (script : ScriptFields) (endings : List Ending) (have : AreComplete scr
         (are.complete answer.0 (ending, inside, answer.1));
   }
 
-  at_if2 : (line : ℕ) (texts : List (List ℕ)) → line < length script.if2 → AreLinesOf endings If2 line texts
-      → AreLinesAt endings (length script.if1 + line) texts
+  at_if2 : (line : ℕ) (texts : List (List ℕ)) → line < length script.if2 → AreLinesOf IsOutcome If2 line texts
+      → AreLinesAt IsOutcome (length script.if1 + line) texts
   at_if2 line texts low are = record {
     right = λ text inside.
         let of = are.right text inside in
@@ -217,8 +218,8 @@ module _ (script : ScriptFields) (endings : List Ending) (have : AreComplete scr
         (are.complete answer.0 (ending, inside, answer.1));
   }
 
-  at_bus : (line : ℕ) (texts : List (List ℕ)) → line < length script.bus → AreLinesOf endings Bus line texts
-      → AreLinesAt endings (length script.if1 + (length script.if2 + line)) texts
+  at_bus : (line : ℕ) (texts : List (List ℕ)) → line < length script.bus → AreLinesOf IsOutcome Bus line texts
+      → AreLinesAt IsOutcome (length script.if1 + (length script.if2 + line)) texts
   at_bus line texts low are = record {
     right = λ text inside.
         let of = are.right text inside in
@@ -238,9 +239,9 @@ module _ (script : ScriptFields) (endings : List Ending) (have : AreComplete scr
   }
 
   module _ (memories : List (List Record))
-      (are_left : (records : List Record) → Contains memories records ↔ IsLeft endings records) where
+      (are_left : (records : List Record) → Contains memories records ↔ IsLeft IsOutcome records) where
     at_object : (index : ℕ) (texts : List (List ℕ)) → texts ≡ map (final_of (index + 1)) memories
-        → AreLinesAt endings (length script.if1 + (length script.if2 + (length script.bus + index))) texts
+        → AreLinesAt IsOutcome (length script.if1 + (length script.if2 + (length script.bus + index))) texts
     at_object index texts is = record {
       right = λ text inside.
           let of = image_of (final_of (index + 1)) memories text (subst (λ (l : List (List ℕ)). Contains l text) is inside) in
@@ -268,8 +269,8 @@ module _ (script : ScriptFields) (endings : List Ending) (have : AreComplete scr
 
     -- ---- all places
 
-    module _ (one two three four : List (List (List ℕ))) (if1 : HasPort endings If1 (length script.if1) [] one)
-        (if2 : HasPort endings If2 (length script.if2) one two) (bus : HasPort endings Bus (length script.bus) two three)
+    module _ (one two three four : List (List (List ℕ))) (if1 : HasPort IsOutcome If1 (length script.if1) [] one)
+        (if2 : HasPort IsOutcome If2 (length script.if2) one two) (bus : HasPort IsOutcome Bus (length script.bus) two three)
         (objects : HasObjects memories (objects_in script.profile) three four) where
       long1 : length one ≡ length script.if1
       long1 = ap (λ (l : List (List (List ℕ))). length l) if1.new_is ∙ if1.as_many
@@ -295,51 +296,51 @@ module _ (script : ScriptFields) (endings : List Ending) (have : AreComplete scr
           let before = long3 in
           ap (λ (l : List (List (List ℕ))). length l) objects.new_is ∙ omega (arith, sum, many, before)
 
-      in_one : (place : ℕ) (lines : List (List ℕ)) → slice_get one place ≡ Some lines → AreLinesAt endings place lines
+      in_one : (place : ℕ) (lines : List (List ℕ)) → slice_get one place ≡ Some lines → AreLinesAt IsOutcome place lines
       in_one place lines at =
           let there = ap (λ (l : List (List (List ℕ))). slice_get l place) (sym if1.new_is) ∙ at in
           let low = slice_get_within if1.more place lines there in
           let many = if1.as_many in
           at_if1 place lines (omega (arith, low, many)) (if1.are place lines there)
 
-      in_two : (place : ℕ) (lines : List (List ℕ)) → slice_get two place ≡ Some lines → AreLinesAt endings place lines
+      in_two : (place : ℕ) (lines : List (List ℕ)) → slice_get two place ≡ Some lines → AreLinesAt IsOutcome place lines
       in_two place lines at =
           elim (part_of one if2.more place lines (ap (λ (l : List (List (List ℕ))). slice_get l place) (sym if2.new_is) ∙ at))
-          as (λ _. AreLinesAt endings place lines) [
+          as (λ _. AreLinesAt IsOutcome place lines) [
             | inl here ↦ in_one place lines here
             | inr (j, is, there) ↦
                 let low = slice_get_within if2.more j lines there in
                 let many = if2.as_many in
                 let before = long1 in
-                subst (λ (n : ℕ). AreLinesAt endings n lines)
+                subst (λ (n : ℕ). AreLinesAt IsOutcome n lines)
                 (sym (is ∙ ap (λ (n : ℕ). n + j) long1))
                 (at_if2 j lines (omega (arith, low, many)) (if2.are j lines there))
           ]
 
-      in_three : (place : ℕ) (lines : List (List ℕ)) → slice_get three place ≡ Some lines → AreLinesAt endings place lines
+      in_three : (place : ℕ) (lines : List (List ℕ)) → slice_get three place ≡ Some lines → AreLinesAt IsOutcome place lines
       in_three place lines at =
           elim (part_of two bus.more place lines (ap (λ (l : List (List (List ℕ))). slice_get l place) (sym bus.new_is) ∙ at))
-          as (λ _. AreLinesAt endings place lines) [
+          as (λ _. AreLinesAt IsOutcome place lines) [
             | inl here ↦ in_two place lines here
             | inr (j, is, there) ↦
                 let low = slice_get_within bus.more j lines there in
                 let many = bus.as_many in
                 let before = long2 in
                 let here : length script.if1 + (length script.if2 + j) ≡ place = omega (arith, is, before) in
-                subst (λ (n : ℕ). AreLinesAt endings n lines) here
+                subst (λ (n : ℕ). AreLinesAt IsOutcome n lines) here
                 (at_bus j lines (omega (arith, low, many)) (bus.are j lines there))
           ]
 
-      pub in_four : (place : ℕ) (lines : List (List ℕ)) → slice_get four place ≡ Some lines → AreLinesAt endings place lines
+      pub in_four : (place : ℕ) (lines : List (List ℕ)) → slice_get four place ≡ Some lines → AreLinesAt IsOutcome place lines
       in_four place lines at =
           elim (part_of three objects.more place lines
           (ap (λ (l : List (List (List ℕ))). slice_get l place) (sym objects.new_is) ∙ at))
-          as (λ _. AreLinesAt endings place lines) [
+          as (λ _. AreLinesAt IsOutcome place lines) [
             | inl here ↦ in_three place lines here
             | inr (j, is, there) ↦
                 let before = long3 in
                 let here : length script.if1 + (length script.if2 + (length script.bus + j)) ≡ place =
                 omega (arith, is, before) in
-                subst (λ (n : ℕ). AreLinesAt endings n lines) here
+                subst (λ (n : ℕ). AreLinesAt IsOutcome n lines) here
                 (at_object j lines (objects.are j lines there))
           ]

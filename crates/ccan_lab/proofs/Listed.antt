@@ -6,26 +6,26 @@ use Rattle.std.proofs.lemmas.Option.{slice_get-map, slice_get_within}
 use Rattle.ccan_line.specs.Script.{ScriptFields}
 use Rattle.ccan_outcomes.specs.declared.ending.Ending.{Ending}
 use Rattle.ccan_search.proofs.WayOn.{there_within}
-use Rattle.ccan_lab.specs.Listing.{HasChoices, different_line, different_lines}
+use Rattle.ccan_lab.specs.Listing.{different_line, different_lines}
 use Rattle.ccan_lab.specs.Observed.{places_of}
 use Rattle.ccan_lab.specs.Report.{each}
 use Rattle.ccan_lab.specs.Rows.{line_at, rows_at, rows_of}
 use Rattle.ccan_lab.specs.Sorted.{AreAllInOrder, all_texts, texts_of}
-use Rattle.ccan_lab.specs.Summary.{AreLinesAt, choices_at}
+use Rattle.ccan_lab.specs.Summary.{AreLinesAt, HasChoices, choices_at}
 use Rattle.ccan_lab.proofs.Parts.{Lines, choices_read, ordered_choices}
 
 -- the lines of all places, each once and in order, are the choices of these places
-pub has_choices : (script : ScriptFields) (endings : List Ending) (rows choices : List (List (List ℕ)))
+pub has_choices : (script : ScriptFields) (IsOutcome : Ending → Type 0) (rows choices : List (List (List ℕ)))
     → length rows ≡ places_of script
-    → ((place : ℕ) (lines : List (List ℕ)) → slice_get rows place ≡ Some lines → AreLinesAt endings place lines)
-    → AreAllInOrder rows choices → HasChoices script endings choices
-has_choices script endings rows choices many are ordered = record {
+    → ((place : ℕ) (lines : List (List ℕ)) → slice_get rows place ≡ Some lines → AreLinesAt IsOutcome place lines)
+    → AreAllInOrder rows choices → HasChoices script IsOutcome choices
+has_choices script IsOutcome rows choices many are ordered = record {
   as_many = ordered.as_many ∙ many;
   are = λ place lines at.
       let low = slice_get_within choices place lines at in
       let same = ordered.as_many in
       let here = there_within rows place (omega (arith, low, same)) in
-      ordered_choices endings place here.0 lines (are place here.0 here.1) (ordered.are place here.0 lines here.1 at);
+      ordered_choices IsOutcome place here.0 lines (are place here.0 here.1) (ordered.are place here.0 lines here.1 at);
 }
 
 -- how many lines may stand in a place

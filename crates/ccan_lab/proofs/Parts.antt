@@ -1,12 +1,14 @@
 -- What is printed of a place of the short list, by how many lines may stand there.
-use Rattle.std.proofs.Common.{◌≡◌, ◌<◌, ◌≤◌, ◌++◌, ℕ, zero, suc, List, [], ◌∷◌, Bor, Some, length, map, get_or, slice_get, codes, refl, sym, ap, subst, ◌∙◌, arith}
+use Rattle.std.proofs.Common.{◌≡◌, ◌<◌, ◌≤◌, ◌++◌, ◌↔◌, ℕ, zero, suc, List, [], ◌∷◌, Bor, Some, length, map, get_or, slice_get, codes, refl, sym, ap, subst, ◌∙◌, arith}
 use Rattle.std.proofs.lemmas.List.{length-map, map-append}
 use Rattle.std.proofs.lemmas.Option.{get_or_from_slice_get}
 use Rattle.std.specs.Global.{Vec}
 use Rattle.std.specs.List.{flat_map}
 use Rattle.ccan_lab.specs.Report.{labelled}
 use Rattle.ccan_lab.specs.Sorted.{all_texts, texts_of}
-use Rattle.ccan_lab.specs.Summary.{AreChoices, AreInOrder, AreLinesAt, choice_part, choice_text, choices_at, same_part}
+use Rattle.ccan_lab.specs.Summary.{AreChoices, AreInOrder, AreLinesAt, HasChoices, choice_part, choice_text}
+use Rattle.ccan_lab.specs.Summary.{choices_at, same_part}
+use Rattle.ccan_line.specs.Script.{ScriptFields}
 use Rattle.ccan_outcomes.specs.declared.ending.Ending.{Ending}
 use Rattle.ccan_lab.proofs.Added.{each_more}
 
@@ -73,12 +75,31 @@ sorted_more all sorted new more rows count long are is ordered pushed =
     (map-append (λ (v : Lines). texts_of v.items) sorted (more ∷ []))) ∙ at))
 
 -- lines in order are the choices of the place of which they are the lines
-pub ordered_choices : (endings : List Ending) (place : ℕ) (rows lines : List (List ℕ)) → AreLinesAt endings place rows
-    → AreInOrder rows lines → AreChoices endings place lines
-ordered_choices endings place rows lines are ordered = record {
+pub ordered_choices : (IsOutcome : Ending → Type 0) (place : ℕ) (rows lines : List (List ℕ)) → AreLinesAt IsOutcome place rows
+    → AreInOrder rows lines → AreChoices IsOutcome place lines
+ordered_choices IsOutcome place rows lines are ordered = record {
   are = record {
     right = λ line inside. are.right line (ordered.right line inside);
     complete = λ ending inside. ordered.complete _ (are.complete ending inside);
   };
   ordered = ordered.ordered;
+}
+
+-- choices of outcomes are those of the same outcomes, told otherwise
+pub choices_alike : (script : ScriptFields) (IsOutcome IsOther : Ending → Type 0)
+    → ((ending : Ending) → IsOutcome ending ↔ IsOther ending) → (choices : List (List (List ℕ)))
+    → HasChoices script IsOutcome choices → HasChoices script IsOther choices
+choices_alike script IsOutcome IsOther alike choices has = record {
+  as_many = has.as_many;
+  are = λ place lines at.
+      let here = has.are place lines at in
+      record {
+        are = record {
+          right = λ line inside.
+              let of = here.are.right line inside in
+              (of.0, (alike of.0).0 of.1, of.2);
+          complete = λ ending is. here.are.complete ending ((alike ending).1 is);
+        };
+        ordered = here.ordered;
+      };
 }

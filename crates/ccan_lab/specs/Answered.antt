@@ -23,8 +23,8 @@ use Rattle.ccan_lab.specs.Question.{AreKnown}
 use Rattle.ccan_lab.specs.Rows.{has_lines, lines_of}
 use Rattle.ccan_lab.specs.Seen.{HasNoSeenList, TellsSeen}
 use Rattle.ccan_lab.specs.Sorted.{texts_of}
-use Rattle.ccan_lab.specs.Summary.{TellsSummary}
-use Rattle.ccan_lab.specs.Words.{HasNoWords, IsUnanswered, IsWithout, TellsLine}
+use Rattle.ccan_lab.specs.Summary.{TellsSummary, TellsWithoutNumber}
+use Rattle.ccan_lab.specs.Words.{HasNoGraph, HasNoWords, IsUnanswered, IsWithout, TellsLine}
 
 -- ---- the script that is searched
 
@@ -62,11 +62,12 @@ CanHave frames script begins =
 abbrev pub IsOneIf : Type 0 → ℕ → ℕ → ℕ → Type 0
 IsOneIf IsSo one other status = (IsSo × (status ≡ one)) ⊎ (¬ IsSo × (status ≡ other))
 
--- --can ends with 6 exactly if no end to which the ports can come has all the lines, --never exactly if one has; all else with 0
+-- --can ends with 6 exactly if no end to which the ports can come has all the lines, --never exactly if one has; the short list with
+-- 0 or 5, by whether it has the number of outcomes; all else with 0
 abbrev pub EndsAsAsked : Asked → Bool → ScriptFields → List (List ℕ) → ℕ → Type 0
 EndsAsAsked Can frames script lines status = IsOneIf (CanHave frames script lines) 0 6 status
 EndsAsAsked Never frames script lines status = IsOneIf (CanHave frames script lines) 6 0 status
-EndsAsAsked Summary frames script lines status = status ≡ 0
+EndsAsAsked Summary frames script lines status = (status ≡ 0) ⊎ (status ≡ 5)
 EndsAsAsked All frames script lines status = status ≡ 0
 EndsAsAsked Json frames script lines status = status ≡ 0
 EndsAsAsked (Observed names) frames script lines status = status ≡ 0
@@ -85,9 +86,15 @@ TellsLines question script never answer =
     (holds : Bool) × (answer.status ≡ status_if holds)
     × TellsLine question.frames question.form script ending_is.eq (texts_of question.lines.items) never answer.text.items holds
 
+-- the short list, with status 0; or it without the number, as the outcomes need too many nodes, with status 5
+abbrev pub TellsShortList : Bool → ScriptFields → (Ending → Ending → Bool) → ℕ → FileAnswer → Type 0
+TellsShortList frames script eq most answer =
+    (TellsSummary frames script eq answer.text.items × (answer.status ≡ 0))
+    ⊎ (TellsWithoutNumber frames script most answer.text.items × (answer.status ≡ 5))
+
 -- what is printed, by what is asked; only JSON has the file's name
 abbrev pub TellsBy : Asked → OutcomesQuestion → List ℕ → ScriptFields → FileAnswer → Type 0
-TellsBy Summary question name script answer = TellsSummary question.frames script ending_is.eq answer.text.items
+TellsBy Summary question name script answer = TellsShortList question.frames script ending_is.eq question.most answer
 TellsBy Can question name script answer = TellsLines question script false answer
 TellsBy Never question name script answer = TellsLines question script true answer
 TellsBy (Observed names) question name script answer =
@@ -103,9 +110,10 @@ pub record AnswersAsked (question : OutcomesQuestion) (name : List ℕ) (script 
   pub tells : TellsBy question.asked question name script answer
   pub ends : EndsAsAsked question.asked question.frames script (texts_of question.lines.items) answer.status
 
--- why there is no answer, by what is asked: too many states or nodes for it, a line that is refused, or lack of memory
+-- why there is no answer, by what is asked: too many states or nodes for it (for the short list only states), a line that is
+-- refused, or lack of memory
 abbrev pub RefusesBy : Asked → OutcomesQuestion → ScriptFields → LabError → Type 0
-RefusesBy Summary question script why = HasNoWords question.frames script ports_are.eq question.most why
+RefusesBy Summary question script why = HasNoGraph script ports_are.eq question.most why
 RefusesBy Can question script why =
     IsUnanswered question.frames script (texts_of question.lines.items) ports_are.eq question.most why
 RefusesBy Never question script why =

@@ -9,17 +9,17 @@ use Rattle.ccan_outcomes.specs.OutcomeWords.{EndsSo}
 use Rattle.ccan_lab.specs.Rows.{final_rows, line_at, row_text}
 
 -- how a line of a port, counted from 0, ends in the outcomes, as it is printed
-pub record AreLinesOf (endings : List Ending) (port : PortName) (line : ℕ) (texts : List (List ℕ)) : Type 0 where
+pub record AreLinesOf (IsOutcome : Ending → Type 0) (port : PortName) (line : ℕ) (texts : List (List ℕ)) : Type 0 where
   pub right : (text : List ℕ) → Contains texts text
-      → (end : LineEnd) × EndsSo endings port line end × (row_text port end ≡ text)
-  pub complete : (end : LineEnd) → EndsSo endings port line end → Contains texts (row_text port end)
+      → (end : LineEnd) × EndsSo IsOutcome port line end × (row_text port end ≡ text)
+  pub complete : (end : LineEnd) → EndsSo IsOutcome port line end → Contains texts (row_text port end)
 
 -- after what was there come those of each of the first so many lines of a port
-pub record HasPort (endings : List Ending) (port : PortName) (count : ℕ) (old new : List (List (List ℕ))) : Type 0 where
+pub record HasPort (IsOutcome : Ending → Type 0) (port : PortName) (count : ℕ) (old new : List (List (List ℕ))) : Type 0 where
   pub more : List (List (List ℕ))
   pub new_is : new ≡ old ++ more
   pub as_many : length more ≡ count
-  pub are : (line : ℕ) (texts : List (List ℕ)) → slice_get more line ≡ Some texts → AreLinesOf endings port line texts
+  pub are : (line : ℕ) (texts : List (List ℕ)) → slice_get more line ≡ Some texts → AreLinesOf IsOutcome port line texts
 
 -- the line of an object, counted from 1, in a memory
 abbrev pub final_of : ℕ → List Record → List ℕ

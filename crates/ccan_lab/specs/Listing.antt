@@ -1,20 +1,15 @@
 -- What is printed of all outcomes of a script, each with a history, and of one of them. Source: this project's own.
 use Rattle.std.specs.Prelude.{ℕ, zero, suc, ◌≡◌, ◌++◌, nat_lt, Bool, List, [], Some, length, map, min, slice_get, if◌then◌else◌}
+use Rattle.std.specs.List.{Contains}
 use Rattle.ccan_line.specs.Script.{ScriptFields}
 use Rattle.ccan_outcomes.specs.declared.ending.Ending.{Ending}
 use Rattle.ccan_lab.specs.declared.history_form.HistoryForm.{HistoryForm}
 use Rattle.ccan_lab.specs.Answer.{first_with}
 use Rattle.ccan_lab.specs.Counting.{count_text, greatest}
-use Rattle.ccan_lab.specs.Observed.{places_of}
 use Rattle.ccan_lab.specs.OutcomeText.{IsOutcomeText}
 use Rattle.ccan_lab.specs.Report.{each}
 use Rattle.ccan_lab.specs.Rows.{line_at, rows_at, rows_of}
-use Rattle.ccan_lab.specs.Summary.{AreChoices, choices_at, same_parts}
-
--- for each place of the script these are the lines that the outcomes have there
-pub record HasChoices (script : ScriptFields) (endings : List Ending) (choices : List (List (List ℕ))) : Type 0 where
-  pub as_many : length choices ≡ places_of script
-  pub are : (place : ℕ) (lines : List (List ℕ)) → slice_get choices place ≡ Some lines → AreChoices endings place lines
+use Rattle.ccan_lab.specs.Summary.{HasChoices, choices_at, same_parts}
 
 -- the line of an outcome in a place, if several may be there
 unfoldable pub different_line : List (List (List ℕ)) → List (List ℕ) → ℕ → List ℕ
@@ -41,7 +36,7 @@ AreOutcomeTexts frames form script endings choices (suc number) text =
 pub record IsListing (frames : Bool) (form : HistoryForm) (script : ScriptFields) (endings : List Ending) (text : List ℕ)
     : Type 0 where
   pub choices : List (List (List ℕ))
-  pub has_choices : HasChoices script endings choices
+  pub has_choices : HasChoices script (Contains endings) choices
   pub outcomes : List ℕ
   pub are : AreOutcomeTexts frames form script endings choices (length endings) outcomes
   pub text_is : text ≡ count_text (min (length endings) greatest) ++ (same_parts choices ++ outcomes)
@@ -50,7 +45,7 @@ pub record IsListing (frames : Bool) (form : HistoryForm) (script : ScriptFields
 pub record IsOneText (frames : Bool) (form : HistoryForm) (script : ScriptFields) (endings : List Ending) (number : ℕ)
     (text : List ℕ) : Type 0 where
   pub choices : List (List (List ℕ))
-  pub has_choices : HasChoices script endings choices
+  pub has_choices : HasChoices script (Contains endings) choices
   pub outcome : List ℕ
   pub is_one : IsNumberedText frames form script endings choices number outcome
   pub text_is : text ≡ count_text (min (length endings) greatest) ++ outcome

@@ -1,7 +1,7 @@
 -- What a page shows of the outcomes of a script. Source: this project's own.
 use Rattle.std.specs.Prelude.{ℕ, Bool, zero, suc, ◌≡◌, ◌+◌, ◌-◌, ◌++◌, ◌∷◌, List, [], Option, None, Some}
 use Rattle.std.specs.Prelude.{codes, if◌then◌else◌, length, map, min, slice_get, string_bytes}
-use Rattle.std.specs.List.{IsDistinct}
+use Rattle.std.specs.List.{Contains, IsDistinct}
 use Rattle.std.specs.Str.{bytes_eq}
 use Rattle.ccan_ram.specs.declared.port.PortName.{PortName}
 use Rattle.ccan_line.specs.Script.{ScriptFields}
@@ -19,9 +19,9 @@ use Rattle.ccan_page.specs.declared.page.Step as shown
 use Rattle.ccan_lab.specs.declared.paging.PageKind.{PageKind}
 use Rattle.ccan_lab.specs.declared.paging.PageKind.TheVariants.{ByOrder, Run, Outcomes}
 use Rattle.ccan_lab.specs.Counting.{greatest}
-use Rattle.ccan_lab.specs.Listing.{HasChoices, different_lines}
+use Rattle.ccan_lab.specs.Listing.{different_lines}
 use Rattle.ccan_lab.specs.Rows.{rows_at, rows_of}
-use Rattle.ccan_lab.specs.Summary.{same_parts}
+use Rattle.ccan_lab.specs.Summary.{HasChoices, same_parts}
 
 -- the name that a page has for the script's file: none for standard input
 abbrev pub page_name : Option (List ℕ) → List ℕ
@@ -68,7 +68,7 @@ AreShown frames script endings choices (suc place) outcomes =
 pub record ShowsEndings (frames : Bool) (script : ScriptFields) (endings : List Ending) (limit : ℕ) (page : Page) : Type 0 where
   pub count_is : page.count ≡ min (length endings) greatest
   pub choices : List (List (List ℕ))
-  pub has_choices : HasChoices script endings choices
+  pub has_choices : HasChoices script (Contains endings) choices
   pub same_is : string_bytes page.same ≡ same_parts choices
   pub are_shown : AreShown frames script endings choices (min limit (length endings)) page.outcomes.items
 

@@ -1,12 +1,14 @@
 -- The short list of outcomes: what each line may be. Source: this project's own.
-use Rattle.std.specs.Prelude.{ℕ, ◌≡◌, ◌++◌, ◌∷◌, nat_lt, Bool, List, [], Some, codes, length, min, slice_get, unwrap_or, if◌then◌else◌}
+use Rattle.std.specs.Prelude.{ℕ, ◌≡◌, ◌++◌, ◌∷◌, nat_lt, Bool, List, [], Some, codes, decimal, length, min, slice_get, unwrap_or}
+use Rattle.std.specs.Prelude.{if◌then◌else◌}
 use Rattle.std.specs.Cmp.Lexicographic.{slice_cmp}
 use Rattle.std.specs.List.{Contains, IsDistinct, flat_map}
 use Rattle.std.specs.List.Sorted.{IsStrictlySortedBy}
 use Rattle.std.specs.Ordering.{nat_cmp}
 use Rattle.ccan_line.specs.Script.{ScriptFields}
 use Rattle.ccan_outcomes.specs.declared.ending.Ending.{Ending}
-use Rattle.ccan_outcomes.specs.Ending.{AreAllEnds, AreOfRuns, AreOutcomes}
+use Rattle.ccan_outcomes.specs.Ending.{AreAllEnds, AreOfRuns, AreOutcomes, IsOfEnd}
+use Rattle.ccan_outcomes.specs.WordStates.{TellsManyWords}
 use Rattle.ccan_lab.specs.Counting.{count_text, greatest}
 use Rattle.ccan_lab.specs.Observed.{places_of}
 use Rattle.ccan_lab.specs.Place.{place_name}
@@ -16,10 +18,10 @@ use Rattle.ccan_lab.specs.Rows.{line_at, rows_of}
 -- ---- what may be in a place
 
 -- these are the lines that the outcomes have in a place, and no others
-pub record AreLinesAt (endings : List Ending) (place : ℕ) (lines : List (List ℕ)) : Type 0 where
+pub record AreLinesAt (IsOutcome : Ending → Type 0) (place : ℕ) (lines : List (List ℕ)) : Type 0 where
   pub right : (line : List ℕ) → Contains lines line
-      → (ending : Ending) × Contains endings ending × (line_at (rows_of ending) place ≡ line)
-  pub complete : (ending : Ending) → Contains endings ending → Contains lines (line_at (rows_of ending) place)
+      → (ending : Ending) × IsOutcome ending × (line_at (rows_of ending) place ≡ line)
+  pub complete : (ending : Ending) → IsOutcome ending → Contains lines (line_at (rows_of ending) place)
 
 -- these are the same lines as those, each once, in the order of their bytes
 pub record AreInOrder (all lines : List (List ℕ)) : Type 0 where
@@ -28,8 +30,8 @@ pub record AreInOrder (all lines : List (List ℕ)) : Type 0 where
   pub ordered : IsStrictlySortedBy (slice_cmp nat_cmp) lines
 
 -- the lines that the outcomes have in a place, each once, in the order of their bytes
-pub record AreChoices (endings : List Ending) (place : ℕ) (lines : List (List ℕ)) : Type 0 where
-  pub are : AreLinesAt endings place lines
+pub record AreChoices (IsOutcome : Ending → Type 0) (place : ℕ) (lines : List (List ℕ)) : Type 0 where
+  pub are : AreLinesAt IsOutcome place lines
   pub ordered : IsStrictlySortedBy (slice_cmp nat_cmp) lines
 
 -- ---- what is printed of a place
@@ -73,11 +75,21 @@ choice_parts all name = each (length all) (λ place. choice_part (name place) (c
 abbrev pub name_in : ScriptFields → ℕ → List ℕ
 name_in script = place_name (length script.if1) (length script.if2) (length script.bus)
 
+-- for each place of the script these are the lines that the outcomes have there
+pub record HasChoices (script : ScriptFields) (IsOutcome : Ending → Type 0) (choices : List (List (List ℕ))) : Type 0 where
+  pub as_many : length choices ≡ places_of script
+  pub are : (place : ℕ) (lines : List (List ℕ)) → slice_get choices place ≡ Some lines → AreChoices IsOutcome place lines
+
+-- behind what was there comes what is the same in all outcomes, and what may be in each other place
+pub record AddsChoices (script : ScriptFields) (IsOutcome : Ending → Type 0) (old new : List ℕ) : Type 0 where
+  pub choices : List (List (List ℕ))
+  pub has_choices : HasChoices script IsOutcome choices
+  pub new_is : new ≡ old ++ (same_parts choices ++ choice_parts choices (name_in script))
+
 -- the number of outcomes, what is the same in all, what may be in each other place, and the last line
 pub record IsSummary (script : ScriptFields) (endings : List Ending) (text : List ℕ) : Type 0 where
   pub choices : List (List (List ℕ))
-  pub as_many : length choices ≡ places_of script
-  pub are : (place : ℕ) (lines : List (List ℕ)) → slice_get choices place ≡ Some lines → AreChoices endings place lines
+  pub has_choices : HasChoices script (Contains endings) choices
   pub text_is : text ≡ count_text (min (length endings) greatest) ++ (same_parts choices
       ++ (choice_parts choices (name_in script) ++ closing_text (min (length endings) greatest)))
 
@@ -90,3 +102,18 @@ pub record TellsSummary (frames : Bool) (script : ScriptFields) (eq : Ending →
   pub runs : AreOfRuns script outcomes
   pub once : IsDistinct eq outcomes
   pub text_is : IsSummary script outcomes text
+
+-- ---- the short list without the number
+
+-- the first line then: the outcomes need more nodes than so many
+abbrev pub unknown_text : ℕ → List ℕ
+unknown_text most =
+    codes "more than " ++ (decimal most ++ codes " nodes: the number of outcomes isn't known; --most allows more\n")
+
+-- the text is the short list without the number, as the outcomes need too many nodes: what is the same in all ends that the ports
+-- can come to, as they are reported, and what may be in each other place
+pub record TellsWithoutNumber (frames : Bool) (script : ScriptFields) (most : ℕ) (text : List ℕ) : Type 0 where
+  pub why : TellsManyWords frames script most
+  pub choices : List (List (List ℕ))
+  pub has_choices : HasChoices script (IsOfEnd frames script) choices
+  pub text_is : text ≡ unknown_text most ++ (same_parts choices ++ choice_parts choices (name_in script))

@@ -4,15 +4,21 @@ use Rattle.std.specs.List.{IsDistinct}
 use Rattle.ccan_line.specs.Script.{ScriptFields}
 use Rattle.ccan_outcomes.specs.declared.all_ports.AllPorts.{AllPorts}
 use Rattle.ccan_outcomes.specs.declared.ending.Ending.{Ending}
+use Rattle.ccan_outcomes.specs.declared.line_ends.LineEnds.{LineEnds}
+use Rattle.ccan_outcomes.specs.declared.words.OutcomeWords.{OutcomeWords}
 use Rattle.ccan_outcomes.specs.AllPortsReached.{HasMoreAtOnce}
 use Rattle.ccan_outcomes.specs.AnswerGraph.{HasLargeGraph}
 use Rattle.ccan_outcomes.specs.Ending.{AreAllEnds, AreOfRuns, AreOutcomes}
+use Rattle.ccan_outcomes.specs.LineEnds.{AreSaidOfLines, SayAllEnds, SayWholeOutcomes}
+use Rattle.ccan_outcomes.specs.OutcomeWords.{AreComplete, AreOfLines, endings_in}
 use Rattle.ccan_outcomes.specs.WordStates.{TellsManyWords}
 use Rattle.ccan_lab.specs.declared.history_form.HistoryForm.{HistoryForm}
 use Rattle.ccan_lab.specs.declared.lab_error.LabError.{LabError}
 use Rattle.ccan_lab.specs.declared.lab_error.LabError.TheVariants as fault
 use Rattle.ccan_lab.specs.declared.line_search.LineSearch.{LineSearch}
 use Rattle.ccan_lab.specs.declared.line_search.LineSearch.TheVariants.{Found, NotFound, Refused}
+use Rattle.ccan_lab.specs.declared.outcome_words.Gathered.{Gathered}
+use Rattle.ccan_lab.specs.declared.outcome_words.Gathered.TheVariants.{Together, Apart}
 use Rattle.ccan_lab.specs.Answer.{are_refused, first_with, none_text}
 use Rattle.ccan_lab.specs.Counting.{greatest}
 use Rattle.ccan_lab.specs.Listing.{IsFoundText}
@@ -24,6 +30,34 @@ HasNoWords frames script eq most (fault.More told) = (told ≡ most) × HasLarge
 HasNoWords frames script eq most (fault.Nodes told) = (told ≡ most) × TellsManyWords frames script most
 HasNoWords frames script eq most fault.Memory = Unit {0}
 HasNoWords frames script eq most _ = ⊥
+
+-- these are words of all outcomes that the promise allows, as they are printed, each once, and of no other; each is that of a run,
+-- and has an end for each line
+pub record AreAllWords (frames : Bool) (script : ScriptFields) (eq : Ending → Ending → Bool) (words : OutcomeWords) : Type 0 where
+  pub ends : AreAllEnds frames script (endings_in words)
+  pub are : AreOutcomes script (endings_in words)
+  pub runs : AreOfRuns script (endings_in words)
+  pub once : IsDistinct eq (endings_in words)
+  pub complete : AreComplete script (endings_in words)
+  pub letters : AreOfLines words
+
+-- the words need too many nodes, and these are the ends of the lines of all outcomes
+pub record AreAllLineEnds (frames : Bool) (script : ScriptFields) (most : ℕ) (lines : LineEnds) : Type 0 where
+  pub why : TellsManyWords frames script most
+  pub ends : SayAllEnds frames script lines
+  pub whole : SayWholeOutcomes script lines
+  pub said : AreSaidOfLines lines
+
+-- what is gathered for the short list: the words, or the ends of the lines if the words need too many nodes
+abbrev pub IsGathered : Bool → ScriptFields → (Ending → Ending → Bool) → ℕ → Gathered → Type 0
+IsGathered frames script eq most (Together words) = AreAllWords frames script eq words
+IsGathered frames script eq most (Apart lines) = AreAllLineEnds frames script most lines
+
+-- why nothing is gathered: so many states can be reached, or so many steps made one after the other, or memory ran out
+abbrev pub HasNoGraph : ScriptFields → (AllPorts → AllPorts → Bool) → ℕ → LabError → Type 0
+HasNoGraph script eq most (fault.More told) = (told ≡ most) × HasLargeGraph script eq most
+HasNoGraph script eq most fault.Memory = Unit {0}
+HasNoGraph script eq most _ = ⊥
 
 -- why there is no history: a search through all states comes to more of them, or memory ran out
 abbrev pub HasNoHistory : ScriptFields → (AllPorts → AllPorts → Bool) → ℕ → LabError → Type 0

@@ -5,11 +5,13 @@ ghost use Rattle.ccan_line.specs.Script.{fields_of};
 ghost use Rattle.ccan_outcomes.specs.Ending.{AreAllEnds, AreOfRuns, AreOutcomes};
 ghost use Rattle.ccan_outcomes.specs.OutcomeWords.{AreComplete, AreOfLines, endings_in};
 ghost use Rattle.ccan_lab.specs.Telling.{CanBeTold};
-ghost use Rattle.ccan_lab.specs.Words.{HasNoWords};
+ghost use Rattle.ccan_lab.specs.Words.{HasNoGraph, HasNoWords, IsGathered};
 
 use crate::lab_error::LabError;
 use ccan_outcomes::all_ports::AllPorts;
-use ccan_outcomes::{AnswerGraph, Ending, OutcomeWords, answer_graph, words_of_graph};
+use ccan_outcomes::{
+    AnswerGraph, Ending, LineEnds, OutcomeWords, answer_graph, line_ends_of, words_of_graph,
+};
 use ccan_script::Script;
 use ccan_search::Progress;
 use std::alloc::{AllocError, Global};
@@ -74,6 +76,38 @@ pub fn words_of<P: Progress>(
 {
     let OutcomeList { words, graph: _ } = list_of(alloc, script, frames, most, progress)?;
     Ok(words)
+}
+
+/// The outcomes of a script, as they are gathered for the short list.
+#[derive(Drop)]
+pub enum Gathered {
+    /// All of them, put together.
+    Together(OutcomeWords),
+    /// How each line may end in them, by itself: they need too many nodes to be put together.
+    Apart(LineEnds),
+}
+
+/// The outcomes of a script, with the frames that won the bus or without, if their search comes to no more states than `most`: put
+/// together, unless they need more nodes.
+pub fn gathered_of<P: Progress>(
+    alloc: Global,
+    script: &Script,
+    frames: bool,
+    most: usize,
+    progress: &P,
+) -> Result<Gathered, LabError>
+    ensures gathered { IfOk result
+        (IsGathered frames (fields_of script.now) ⟦<Ending as PartialEq>⟧.eq most) }
+    ensures without { IfErr result
+        (HasNoGraph (fields_of script.now) ⟦<AllPorts as PartialEq>⟧.eq most) }
+{
+    let Some(graph) = answer_graph(alloc, script, most, progress)? else {
+        return Err(LabError::More(most));
+    };
+    match words_of_graph(alloc, script, &graph, frames, most)? {
+        Some(words) => Ok(Gathered::Together(words)),
+        None => Ok(Gathered::Apart(line_ends_of(alloc, script, &graph, frames)?)),
+    }
 }
 
 /// All these outcomes, one after the other.

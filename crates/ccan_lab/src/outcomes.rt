@@ -9,7 +9,8 @@ ghost use Rattle.ccan_outcomes.specs.OutcomeWords.{endings_in};
 ghost use Rattle.ccan_lab.specs.declared.asked.Asked.TheVariants as Asked;
 ghost use Rattle.ccan_lab.specs.declared.lab_error.LabError.TheVariants as LabError;
 ghost use Rattle.ccan_lab.specs.Answered.{AnswersAsked, AnswersFile, IsAnswered, RefusesAsked, RefusesFile};
-ghost use Rattle.ccan_lab.specs.Answered.{RefusesNames, RefusesUnknown, names_its_file, status_if};
+ghost use Rattle.ccan_lab.specs.Answered.{RefusesNames, RefusesUnknown, TellsShortList};
+ghost use Rattle.ccan_lab.specs.Answered.{names_its_file, status_if};
 ghost use Rattle.ccan_lab.specs.EachFile.{AreAnswered, has_headings};
 ghost use Rattle.ccan_lab.specs.Outcomes.{Answers, IsOfAll, TellsAll};
 ghost use Rattle.ccan_lab.specs.Telling.{CanBeTold, frames_in};
@@ -18,8 +19,7 @@ ghost use Rattle.ccan_lab.specs.Observed.{names_in};
 ghost use Rattle.ccan_lab.specs.Question.{AsksFramesBy, asks_frame, begins_with_c, files_named, is_of_frame, lines_given};
 ghost use Rattle.ccan_lab.specs.Seen.{HasNoSeenList, TellsSeen};
 ghost use Rattle.ccan_lab.specs.Sorted.{texts_of};
-ghost use Rattle.ccan_lab.specs.Summary.{TellsSummary};
-ghost use Rattle.ccan_lab.specs.Words.{HasNoHistory, HasNoWords, IsUnanswered, IsWithout, TellsLine};
+ghost use Rattle.ccan_lab.specs.Words.{HasNoGraph, HasNoHistory, IsUnanswered, IsWithout, TellsLine};
 
 use crate::answer::{Answer, found_text, text_of};
 use crate::asked::Asked;
@@ -33,12 +33,12 @@ use crate::input::{searched_script, tell_terminal};
 use crate::lab_error::LabError;
 use crate::line_search::{LineSearch, search_among};
 use crate::observed::first_unknown;
-use crate::outcome_words::{OutcomeList, words_of};
+use crate::outcome_words::{Gathered, OutcomeList, gathered_of};
 use crate::outcomes_json::answer_of_json;
 use crate::paging::{Source, source_asked};
 use crate::progress_line::ProgressLine;
 use crate::seen::seen_text;
-use crate::summary::short_list;
+use crate::summary::{list_without_number, short_list};
 use crate::telling::{Query, Telling, list_asked};
 use ccan_outcomes::Ending;
 use ccan_outcomes::all_ports::AllPorts;
@@ -55,11 +55,14 @@ pub const DEFAULT_MOST: usize = 1_000_000;
 /// The exit status if it is not as asked.
 pub const NOT_SO: u8 = 6;
 
+/// The exit status if the outcomes need too many nodes to be counted.
+pub const UNCOUNTED: u8 = 5;
+
 /// What is asked about the outcomes of scripts.
 #[derive(Drop)]
 pub struct OutcomesQuestion<'a> {
     /// How many states the search keeps at most, and how many nodes the words of the outcomes have. If a script needs more, nothing
-    /// is answered of it.
+    /// is answered of it, except the short list if it needs more nodes only.
     pub most: usize,
     /// The files: `-` means standard input.
     pub files: Vec<&'a str>,
@@ -396,21 +399,6 @@ fn answer_of_all<P: Progress>(
     Ok(Answer { text, holds: true })
 }
 
-/// What each line may be in the outcomes of a script. No outcome is listed for it.
-fn answer_of_summary<P: Progress>(alloc: Global, query: &Query<'_, P>) -> Result<Answer, LabError>
-    ensures told { IfOk result (λ answer.
-        TellsSummary query.now.frames (fields_of query.now.script.now)
-        ⟦<Ending as PartialEq>⟧.eq (string_bytes answer.text)) }
-    ensures holds { IfOk result (λ answer. answer.holds ≡ true) }
-    ensures without { IfErr result (HasNoWords query.now.frames
-        (fields_of query.now.script.now) ⟦<AllPorts as PartialEq>⟧.eq query.now.most) }
-{
-    let script = query.script;
-    let words = words_of(alloc, script, query.frames, query.most, query.progress)?;
-    let text = short_list(alloc, script, words)?;
-    Ok(Answer { text, holds: true })
-}
-
 /// What is answered to the question whether one of these outcomes has a line that begins so for each of these beginnings, or, if
 /// `never` is set, whether none has.
 fn answer_by_line<P: Progress>(
@@ -526,6 +514,41 @@ fn file_answer(answer: Answer) -> FileAnswer
     }
 }
 
+/// What is printed of a file whose outcomes can't be counted, with its exit status.
+fn uncounted(text: String) -> FileAnswer
+    ensures text { result.text.items ≡ string_bytes text }
+    ensures status { result.status ≡ 5 }
+{
+    FileAnswer {
+        text: text.into_bytes(),
+        status: UNCOUNTED,
+    }
+}
+
+/// What each line may be in the outcomes of a script, with their number, or without it if they need too many nodes. No outcome is
+/// listed for it.
+fn answer_of_summary<P: Progress>(
+    alloc: Global,
+    query: &Query<'_, P>,
+) -> Result<FileAnswer, LabError>
+    ensures told { IfOk result (TellsShortList query.now.frames
+        (fields_of query.now.script.now) ⟦<Ending as PartialEq>⟧.eq query.now.most) }
+    ensures without { IfErr result (HasNoGraph
+        (fields_of query.now.script.now) ⟦<AllPorts as PartialEq>⟧.eq query.now.most) }
+{
+    let (script, frames, most) = (query.script, query.frames, query.most);
+    match gathered_of(alloc, script, frames, most, query.progress)? {
+        Gathered::Together(words) => {
+            let text = short_list(alloc, script, words)?;
+            Ok(file_answer(Answer { text, holds: true }))
+        }
+        Gathered::Apart(lines) => {
+            let text = list_without_number(alloc, script, &lines, frames, most)?;
+            Ok(uncounted(text))
+        }
+    }
+}
+
 /// What is answered to a question about the outcomes of the script of this source.
 fn answer_of_script<P: Progress>(
     alloc: Global,
@@ -547,7 +570,7 @@ fn answer_of_script<P: Progress>(
     };
     let lines = question.lines.as_slice();
     let answer = match question.asked {
-        Asked::Summary => answer_of_summary(alloc, &query)?,
+        Asked::Summary => return answer_of_summary(alloc, &query),
         Asked::Can => answer_of_line(alloc, &query, lines, false)?,
         Asked::Never => answer_of_line(alloc, &query, lines, true)?,
         Asked::Observed(names) => answer_of_observed(alloc, &query, names)?,

@@ -2,7 +2,7 @@ ghost use Rattle.std.specs.Prelude.{◌≡◌, ◌+◌, ◌^◌, ◌<◌, ◌≤
 ghost use Rattle.std.specs.Option.{option_map};
 ghost use Rattle.ccan_line.specs.Script.{fields_of};
 ghost use Rattle.ccan_outcomes.specs.OutcomeWords.{endings_in};
-ghost use Rattle.ccan_lab.specs.Listing.{AreOutcomeTexts, HasChoices, IsListing, different_line, different_lines};
+ghost use Rattle.ccan_lab.specs.Listing.{AreOutcomeTexts, IsListing, different_line, different_lines};
 ghost use Rattle.ccan_lab.specs.OutcomeText.{IsOutcomeText};
 ghost use Rattle.ccan_lab.specs.Report.{each, outcome_text};
 ghost use Rattle.ccan_lab.specs.Report.{later_names, names_text, order_text, quoted};

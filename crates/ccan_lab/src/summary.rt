@@ -2,18 +2,23 @@
 ghost use Rattle.std.specs.Prelude.{◌≡◌, ◌+◌, ◌-◌, ◌^◌, ◌<◌, ◌≤◌, ◌++◌, List, ℕ, Some, IfOk, OnOk, codes, length, map, min, slice_get, string_bytes};
 ghost use Rattle.std.specs.List.{flat_map};
 ghost use Rattle.ccan_line.specs.Script.{fields_of};
-ghost use Rattle.ccan_outcomes.specs.OutcomeWords.{AreComplete, AreOfLines, endings_in};
+ghost use Rattle.ccan_outcomes.specs.declared.ending.Ending.{Ending};
+ghost use Rattle.ccan_outcomes.specs.LineEnds.{AreSaidOfLines, SayAllEnds, SayWholeOutcomes};
+ghost use Rattle.ccan_outcomes.specs.OutcomeWords.{AreComplete, AreOfLines, IsComplete, endings_in};
+ghost use Rattle.ccan_outcomes.specs.WordStates.{TellsManyWords};
 ghost use Rattle.ccan_lab.specs.Place.{place_name};
 ghost use Rattle.ccan_lab.specs.Report.{labelled};
-ghost use Rattle.ccan_lab.specs.Summary.{AreInOrder, IsSummary, choice_part, choice_parts};
-ghost use Rattle.ccan_lab.specs.Summary.{choice_text, closing_text, same_part, same_parts};
+ghost use Rattle.ccan_lab.specs.Summary.{AddsChoices, AreInOrder, IsSummary, TellsWithoutNumber};
+ghost use Rattle.ccan_lab.specs.Summary.{choice_part, choice_parts, choice_text, closing_text};
+ghost use Rattle.ccan_lab.specs.Summary.{same_part, same_parts, unknown_text};
 ghost use Rattle.ccan_lab.specs.Sorted.{AreAllInOrder, all_texts, texts_of};
 
 use crate::choices::all_choices;
 use crate::counting::count_text;
 use crate::place::{LineCounts, add_place_name};
 use crate::rows::Rows;
-use ccan_outcomes::OutcomeWords;
+use crate::wording::add_number;
+use ccan_outcomes::{ByLine, LineEnds, OutcomeWords};
 use ccan_script::Script;
 use std::alloc::{AllocError, Global};
 
@@ -147,6 +152,26 @@ fn counts_of(script: &Script) -> LineCounts
     }
 }
 
+/// Adds what is the same in all outcomes, and what may be in each other place.
+fn add_parts<T: ByLine>(
+    text: &mut String,
+    alloc: Global,
+    script: &Script,
+    outcomes: &T,
+) -> Result<(), AllocError>
+    requires letters { T.has_all outcomes.now }
+    requires complete { (ending : Ending) → T.is_outcome outcomes.now ending
+        → IsComplete (fields_of script.now) ending }
+    ensures { OnOk result (AddsChoices (fields_of script.now) (T.is_outcome outcomes.now)
+        (string_bytes text.old) (string_bytes text.new)) }
+{
+    let choices = all_choices(alloc, script, outcomes)?;
+    let sorted = all_in_order(alloc, choices.as_slice())?;
+    add_same_parts(text, sorted.as_slice())?;
+    add_choice_parts(text, &counts_of(script), sorted.as_slice())?;
+    Ok(())
+}
+
 /// What each line may be in the outcomes of a script.
 fn summary(alloc: Global, script: &Script, words: &OutcomeWords) -> Result<String, AllocError>
     requires letters { AreOfLines words.now }
@@ -155,11 +180,8 @@ fn summary(alloc: Global, script: &Script, words: &OutcomeWords) -> Result<Strin
         IsSummary (fields_of script.now) (endings_in words.now) (string_bytes text)) }
 {
     let number = words.count();
-    let choices = all_choices(alloc, script, words)?;
-    let sorted = all_in_order(alloc, choices.as_slice())?;
     let mut text = count_text(alloc, number)?;
-    add_same_parts(&mut text, sorted.as_slice())?;
-    add_choice_parts(&mut text, &counts_of(script), sorted.as_slice())?;
+    add_parts(&mut text, alloc, script, words)?;
     add_closing(&mut text, number)?;
     Ok(text)
 }
@@ -172,4 +194,35 @@ pub fn short_list(alloc: Global, script: &Script, words: OutcomeWords) -> Result
         IsSummary (fields_of script.now) (endings_in words) (string_bytes text)) }
 {
     summary(alloc, script, &words)
+}
+
+/// The line that stands where the number of outcomes would: they need more nodes than these.
+fn unknown_text(alloc: Global, most: usize) -> Result<String, AllocError>
+    ensures { IfOk result (λ text. string_bytes text ≡ unknown_text most) }
+{
+    let mut text = String::new(alloc);
+    text.push_str("more than ")?;
+    add_number(&mut text, most)?;
+    text.push_str(" nodes: the number of outcomes isn't known; --most allows more\n")?;
+    Ok(text)
+}
+
+/// What each line may be in the outcomes of a script, without their number: they need more nodes than these.
+pub fn list_without_number(
+    alloc: Global,
+    script: &Script,
+    lines: &LineEnds,
+    frames: bool,
+    most: usize,
+) -> Result<String, AllocError>
+    requires why { TellsManyWords frames (fields_of script.now) most }
+    requires ends { SayAllEnds frames (fields_of script.now) lines.now }
+    requires whole { SayWholeOutcomes (fields_of script.now) lines.now }
+    requires said { AreSaidOfLines lines.now }
+    ensures { IfOk result (λ text.
+        TellsWithoutNumber frames (fields_of script.now) most (string_bytes text)) }
+{
+    let mut text = unknown_text(alloc, most)?;
+    add_parts(&mut text, alloc, script, lines)?;
+    Ok(text)
 }

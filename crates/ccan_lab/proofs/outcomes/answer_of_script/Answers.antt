@@ -5,7 +5,7 @@ use Rattle.ccan_lab.specs.Answered.{status_if}
 use Rattle.ccan_lab.specs.Outcomes.{IsOfAll}
 use Rattle.ccan_lab.proofs.ByAsked.{by_all, by_can, by_names, by_never, by_summary}
 use Rattle.ccan_lab.proofs.outcomes.answer_of_script.Goals as goal
-use Rattle.ccan_lab.proofs.outcomes.answer_of_script.Goals.{in-Summary+in_ok-answer-in-Summary, in-Can+in_ok-answer-in-Can}
+use Rattle.ccan_lab.proofs.outcomes.answer_of_script.Goals.{in-Can+in_ok-answer-in-Can}
 use Rattle.ccan_lab.proofs.outcomes.answer_of_script.Goals.{in-Never+in_ok-answer-in-Never, in-Observed+in_ok-answer-in-Observed}
 use Rattle.ccan_lab.proofs.outcomes.answer_of_script.Goals.{in-All+in_ok-answer-in-All}
 
@@ -21,9 +21,6 @@ returns-clause-answered g c =
     let status = λ (given : Answer) (is : c.match-question.answer ≡ given).
     c.file_answer.ensures.status ∙ ap (λ (it : Answer). status_if it.holds) is in
     elim c.match-question.branch [
-      | in-Summary+in_ok-answer-in-Summary w ↦
-          by_summary question name script answer w.in_ok-answer-in-Summary.answer (text _ w.answer-is) (status _ w.answer-is)
-          w.in-Summary.is w.in_ok-answer-in-Summary.ensures.told w.in_ok-answer-in-Summary.ensures.holds
       | in-Can+in_ok-answer-in-Can w ↦
           by_can question name script answer w.in_ok-answer-in-Can.answer (text _ w.answer-is) (status _ w.answer-is)
           lines c.as_slice-lines.ensures.value w.in-Can.is w.in_ok-answer-in-Can.ensures.told

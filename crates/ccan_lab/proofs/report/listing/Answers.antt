@@ -1,4 +1,4 @@
-use Rattle.std.proofs.Common.{◌≡◌, ◌++◌, List, ℕ, length, min, append_assoc, ap, subst, ◌∙◌}
+use Rattle.std.proofs.Common.{Contains, ◌≡◌, ◌++◌, List, ℕ, length, min, append_assoc, ap, subst, ◌∙◌}
 use Rattle.ccan_line.specs.Script.{fields_of}
 use Rattle.ccan_outcomes.specs.OutcomeWords.{endings_in}
 use Rattle.ccan_lab.specs.Counting.{count_text, greatest}
@@ -26,7 +26,7 @@ returns-clause-text g c =
     let same = same_parts choices in
     record {
       choices = choices;
-      has_choices = has_choices script endings rows choices c.in_ok-rows.ensures.places c.in_ok-rows.ensures.lines ordered;
+      has_choices = has_choices script (Contains endings) rows choices c.in_ok-rows.ensures.places c.in_ok-rows.ensures.lines ordered;
       outcomes = added;
       are = subst (λ (l : List Lines). AreOutcomeTexts frames form script endings (all_texts l) (length endings) added)
           c.as_slice-3.ensures.value c.in_ok-add_outcomes.ensures.text.2;
