@@ -1,5 +1,5 @@
 -- What is printed of all outcomes of a script, each with a history, and of one of them. Source: this project's own.
-use Rattle.std.specs.Prelude.{ℕ, zero, suc, ◌≡◌, ◌++◌, nat_lt, Bool, List, [], Some, length, map, min, slice_get, if◌then◌else◌}
+use Rattle.std.specs.Prelude.{ℕ, zero, suc, ◌≡◌, ◌++◌, nat_lt, Bool, List, [], Some, length, map, min, if◌then◌else◌}
 use Rattle.std.specs.List.{Contains}
 use Rattle.ccan_line.specs.Script.{ScriptFields}
 use Rattle.ccan_outcomes.specs.declared.ending.Ending.{Ending}

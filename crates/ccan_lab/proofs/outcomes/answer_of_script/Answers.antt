@@ -1,4 +1,5 @@
 use Rattle.std.proofs.Common.{◌≡◌, ◌∙◌, ap, refl, rules, string_bytes}
+use Rattle.std.proofs.lemmas.Result.{IfOk-weaker}
 use Rattle.ccan_line.specs.Script.{fields_of}
 use Rattle.ccan_lab.specs.declared.answer.Answer.{Answer}
 use Rattle.ccan_lab.specs.Answered.{status_if}
@@ -8,6 +9,12 @@ use Rattle.ccan_lab.proofs.outcomes.answer_of_script.Goals as goal
 use Rattle.ccan_lab.proofs.outcomes.answer_of_script.Goals.{in-Can+in_ok-answer-in-Can}
 use Rattle.ccan_lab.proofs.outcomes.answer_of_script.Goals.{in-Never+in_ok-answer-in-Never, in-Observed+in_ok-answer-in-Observed}
 use Rattle.ccan_lab.proofs.outcomes.answer_of_script.Goals.{in-All+in_ok-answer-in-All}
+
+pub returns-in-Summary-clause-answered : goal.returns-in-Summary-clause-answered
+returns-in-Summary-clause-answered g c =
+    IfOk-weaker c.answer_of_summary.result _ _ (λ answer told.
+    by_summary c.args.question.now (string_bytes c.args.source.now.name) (fields_of c.args.script.now) answer c.in-Summary.is told)
+    c.answer_of_summary.ensures.told
 
 pub returns-clause-answered : goal.returns-clause-answered
 returns-clause-answered g c =
