@@ -57,7 +57,10 @@ class LabStreamError(LabError):
 
 
 class TooManyStatesError(LabError):
-    """Status 5: the search comes to more states than it may keep, or the outcomes to more nodes."""
+    """Status 5: the search comes to more states than it may keep, or the outcomes to more nodes.
+
+    If only the nodes are too many, ``output`` of a short list still says what each line may be, without the number of outcomes.
+    """
 
 
 class NotAsAskedError(LabError, AssertionError):
