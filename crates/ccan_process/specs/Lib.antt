@@ -12,3 +12,7 @@ pub mod UncontendedLaws
 pub mod WaitLaws
 pub mod AtOnce
 pub mod AtOnceLaws
+pub mod Begin
+pub mod Begun
+pub mod BegunLaws
+pub mod BeginLaws

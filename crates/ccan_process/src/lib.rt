@@ -13,6 +13,7 @@
 //! answer to a line, with the frame of a round.
 #![tactic(auto)]
 
+pub mod begin_laws;
 pub mod line_end;
 pub mod line_process_laws;
 pub mod machine_laws;
