@@ -25,3 +25,5 @@ pub mod RoundsRun
 pub mod Pending
 pub mod BusLinesRun
 pub mod PortsRun
+pub mod RunsAlone
+pub mod Begun

@@ -14,6 +14,7 @@
 #![tactic(auto)]
 
 pub mod begin_laws;
+pub mod begun_laws;
 pub mod line_end;
 pub mod line_process_laws;
 pub mod machine_laws;

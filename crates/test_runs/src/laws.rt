@@ -2,7 +2,8 @@
 use crate::ladder::Ladder;
 use ccan_outcomes::{place_laws, quiet_laws, same, seat_laws};
 use ccan_process::{
-    line_process_laws, machine_laws, process_laws, uncontended_laws, undisturbed_laws, wait_laws,
+    begin_laws, begun_laws, line_process_laws, machine_laws, process_laws, uncontended_laws,
+    undisturbed_laws, wait_laws,
 };
 use ccan_run::laws;
 
@@ -45,6 +46,14 @@ fn laws_of_outcomes_hold() {
     uncontended_laws::no_free_end_is_lost();
     wait_laws::waits_look_once();
     wait_laws::waits_end_alike();
+    begin_laws::start_can_begin();
+    begin_laws::races_can_begin();
+    begin_laws::waits_end_alike_behind();
+    begin_laws::waits_look_once_behind();
+    begun_laws::races_begin_in_one_way();
+    begun_laws::beginnings_are_reached();
+    begun_laws::races_can_begin_at_once();
+    begun_laws::runs_behind_nothing();
     quiet_laws::hosts_leave_alone();
     quiet_laws::hosts_have_done();
     quiet_laws::bus_leaves_alone();
