@@ -37,7 +37,7 @@ pub fn check_command<'a>(alloc: Global) -> Result<Command<'a>, AllocError> {
     let checked = command(
         alloc,
         "check",
-        "Tells the faults of scripts, each with its file, line and column",
+        "Reports the faults of scripts, each with its file, line and column",
     );
     let strict = switch(
         alloc,

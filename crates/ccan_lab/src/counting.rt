@@ -41,7 +41,7 @@ pub struct CountQuestion<'a> {
 
 /// The command that counts outcomes.
 pub fn count_command<'a>(alloc: Global) -> Result<Command<'a>, AllocError> {
-    let about = "Counts the outcomes of scripts and lists none, so far faster";
+    let about = "Counts the outcomes of scripts and lists none";
     let counted = with(command(alloc, "count", about), most_option(alloc))?;
     let counted = with(counted, frames_flag(alloc))?;
     with(counted, scripts(alloc))

@@ -48,7 +48,7 @@ pub fn explain_command<'a>(alloc: Global) -> Result<Command<'a>, AllocError> {
     let told = command(
         alloc,
         "explain",
-        "Runs a script in its order and tells each line decoded",
+        "Runs a script in its order and reports each line decoded",
     );
     let told = with(told, json_flag(alloc)?)?;
     let candump = switch(
