@@ -27,3 +27,4 @@ pub mod BusLinesRun
 pub mod PortsRun
 pub mod RunsAlone
 pub mod Begun
+pub mod ScansWell
