@@ -28,3 +28,4 @@ pub mod PortsRun
 pub mod RunsAlone
 pub mod Begun
 pub mod ScansWell
+pub mod ScansAtOnce

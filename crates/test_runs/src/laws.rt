@@ -42,6 +42,7 @@ fn laws_of_outcomes_hold() {
     machine_laws::walks_are_histories();
     undisturbed_laws::no_end_is_lost();
     undisturbed_laws::attempts_at_once_lose_no_end();
+    undisturbed_laws::scans_at_once_lose_no_end();
     uncontended_laws::contended_tries_can_be_lost();
     uncontended_laws::no_free_end_is_lost();
     wait_laws::waits_look_once();
