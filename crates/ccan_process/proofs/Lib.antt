@@ -29,3 +29,4 @@ pub mod RunsAlone
 pub mod Begun
 pub mod ScansWell
 pub mod ScansAtOnce
+pub mod BegunScans

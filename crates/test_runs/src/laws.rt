@@ -57,6 +57,7 @@ fn laws_of_outcomes_hold() {
     begun_laws::runs_behind_nothing();
     scan_laws::bus_lines_scan_well();
     scan_laws::start_can_scan();
+    scan_laws::races_can_scan();
     quiet_laws::hosts_leave_alone();
     quiet_laws::hosts_have_done();
     quiet_laws::bus_leaves_alone();
