@@ -27,3 +27,6 @@ pub mod BusLinesRun
 pub mod PortsRun
 pub mod RunsAlone
 pub mod Begun
+pub mod ScansWell
+pub mod ScansAtOnce
+pub mod BegunScans

@@ -16,3 +16,5 @@ pub mod Begin
 pub mod Begun
 pub mod BegunLaws
 pub mod BeginLaws
+pub mod ScansAtOnce
+pub mod ScansAtOnceLaws

@@ -19,6 +19,7 @@ pub mod line_end;
 pub mod line_process_laws;
 pub mod machine_laws;
 pub mod process_laws;
+pub mod scan_laws;
 pub mod uncontended_laws;
 pub mod undisturbed_laws;
 pub mod wait_laws;

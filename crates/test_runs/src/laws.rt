@@ -2,8 +2,8 @@
 use crate::ladder::Ladder;
 use ccan_outcomes::{place_laws, quiet_laws, same, seat_laws};
 use ccan_process::{
-    begin_laws, begun_laws, line_process_laws, machine_laws, process_laws, uncontended_laws,
-    undisturbed_laws, wait_laws,
+    begin_laws, begun_laws, line_process_laws, machine_laws, process_laws, scan_laws,
+    uncontended_laws, undisturbed_laws, wait_laws,
 };
 use ccan_run::laws;
 
@@ -42,6 +42,7 @@ fn laws_of_outcomes_hold() {
     machine_laws::walks_are_histories();
     undisturbed_laws::no_end_is_lost();
     undisturbed_laws::attempts_at_once_lose_no_end();
+    undisturbed_laws::scans_at_once_lose_no_end();
     uncontended_laws::contended_tries_can_be_lost();
     uncontended_laws::no_free_end_is_lost();
     wait_laws::waits_look_once();
@@ -54,6 +55,9 @@ fn laws_of_outcomes_hold() {
     begun_laws::beginnings_are_reached();
     begun_laws::races_can_begin_at_once();
     begun_laws::runs_behind_nothing();
+    scan_laws::bus_lines_scan_well();
+    scan_laws::start_can_scan();
+    scan_laws::races_can_scan();
     quiet_laws::hosts_leave_alone();
     quiet_laws::hosts_have_done();
     quiet_laws::bus_leaves_alone();
