@@ -27,7 +27,7 @@ fn shown_of(touched: &Option<Touched>, object: ObjectNo, flag: Flag, was: bool) 
 {
     match touched {
         Some(touched) if touched.object == object => flag.of(&touched.after),
-        _ => was,
+        Some(_) | None => was,
     }
 }
 
