@@ -62,7 +62,7 @@ fn goes_on(steps: &[HistoryStep], place: usize) -> bool {
         (Some(step), Some(next)) => {
             is_look(step) && is_look(next) && step.port == next.port && step.line == next.line
         }
-        _ => false,
+        (Some(_), None) | (None, _) => false,
     }
 }
 
