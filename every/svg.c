@@ -1,7 +1,8 @@
 /* Elements of a picture in SVG. All texts are of ASCII. */
 #include "svg.h"
 
-/* How things look, in light and in dark: as ccan-lab draw has it (crates/ccan_draw/src/head.rt), with boxes of no port besides. */
+/* How things look, in light and in dark: as ccan-lab draw has it (crates/ccan_explain/src/draw/head.rt), with boxes of no port
+ * besides. */
 static const char style[] =
     "<style>\n"
     "text{font:11px ui-monospace,\"DejaVu Sans Mono\",\"Liberation Mono\",Menlo,Consolas,monospace;fill:#1f2328;white-space:pre}\n"

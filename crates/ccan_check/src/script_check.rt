@@ -93,7 +93,7 @@ fn told_first(
     match faults.first() {
         Some(fault) if is_told(fault, error, path) => Ok(faults),
         // The walk finds the fault that the reader reports, but that is not proved here: so what is reported rests on the reader.
-        _ => {
+        Some(_) | None => {
             let mut told = Vec::new(alloc);
             told.push(refused(alloc, error, path)?)?;
             Ok(told)

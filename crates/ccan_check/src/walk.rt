@@ -232,13 +232,25 @@ fn add_order(
     add_times(alloc, top, order, PortName::Bus, "bus", report)
 }
 
+/// Whether an operation of the bus sends.
+fn is_send(op: BusOp) -> bool {
+    match op {
+        BusOp::Load | BusOp::Round => true,
+        BusOp::Status
+        | BusOp::Control
+        | BusOp::Interrupt
+        | BusOp::Flags
+        | BusOp::Counters
+        | BusOp::Init
+        | BusOp::Recessive
+        | BusOp::LoopBack => false,
+    }
+}
+
 /// Whether the bus has a line that sends.
 fn has_sends(top: Spot<'_>) -> bool {
     match top.value.get("bus").and_then(Value::as_array) {
-        Some(lines) => lines.iter().any(|line| matches!(
-            bus_op(line),
-            Some(BusOp::Load | BusOp::Round)
-        )),
+        Some(lines) => lines.iter().any(|line| bus_op(line).is_some_and(is_send)),
         None => false,
     }
 }

@@ -84,7 +84,7 @@ fn has_before(text: &[u8], object: usize, name: &[u8], before: usize) -> bool {
                 }
                 offset = child.end;
             }
-            _ => return false,
+            Some(_) | None => return false,
         }
     }
     false

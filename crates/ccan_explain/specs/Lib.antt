@@ -1,7 +1,12 @@
+pub mod Bar
 pub mod Bench
+pub mod Column
 pub mod Contest
+pub mod Escape
+pub mod FlagBars
 pub mod FrameText
 pub mod RecordWords
 pub mod Reported
+pub mod Row
 pub mod Step
 pub mod Told

@@ -44,19 +44,28 @@ pub(crate) fn winner_of(report: &RoundReport) -> Option<(u8, Frame)>
 
 /// Whether the frames of the other nodes were on the bus: not if the load was refused, and not in loop back mode.
 pub(crate) fn are_heard(report: &RoundReport) -> bool {
-    !matches!(
-        report.decision,
-        None | Some(Decision::Idle) | Some(Decision::LoopBack(_, _))
-    )
+    match report.decision {
+        None | Some(Decision::Idle) | Some(Decision::LoopBack(_, _)) => false,
+        Some(Decision::Collision)
+        | Some(Decision::Fault(_, _))
+        | Some(Decision::NoAck(_, _))
+        | Some(Decision::Finish(_, _))
+        | Some(Decision::Receipt(_, _))
+        | Some(Decision::Passed(_, _)) => true,
+    }
+}
+
+/// Whether something is loaded after this answer of a load.
+fn is_loaded(loading: &LoadAnswer) -> bool {
+    match loading {
+        LoadAnswer::Loaded(_, _) | LoadAnswer::Held(_) => true,
+        LoadAnswer::Nothing | LoadAnswer::Busy(_) | LoadAnswer::Spent(_) => false,
+    }
 }
 
 /// Whether the controller contended: it had something loaded, and the others' frames were on the bus.
 pub(crate) fn controller_contends(report: &RoundReport) -> bool {
-    are_heard(report)
-        && matches!(
-            report.loading,
-            LoadAnswer::Loaded(_, _) | LoadAnswer::Held(_)
-        )
+    are_heard(report) && is_loaded(&report.loading)
 }
 
 /// Whether a node was bus off as the round began.

@@ -1,5 +1,5 @@
 //! A run of a script, reported line by line for the writers of drivers: the records decoded, and the frame that was on the bus in
-//! each round.
+//! each round. [`draw`] makes a picture of it.
 //!
 //! ```text
 //!   Script --> tell: the lines in their order, over a plain memory --> Told { steps, ram }
@@ -15,6 +15,7 @@ pub mod bench;
 pub mod bus_log;
 mod contest;
 pub mod digits;
+pub mod draw;
 pub mod frame_text;
 pub mod from_log;
 pub mod json_lines;

@@ -152,7 +152,7 @@ fn flexible(text: &str) -> LeftOut {
     match text.as_bytes().first() {
         Some(glyph) => match digit_in(*glyph) {
             Some(flags) if flags % 2 == 1 => LeftOut::BitRateSwitch,
-            _ => LeftOut::FlexibleDataRate,
+            Some(_) | None => LeftOut::FlexibleDataRate,
         },
         None => LeftOut::FlexibleDataRate,
     }

@@ -16,7 +16,7 @@ use crate::outcome_words::OutcomeList;
 use crate::outcomes::most_of;
 use crate::progress_line::ProgressLine;
 use crate::telling::{Query, Telling, history_to, list_asked};
-use ccan_draw::{Picture, picture_of_run, svg_of};
+use ccan_explain::draw::{Picture, picture_of_run, svg_of};
 use ccan_explain::tell;
 use ccan_outcomes::{Histories, looking_once};
 use ccan_script::Script;

@@ -7,9 +7,9 @@ use crate::moved::winner_at;
 use crate::outcome_rows::columns::columns_of;
 use crate::rows::push_row;
 use ccan_accept::Frame;
-use ccan_draw::layout::WORDS_GLYPHS;
-use ccan_draw::wrapping::wrapped;
-use ccan_draw::{Picture, Row};
+use ccan_explain::draw::layout::WORDS_GLYPHS;
+use ccan_explain::draw::wrapping::wrapped;
+use ccan_explain::draw::{Picture, Row};
 use ccan_outcomes::{Ending, History, HistoryKind, HistoryStep};
 use ccan_process::LineEnd;
 use ccan_ram::PortName;
@@ -62,7 +62,7 @@ fn goes_on(steps: &[HistoryStep], place: usize) -> bool {
         (Some(step), Some(next)) => {
             is_look(step) && is_look(next) && step.port == next.port && step.line == next.line
         }
-        _ => false,
+        (Some(_), None) | (None, _) => false,
     }
 }
 

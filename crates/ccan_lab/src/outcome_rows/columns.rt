@@ -1,7 +1,7 @@
 //! The flags of objects along a history, as its states have them.
 use crate::outcome_rows::{Run, is_look};
-use ccan_draw::Column;
-use ccan_draw::column::FLAGS;
+use ccan_explain::draw::Column;
+use ccan_explain::draw::column::FLAGS;
 use ccan_object::{MOST_OBJECTS, ObjectNo};
 use ccan_outcomes::all_ports::AllPorts;
 use ccan_ram::Flag;

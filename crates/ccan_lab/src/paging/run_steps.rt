@@ -4,7 +4,7 @@ ghost use Rattle.ccan_line.specs.Script.{fields_of};
 ghost use Rattle.ccan_explain.specs.Told.{IsOrderOf};
 ghost use Rattle.ccan_lab.specs.Paging.{line_of, line_told};
 
-use ccan_draw::label::label_of;
+use ccan_explain::draw::label::label_of;
 use ccan_explain::{Step, Told, Touched, push_step, tell, tell_in};
 use ccan_object::{ObjectNo, Record};
 use ccan_page as page;
