@@ -6,9 +6,17 @@
 //!
 //! Two threads with a lock take it (place 0), give it back (place 1) and have ended then (place 2): 0/0,0, 1/1,0, 1/0,1, 0/2,0,
 //! 0/0,2, 1/2,1, 1/1,2 and 0/2,2. They are never both at place 1.
+//!
+//! A thread clears the word (place 0), reads it until it is 1 (place 1), and has ended then (place 2); another one writes 1 (place
+//! 0), and has ended then (place 1). From 0/0,0 these go to 0/1,0 and 1/0,1; from there to 1/1,1 and 0/1,1, and from 1/1,1 to
+//! 1/2,1. If the 1 is written before the word is cleared, the first thread reads 0 for ever: from 1/0,1 no end can come, and 0/1,1
+//! is stuck.
+//!
+//! A thread that reads the word by turns at two places until it is 1 is stuck at both. One that writes 1 and 0 by turns is not
+//! stuck, but never ends. If one of two threads takes the lock and ends, the other one waits for ever.
 use crate::expect::{holds, same};
 use crate::shared_word::{SharedWord, WordAct};
-use ccan_every::{Entry, Goes, Lack, Outcome, Program, Situation, Table, every_schedule};
+use ccan_every::{Entry, Fate, Goes, Lack, Outcome, Program, Situation, Table, every_schedule};
 use ccan_search::{Reached, Untold, tale};
 use std::alloc::{AllocError, Global};
 use std::process::Abort;
@@ -79,20 +87,21 @@ fn comes(found: &Reached<Situation<u64, u64>, Option<usize>>, word: u64, places:
     false
 }
 
-/// What threads with these tables can come to, if none of them lacks a place.
+/// What threads with these tables can come to, and what can still come of that, if none of them lacks a place.
 fn whole(
     rt: &impl Abort,
     alloc: Global,
     tables: &[Table<WordAct, u64>],
-) -> Reached<Situation<u64, u64>, Option<usize>> {
+) -> (Reached<Situation<u64, u64>, Option<usize>>, Vec<Fate>) {
     let program = Program {
         device: &SharedWord,
         tables,
     };
-    let Ok(Some(Outcome::Whole(found))) = every_schedule(&program, alloc, 0, 12, &Untold) else {
+    let found = every_schedule(&program, alloc, 0, 12, &Untold);
+    let Ok(Some(Outcome::Whole { reached, fates })) = found else {
         panic!(rt; "not all situations")
     };
-    found
+    (reached, fates)
 }
 
 #[test]
@@ -100,7 +109,7 @@ fn an_update_can_be_lost(rt: HostRuntime) {
     let Ok(tables) = counters(rt.alloc(), &[(0, 1), (1, 2)]) else {
         panic!(&rt; "no memory")
     };
-    let found = whole(&rt, rt.alloc(), tables.as_slice());
+    let (found, _) = whole(&rt, rt.alloc(), tables.as_slice());
     same(&rt, found.states.len(), 12);
     holds(&rt, comes(&found, 2, &[3, 3]));
     holds(&rt, comes(&found, 1, &[3, 3]));
@@ -117,6 +126,26 @@ fn an_update_can_be_lost(rt: HostRuntime) {
     );
 }
 
+/// Who moves on the way to the situation of this index.
+fn way_to(
+    rt: &impl Abort,
+    alloc: Global,
+    program: &Program<SharedWord>,
+    index: usize,
+) -> Vec<Option<usize>> {
+    let found = every_schedule(program, alloc, 0, 12, &Untold);
+    let Ok(Some(Outcome::Whole { reached, .. })) = found else {
+        panic!(rt; "not all situations")
+    };
+    if reached.states.len() <= index {
+        panic!(rt; "too few situations")
+    }
+    let Ok(way) = tale(program, alloc, &reached, index) else {
+        panic!(rt; "no memory")
+    };
+    way
+}
+
 /// Who moves on the way to what is found as the last for two threads that count.
 fn last_way(rt: &impl Abort, alloc: Global) -> Vec<Option<usize>> {
     let Ok(tables) = counters(alloc, &[(0, 1), (1, 2)]) else {
@@ -126,16 +155,7 @@ fn last_way(rt: &impl Abort, alloc: Global) -> Vec<Option<usize>> {
         device: &SharedWord,
         tables: tables.as_slice(),
     };
-    let Ok(Some(Outcome::Whole(found))) = every_schedule(&program, alloc, 0, 12, &Untold) else {
-        panic!(rt; "not all situations")
-    };
-    if found.states.len() < 12 {
-        panic!(rt; "too few situations")
-    }
-    let Ok(way) = tale(&program, alloc, &found, 11) else {
-        panic!(rt; "no memory")
-    };
-    way
+    way_to(rt, alloc, &program, 11)
 }
 
 /// Both read before one of them writes.
@@ -150,7 +170,7 @@ fn a_lock_is_taken_by_one(rt: HostRuntime) {
     let Ok(tables) = lockers(rt.alloc()) else {
         panic!(&rt; "no memory")
     };
-    let found = whole(&rt, rt.alloc(), tables.as_slice());
+    let (found, _) = whole(&rt, rt.alloc(), tables.as_slice());
     same(&rt, found.states.len(), 8);
     holds(&rt, comes(&found, 0, &[2, 2]));
     holds(&rt, !comes(&found, 1, &[1, 1]));
@@ -178,4 +198,116 @@ fn lacks(rt: &impl Abort, alloc: Global, goes: &[(u64, usize)]) {
 fn what_a_table_lacks_is_answered(rt: HostRuntime) {
     lacks(&rt, rt.alloc(), &[(0, 1)]);
     lacks(&rt, rt.alloc(), &[(0, 1), (1, 4)]);
+}
+
+/// A thread that clears the word and waits for a 1, and one that writes it.
+fn waiters(alloc: Global) -> Result<Vec<Table<WordAct, u64>>, AllocError> {
+    let mut waits = Vec::new(alloc);
+    waits.push(does(alloc, WordAct::Writes(0), &[(0, 1)])?)?;
+    waits.push(does(alloc, WordAct::Reads, &[(0, 1), (1, 2)])?)?;
+    waits.push(Entry::Ended)?;
+    let mut wakes = Vec::new(alloc);
+    wakes.push(does(alloc, WordAct::Writes(1), &[(1, 1)])?)?;
+    wakes.push(Entry::Ended)?;
+    let mut tables = Vec::new(alloc);
+    tables.push(Table { entries: waits })?;
+    tables.push(Table { entries: wakes })?;
+    Ok(tables)
+}
+
+#[test]
+fn a_wake_up_can_be_lost(rt: HostRuntime) {
+    let Ok(tables) = waiters(rt.alloc()) else {
+        panic!(&rt; "no memory")
+    };
+    let (found, fates) = whole(&rt, rt.alloc(), tables.as_slice());
+    same(&rt, found.states.len(), 6);
+    holds(&rt, comes(&found, 0, &[1, 1]));
+    let want = [
+        Fate::GoesOn,
+        Fate::GoesOn,
+        Fate::Endless,
+        Fate::GoesOn,
+        Fate::Stuck,
+        Fate::Ended,
+    ];
+    same(&rt, fates.as_slice(), &want);
+    let program = Program {
+        device: &SharedWord,
+        tables: tables.as_slice(),
+    };
+    let way = way_to(&rt, rt.alloc(), &program, 4);
+    same(&rt, way.as_slice(), &[Some(1), Some(0)]);
+}
+
+/// A thread that goes by turns between two places, where it does these.
+fn by_turns(
+    alloc: Global,
+    first: Entry<WordAct, u64>,
+    second: Entry<WordAct, u64>,
+) -> Result<Vec<Table<WordAct, u64>>, AllocError> {
+    let mut entries = Vec::new(alloc);
+    entries.push(first)?;
+    entries.push(second)?;
+    entries.push(Entry::Ended)?;
+    let mut tables = Vec::new(alloc);
+    tables.push(Table { entries })?;
+    Ok(tables)
+}
+
+/// A thread that reads the word by turns at two places.
+fn reads_by_turns(alloc: Global) -> Result<Vec<Table<WordAct, u64>>, AllocError> {
+    let first = does(alloc, WordAct::Reads, &[(0, 1), (1, 2)])?;
+    let second = does(alloc, WordAct::Reads, &[(0, 0), (1, 2)])?;
+    by_turns(alloc, first, second)
+}
+
+/// A thread that writes the word by turns at two places.
+fn writes_by_turns(alloc: Global) -> Result<Vec<Table<WordAct, u64>>, AllocError> {
+    let first = does(alloc, WordAct::Writes(1), &[(1, 1)])?;
+    let second = does(alloc, WordAct::Writes(0), &[(0, 0)])?;
+    by_turns(alloc, first, second)
+}
+
+#[test]
+fn a_poll_of_two_places_is_stuck(rt: HostRuntime) {
+    let Ok(tables) = reads_by_turns(rt.alloc()) else {
+        panic!(&rt; "no memory")
+    };
+    let (_, fates) = whole(&rt, rt.alloc(), tables.as_slice());
+    same(&rt, fates.as_slice(), &[Fate::Stuck, Fate::Stuck]);
+}
+
+#[test]
+fn who_writes_for_ever_is_not_stuck(rt: HostRuntime) {
+    let Ok(tables) = writes_by_turns(rt.alloc()) else {
+        panic!(&rt; "no memory")
+    };
+    let (_, fates) = whole(&rt, rt.alloc(), tables.as_slice());
+    same(&rt, fates.as_slice(), &[Fate::Endless, Fate::Endless]);
+}
+
+/// Two threads of which each takes the lock, and has ended then.
+fn takers(alloc: Global) -> Result<Vec<Table<WordAct, u64>>, AllocError> {
+    let mut tables = Vec::new(alloc);
+    for _ in 0..2 {
+        let mut entries = Vec::new(alloc);
+        entries.push(does(alloc, WordAct::Takes, &[(1, 1)])?)?;
+        entries.push(Entry::Ended)?;
+        tables.push(Table { entries })?;
+    }
+    Ok(tables)
+}
+
+#[test]
+fn a_lock_that_is_kept_is_waited_for_ever(rt: HostRuntime) {
+    let Ok(tables) = takers(rt.alloc()) else {
+        panic!(&rt; "no memory")
+    };
+    let (_, fates) = whole(&rt, rt.alloc(), tables.as_slice());
+    same(
+        &rt,
+        fates.as_slice(),
+        &[Fate::Endless, Fate::Stuck, Fate::Stuck],
+    );
 }
