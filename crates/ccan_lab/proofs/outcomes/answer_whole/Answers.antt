@@ -2,7 +2,7 @@ use Rattle.std.proofs.Common.{List, ℕ, rules, subst}
 use Rattle.std.proofs.lemmas.Result.{IfOk-weaker}
 use Rattle.ccan_lab.specs.Answered.{IsAnswered}
 use Rattle.ccan_lab.proofs.Answered.{answered_so}
-use Rattle.ccan_lab.proofs.outcomes.answer_outcomes.Goals as goal
+use Rattle.ccan_lab.proofs.outcomes.answer_whole.Goals as goal
 
 pub returns-clause-answered : goal.returns-clause-answered
 returns-clause-answered g c =
