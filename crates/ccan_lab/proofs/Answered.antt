@@ -44,6 +44,24 @@ module _ (IsPart : List ℕ → FilePart → Type 0) (name : List ℕ) (last : F
     worst = counted ∙ ap (λ (n : ℕ). worse n last.status) before.worst ∙ worst_more before.parts;
   }
 
+module _ (IsPart Follows : List ℕ → FilePart → Type 0)
+    (follows : (name : List ℕ) (one : FilePart) → IsPart name one → Follows name one) where
+  each_follows : (names : List (List ℕ)) (parts : List FilePart) → AllZip IsPart names parts → AllZip Follows names parts
+  each_follows [] [] each = tt
+  each_follows [] (p ∷ ps) each = absurd each
+  each_follows (n ∷ ns) [] each = absurd each
+  each_follows (n ∷ ns) (p ∷ ps) each = (follows n p each.0, each_follows ns ps each.1)
+
+  -- the parts of files are also what follows from it
+  pub answered_for : (names : List (List ℕ)) (old new : Option (List ℕ)) (status : ℕ) → AreAnswered IsPart names old new status
+      → AreAnswered Follows names old new status
+  answered_for names old new status are = record {
+    parts = are.parts;
+    each = each_follows names are.parts are.each;
+    printed = are.printed;
+    worst = are.worst;
+  }
+
 module _ (Answers : List ℕ → Result FileAnswer LabError → Type 0) (shown : Bool) (name : List ℕ)
     (answered : Result FileAnswer LabError) where
   -- it is answered whole
@@ -58,13 +76,8 @@ module _ (Answers : List ℕ → Result FileAnswer LabError → Type 0) (shown :
 
 module _ (Answers Others : List ℕ → Result FileAnswer LabError → Type 0)
     (weaker : (name : List ℕ) (answered : Result FileAnswer LabError) → Answers name answered → Others name answered) where
-  each_weaker : (shown : Bool) (names : List (List ℕ)) (parts : List FilePart) → AllZip (IsPartOf Answers shown) names parts
-      → AllZip (IsPartOf Others shown) names parts
-  each_weaker shown [] [] each = tt
-  each_weaker shown [] (p ∷ ps) each = absurd each
-  each_weaker shown (n ∷ ns) [] each = absurd each
-  each_weaker shown (n ∷ ns) (p ∷ ps) each =
-      ((each.0.0, weaker n each.0.0 each.0.1, each.0.2, each.0.3), each_weaker shown ns ps each.1)
+  part_weaker : (shown : Bool) (name : List ℕ) (one : FilePart) → IsPartOf Answers shown name one → IsPartOf Others shown name one
+  part_weaker shown name one is = (is.0, weaker name is.0 is.1, is.2, is.3)
 
   -- files that were asked about so were asked about as this follows from it
   pub answered_so : (named also : Bool) → named ≡ also → (files others : List (Bor (List ℕ))) → files ≡ others
@@ -75,9 +88,6 @@ module _ (Answers Others : List ℕ → Result FileAnswer LabError → Type 0)
       subst (λ (it : Bool). AreAnswered (IsPartOf Others (has_headings it (length others))) (map (λ file. file.now) others)
       old new status) headed
       (subst (λ (l : List (Bor (List ℕ))). AreAnswered (IsPartOf Others (has_headings named (length l)))
-      (map (λ file. file.now) l) old new status) same (record {
-        parts = are.parts;
-        each = each_weaker (has_headings named (length files)) (map (λ file. file.now) files) are.parts are.each;
-        printed = are.printed;
-        worst = are.worst;
-      }))
+      (map (λ file. file.now) l) old new status) same
+      (answered_for (IsPartOf Answers (has_headings named (length files))) (IsPartOf Others (has_headings named (length files)))
+      (part_weaker (has_headings named (length files))) (map (λ file. file.now) files) old new status are))

@@ -1,5 +1,5 @@
 -- What is written of a list, and why it isn't.
-use Rattle.std.proofs.Common.{ℕ, ◌≡◌, ◌≤◌, ◌++◌, Bool, List, [], Option, inl, inr, length, sym, append_assoc, subst}
+use Rattle.std.proofs.Common.{ℕ, ◌≡◌, ◌<◌, ◌++◌, Bool, List, [], Option, inl, inr, length, sym, append_assoc, subst, arith}
 use Rattle.std.proofs.KnownBytes.{Appends-nil, Appends-trans}
 use Rattle.std.specs.Io.KnownBytes.{Appends}
 use Rattle.std.specs.List.{IsDistinct}
@@ -11,14 +11,26 @@ use Rattle.ccan_outcomes.specs.Ending.{AreAllEnds, AreOfRuns, AreOutcomes}
 use Rattle.ccan_lab.specs.declared.asked.Asked.{Asked}
 use Rattle.ccan_lab.specs.declared.asked.Asked.TheVariants.{Summary, All, Json, Can, Never, Observed, AllObserved}
 use Rattle.ccan_lab.specs.declared.lab_error.LabError.{LabError}
+use Rattle.ccan_lab.specs.declared.lab_error.LabError.TheVariants as fault
 use Rattle.ccan_lab.specs.declared.list_end.ListEnd.{ListEnd}
 use Rattle.ccan_lab.specs.declared.list_end.ListEnd.TheVariants.{Whole, GivenUp}
 use Rattle.ccan_lab.specs.declared.outcomes.OutcomesQuestion.{OutcomesQuestion}
-use Rattle.ccan_lab.specs.Answered.{RefusesBy}
-use Rattle.ccan_lab.specs.EachList.{ListsAsked}
-use Rattle.ccan_lab.specs.Outcomes.{AnswersTo, IsOfAll}
+use Rattle.ccan_lab.specs.Answered.{IsAnswered, RefusesBy}
+use Rattle.ccan_lab.specs.EachFile.{FilePart, IsPartOf}
+use Rattle.ccan_lab.specs.EachList.{IsListPart, IsPartBy, ListsAsked}
+use Rattle.ccan_lab.specs.Outcomes.{AnswersTo, IsNotOfAll, IsOfAll}
 use Rattle.ccan_lab.specs.Words.{HasNoHistory, HasNoWords}
-use Rattle.ccan_lab.specs.Written.{IsEndOf, IsUnwritten, IsWritten}
+use Rattle.ccan_lab.specs.Written.{IsReasonAt, IsUnwritten, IsWritten}
+
+-- before this outcome memory ran out
+pub no_memory : (IsReason : LabError → Type 0) → IsReason fault.Memory → (all count : ℕ) (why : LabError) → why ≡ fault.Memory
+    → IsReasonAt IsReason all count why
+no_memory IsReason enough all count why is = (subst IsReason (sym is) enough, λ same. is)
+
+-- it is not behind the last
+pub at_outcome : (IsReason : LabError → Type 0) (all count : ℕ) → count < all → (why : LabError) → IsReason why
+    → IsReasonAt IsReason all count why
+at_outcome IsReason all count low why is = (is, λ same. absurd (omega (arith, low, same)))
 
 -- nothing is written yet
 pub nothing_written : (IsReason : LabError → Type 0) (old : Option (List ℕ)) (why : LabError) → IsReason why
@@ -63,7 +75,7 @@ module _ (question : OutcomesQuestion) (script : ScriptFields) where
       → AreAllEnds question.frames script outcomes → AreOutcomes script outcomes → AreOfRuns script outcomes
       → IsDistinct ending_is.eq outcomes → (end : ListEnd) (old new : Option (List ℕ)) (above : List ℕ)
       → (list : IsWritten above (AnswersTo frames question.form script outcomes question.asked)
-        (HasNoHistory script ports_are.eq question.most) (length outcomes) end old new)
+      (HasNoHistory script ports_are.eq question.most) (length outcomes) end old new)
       → ListsAsked question script end list.text
   lists_asked frames same outcomes ends are runs once Whole old new above list = record {
     outcomes = outcomes;
@@ -89,3 +101,25 @@ module _ (question : OutcomesQuestion) (script : ScriptFields) where
     },
     list.ends.0,
   )
+
+-- what is printed of a file, by what is asked
+module _ (question : OutcomesQuestion) (shown : Bool) where
+  pub list_part : (asked : Asked) → IsOfAll asked → (name : List ℕ) (one : FilePart) → IsListPart question shown name one
+      → IsPartBy asked question shown name one
+  list_part Summary of name one is = absurd of
+  list_part All of name one is = is
+  list_part Json of name one is = absurd of
+  list_part Can of name one is = absurd of
+  list_part Never of name one is = absurd of
+  list_part (Observed names) of name one is = absurd of
+  list_part (AllObserved names) of name one is = is
+
+  pub whole_part : (asked : Asked) → IsNotOfAll asked → (name : List ℕ) (one : FilePart)
+      → IsPartOf (IsAnswered question) shown name one → IsPartBy asked question shown name one
+  whole_part Summary of name one is = is
+  whole_part All of name one is = absurd of
+  whole_part Json of name one is = is
+  whole_part Can of name one is = is
+  whole_part Never of name one is = is
+  whole_part (Observed names) of name one is = is
+  whole_part (AllObserved names) of name one is = absurd of

@@ -6,10 +6,14 @@ use Rattle.ccan_lab.specs.declared.lab_error.LabError.TheVariants as fault
 use Rattle.ccan_lab.specs.declared.list_end.ListEnd.{ListEnd}
 use Rattle.ccan_lab.specs.declared.list_end.ListEnd.TheVariants.{Whole, GivenUp}
 
--- a list is whole if it has all outcomes; else there is a reason to give it up, behind the last outcome only lack of memory
+-- a list is given up for a reason, behind the last outcome only for lack of memory
+abbrev pub IsReasonAt : (LabError → Type 0) → ℕ → ℕ → LabError → Type 0
+IsReasonAt IsReason all count why = IsReason why × (count ≡ all → why ≡ fault.Memory)
+
+-- it is whole if it has all outcomes, and else given up so
 abbrev pub IsEndOf : (LabError → Type 0) → ℕ → ℕ → ListEnd → Type 0
 IsEndOf IsReason all count Whole = count ≡ all
-IsEndOf IsReason all count (GivenUp why) = IsReason why × (count ≡ all → why ≡ fault.Memory)
+IsEndOf IsReason all count (GivenUp why) = IsReasonAt IsReason all count why
 
 -- below this text a list of the outcomes before some number was written, and it ended so
 pub record IsWritten (above : List ℕ) (IsListTo : ℕ → List ℕ → Type 0) (IsReason : LabError → Type 0) (all : ℕ) (end : ListEnd)

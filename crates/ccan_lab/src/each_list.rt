@@ -1,13 +1,13 @@
 //! The list of all outcomes of several scripts: each is written in turn, outcome by outcome.
 
-ghost use Rattle.std.specs.Prelude.{◌≡◌, ◌↔◌, ◌++◌, List, ℕ, IfErr, IfOk, IsTrue, length, map};
+ghost use Rattle.std.specs.Prelude.{◌≡◌, ◌++◌, List, ℕ, IfErr, IfOk, false, length, map, true};
 ghost use Rattle.std.specs.Io.KnownBytes.{Appends};
 ghost use Rattle.ccan_line.specs.Script.{fields_of};
 ghost use Rattle.ccan_outcomes.specs.OutcomeWords.{endings_in};
 ghost use Rattle.ccan_lab.specs.declared.lab_error.LabError.TheVariants as LabError;
 ghost use Rattle.ccan_lab.specs.Answered.{IsAnswered, RefusesAsked, RefusesFile, names_its_file};
 ghost use Rattle.ccan_lab.specs.EachFile.{AreAnswered, has_headings, heading_if};
-ghost use Rattle.ccan_lab.specs.EachList.{IsListPart, IsListed, ListsAsked, ListsFile};
+ghost use Rattle.ccan_lab.specs.EachList.{IsListPart, IsListed, ListsAsked, ListsFile, status_listed};
 ghost use Rattle.ccan_lab.specs.LabError.{exit_status};
 ghost use Rattle.ccan_lab.specs.Outcomes.{AnswersTo, IsOfAll};
 ghost use Rattle.ccan_lab.specs.Telling.{CanBeTold, frames_in};
@@ -189,9 +189,38 @@ fn status_told<T: Eprint>(rt: &T, are_several: bool, file: &str, fault: &LabErro
 
 /// Whether a write failed.
 fn is_unwritten(fault: &LabError) -> bool
-    ensures { IsTrue result ↔ (fault.now ≡ LabError.Write) }
+    ensures yes { result ≡ true → fault.now ≡ LabError.Write }
+    ensures no { result ≡ false → ¬ (fault.now ≡ LabError.Write) }
 {
     matches!(fault, LabError::Write)
+}
+
+/// The exit status of a file that is listed so. A fault is reported.
+fn status_listed<T: Eprint>(rt: &T, are_several: bool, file: &str, end: ListEnd) -> u8
+    ensures { result ≡ status_listed (Ok end) }
+{
+    match end {
+        ListEnd::Whole => 0,
+        ListEnd::GivenUp(fault) => status_told(rt, are_several, file, &fault),
+    }
+}
+
+/// The exit status of a file of which nothing is written, for this fault, which is reported; a failed write stands.
+fn status_unlisted<T: Eprint>(
+    rt: &T,
+    are_several: bool,
+    file: &str,
+    fault: LabError,
+) -> Result<u8, LabError>
+    ensures status { IfOk result (λ status. status ≡ exit_status fault) }
+    ensures other { IfOk result (λ status. ¬ (fault ≡ LabError.Write)) }
+    ensures unwritten { IfErr result (λ e. e ≡ LabError.Write) }
+{
+    if is_unwritten(&fault) {
+        Err(LabError::Write)
+    } else {
+        Ok(status_told(rt, are_several, file, &fault))
+    }
 }
 
 /// Writes the list of a file, reports its fault if there is one, and gives the exit status if it is the only file.
@@ -213,10 +242,8 @@ where
 {
     let are_several = 1 < question.files.len();
     match list_file(rt, writer, is_shown, file, question, progress) {
-        Ok(ListEnd::Whole) => Ok(0),
-        Ok(ListEnd::GivenUp(fault)) => Ok(status_told(rt, are_several, file, &fault)),
-        Err(fault) if is_unwritten(&fault) => Err(fault),
-        Err(fault) => Ok(status_told(rt, are_several, file, &fault)),
+        Ok(end) => Ok(status_listed(rt, are_several, file, end)),
+        Err(fault) => status_unlisted(rt, are_several, file, fault),
     }
 }
 

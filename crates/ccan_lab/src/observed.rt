@@ -1,6 +1,6 @@
 //! A list of the outcomes that can be told apart by some of their lines.
-ghost use Rattle.std.specs.Prelude.{◌≡◌, ◌+◌, ◌^◌, ◌<◌, ◌++◌, [], Some, IfErr, IfOk, OnOk, length, map, not, option_map, position, slice_get};
-ghost use Rattle.std.specs.Prelude.{string_bytes};
+ghost use Rattle.std.specs.Prelude.{◌≡◌, ◌+◌, ◌^◌, ◌<◌, ◌≤◌, ◌++◌, List, [], ℕ, Some, IfErr, IfNone, IfOk, IfSome, OnOk, length, map, not, option_map};
+ghost use Rattle.std.specs.Prelude.{position, slice_get, string_bytes};
 ghost use Rattle.std.specs.List.{list_any, range_with_len};
 ghost use Rattle.std.specs.Str.{bytes_eq};
 ghost use Rattle.ccan_line.specs.Script.{fields_of};
@@ -13,7 +13,7 @@ ghost use Rattle.ccan_lab.specs.Observed.{is_observed, is_place, is_repeat, mark
 ghost use Rattle.ccan_lab.specs.Observed.{observed_heading, observed_line, observed_lines, observed_texts, places_of};
 ghost use Rattle.ccan_lab.specs.Telling.{CanBeTold, frames_in};
 ghost use Rattle.ccan_lab.specs.Words.{HasNoHistory};
-ghost use Rattle.ccan_lab.specs.Written.{IsUnwritten, IsWritten};
+ghost use Rattle.ccan_lab.specs.Written.{IsReasonAt, IsUnwritten, IsWritten};
 
 use crate::each_file::{write_below, write_piece};
 use crate::lab_error::LabError;
@@ -173,36 +173,69 @@ pub fn observed_texts(
     Ok(texts)
 }
 
-/// The text of an outcome; nothing if one before it shows the same.
+/// Adds an outcome, unless one before it shows the same.
+fn add_if_first<P: Progress>(
+    alloc: Global,
+    text: &mut String,
+    telling: &Telling<'_, P>,
+    histories: &mut Histories,
+    texts: &ShownTexts,
+    ending: &Ending,
+    number: usize,
+) -> Result<(), LabError>
+    requires can { CanBeTold (fields_of telling.now.query.now.script.now) telling.now.list.now }
+    requires within { number < length texts.now.lines.items }
+    requires at { slice_get (endings_in telling.now.list.now.words) number ≡ Some ending.now }
+    requires few { number + 1 < 2 ^ 64 }
+    ensures text { OnOk result ((added : List ℕ)
+        × (string_bytes text.new ≡ string_bytes text.old ++ added)
+        × IsFirstText (IsOutcomeText (frames_in telling.now.list.now) telling.now.query.now.form
+        (fields_of telling.now.query.now.script.now) (endings_in telling.now.list.now.words))
+        (is_repeat (map string_bytes texts.now.lines.items) number)
+        (text_at (map string_bytes texts.now.lines.items) number) number added) }
+    ensures without { IfErr result (HasNoHistory (fields_of telling.now.query.now.script.now)
+        ⟦<AllPorts as PartialEq>⟧.eq telling.now.query.now.most) }
+{
+    if texts.is_repeat(number) {
+        return Ok(());
+    }
+    let lines = texts.lines[number].as_str();
+    add_outcome(alloc, text, telling, histories, ending, lines, number)?;
+    Ok(())
+}
+
+/// The text of the outcome of this number, from 0, which is empty if one before it shows the same; none if there are no more than
+/// so many.
 fn first_text<P: Progress>(
     alloc: Global,
     telling: &Telling<'_, P>,
     texts: &ShownTexts,
     histories: &mut Histories,
-    ending: &Ending,
     number: usize,
-) -> Result<String, LabError>
+) -> Result<Option<String>, LabError>
     requires can { CanBeTold (fields_of telling.now.query.now.script.now) telling.now.list.now }
-    requires within { number < length texts.now.lines.items }
-    requires at { slice_get (endings_in telling.now.list.now.words) number ≡ Some ending.now }
+    requires as_many { length texts.now.lines.items
+        ≡ length (endings_in telling.now.list.now.words) }
     requires few { number + 1 < 2 ^ 64 }
-    ensures text { IfOk result (λ text.
-        IsFirstText (IsOutcomeText (frames_in telling.now.list.now) telling.now.query.now.form
+    ensures text { IfOk result (λ found. IfSome found (λ text.
+        (number < length (endings_in telling.now.list.now.words))
+        × IsFirstText (IsOutcomeText (frames_in telling.now.list.now) telling.now.query.now.form
         (fields_of telling.now.query.now.script.now) (endings_in telling.now.list.now.words))
         (is_repeat (map string_bytes texts.now.lines.items) number)
-        (text_at (map string_bytes texts.now.lines.items) number) number (string_bytes text)) }
-    ensures without { IfErr result (HasNoHistory (fields_of telling.now.query.now.script.now)
-        ⟦<AllPorts as PartialEq>⟧.eq telling.now.query.now.most) }
+        (text_at (map string_bytes texts.now.lines.items) number) number (string_bytes text))) }
+    ensures none { IfOk result (λ found. IfNone found
+        (length (endings_in telling.now.list.now.words) ≤ number)) }
+    ensures without { IfErr result (IsReasonAt
+        (HasNoHistory (fields_of telling.now.query.now.script.now)
+        ⟦<AllPorts as PartialEq>⟧.eq telling.now.query.now.most)
+        (length (endings_in telling.now.list.now.words)) number) }
 {
+    let Some(ending) = telling.list.words.ending(alloc, number as u64)? else {
+        return Ok(None);
+    };
     let mut text = String::new(alloc);
-    if texts.is_repeat(number) {
-        return Ok(text);
-    }
-    let lines = texts.lines[number].as_str();
-    add_outcome(
-        alloc, &mut text, telling, histories, ending, lines, number,
-    )?;
-    Ok(text)
+    add_if_first(alloc, &mut text, telling, histories, texts, &ending, number)?;
+    Ok(Some(text))
 }
 
 /// Writes each outcome that shows what none before it does, as soon as its text is made.
@@ -227,13 +260,9 @@ fn write_firsts<T: Eprint, W: Write>(
 {
     let mut histories = Histories::new(alloc);
     for number in 0..usize::MAX {
-        let ending = match telling.list.words.ending(alloc, number as u64) {
-            Ok(Some(ending)) => ending,
+        match first_text(alloc, telling, texts, &mut histories, number) {
+            Ok(Some(text)) => write_piece(writer, telling.query.progress, text.as_str())?,
             Ok(None) => return Ok(ListEnd::Whole),
-            Err(_) => return Ok(ListEnd::GivenUp(LabError::Memory)),
-        };
-        match first_text(alloc, telling, texts, &mut histories, &ending, number) {
-            Ok(text) => write_piece(writer, telling.query.progress, text.as_str())?,
             Err(fault) => return Ok(ListEnd::GivenUp(fault)),
         }
     }
@@ -283,20 +312,6 @@ fn shown_by(
     ShownTexts::new(alloc, lines)
 }
 
-/// How many outcomes show what none before them does.
-fn first_count(texts: &ShownTexts) -> usize
-    ensures { result ≡ first_count (map string_bytes texts.now.lines.items)
-        (length texts.now.lines.items) }
-{
-    let mut count = 0;
-    for number in 0..texts.lines.len() {
-        if !texts.is_repeat(number) {
-            count += 1;
-        }
-    }
-    count
-}
-
 /// The first line: how many outcomes there are, and how many can be told apart by what they show.
 fn observed_head(alloc: Global, texts: &ShownTexts) -> Result<String, AllocError>
     ensures { IfOk result (λ text. string_bytes text
@@ -305,7 +320,7 @@ fn observed_head(alloc: Global, texts: &ShownTexts) -> Result<String, AllocError
         (length texts.now.lines.items))) }
 {
     let mut text = String::new(alloc);
-    add_observed_heading(&mut text, texts.lines.len(), first_count(texts))?;
+    add_observed_heading(&mut text, texts.lines.len(), texts.first_count())?;
     Ok(text)
 }
 

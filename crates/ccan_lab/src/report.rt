@@ -1,4 +1,5 @@
-ghost use Rattle.std.specs.Prelude.{◌≡◌, ◌+◌, ◌^◌, ◌<◌, ◌++◌, List, [], ℕ, Some, IfErr, IfOk, OnOk, length, min, slice_get, string_bytes};
+ghost use Rattle.std.specs.Prelude.{◌≡◌, ◌+◌, ◌^◌, ◌<◌, ◌≤◌, ◌++◌, List, [], ℕ, Some, IfErr, IfNone, IfOk, IfSome, OnOk, length, min, slice_get};
+ghost use Rattle.std.specs.Prelude.{string_bytes};
 ghost use Rattle.std.specs.Option.{option_map};
 ghost use Rattle.ccan_line.specs.Script.{fields_of};
 ghost use Rattle.ccan_outcomes.specs.OutcomeWords.{endings_in};
@@ -14,7 +15,7 @@ ghost use Rattle.ccan_lab.specs.Sorted.{all_texts};
 ghost use Rattle.ccan_lab.specs.Summary.{same_parts};
 ghost use Rattle.ccan_lab.specs.Telling.{CanBeTold, frames_in};
 ghost use Rattle.ccan_lab.specs.Words.{HasNoHistory};
-ghost use Rattle.ccan_lab.specs.Written.{IsUnwritten, IsWritten};
+ghost use Rattle.ccan_lab.specs.Written.{IsReasonAt, IsUnwritten, IsWritten};
 
 use crate::brief::history_told;
 use crate::choices::all_choices;
@@ -188,37 +189,43 @@ pub fn add_outcome<P: Progress>(
     Ok(())
 }
 
-/// The text of an outcome, by the lines that may be in each place. The number is from 0.
+/// The text of the outcome of this number, from 0, by the lines that may be in each place; none if there are no more than so many.
 fn numbered_text<P: Progress>(
     alloc: Global,
     telling: &Telling<'_, P>,
     choices: &[Vec<&str>],
     histories: &mut Histories,
-    ending: &Ending,
     number: usize,
-) -> Result<String, LabError>
+) -> Result<Option<String>, LabError>
     requires can { CanBeTold (fields_of telling.now.query.now.script.now) telling.now.list.now }
-    requires at { slice_get (endings_in telling.now.list.now.words) number ≡ Some ending.now }
     requires few { number + 1 < 2 ^ 64 }
-    ensures text { IfOk result (λ text. IsNumberedText (frames_in telling.now.list.now)
-        telling.now.query.now.form (fields_of telling.now.query.now.script.now)
-        (endings_in telling.now.list.now.words) (all_texts choices.now) number
-        (string_bytes text)) }
-    ensures without { IfErr result (HasNoHistory (fields_of telling.now.query.now.script.now)
-        ⟦<AllPorts as PartialEq>⟧.eq telling.now.query.now.most) }
+    ensures text { IfOk result (λ found. IfSome found (λ text.
+        (number < length (endings_in telling.now.list.now.words))
+        × IsNumberedText (frames_in telling.now.list.now) telling.now.query.now.form
+        (fields_of telling.now.query.now.script.now) (endings_in telling.now.list.now.words)
+        (all_texts choices.now) number (string_bytes text))) }
+    ensures none { IfOk result (λ found. IfNone found
+        (length (endings_in telling.now.list.now.words) ≤ number)) }
+    ensures without { IfErr result (IsReasonAt
+        (HasNoHistory (fields_of telling.now.query.now.script.now)
+        ⟦<AllPorts as PartialEq>⟧.eq telling.now.query.now.most)
+        (length (endings_in telling.now.list.now.words)) number) }
 {
-    let lines = different_lines(alloc, choices, ending)?;
+    let Some(ending) = telling.list.words.ending(alloc, number as u64)? else {
+        return Ok(None);
+    };
+    let lines = different_lines(alloc, choices, &ending)?;
     let mut text = String::new(alloc);
     add_outcome(
         alloc,
         &mut text,
         telling,
         histories,
-        ending,
+        &ending,
         lines.as_str(),
         number,
     )?;
-    Ok(text)
+    Ok(Some(text))
 }
 
 /// Writes all outcomes, by the lines that may be in each place: each as soon as its text is made.
@@ -241,13 +248,9 @@ fn write_outcomes<T: Eprint, W: Write>(
 {
     let mut histories = Histories::new(alloc);
     for number in 0..usize::MAX {
-        let ending = match telling.list.words.ending(alloc, number as u64) {
-            Ok(Some(ending)) => ending,
+        match numbered_text(alloc, telling, choices, &mut histories, number) {
+            Ok(Some(text)) => write_piece(writer, telling.query.progress, text.as_str())?,
             Ok(None) => return Ok(ListEnd::Whole),
-            Err(_) => return Ok(ListEnd::GivenUp(LabError::Memory)),
-        };
-        match numbered_text(alloc, telling, choices, &mut histories, &ending, number) {
-            Ok(text) => write_piece(writer, telling.query.progress, text.as_str())?,
             Err(fault) => return Ok(ListEnd::GivenUp(fault)),
         }
     }

@@ -1,0 +1,28 @@
+use Rattle.std.proofs.Common.{◌≡◌, false, ℕ, List, map, ap, sym, ◌∙◌, subst, string_bytes, rules}
+use Rattle.ccan_line.specs.Script.{fields_of}
+use Rattle.ccan_outcomes.specs.OutcomeWords.{endings_in}
+use Rattle.ccan_lab.specs.Observed.{is_repeat, text_at}
+use Rattle.ccan_lab.specs.OutcomeText.{IsOutcomeText}
+use Rattle.ccan_lab.specs.Telling.{frames_in}
+use Rattle.ccan_lab.proofs.Apart.{first_text, text_in}
+use Rattle.ccan_lab.proofs.observed.add_if_first.Goals as goal
+
+pub returns-clause-text : goal.returns-clause-text
+returns-clause-text g c =
+    let texts = c.args.texts.now.lines.items in
+    let number = c.args.number in
+    let script = fields_of c.args.telling.now.query.now.script.now in
+    let frames = frames_in c.args.telling.now.list.now in
+    let form = c.args.telling.now.query.now.form in
+    let keys = endings_in c.args.telling.now.list.now.words in
+    let repeat = is_repeat (map string_bytes texts) number in
+    let lines = text_at (map string_bytes texts) number in
+    let added = c.in_ok-add_outcome.ensures.text.0 in
+    let first : repeat ≡ false = search rules in
+    let shown = c.index.result.now in
+    let within = c.requires.within in
+    let lines_are : c.as_str-lines.result.now ≡ lines =
+    c.as_str-lines.ensures.value ∙ ap string_bytes c.index.ensures ∙ sym (text_in texts number shown within) in
+    let told : IsOutcomeText frames form script keys lines number added =
+    subst (λ (l : List ℕ). IsOutcomeText frames form script keys l number added) lines_are c.in_ok-add_outcome.ensures.text.2 in
+    (added, c.in_ok-add_outcome.ensures.text.1, first_text (IsOutcomeText frames form script keys) repeat lines number added first told)
