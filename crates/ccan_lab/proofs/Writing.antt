@@ -58,6 +58,19 @@ written_below above head IsListTo IsWholeTo IsReason all whole end old between n
   ends = later.ends;
 }
 
+-- a list as what follows from it
+pub written_as : (above : List ℕ) (IsListTo Follows : ℕ → List ℕ → Type 0) (IsReason : LabError → Type 0) (all : ℕ)
+    → ((count : ℕ) (text : List ℕ) → IsListTo count text → Follows count text) → (end : ListEnd) (old new : Option (List ℕ))
+    → IsWritten above IsListTo IsReason all end old new → IsWritten above Follows IsReason all end old new
+written_as above IsListTo Follows IsReason all follows end old new list = record {
+  count = list.count;
+  within = list.within;
+  text = list.text;
+  is_list = follows list.count list.text list.is_list;
+  written = list.written;
+  ends = list.ends;
+}
+
 module _ (question : OutcomesQuestion) (script : ScriptFields) where
   -- why there are no words is why there is no list
   pub refuses_list : (asked : Asked) → IsOfAll asked → (why : LabError)

@@ -1,9 +1,14 @@
-use Rattle.std.proofs.Common.{Bor, List, ℕ, sym, subst}
+use Rattle.std.proofs.Common.{Bor, List, [], ℕ, refl, sym, subst}
+use Rattle.std.proofs.KnownBytes.{Appends-nil}
 use Rattle.std.proofs.lemmas.List.{map_more}
 use Rattle.ccan_lab.specs.EachFile.{AreAnswered, FilePart}
 use Rattle.ccan_lab.specs.EachList.{IsListPart}
 use Rattle.ccan_lab.proofs.Answered.{answered_more}
 use Rattle.ccan_lab.proofs.each_list.list_in_turn.Goals as goal
+
+pub loop-file-init : goal.loop-file-init
+loop-file-init g c =
+    record { parts = []; each = tt; printed = Appends-nil (g.W.Write.contents c.args.writer.now); worst = refl }
 
 pub loop-file-preserved : goal.loop-file-preserved
 loop-file-preserved g c =

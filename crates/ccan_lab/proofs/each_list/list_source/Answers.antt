@@ -44,6 +44,6 @@ returns-in_err-refuse_unknown-clause-unlisted g c =
     let searched = fields_of c.in_ok-script.script in
     let it : IsSearchedFor bytes searched =
     subst (λ (bytes : List ℕ). IsSearchedFor bytes searched) c.as_slice.ensures.value c.in_ok-script.ensures.searched in
-    IfErr-weaker c.from_residual.result (RefusesUnknown searched question.asked) _
+    IfErr-weaker c.from_residual-in_err-refuse_unknown.result (RefusesUnknown searched question.asked) _
     (λ why unknown. nothing_written (RefusesFile question bytes) _ why (inr (searched, it, inl unknown)))
     (search rules)

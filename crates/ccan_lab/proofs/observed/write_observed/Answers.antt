@@ -56,10 +56,13 @@ returns-clause-written g c =
       are = subst (λ told. AreFirstTexts IsText told upto text) texts_are are;
       text_is = refl;
     } in
+    let old = g.W.Write.contents c.args.writer.now in
+    let between = g.W.Write.contents c.write_below.new.writer in
+    let new = g.W.Write.contents c.write_firsts.new.writer in
     IfOk-weaker c.write_firsts.result _ _ (λ end later.
     written_below above head (AreFirstTexts IsText texts) (IsObservedListingTo frames form names script endings)
-    (HasNoHistory script ports_are.eq c.args.telling.now.query.now.most) (length endings) whole end _ _ _
-    (subst (λ (t : List ℕ). Appends _ _ (above ++ t)) head_is c.in_ok-write_below.ensures.ok) later)
+    (HasNoHistory script ports_are.eq c.args.telling.now.query.now.most) (length endings) whole end old between new
+    (subst (λ (t : List ℕ). Appends old between (above ++ t)) head_is c.in_ok-write_below.ensures.ok) later)
     c.write_firsts.ensures.written
 
 pub returns-clause-unwritten : goal.returns-clause-unwritten

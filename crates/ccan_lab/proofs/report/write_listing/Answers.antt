@@ -43,10 +43,13 @@ returns-clause-written g c =
           c.as_slice-3.ensures.value are;
       text_is = append_assoc (count_text (min (length endings) greatest)) (same_parts choices) text;
     } in
+    let old = g.W.Write.contents c.args.writer.now in
+    let between = g.W.Write.contents c.write_below.new.writer in
+    let new = g.W.Write.contents c.write_outcomes.new.writer in
     IfOk-weaker c.write_outcomes.result _ _ (λ end later.
     written_below above head (AreOutcomeTexts frames form script endings (all_texts c.as_slice-3.result.now))
     (IsListingTo frames form script endings) (HasNoHistory script ports_are.eq c.args.telling.now.query.now.most) (length endings)
-    whole end _ _ _ (subst (λ (t : List ℕ). Appends _ _ (above ++ t)) head_is c.in_ok-write_below.ensures.ok) later)
+    whole end old between new (subst (λ (t : List ℕ). Appends old between (above ++ t)) head_is c.in_ok-write_below.ensures.ok) later)
     c.write_outcomes.ensures.written
 
 pub returns-clause-unwritten : goal.returns-clause-unwritten
