@@ -4,12 +4,11 @@ use Rattle.ccan_line.specs.Script.{ScriptFields}
 use Rattle.ccan_outcomes.specs.contracts.ending.EndingPartialEq.TheImpl.{ghosts as ending_is}
 use Rattle.ccan_lab.specs.declared.answer.Answer.{Answer}
 use Rattle.ccan_lab.specs.declared.asked.Asked.{Asked}
-use Rattle.ccan_lab.specs.declared.asked.Asked.TheVariants.{Summary, All, Json, Can, Never, Observed, AllObserved}
+use Rattle.ccan_lab.specs.declared.asked.Asked.TheVariants.{Summary, Can, Never, Observed}
 use Rattle.ccan_lab.specs.declared.each_file.FileAnswer.{FileAnswer}
 use Rattle.ccan_lab.specs.declared.outcomes.OutcomesQuestion.{OutcomesQuestion}
 use Rattle.ccan_lab.specs.Answered.{AnswersAsked, EndsAsAsked, TellsBy, TellsShortList, status_if}
 use Rattle.ccan_lab.specs.Observed.{names_in}
-use Rattle.ccan_lab.specs.Outcomes.{IsOfAll, TellsAll}
 use Rattle.ccan_lab.specs.Seen.{TellsSeen}
 use Rattle.ccan_lab.specs.Sorted.{texts_of}
 use Rattle.ccan_lab.specs.Words.{TellsLine}
@@ -42,20 +41,6 @@ module _ (question : OutcomesQuestion) (name : List ℕ) (script : ScriptFields)
   by_names names is told holds =
       by_asked question name script answer (Observed names) is (subst (TellsSeen question.frames question.form (names_in names.now) script ending_is.eq) (sym text) told)
       (status ∙ ap status_if holds)
-
-  pub by_all : (asked : Asked) → IsOfAll asked → question.asked ≡ asked
-      → TellsAll question.frames question.form script ending_is.eq asked (string_bytes given.text) → given.holds ≡ true
-      → AnswersAsked question name script answer
-  by_all Summary of is told holds = absurd of
-  by_all All of is told holds =
-      by_asked question name script answer All is (subst (TellsAll question.frames question.form script ending_is.eq All) (sym text) told) (status ∙ ap status_if holds)
-  by_all Json of is told holds = absurd of
-  by_all Can of is told holds = absurd of
-  by_all Never of is told holds = absurd of
-  by_all (Observed names) of is told holds = absurd of
-  by_all (AllObserved names) of is told holds =
-      by_asked question name script answer (AllObserved names) is
-      (subst (TellsAll question.frames question.form script ending_is.eq (AllObserved names)) (sym text) told) (status ∙ ap status_if holds)
 
   module _ (lines : List (Bor (List ℕ))) (are : lines ≡ question.lines.items) where
     pub by_can : question.asked ≡ Can

@@ -23,3 +23,4 @@ pub mod Detailed
 pub mod Grouped
 pub mod Fitting
 pub mod FrameLines
+pub mod Writing

@@ -17,7 +17,6 @@ use Rattle.ccan_lab.specs.declared.lab_error.LabError.TheVariants as fault
 use Rattle.ccan_lab.specs.declared.outcomes.OutcomesQuestion.{OutcomesQuestion}
 use Rattle.ccan_lab.specs.Counting.{TellsCount}
 use Rattle.ccan_lab.specs.Observed.{is_known, names_in}
-use Rattle.ccan_lab.specs.Outcomes.{TellsAll}
 use Rattle.ccan_lab.specs.Paging.{TellsJson, page_name}
 use Rattle.ccan_lab.specs.Question.{AreKnown}
 use Rattle.ccan_lab.specs.Rows.{has_lines, lines_of}
@@ -92,17 +91,16 @@ TellsShortList frames script eq most answer =
     (TellsSummary frames script eq answer.text.items × (answer.status ≡ 0))
     ⊎ (TellsWithoutNumber frames script most answer.text.items × (answer.status ≡ 5))
 
--- what is printed, by what is asked; only JSON has the file's name
+-- what is printed, by what is asked; only JSON has the file's name. The list of all outcomes is no such answer: it is printed piece
+-- by piece
 abbrev pub TellsBy : Asked → OutcomesQuestion → List ℕ → ScriptFields → FileAnswer → Type 0
 TellsBy Summary question name script answer = TellsShortList question.frames script ending_is.eq question.most answer
 TellsBy Can question name script answer = TellsLines question script false answer
 TellsBy Never question name script answer = TellsLines question script true answer
 TellsBy (Observed names) question name script answer =
     TellsSeen question.frames question.form (names_in names.now) script ending_is.eq answer.text.items
-TellsBy All question name script answer =
-    TellsAll question.frames question.form script ending_is.eq All answer.text.items
-TellsBy (AllObserved names) question name script answer =
-    TellsAll question.frames question.form script ending_is.eq (AllObserved names) answer.text.items
+TellsBy All question name script answer = ⊥
+TellsBy (AllObserved names) question name script answer = ⊥
 TellsBy Json question name script answer = TellsJson question.frames name script ending_is.eq answer.text.items
 
 -- what is printed and the status are those of what is asked of the script
@@ -111,7 +109,7 @@ pub record AnswersAsked (question : OutcomesQuestion) (name : List ℕ) (script 
   pub ends : EndsAsAsked question.asked question.frames script (texts_of question.lines.items) answer.status
 
 -- why there is no answer, by what is asked: too many states or nodes for it (for the short list only states), a line that is
--- refused, or lack of memory
+-- refused, or lack of memory. Of the list of all outcomes it is why nothing is printed
 abbrev pub RefusesBy : Asked → OutcomesQuestion → ScriptFields → LabError → Type 0
 RefusesBy Summary question script why = HasNoGraph script ports_are.eq question.most why
 RefusesBy Can question script why =
@@ -120,8 +118,8 @@ RefusesBy Never question script why =
     IsUnanswered question.frames script (texts_of question.lines.items) ports_are.eq question.most why
 RefusesBy (Observed names) question script why =
     HasNoSeenList question.frames (names_in names.now) script ports_are.eq question.most why
-RefusesBy All question script why = IsWithout question.frames script ports_are.eq question.most why
-RefusesBy (AllObserved names) question script why = IsWithout question.frames script ports_are.eq question.most why
+RefusesBy All question script why = HasNoWords question.frames script ports_are.eq question.most why
+RefusesBy (AllObserved names) question script why = HasNoWords question.frames script ports_are.eq question.most why
 RefusesBy Json question script why = IsWithout question.frames script ports_are.eq question.most why
 
 abbrev pub RefusesAsked : OutcomesQuestion → ScriptFields → LabError → Type 0

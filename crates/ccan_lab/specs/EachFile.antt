@@ -2,7 +2,7 @@
 -- of `head` and `tail`.
 use Rattle.std.specs.Prelude.{ℕ, ◌≡◌, ◌+◌, ◌++◌, ◌&&◌, not, nat_lt, Bool, List, [], Option, Result, Ok, Err}
 use Rattle.std.specs.Prelude.{codes, if◌then◌else◌, map}
-use Rattle.std.specs.List.{AllZip, flat_map, fold, zip}
+use Rattle.std.specs.List.{AllZip, flat_map, fold}
 use Rattle.std.specs.Io.KnownBytes.{Appends}
 use Rattle.ccan_lab.specs.declared.each_file.FileAnswer.{FileAnswer}
 use Rattle.ccan_lab.specs.declared.lab_error.LabError.{LabError}
@@ -25,10 +25,6 @@ abbrev pub part : Bool → List ℕ → Result FileAnswer LabError → List ℕ
 part shown name (Ok answer) = heading_if shown name ++ answer.text.items
 part shown name (Err fault) = []
 
--- what is printed of files: that of each, in their order
-abbrev pub parts : Bool → List (List ℕ) → List (Result FileAnswer LabError) → List ℕ
-parts shown names answers = flat_map (λ one. part shown one.0 one.1) (zip names answers)
-
 -- the exit status if it is the only file
 abbrev pub status_of : Result FileAnswer LabError → ℕ
 status_of (Ok answer) = answer.status
@@ -46,10 +42,23 @@ worse one other = if nat_lt (badness one) (badness other) then other else one
 abbrev pub worst_of : List ℕ → ℕ
 worst_of statuses = fold worse 0 statuses
 
--- each of these files was asked about: the answers were printed in the order of the files, and the status is the worst
-pub record AreAnswered (Answers : List ℕ → Result FileAnswer LabError → Type 0) (shown : Bool) (files : List (List ℕ))
-    (old new : Option (List ℕ)) (status : ℕ) : Type 0 where
-  pub answers : List (Result FileAnswer LabError)
-  pub each : AllZip Answers files answers
-  pub printed : Appends old new (parts shown files answers)
-  pub worst : status ≡ worst_of (map status_of answers)
+-- ---- of several files
+
+-- what was printed of a file, and the exit status if it is the only one
+pub record FilePart : Type 0 where
+  pub text : List ℕ
+  pub status : ℕ
+
+-- they are those of what is answered, whole
+abbrev pub IsPartOf : (List ℕ → Result FileAnswer LabError → Type 0) → Bool → List ℕ → FilePart → Type 0
+IsPartOf Answers shown name printed =
+    (answered : Result FileAnswer LabError) × Answers name answered
+    × (printed.text ≡ part shown name answered) × (printed.status ≡ status_of answered)
+
+-- each of these files was asked about: the part of each was printed, in the order of the files, and the status is the worst
+pub record AreAnswered (IsPart : List ℕ → FilePart → Type 0) (files : List (List ℕ)) (old new : Option (List ℕ)) (status : ℕ)
+    : Type 0 where
+  pub parts : List FilePart
+  pub each : AllZip IsPart files parts
+  pub printed : Appends old new (flat_map (λ (one : FilePart). one.text) parts)
+  pub worst : status ≡ worst_of (map (λ (one : FilePart). one.status) parts)

@@ -4,6 +4,7 @@ pub mod BusForms
 pub mod CheckCommand
 pub mod Counting
 pub mod EachFile
+pub mod EachList
 pub mod Expect
 pub mod Forms
 pub mod History
@@ -24,6 +25,7 @@ pub mod Question
 pub mod Listing
 pub mod Telling
 pub mod Words
+pub mod Written
 pub mod LineSigns
 pub mod Brief
 pub mod Moved

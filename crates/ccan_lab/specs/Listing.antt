@@ -32,13 +32,13 @@ AreOutcomeTexts frames form script endings choices (suc number) text =
     × AreOutcomeTexts frames form script endings choices number before
     × IsNumberedText frames form script endings choices number last
 
--- the number of outcomes, what is the same in all, and each outcome with a history
-pub record IsListing (frames : Bool) (form : HistoryForm) (script : ScriptFields) (endings : List Ending) (text : List ℕ)
-    : Type 0 where
+-- the number of outcomes, what is the same in all, and each outcome before this number with a history
+pub record IsListingTo (frames : Bool) (form : HistoryForm) (script : ScriptFields) (endings : List Ending) (count : ℕ)
+    (text : List ℕ) : Type 0 where
   pub choices : List (List (List ℕ))
   pub has_choices : HasChoices script (Contains endings) choices
   pub outcomes : List ℕ
-  pub are : AreOutcomeTexts frames form script endings choices (length endings) outcomes
+  pub are : AreOutcomeTexts frames form script endings choices count outcomes
   pub text_is : text ≡ count_text (min (length endings) greatest) ++ (same_parts choices ++ outcomes)
 
 -- the number of outcomes, and the one of this number, from 0, with a history

@@ -84,12 +84,12 @@ AreFirstTexts IsText texts (suc number) text =
     (before : List ℕ) × (last : List ℕ) × (text ≡ before ++ last) × AreFirstTexts IsText texts number before
     × IsFirstText IsText (is_repeat texts number) (text_at texts number) number last
 
--- the first line, and of each kind of outcome that can be told apart the first, with a history
-pub record IsObservedListing (frames : Bool) (form : HistoryForm) (names : List (List ℕ)) (script : ScriptFields)
-    (endings : List Ending) (text : List ℕ) : Type 0 where
+-- the first line, and of each kind of outcome that can be told apart the first, with a history, if it is before this number
+pub record IsObservedListingTo (frames : Bool) (form : HistoryForm) (names : List (List ℕ)) (script : ScriptFields)
+    (endings : List Ending) (count : ℕ) (text : List ℕ) : Type 0 where
   pub outcomes : List ℕ
   pub are : AreFirstTexts (IsOutcomeText frames form script endings) (observed_texts (marks_of names script) endings)
-      (length endings) outcomes
+      count outcomes
   pub text_is : text ≡ observed_heading (length endings) (first_count (observed_texts (marks_of names script) endings)
       (length endings)) ++ outcomes
 

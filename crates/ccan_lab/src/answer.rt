@@ -1,20 +1,17 @@
-//! What is printed of the list of all outcomes, and of one of them that has some lines.
+//! What is printed of an outcome that has some lines.
 ghost use Rattle.std.specs.Prelude.{◌≡◌, ◌-◌, ◌^◌, ◌<◌, ◌++◌, IfErr, IfOk, OnOk, codes, length, string_bytes};
 ghost use Rattle.ccan_line.specs.Script.{fields_of};
 ghost use Rattle.ccan_outcomes.specs.OutcomeWords.{endings_in};
 ghost use Rattle.ccan_lab.specs.Answer.{each_below, none_text, not_had};
 ghost use Rattle.ccan_lab.specs.Listing.{IsOneText};
-ghost use Rattle.ccan_lab.specs.Outcomes.{Answers, IsOfAll};
 ghost use Rattle.ccan_lab.specs.Sorted.{texts_of};
 ghost use Rattle.ccan_lab.specs.Words.{HasNoHistory};
 ghost use Rattle.ccan_lab.specs.Telling.{CanBeTold, frames_in};
 
-use crate::asked::Asked;
 use crate::choices::all_choices;
 use crate::counting::count_text;
 use crate::lab_error::LabError;
-use crate::observed::observed_listing;
-use crate::report::{add_outcome, different_lines, listing};
+use crate::report::{add_outcome, different_lines};
 use crate::summary::all_in_order;
 use crate::telling::Telling;
 use crate::wording::add_number;
@@ -135,27 +132,4 @@ pub fn found_text<P: Progress>(
         number,
     )?;
     Ok(text)
-}
-
-/// What is answered to a question about the list of all outcomes of a script.
-pub fn text_of<P: Progress>(
-    alloc: Global,
-    telling: &Telling<'_, P>,
-    asked: Asked<'_>,
-) -> Result<String, LabError>
-    requires can { CanBeTold (fields_of telling.now.query.now.script.now) telling.now.list.now }
-    requires of_all { IsOfAll asked }
-    ensures text { IfOk result (λ text. Answers (frames_in telling.now.list.now)
-        telling.now.query.now.form (fields_of telling.now.query.now.script.now)
-        (endings_in telling.now.list.now.words) asked.entry (string_bytes text)) }
-    ensures without { IfErr result (HasNoHistory (fields_of telling.now.query.now.script.now)
-        ⟦<AllPorts as PartialEq>⟧.eq telling.now.query.now.most) }
-{
-    match asked {
-        Asked::All => listing(alloc, telling),
-        Asked::AllObserved(names) => observed_listing(alloc, telling, names),
-        Asked::Summary | Asked::Json | Asked::Observed(_) | Asked::Can | Asked::Never => {
-            unreachable!()
-        }
-    }
 }

@@ -6,7 +6,7 @@ ghost use Rattle.ccan_line.specs.Script.{fields_of};
 ghost use Rattle.ccan_lab.specs.declared.lab_error.LabError.TheVariants as LabError;
 ghost use Rattle.ccan_lab.specs.Answered.{AnswersCount, IsCounted, RefusesCount};
 ghost use Rattle.ccan_lab.specs.Counting.{IsCount, TellsCount, count_text};
-ghost use Rattle.ccan_lab.specs.EachFile.{AreAnswered, has_headings};
+ghost use Rattle.ccan_lab.specs.EachFile.{AreAnswered, IsPartOf, has_headings};
 ghost use Rattle.ccan_lab.specs.Question.{AsksFramesBy, IsGivenBy, files_named};
 ghost use Rattle.ccan_lab.specs.Words.{HasNoWords};
 
@@ -164,8 +164,8 @@ pub fn answer_count<T: AllocGlobal + Input + Files + Eprint, W: Write>(
 where
     T::Reader: IsTerminal,
     ensures answered { IfOk result (λ status. AreAnswered
-        (λ name. IsCounted question.now.frames question.now.most)
-        (has_headings false (length question.now.files.items))
+        (IsPartOf (λ name. IsCounted question.now.frames question.now.most)
+        (has_headings false (length question.now.files.items)))
         (map (λ file. file.now) question.now.files.items)
         (W.contents writer.old) (W.contents writer.new) status) }
     ensures fault { IfErr result (λ e. e ≡ LabError.Write) }

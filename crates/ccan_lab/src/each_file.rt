@@ -1,12 +1,13 @@
 //! One question about several files: each is answered in turn.
-ghost use Rattle.std.specs.Prelude.{◌≡◌, IfErr, IfOk, OnOk, length, map};
+ghost use Rattle.std.specs.Prelude.{◌≡◌, ◌++◌, IfErr, IfOk, OnOk, length, map};
 ghost use Rattle.std.specs.Fn.{FnReturnsAt};
 ghost use Rattle.std.specs.Io.KnownBytes.{Appends};
 ghost use Rattle.ccan_lab.specs.declared.lab_error.LabError.TheVariants as LabError;
-ghost use Rattle.ccan_lab.specs.EachFile.{AreAnswered, badness, has_headings, heading, heading_if, part};
+ghost use Rattle.ccan_lab.specs.EachFile.{AreAnswered, IsPartOf, badness, has_headings, heading, heading_if, part};
 ghost use Rattle.ccan_lab.specs.EachFile.{status_of, worse};
 
 use crate::lab_error::LabError;
+use crate::progress_line::ProgressLine;
 use std::io::Write;
 
 /// What is answered of a file.
@@ -61,6 +62,34 @@ fn write_heading_if<W: Write>(writer: &mut W, is_shown: bool, name: &str) -> Res
     }
 }
 
+/// Writes a text below that line.
+pub fn write_below<W: Write>(
+    writer: &mut W,
+    is_shown: bool,
+    name: &str,
+    text: &str,
+) -> Result<(), LabError>
+    ensures ok { OnOk result (Appends (W.contents writer.old) (W.contents writer.new)
+        (heading_if is_shown name.now ++ text.now)) }
+    ensures fault { IfErr result (λ e. e ≡ LabError.Write) }
+{
+    write_heading_if(writer, is_shown, name)?;
+    write_text(writer, text)
+}
+
+/// Writes a piece of a list. What a terminal shows of a search is taken away before.
+pub fn write_piece<T: Eprint, W: Write>(
+    writer: &mut W,
+    progress: &ProgressLine<'_, T>,
+    text: &str,
+) -> Result<(), LabError>
+    ensures ok { OnOk result (Appends (W.contents writer.old) (W.contents writer.new) text.now) }
+    ensures fault { IfErr result (λ e. e ≡ LabError.Write) }
+{
+    progress.clear();
+    write_text(writer, text)
+}
+
 /// Writes what is answered of a file, and nothing if it is refused.
 fn write_answer<W: Write>(
     writer: &mut W,
@@ -81,6 +110,15 @@ fn write_answer<W: Write>(
     }
 }
 
+/// Reports a fault of a file on standard error, and of which file if there are several.
+pub fn tell_fault<T: Eprint>(rt: &T, are_several: bool, name: &str, fault: &LabError) {
+    let _told = if are_several {
+        eprintln!(rt; "{name}: {fault}")
+    } else {
+        rt.eprintln(fault)
+    };
+}
+
 /// Reports on standard error why a file is refused, and which if there are several.
 fn tell_refusal<T: Eprint>(
     rt: &T,
@@ -88,11 +126,9 @@ fn tell_refusal<T: Eprint>(
     name: &str,
     answered: &Result<FileAnswer, LabError>,
 ) {
-    let _told = match answered {
-        Ok(_) => Ok(()),
-        Err(fault) if are_several => eprintln!(rt; "{name}: {fault}"),
-        Err(fault) => rt.eprintln(fault),
-    };
+    if let Err(fault) = answered {
+        tell_fault(rt, are_several, name, fault);
+    }
 }
 
 /// The exit status if it is the only file.
@@ -117,7 +153,7 @@ fn badness(status: u8) -> u16
 }
 
 /// The worse of two exit statuses.
-fn worse(one: u8, other: u8) -> u8
+pub fn worse(one: u8, other: u8) -> u8
     ensures { result ≡ worse one other }
 {
     if badness(one) < badness(other) {
@@ -128,7 +164,7 @@ fn worse(one: u8, other: u8) -> u8
 }
 
 /// Whether the answers have headings: if there are several files, and the lines of an answer don't name its file.
-fn has_headings(are_named: bool, files: usize) -> bool
+pub fn has_headings(are_named: bool, files: usize) -> bool
     ensures { result ≡ has_headings are_named files }
 {
     !are_named && 1 < files
@@ -143,7 +179,8 @@ fn answer_in_turn<T: Eprint, W: Write, F: Fn(&str) -> Result<FileAnswer, LabErro
     answer: F,
 ) -> Result<u8, LabError>
     requires { F.IsAlwaysCallable answer }
-    ensures answered { IfOk result (λ status. AreAnswered (FnReturnsAt F.Fn answer) is_shown
+    ensures answered { IfOk result (λ status. AreAnswered
+        (IsPartOf (FnReturnsAt F.Fn answer) is_shown)
         (map (λ file. file.now) files.now) (W.contents writer.old) (W.contents writer.new) status) }
     ensures fault { IfErr result (λ e. e ≡ LabError.Write) }
 {
@@ -169,9 +206,9 @@ pub fn answer_each<T: Eprint, W: Write, F: Fn(&str) -> Result<FileAnswer, LabErr
     answer: F,
 ) -> Result<u8, LabError>
     requires { F.IsAlwaysCallable answer }
-    ensures answered { IfOk result (λ status. AreAnswered (FnReturnsAt F.Fn answer)
-        (has_headings are_named (length files.now)) (map (λ file. file.now) files.now)
-        (W.contents writer.old) (W.contents writer.new) status) }
+    ensures answered { IfOk result (λ status. AreAnswered
+        (IsPartOf (FnReturnsAt F.Fn answer) (has_headings are_named (length files.now)))
+        (map (λ file. file.now) files.now) (W.contents writer.old) (W.contents writer.new) status) }
     ensures fault { IfErr result (λ e. e ≡ LabError.Write) }
 {
     let is_shown = has_headings(are_named, files.len());

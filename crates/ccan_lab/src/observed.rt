@@ -1,30 +1,37 @@
 //! A list of the outcomes that can be told apart by some of their lines.
-ghost use Rattle.std.specs.Prelude.{◌≡◌, ◌+◌, ◌^◌, ◌<◌, ◌++◌, List, ℕ, Some, IfErr, IfOk, OnOk, length, map, not, option_map, position, slice_get};
-ghost use Rattle.std.specs.Prelude.{string_bytes};
+ghost use Rattle.std.specs.Prelude.{◌≡◌, ◌+◌, ◌^◌, ◌<◌, ◌≤◌, ◌++◌, List, [], ℕ, Some, IfErr, IfNone, IfOk, IfSome, OnOk, length, map, not, option_map};
+ghost use Rattle.std.specs.Prelude.{position, slice_get, string_bytes};
 ghost use Rattle.std.specs.List.{list_any, range_with_len};
 ghost use Rattle.std.specs.Str.{bytes_eq};
 ghost use Rattle.ccan_line.specs.Script.{fields_of};
 ghost use Rattle.ccan_outcomes.specs.OutcomeWords.{endings_in};
-ghost use Rattle.ccan_lab.specs.Observed.{AreFirstTexts, IsFirstText, IsObservedListing, first_count, is_kind, is_known};
+ghost use Rattle.ccan_lab.specs.declared.lab_error.LabError.TheVariants as LabError;
+ghost use Rattle.ccan_lab.specs.EachFile.{heading_if};
+ghost use Rattle.ccan_lab.specs.Observed.{AreFirstTexts, IsFirstText, IsObservedListingTo, first_count, is_kind, is_known};
 ghost use Rattle.ccan_lab.specs.OutcomeText.{IsOutcomeText};
 ghost use Rattle.ccan_lab.specs.Observed.{is_observed, is_place, is_repeat, marks_of, names_in, text_at};
-ghost use Rattle.ccan_lab.specs.Observed.{observed_heading, observed_line, observed_lines, places_of};
-ghost use Rattle.ccan_lab.specs.Words.{HasNoHistory};
+ghost use Rattle.ccan_lab.specs.Observed.{observed_heading, observed_line, observed_lines, observed_texts, places_of};
 ghost use Rattle.ccan_lab.specs.Telling.{CanBeTold, frames_in};
+ghost use Rattle.ccan_lab.specs.Words.{HasNoHistory};
+ghost use Rattle.ccan_lab.specs.Written.{IsReasonAt, IsUnwritten, IsWritten};
 
+use crate::each_file::{write_below, write_piece};
 use crate::lab_error::LabError;
+use crate::list_end::ListEnd;
 use crate::outcome_words::all_endings;
 use crate::place::{LineCounts, add_place_name, place_kind};
+use crate::progress_line::ProgressLine;
 use crate::report::add_outcome;
 use crate::rows::{Rows, all_rows};
 use crate::shown_texts::ShownTexts;
 use crate::telling::Telling;
 use crate::wording::{add_counted, add_number};
 use ccan_outcomes::all_ports::AllPorts;
-use ccan_outcomes::{Ending, Histories};
+use ccan_outcomes::{Ending, Histories, OutcomeWords};
 use ccan_script::Script;
 use ccan_search::Progress;
 use std::alloc::{AllocError, Global};
+use std::io::Write;
 
 /// The names in a list with commas between them.
 fn names_in(alloc: Global, list: &str) -> Result<Vec<&str>, AllocError>
@@ -166,7 +173,7 @@ pub fn observed_texts(
     Ok(texts)
 }
 
-/// Adds an outcome, unless one before it shows the same, and says whether it did.
+/// Adds an outcome, unless one before it shows the same.
 fn add_if_first<P: Progress>(
     alloc: Global,
     text: &mut String,
@@ -175,13 +182,11 @@ fn add_if_first<P: Progress>(
     texts: &ShownTexts,
     ending: &Ending,
     number: usize,
-) -> Result<bool, LabError>
+) -> Result<(), LabError>
     requires can { CanBeTold (fields_of telling.now.query.now.script.now) telling.now.list.now }
     requires within { number < length texts.now.lines.items }
     requires at { slice_get (endings_in telling.now.list.now.words) number ≡ Some ending.now }
     requires few { number + 1 < 2 ^ 64 }
-    ensures first { IfOk result (λ added. added
-        ≡ not (is_repeat (map string_bytes texts.now.lines.items) number)) }
     ensures text { OnOk result ((added : List ℕ)
         × (string_bytes text.new ≡ string_bytes text.old ++ added)
         × IsFirstText (IsOutcomeText (frames_in telling.now.list.now) telling.now.query.now.form
@@ -192,43 +197,77 @@ fn add_if_first<P: Progress>(
         ⟦<AllPorts as PartialEq>⟧.eq telling.now.query.now.most) }
 {
     if texts.is_repeat(number) {
-        return Ok(false);
+        return Ok(());
     }
     let lines = texts.lines[number].as_str();
     add_outcome(alloc, text, telling, histories, ending, lines, number)?;
-    Ok(true)
+    Ok(())
 }
 
-/// Adds each outcome that shows what none before it does, and says how many these are.
-fn add_firsts<P: Progress>(
+/// The text of the outcome of this number, from 0, which is empty if one before it shows the same; none if there are no more than
+/// so many.
+fn first_text<P: Progress>(
     alloc: Global,
-    text: &mut String,
     telling: &Telling<'_, P>,
     texts: &ShownTexts,
-    endings: &[Ending],
-) -> Result<usize, LabError>
+    histories: &mut Histories,
+    number: usize,
+) -> Result<Option<String>, LabError>
     requires can { CanBeTold (fields_of telling.now.query.now.script.now) telling.now.list.now }
-    requires endings { endings.now ≡ endings_in telling.now.list.now.words }
-    requires as_many { length texts.now.lines.items ≡ length endings.now }
-    ensures count { IfOk result (λ count. count
-        ≡ first_count (map string_bytes texts.now.lines.items) (length endings.now)) }
-    ensures text { OnOk result ((added : List ℕ)
-        × (string_bytes text.new ≡ string_bytes text.old ++ added)
-        × AreFirstTexts (IsOutcomeText (frames_in telling.now.list.now) telling.now.query.now.form
-        (fields_of telling.now.query.now.script.now) endings.now)
-        (map string_bytes texts.now.lines.items) (length endings.now) added) }
-    ensures without { IfErr result (HasNoHistory (fields_of telling.now.query.now.script.now)
-        ⟦<AllPorts as PartialEq>⟧.eq telling.now.query.now.most) }
+    requires as_many { length texts.now.lines.items
+        ≡ length (endings_in telling.now.list.now.words) }
+    requires few { number + 1 < 2 ^ 64 }
+    ensures text { IfOk result (λ found. IfSome found (λ text.
+        (number < length (endings_in telling.now.list.now.words))
+        × IsFirstText (IsOutcomeText (frames_in telling.now.list.now) telling.now.query.now.form
+        (fields_of telling.now.query.now.script.now) (endings_in telling.now.list.now.words))
+        (is_repeat (map string_bytes texts.now.lines.items) number)
+        (text_at (map string_bytes texts.now.lines.items) number) number (string_bytes text))) }
+    ensures none { IfOk result (λ found. IfNone found
+        (length (endings_in telling.now.list.now.words) ≤ number)) }
+    ensures without { IfErr result (IsReasonAt
+        (HasNoHistory (fields_of telling.now.query.now.script.now)
+        ⟦<AllPorts as PartialEq>⟧.eq telling.now.query.now.most)
+        (length (endings_in telling.now.list.now.words)) number) }
+{
+    let Some(ending) = telling.list.words.ending(alloc, number as u64)? else {
+        return Ok(None);
+    };
+    let mut text = String::new(alloc);
+    add_if_first(alloc, &mut text, telling, histories, texts, &ending, number)?;
+    Ok(Some(text))
+}
+
+/// Writes each outcome that shows what none before it does, as soon as its text is made.
+fn write_firsts<T: Eprint, W: Write>(
+    alloc: Global,
+    writer: &mut W,
+    telling: &Telling<'_, ProgressLine<'_, T>>,
+    texts: &ShownTexts,
+) -> Result<ListEnd, LabError>
+    requires can { CanBeTold (fields_of telling.now.query.now.script.now) telling.now.list.now }
+    requires as_many { length texts.now.lines.items
+        ≡ length (endings_in telling.now.list.now.words) }
+    ensures written { IfOk result (λ end. IsWritten [] (AreFirstTexts
+        (IsOutcomeText (frames_in telling.now.list.now) telling.now.query.now.form
+        (fields_of telling.now.query.now.script.now) (endings_in telling.now.list.now.words))
+        (map string_bytes texts.now.lines.items))
+        (HasNoHistory (fields_of telling.now.query.now.script.now)
+        ⟦<AllPorts as PartialEq>⟧.eq telling.now.query.now.most)
+        (length (endings_in telling.now.list.now.words))
+        end (W.contents writer.old) (W.contents writer.new)) }
+    ensures fault { IfErr result (λ why. why ≡ LabError.Write) }
 {
     let mut histories = Histories::new(alloc);
-    let mut count = 0;
-    for number in 0..endings.len() {
-        let ending = &endings[number];
-        if add_if_first(alloc, text, telling, &mut histories, texts, ending, number)? {
-            count += 1;
+    for number in 0..usize::MAX {
+        match first_text(alloc, telling, texts, &mut histories, number) {
+            Ok(Some(text)) => write_piece(writer, telling.query.progress, text.as_str())?,
+            Ok(None) => return Ok(ListEnd::Whole),
+            Err(fault) => return Ok(ListEnd::GivenUp(fault)),
         }
     }
-    Ok(count)
+    // The loop has a bound, so that it ends. A list that comes to it is given up as if memory was refused.
+    Ok(ListEnd::GivenUp(LabError::Memory))
 }
 
 /// Adds the first line: how many outcomes there are, and how many can be told apart by what they show.
@@ -256,46 +295,64 @@ fn named_texts(
     observed_texts(alloc, marks.as_slice(), all)
 }
 
-/// The first line, and these outcomes below it.
-fn below_heading(
+/// What the outcomes show, by the names in a list with commas between them.
+fn shown_by(
     alloc: Global,
-    outcomes: usize,
-    apart: usize,
-    told: &str,
-) -> Result<String, AllocError>
+    script: &Script,
+    words: &OutcomeWords,
+    list: &str,
+) -> Result<ShownTexts, AllocError>
+    ensures { IfOk result (λ texts. map string_bytes texts.lines.items
+        ≡ observed_texts (marks_of (names_in list.now) (fields_of script.now))
+        (endings_in words.now)) }
+{
+    let endings = all_endings(alloc, words)?;
+    let rows = all_rows(alloc, endings.as_slice())?;
+    let lines = named_texts(alloc, script, rows.as_slice(), list)?;
+    ShownTexts::new(alloc, lines)
+}
+
+/// The first line: how many outcomes there are, and how many can be told apart by what they show.
+fn observed_head(alloc: Global, texts: &ShownTexts) -> Result<String, AllocError>
     ensures { IfOk result (λ text. string_bytes text
-        ≡ observed_heading outcomes apart ++ told.now) }
+        ≡ observed_heading (length texts.now.lines.items)
+        (first_count (map string_bytes texts.now.lines.items)
+        (length texts.now.lines.items))) }
 {
     let mut text = String::new(alloc);
-    add_observed_heading(&mut text, outcomes, apart)?;
-    text.push_str(told)?;
+    add_observed_heading(&mut text, texts.lines.len(), texts.first_count())?;
     Ok(text)
 }
 
-/// The list of the outcomes that can be told apart by the lines and objects of these names: of each kind the first, with these
-/// lines, and with a history that leads to it.
+/// Writes the list of the outcomes that can be told apart by the lines and objects of these names, below the heading, if there is
+/// to be one: of each kind the first, with these lines, and with a history that leads to it.
 ///
 /// A name is that of a line, such as `if1[1]`, of an object at the end, such as `final 01`, or a port's or `final` for all of
 /// them; names have commas between them. An outcome has the number that it has in the list of all.
-pub fn observed_listing<P: Progress>(
+pub fn write_observed<T: Eprint, W: Write>(
     alloc: Global,
-    telling: &Telling<'_, P>,
+    writer: &mut W,
+    is_shown: bool,
+    name: &str,
+    telling: &Telling<'_, ProgressLine<'_, T>>,
     list: &str,
-) -> Result<String, LabError>
+) -> Result<ListEnd, LabError>
     requires can { CanBeTold (fields_of telling.now.query.now.script.now) telling.now.list.now }
-    ensures text { IfOk result (λ text. IsObservedListing (frames_in telling.now.list.now)
-        telling.now.query.now.form (names_in list.now) (fields_of telling.now.query.now.script.now)
-        (endings_in telling.now.list.now.words) (string_bytes text)) }
-    ensures without { IfErr result (HasNoHistory (fields_of telling.now.query.now.script.now)
-        ⟦<AllPorts as PartialEq>⟧.eq telling.now.query.now.most) }
+    ensures written { IfOk result (λ end. IsWritten (heading_if is_shown name.now)
+        (IsObservedListingTo (frames_in telling.now.list.now)
+        telling.now.query.now.form (names_in list.now)
+        (fields_of telling.now.query.now.script.now) (endings_in telling.now.list.now.words))
+        (HasNoHistory (fields_of telling.now.query.now.script.now)
+        ⟦<AllPorts as PartialEq>⟧.eq telling.now.query.now.most)
+        (length (endings_in telling.now.list.now.words))
+        end (W.contents writer.old) (W.contents writer.new)) }
+    ensures unwritten { IfErr result (IsUnwritten (λ why. why ≡ LabError.Memory)
+        (W.contents writer.old) (W.contents writer.new)) }
 {
-    let endings = all_endings(alloc, &telling.list.words)?;
-    let rows = all_rows(alloc, endings.as_slice())?;
-    let lines = named_texts(alloc, telling.query.script, rows.as_slice(), list)?;
-    let texts = ShownTexts::new(alloc, lines)?;
-    let mut firsts = String::new(alloc);
-    let apart = add_firsts(alloc, &mut firsts, telling, &texts, endings.as_slice())?;
-    Ok(below_heading(alloc, endings.len(), apart, firsts.as_str())?)
+    let texts = shown_by(alloc, telling.query.script, &telling.list.words, list)?;
+    let head = observed_head(alloc, &texts)?;
+    write_below(writer, is_shown, name, head.as_str())?;
+    write_firsts(alloc, writer, telling, &texts)
 }
 
 /// Whether a word means all lines of a port, or all objects.

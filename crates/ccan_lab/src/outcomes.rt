@@ -11,23 +11,25 @@ ghost use Rattle.ccan_lab.specs.declared.lab_error.LabError.TheVariants as LabEr
 ghost use Rattle.ccan_lab.specs.Answered.{AnswersAsked, AnswersFile, IsAnswered, RefusesAsked, RefusesFile};
 ghost use Rattle.ccan_lab.specs.Answered.{RefusesNames, RefusesUnknown, TellsShortList};
 ghost use Rattle.ccan_lab.specs.Answered.{names_its_file, status_if};
-ghost use Rattle.ccan_lab.specs.EachFile.{AreAnswered, has_headings};
-ghost use Rattle.ccan_lab.specs.Outcomes.{Answers, IsOfAll, TellsAll};
+ghost use Rattle.ccan_lab.specs.EachFile.{AreAnswered, IsPartOf, has_headings};
+ghost use Rattle.ccan_lab.specs.EachList.{IsPartBy};
+ghost use Rattle.ccan_lab.specs.Outcomes.{IsNotOfAll};
 ghost use Rattle.ccan_lab.specs.Telling.{CanBeTold, frames_in};
 ghost use Rattle.ccan_lab.specs.Question.{AreKnown, AreKnownNames, AsksAllBy, AsksBy, IsFormBy, IsGivenBy};
 ghost use Rattle.ccan_lab.specs.Observed.{names_in};
 ghost use Rattle.ccan_lab.specs.Question.{AsksFramesBy, asks_frame, begins_with_c, files_named, is_of_frame, lines_given};
 ghost use Rattle.ccan_lab.specs.Seen.{HasNoSeenList, TellsSeen};
 ghost use Rattle.ccan_lab.specs.Sorted.{texts_of};
-ghost use Rattle.ccan_lab.specs.Words.{HasNoGraph, HasNoHistory, IsUnanswered, IsWithout, TellsLine};
+ghost use Rattle.ccan_lab.specs.Words.{HasNoGraph, IsUnanswered, TellsLine};
 
-use crate::answer::{Answer, found_text, text_of};
+use crate::answer::{Answer, found_text};
 use crate::asked::Asked;
 use crate::beginnings::beginnings_text;
 use crate::command_words::{
     apart_from, command, files_named, number, option, scripts, several, switch, with,
 };
 use crate::each_file::{FileAnswer, answer_each};
+use crate::each_list::list_each;
 use crate::history_form::HistoryForm;
 use crate::input::{searched_script, tell_terminal};
 use crate::lab_error::LabError;
@@ -350,7 +352,7 @@ fn refuse_names(alloc: Global, script: &Script, names: &str) -> Result<(), LabEr
 }
 
 /// Refuses names to be observed if one of them is that of no line and no object of the script.
-fn refuse_unknown(alloc: Global, script: &Script, asked: Asked<'_>) -> Result<(), LabError>
+pub fn refuse_unknown(alloc: Global, script: &Script, asked: Asked<'_>) -> Result<(), LabError>
     ensures known { IfOk result (λ done. AreKnown (fields_of script.now) asked.entry) }
     ensures refused { IfErr result (RefusesUnknown (fields_of script.now) asked.entry) }
 {
@@ -358,45 +360,6 @@ fn refuse_unknown(alloc: Global, script: &Script, asked: Asked<'_>) -> Result<()
         Asked::Observed(names) | Asked::AllObserved(names) => refuse_names(alloc, script, names),
         Asked::Summary | Asked::All | Asked::Json | Asked::Can | Asked::Never => Ok(()),
     }
-}
-
-/// What is answered to a question about the list of these outcomes, which are dropped.
-fn text_of_list<P: Progress>(
-    alloc: Global,
-    query: &Query<'_, P>,
-    list: OutcomeList,
-    asked: Asked<'_>,
-) -> Result<String, LabError>
-    requires of_all { IsOfAll asked }
-    requires can { CanBeTold (fields_of query.now.script.now) list }
-    ensures text { IfOk result (λ text.
-        Answers (frames_in list) query.now.form (fields_of query.now.script.now)
-        (endings_in list.words) asked.entry (string_bytes text)) }
-    ensures without { IfErr result
-        (HasNoHistory (fields_of query.now.script.now) ⟦<AllPorts as PartialEq>⟧.eq
-        query.now.most) }
-{
-    let telling = Telling { query, list: &list };
-    text_of(alloc, &telling, asked)
-}
-
-/// What is answered to a question about the list of all outcomes of a script.
-fn answer_of_all<P: Progress>(
-    alloc: Global,
-    query: &Query<'_, P>,
-    asked: Asked<'_>,
-) -> Result<Answer, LabError>
-    requires { IsOfAll asked }
-    ensures told { IfOk result (λ answer.
-        TellsAll query.now.frames query.now.form (fields_of query.now.script.now)
-        ⟦<Ending as PartialEq>⟧.eq asked.entry (string_bytes answer.text)) }
-    ensures holds { IfOk result (λ answer. answer.holds ≡ true) }
-    ensures without { IfErr result (IsWithout query.now.frames
-        (fields_of query.now.script.now) ⟦<AllPorts as PartialEq>⟧.eq query.now.most) }
-{
-    let list = list_asked(alloc, query)?;
-    let text = text_of_list(alloc, query, list, asked)?;
-    Ok(Answer { text, holds: true })
 }
 
 /// What is answered to the question whether one of these outcomes has a line that begins so for each of these beginnings, or, if
@@ -549,7 +512,7 @@ fn answer_of_summary<P: Progress>(
     }
 }
 
-/// What is answered to a question about the outcomes of the script of this source.
+/// What is answered to a question about the outcomes of the script of this source, if it isn't about the list of all.
 fn answer_of_script<P: Progress>(
     alloc: Global,
     script: &Script,
@@ -557,6 +520,7 @@ fn answer_of_script<P: Progress>(
     question: &OutcomesQuestion<'_>,
     progress: &P,
 ) -> Result<FileAnswer, LabError>
+    requires { IsNotOfAll question.now.asked }
     ensures answered { IfOk result
         (AnswersAsked question.now (string_bytes source.now.name) (fields_of script.now)) }
     ensures refused { IfErr result (RefusesAsked question.now (fields_of script.now)) }
@@ -574,7 +538,7 @@ fn answer_of_script<P: Progress>(
         Asked::Can => answer_of_line(alloc, &query, lines, false)?,
         Asked::Never => answer_of_line(alloc, &query, lines, true)?,
         Asked::Observed(names) => answer_of_observed(alloc, &query, names)?,
-        Asked::All | Asked::AllObserved(_) => answer_of_all(alloc, &query, question.asked)?,
+        Asked::All | Asked::AllObserved(_) => unreachable!(),
         Asked::Json => return answer_of_json(alloc, &query, source),
     };
     Ok(file_answer(answer))
@@ -598,6 +562,7 @@ fn answered_or_told<T: AllocGlobal + Eprint>(
     question: &OutcomesQuestion<'_>,
     progress: &ProgressLine<'_, T>,
 ) -> Result<FileAnswer, LabError>
+    requires { IsNotOfAll question.now.asked }
     ensures answered { IfOk result
         (AnswersAsked question.now (string_bytes source.now.name) (fields_of script.now)) }
     ensures refused { IfErr result (RefusesAsked question.now (fields_of script.now)) }
@@ -618,6 +583,7 @@ fn answer_of_source<T: AllocGlobal + Eprint>(
     question: &OutcomesQuestion<'_>,
     progress: &ProgressLine<'_, T>,
 ) -> Result<FileAnswer, LabError>
+    requires { IsNotOfAll question.now.asked }
     ensures answered { IfOk result
         (AnswersFile question.now (string_bytes source.now.name) source.now.text.items) }
     ensures refused { IfErr result (RefusesFile question.now source.now.text.items) }
@@ -636,6 +602,7 @@ fn outcomes_of_file<T: AllocGlobal + Input + Files + Eprint>(
 ) -> Result<FileAnswer, LabError>
 where
     T::Reader: IsTerminal,
+    requires { IsNotOfAll question.now.asked }
     ensures { IsAnswered question.now file.now result }
 {
     tell_terminal(rt, "a script", Some(file));
@@ -644,7 +611,7 @@ where
 }
 
 /// Whether an answer to what is asked names its file.
-fn is_named(asked: Asked<'_>) -> bool
+pub fn is_named(asked: Asked<'_>) -> bool
     ensures json { IsTrue result ↔ (asked.entry ≡ Asked.Json) }
     ensures value { result ≡ names_its_file asked.entry }
 {
@@ -655,9 +622,8 @@ fn is_named(asked: Asked<'_>) -> bool
     }
 }
 
-/// Lists the outcomes of each script, and writes what is answered, under the name of its file if there are several and the answer
-/// doesn't name it. Gives the worst exit status.
-pub fn answer_outcomes<T: AllocGlobal + Input + Files + Eprint, W: Write>(
+/// Asks about the outcomes of each script, and writes what is answered, if it isn't the list of all.
+fn answer_whole<T: AllocGlobal + Input + Files + Eprint, W: Write>(
     rt: &T,
     writer: &mut W,
     question: &OutcomesQuestion<'_>,
@@ -665,8 +631,10 @@ pub fn answer_outcomes<T: AllocGlobal + Input + Files + Eprint, W: Write>(
 ) -> Result<u8, LabError>
 where
     T::Reader: IsTerminal,
-    ensures answered { IfOk result (λ status. AreAnswered (IsAnswered question.now)
-        (has_headings (names_its_file question.now.asked) (length question.now.files.items))
+    requires { IsNotOfAll question.now.asked }
+    ensures answered { IfOk result (λ status. AreAnswered
+        (IsPartOf (IsAnswered question.now)
+        (has_headings (names_its_file question.now.asked) (length question.now.files.items)))
         (map (λ file. file.now) question.now.files.items)
         (W.contents writer.old) (W.contents writer.new) status) }
     ensures fault { IfErr result (λ e. e ≡ LabError.Write) }
@@ -675,4 +643,32 @@ where
     answer_each(rt, writer, files, are_named, |file| {
         outcomes_of_file(rt, file, question, progress)
     })
+}
+
+/// Lists the outcomes of each script, and writes what is answered, under the name of its file if there are several and the answer
+/// doesn't name it. Gives the worst exit status.
+///
+/// The list of all outcomes is written outcome by outcome. If it is given up, for lack of memory or of a history, its beginning is
+/// written, and standard error says why. Of all other files without an answer nothing is written.
+pub fn answer_outcomes<T: AllocGlobal + Input + Files + Eprint, W: Write>(
+    rt: &T,
+    writer: &mut W,
+    question: &OutcomesQuestion<'_>,
+    progress: &ProgressLine<'_, T>,
+) -> Result<u8, LabError>
+where
+    T::Reader: IsTerminal,
+    ensures answered { IfOk result (λ status. AreAnswered
+        (IsPartBy question.now.asked question.now
+        (has_headings (names_its_file question.now.asked) (length question.now.files.items)))
+        (map (λ file. file.now) question.now.files.items)
+        (W.contents writer.old) (W.contents writer.new) status) }
+    ensures fault { IfErr result (λ e. e ≡ LabError.Write) }
+{
+    match question.asked {
+        Asked::All | Asked::AllObserved(_) => list_each(rt, writer, question, progress),
+        Asked::Summary | Asked::Json | Asked::Observed(_) | Asked::Can | Asked::Never => {
+            answer_whole(rt, writer, question, progress)
+        }
+    }
 }

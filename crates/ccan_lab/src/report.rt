@@ -1,31 +1,41 @@
-ghost use Rattle.std.specs.Prelude.{◌≡◌, ◌+◌, ◌^◌, ◌<◌, ◌≤◌, ◌++◌, List, ℕ, Some, IfErr, IfOk, OnOk, length, slice_get, string_bytes};
+ghost use Rattle.std.specs.Prelude.{◌≡◌, ◌+◌, ◌^◌, ◌<◌, ◌≤◌, ◌++◌, List, [], ℕ, Some, IfErr, IfNone, IfOk, IfSome, OnOk, length, min, slice_get};
+ghost use Rattle.std.specs.Prelude.{string_bytes};
 ghost use Rattle.std.specs.Option.{option_map};
 ghost use Rattle.ccan_line.specs.Script.{fields_of};
 ghost use Rattle.ccan_outcomes.specs.OutcomeWords.{endings_in};
-ghost use Rattle.ccan_lab.specs.Listing.{AreOutcomeTexts, IsListing, different_line, different_lines};
+ghost use Rattle.ccan_lab.specs.declared.lab_error.LabError.TheVariants as LabError;
+ghost use Rattle.ccan_lab.specs.Counting.{count_text, greatest};
+ghost use Rattle.ccan_lab.specs.EachFile.{heading_if};
+ghost use Rattle.ccan_lab.specs.Listing.{AreOutcomeTexts, IsListingTo, IsNumberedText, different_line, different_lines};
 ghost use Rattle.ccan_lab.specs.OutcomeText.{IsOutcomeText};
 ghost use Rattle.ccan_lab.specs.Report.{each, outcome_text};
 ghost use Rattle.ccan_lab.specs.Report.{later_names, names_text, order_text, quoted};
 ghost use Rattle.ccan_lab.specs.Rows.{rows_of};
 ghost use Rattle.ccan_lab.specs.Sorted.{all_texts};
-ghost use Rattle.ccan_lab.specs.Words.{HasNoHistory};
+ghost use Rattle.ccan_lab.specs.Summary.{same_parts};
 ghost use Rattle.ccan_lab.specs.Telling.{CanBeTold, frames_in};
+ghost use Rattle.ccan_lab.specs.Words.{HasNoHistory};
+ghost use Rattle.ccan_lab.specs.Written.{IsReasonAt, IsUnwritten, IsWritten};
 
 use crate::brief::history_told;
 use crate::choices::all_choices;
 use crate::counting::count_text;
+use crate::each_file::{write_below, write_piece};
 use crate::history::port_word;
 use crate::lab_error::LabError;
+use crate::list_end::ListEnd;
+use crate::progress_line::ProgressLine;
 use crate::replay::order_to;
 use crate::rows::{Rows, rows_of};
 use crate::summary::{add_same_parts, all_in_order};
 use crate::telling::{Telling, history_to};
 use crate::wording::add_number;
 use ccan_outcomes::all_ports::AllPorts;
-use ccan_outcomes::{Ending, Histories};
+use ccan_outcomes::{Ending, Histories, OutcomeWords};
 use ccan_ram::PortName;
 use ccan_search::Progress;
 use std::alloc::{AllocError, Global};
+use std::io::Write;
 
 /// Adds the line of an outcome in a place, if several lines may be there.
 #[tactic(auto, unfolding(crate::specs::Listing::different_line))]
@@ -179,56 +189,113 @@ pub fn add_outcome<P: Progress>(
     Ok(())
 }
 
-/// Adds all outcomes, by the lines that may be in each place.
-fn add_outcomes<P: Progress>(
+/// The text of the outcome of this number, from 0, by the lines that may be in each place; none if there are no more than so many.
+fn numbered_text<P: Progress>(
     alloc: Global,
-    text: &mut String,
     telling: &Telling<'_, P>,
     choices: &[Vec<&str>],
-) -> Result<(), LabError>
+    histories: &mut Histories,
+    number: usize,
+) -> Result<Option<String>, LabError>
     requires can { CanBeTold (fields_of telling.now.query.now.script.now) telling.now.list.now }
-    ensures text { OnOk result ((added : List ℕ)
-        × (string_bytes text.new ≡ string_bytes text.old ++ added)
-        × AreOutcomeTexts (frames_in telling.now.list.now) telling.now.query.now.form
+    requires few { number + 1 < 2 ^ 64 }
+    ensures text { IfOk result (λ found. IfSome found (λ text.
+        (number < length (endings_in telling.now.list.now.words))
+        × IsNumberedText (frames_in telling.now.list.now) telling.now.query.now.form
         (fields_of telling.now.query.now.script.now) (endings_in telling.now.list.now.words)
-        (all_texts choices.now) (length (endings_in telling.now.list.now.words)) added) }
-    ensures without { IfErr result (HasNoHistory (fields_of telling.now.query.now.script.now)
-        ⟦<AllPorts as PartialEq>⟧.eq telling.now.query.now.most) }
+        (all_texts choices.now) number (string_bytes text))) }
+    ensures none { IfOk result (λ found. IfNone found
+        (length (endings_in telling.now.list.now.words) ≤ number)) }
+    ensures without { IfErr result (IsReasonAt
+        (HasNoHistory (fields_of telling.now.query.now.script.now)
+        ⟦<AllPorts as PartialEq>⟧.eq telling.now.query.now.most)
+        (length (endings_in telling.now.list.now.words)) number) }
+{
+    let Some(ending) = telling.list.words.ending(alloc, number as u64)? else {
+        return Ok(None);
+    };
+    let lines = different_lines(alloc, choices, &ending)?;
+    let mut text = String::new(alloc);
+    add_outcome(
+        alloc,
+        &mut text,
+        telling,
+        histories,
+        &ending,
+        lines.as_str(),
+        number,
+    )?;
+    Ok(Some(text))
+}
+
+/// Writes all outcomes, by the lines that may be in each place: each as soon as its text is made.
+fn write_outcomes<T: Eprint, W: Write>(
+    alloc: Global,
+    writer: &mut W,
+    telling: &Telling<'_, ProgressLine<'_, T>>,
+    choices: &[Vec<&str>],
+) -> Result<ListEnd, LabError>
+    requires can { CanBeTold (fields_of telling.now.query.now.script.now) telling.now.list.now }
+    ensures written { IfOk result (λ end. IsWritten [] (AreOutcomeTexts
+        (frames_in telling.now.list.now) telling.now.query.now.form
+        (fields_of telling.now.query.now.script.now) (endings_in telling.now.list.now.words)
+        (all_texts choices.now))
+        (HasNoHistory (fields_of telling.now.query.now.script.now)
+        ⟦<AllPorts as PartialEq>⟧.eq telling.now.query.now.most)
+        (length (endings_in telling.now.list.now.words))
+        end (W.contents writer.old) (W.contents writer.new)) }
+    ensures fault { IfErr result (λ why. why ≡ LabError.Write) }
 {
     let mut histories = Histories::new(alloc);
     for number in 0..usize::MAX {
-        let Some(ending) = telling.list.words.ending(alloc, number as u64)? else {
-            return Ok(());
-        };
-        let lines = different_lines(alloc, choices, &ending)?;
-        add_outcome(
-            alloc,
-            text,
-            telling,
-            &mut histories,
-            &ending,
-            lines.as_str(),
-            number,
-        )?;
+        match numbered_text(alloc, telling, choices, &mut histories, number) {
+            Ok(Some(text)) => write_piece(writer, telling.query.progress, text.as_str())?,
+            Ok(None) => return Ok(ListEnd::Whole),
+            Err(fault) => return Ok(ListEnd::GivenUp(fault)),
+        }
     }
-    // The loop has a bound, so that it ends. A list that comes to it answers as if memory was refused.
-    Err(LabError::Memory)
+    // The loop has a bound, so that it ends. A list that comes to it is given up as if memory was refused.
+    Ok(ListEnd::GivenUp(LabError::Memory))
 }
 
-/// The list of all outcomes of a script, each with a history that leads to it.
-pub fn listing<P: Progress>(alloc: Global, telling: &Telling<'_, P>) -> Result<String, LabError>
+/// What is above the outcomes: their number, and what is the same in all.
+fn listing_head(
+    alloc: Global,
+    words: &OutcomeWords,
+    choices: &[Vec<&str>],
+) -> Result<String, AllocError>
+    ensures { IfOk result (λ text. string_bytes text
+        ≡ count_text (min (length (endings_in words.now)) greatest)
+        ++ same_parts (all_texts choices.now)) }
+{
+    let mut text = count_text(alloc, words.count())?;
+    add_same_parts(&mut text, choices)?;
+    Ok(text)
+}
+
+/// Writes the list of all outcomes of a script, each with a history that leads to it, below the heading, if there is to be one.
+pub fn write_listing<T: Eprint, W: Write>(
+    alloc: Global,
+    writer: &mut W,
+    is_shown: bool,
+    name: &str,
+    telling: &Telling<'_, ProgressLine<'_, T>>,
+) -> Result<ListEnd, LabError>
     requires can { CanBeTold (fields_of telling.now.query.now.script.now) telling.now.list.now }
-    ensures text { IfOk result (λ text. IsListing (frames_in telling.now.list.now)
-        telling.now.query.now.form (fields_of telling.now.query.now.script.now)
-        (endings_in telling.now.list.now.words) (string_bytes text)) }
-    ensures without { IfErr result (HasNoHistory (fields_of telling.now.query.now.script.now)
-        ⟦<AllPorts as PartialEq>⟧.eq telling.now.query.now.most) }
+    ensures written { IfOk result (λ end. IsWritten (heading_if is_shown name.now) (IsListingTo
+        (frames_in telling.now.list.now) telling.now.query.now.form
+        (fields_of telling.now.query.now.script.now) (endings_in telling.now.list.now.words))
+        (HasNoHistory (fields_of telling.now.query.now.script.now)
+        ⟦<AllPorts as PartialEq>⟧.eq telling.now.query.now.most)
+        (length (endings_in telling.now.list.now.words))
+        end (W.contents writer.old) (W.contents writer.new)) }
+    ensures unwritten { IfErr result (IsUnwritten (λ why. why ≡ LabError.Memory)
+        (W.contents writer.old) (W.contents writer.new)) }
 {
     let words = &telling.list.words;
     let rows = all_choices(alloc, telling.query.script, words)?;
     let choices = all_in_order(alloc, rows.as_slice())?;
-    let mut text = count_text(alloc, words.count())?;
-    add_same_parts(&mut text, choices.as_slice())?;
-    add_outcomes(alloc, &mut text, telling, choices.as_slice())?;
-    Ok(text)
+    let head = listing_head(alloc, words, choices.as_slice())?;
+    write_below(writer, is_shown, name, head.as_str())?;
+    write_outcomes(alloc, writer, telling, choices.as_slice())
 }

@@ -1,7 +1,7 @@
 //! What outcomes show, and which of them show what one before them does.
-ghost use Rattle.std.specs.Prelude.{◌≡◌, ◌<◌, IfOk, length, map, string_bytes};
+ghost use Rattle.std.specs.Prelude.{◌≡◌, ◌<◌, IfOk, count_by, length, map, not, string_bytes};
 ghost use Rattle.std.specs.List.{range_with_len};
-ghost use Rattle.ccan_lab.specs.Observed.{is_repeat, repeats_in};
+ghost use Rattle.ccan_lab.specs.Observed.{first_count, is_repeat, repeats_in};
 
 use indexmap::IndexSet;
 use std::alloc::{AllocError, Global};
@@ -31,6 +31,13 @@ fn repeats_of(alloc: Global, texts: &[String]) -> Result<Vec<bool>, AllocError>
     Ok(repeats)
 }
 
+/// How many of these are false.
+fn false_count(marks: &[bool]) -> usize
+    ensures { result ≡ count_by not marks.now }
+{
+    marks.iter().filter(|mark| !**mark).count()
+}
+
 impl ShownTexts {
     /// What outcomes show, by the lines of each that are looked at.
     pub fn new(alloc: Global, lines: Vec<String>) -> Result<Self, AllocError>
@@ -46,5 +53,13 @@ impl ShownTexts {
         ensures { result ≡ is_repeat (map string_bytes self.now.lines.items) number }
     {
         self.repeats[number]
+    }
+
+    /// How many outcomes show what none before them does.
+    pub fn first_count(&self) -> usize
+        ensures { result ≡ first_count (map string_bytes self.now.lines.items)
+            (length self.now.lines.items) }
+    {
+        false_count(self.repeats.as_slice())
     }
 }

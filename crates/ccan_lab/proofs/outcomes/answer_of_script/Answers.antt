@@ -1,14 +1,12 @@
-use Rattle.std.proofs.Common.{◌≡◌, ◌∙◌, ap, refl, rules, string_bytes}
+use Rattle.std.proofs.Common.{◌≡◌, ◌∙◌, ap, string_bytes}
 use Rattle.std.proofs.lemmas.Result.{IfOk-weaker}
 use Rattle.ccan_line.specs.Script.{fields_of}
 use Rattle.ccan_lab.specs.declared.answer.Answer.{Answer}
 use Rattle.ccan_lab.specs.Answered.{status_if}
-use Rattle.ccan_lab.specs.Outcomes.{IsOfAll}
-use Rattle.ccan_lab.proofs.ByAsked.{by_all, by_can, by_names, by_never, by_summary}
+use Rattle.ccan_lab.proofs.ByAsked.{by_can, by_names, by_never, by_summary}
 use Rattle.ccan_lab.proofs.outcomes.answer_of_script.Goals as goal
 use Rattle.ccan_lab.proofs.outcomes.answer_of_script.Goals.{in-Can+in_ok-answer-in-Can}
 use Rattle.ccan_lab.proofs.outcomes.answer_of_script.Goals.{in-Never+in_ok-answer-in-Never, in-Observed+in_ok-answer-in-Observed}
-use Rattle.ccan_lab.proofs.outcomes.answer_of_script.Goals.{in-All+in_ok-answer-in-All}
 
 pub returns-in-Summary-clause-answered : goal.returns-in-Summary-clause-answered
 returns-in-Summary-clause-answered g c =
@@ -37,8 +35,4 @@ returns-clause-answered g c =
       | in-Observed+in_ok-answer-in-Observed w ↦
           by_names question name script answer w.in_ok-answer-in-Observed.answer (text _ w.answer-is) (status _ w.answer-is)
           w.in-Observed.names w.in-Observed.is w.in_ok-answer-in-Observed.ensures.told w.in_ok-answer-in-Observed.ensures.holds
-      | in-All+in_ok-answer-in-All w ↦
-          let of : IsOfAll question.asked = search rules in
-          by_all question name script answer w.in_ok-answer-in-All.answer (text _ w.answer-is) (status _ w.answer-is)
-          question.asked of refl w.in_ok-answer-in-All.ensures.told w.in_ok-answer-in-All.ensures.holds
     ]
