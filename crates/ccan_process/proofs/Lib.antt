@@ -6,10 +6,12 @@ pub mod MemorySteps
 pub mod Joined
 pub mod Swapped
 pub mod ToFront
+pub mod QuietSteps
 pub mod Undisturbed
 pub mod Uncontended
 pub mod FreeSteps
 pub mod MostChanges
+pub mod HeldAttempts
 pub mod AtOnce
 pub mod Looser
 pub mod LooserSteps
@@ -28,5 +30,6 @@ pub mod PortsRun
 pub mod RunsAlone
 pub mod Begun
 pub mod ScansWell
+pub mod SeenScans
 pub mod ScansAtOnce
 pub mod BegunScans
