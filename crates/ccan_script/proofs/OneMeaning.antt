@@ -1,5 +1,5 @@
 -- A value means one thing: its faults are at different places, and one place is the least; and what it says is one script.
-use Rattle.std.proofs.Common.{◌≡◌, ℕ, List, Option, Some, None, Ok, Err, length, codes, refl, ap, sym, ◌∙◌, arith}
+use Rattle.std.proofs.Common.{◌≡◌, ℕ, List, Option, Some, None, Result, Ok, Err, length, codes, refl, ap, sym, ◌∙◌, arith}
 use Rattle.std.proofs.lemmas.Cmp.{nat_list_cmp_total}
 use Rattle.std.proofs.lemmas.Map.Text.{is_eq-slice_cmp}
 use Rattle.std.proofs.lemmas.Slice.Eq.{bytes_eq-Decides}
@@ -17,11 +17,11 @@ use Rattle.ccan_line.specs.declared.host_line.HostLine.{HostLine}
 use Rattle.ccan_script.specs.HostLine.{HostSays}
 use Rattle.ccan_script.specs.BusLine.{BusSays}
 use Rattle.ccan_script.specs.Order.{OrderPlace, names, number_in_order, order_by, share}
-use Rattle.ccan_script.specs.Places.{IsFirst}
+use Rattle.ccan_script.specs.Places.{IsFaultless, IsFirst}
 use Rattle.ccan_script.specs.ListPlace.{ListPlace, count, line, list, number_in_list}
 use Rattle.ccan_line.specs.Port.{count_of}
 use Rattle.ccan_line.specs.Script.{ScriptFields}
-use Rattle.ccan_script.specs.Script.{Place, Says, fault_at, number_of}
+use Rattle.ccan_script.specs.Script.{MeansAmong, Place, Says, fault_among, known_members, number_of}
 use Rattle.ccan_script.specs.Script.{bus, if1, if2, members, nodes, order, profile, quota, tries}
 use Rattle.ccan_script.specs.Laws.{HasOneMeaning}
 use Rattle.ccan_script.proofs.Lines.{lines_once}
@@ -29,13 +29,13 @@ use Rattle.ccan_script.proofs.OneBusLine.{bus_once}
 
 -- ---- places
 
-same_list_place : (p q : ListPlace) → number_in_list p ≡ number_in_list q → p ≡ q
+pub same_list_place : (p q : ListPlace) → number_in_list p ≡ number_in_list q → p ≡ q
 same_list_place list list h = refl
 same_list_place count count h = refl
 same_list_place (line i) (line j) h = cc
 same_list_place p q h = cc
 
-same_port_number : (p q : PortName) → port_index p ≡ port_index q → p ≡ q
+pub same_port_number : (p q : PortName) → port_index p ≡ port_index q → p ≡ q
 same_port_number port.If1 port.If1 h = refl
 same_port_number port.If2 port.If2 h = refl
 same_port_number port.Bus port.Bus h = refl
@@ -47,7 +47,7 @@ same_order_place (share n) (share m) h = ap share (same_port_number n m cc)
 same_order_place p q h = cc
 
 -- the last case is that of two different parts
-same_place : (p q : Place) → number_of p ≡ number_of q → p ≡ q
+pub same_place : (p q : Place) → number_of p ≡ number_of q → p ≡ q
 same_place members members h = refl
 same_place profile profile h = refl
 same_place quota quota h = refl
@@ -68,21 +68,27 @@ same_number a b h = (bytes_eq-Decides a b).0 (sym (is_eq-slice_cmp a b) ∙ ap i
 differ : (e : ScriptError) (o : Option ScriptError) → o ≡ None → o ≡ Some e → ⊥
 differ e o a b = cc
 
-module _ (d : Data) (e f : ScriptError) (p : IsFirst number_of (fault_at d) e) (q : IsFirst number_of (fault_at d) f) where
-  one_fault : (o : Ordering) → slice_cmp nat_cmp (number_of p.place) (number_of q.place) ≡ o → e ≡ f
-  one_fault Less h = absurd (differ e (fault_at d p.place) (q.first p.place h) p.is)
-  one_fault Equal h = let same : p.place ≡ q.place = same_place p.place q.place (same_number _ _ h) in
-      joined (fault_at d p.place) (fault_at d q.place) (ap (fault_at d) same) p.is q.is
-    where
-      joined : (a b : Option ScriptError) → a ≡ b → a ≡ Some e → b ≡ Some f → e ≡ f
-      joined a b x y z = cc
-  one_fault Greater h =
-      let before : slice_cmp nat_cmp (number_of q.place) (number_of p.place) ≡ Less =
-      nat_list_cmp_total.antisymm (number_of q.place) (number_of p.place) ∙ ap ordering_reverse h in
-      absurd (differ f (fault_at d q.place) (p.first q.place before) q.is)
+-- places of different numbers have at most one first fault
+module _ {P : Type 0} (number : P → List ℕ) (fault : P → Option ScriptError) where
+  module _ (same : (p q : P) → number p ≡ number q → p ≡ q) (e f : ScriptError) (p : IsFirst number fault e)
+      (q : IsFirst number fault f) where
+    one_fault : (o : Ordering) → slice_cmp nat_cmp (number p.place) (number q.place) ≡ o → e ≡ f
+    one_fault Less h = absurd (differ e (fault p.place) (q.first p.place h) p.is)
+    one_fault Equal h =
+        joined (fault p.place) (fault q.place) (ap fault (same p.place q.place (same_number _ _ h))) p.is q.is
+      where
+        joined : (a b : Option ScriptError) → a ≡ b → a ≡ Some e → b ≡ Some f → e ≡ f
+        joined a b x y z = cc
+    one_fault Greater h =
+        let before : slice_cmp nat_cmp (number q.place) (number p.place) ≡ Less =
+        nat_list_cmp_total.antisymm (number q.place) (number p.place) ∙ ap ordering_reverse h in
+        absurd (differ f (fault q.place) (p.first q.place before) q.is)
 
-no_fault : (d : Data) (e : ScriptError) → ((p : Place) → fault_at d p ≡ None) → IsFirst number_of (fault_at d) e → ⊥
-no_fault d e none p = differ e (fault_at d p.place) (none p.place) p.is
+    pub one_first : e ≡ f
+    one_first = one_fault _ refl
+
+  pub no_first : (e : ScriptError) → IsFaultless number fault → IsFirst number fault e → ⊥
+  no_first e none p = differ e (fault p.place) (none p.place) p.is
 
 -- ---- scripts
 
@@ -108,7 +114,7 @@ same_counts a b if1_are if2_are bus_are port.If1 = ap length if1_are
 same_counts a b if1_are if2_are bus_are port.If2 = ap length if2_are
 same_counts a b if1_are if2_are bus_are port.Bus = ap length bus_are
 
-one_script : (d : Data) (a b : ScriptFields) → Says d a → Says d b → a ≡ b
+pub one_script : (d : Data) (a b : ScriptFields) → Says d a → Says d b → a ≡ b
 one_script d a b h k =
     let if1_are = lines_once HostSays (host_once) _ a.if1 b.if1 h.if1_lines k.if1_lines in
     let if2_are = lines_once HostSays (host_once) _ a.if2 b.if2 h.if2_lines k.if2_lines in
@@ -119,8 +125,12 @@ one_script d a b h k =
     if1_are if2_are bus_are
     (h.order_is ∙ (λ i. order_by (λ name. counts name i) (get (codes "order") d)) ∙ sym k.order_is)
 
+module _ (known : List (List ℕ)) where
+  pub one_among : (d : Data) (r s : Result ScriptFields ScriptError) → MeansAmong known d r → MeansAmong known d s → r ≡ s
+  one_among d (Ok m) (Ok n) h k = ap Ok (one_script d m n h.1 k.1)
+  one_among d (Ok m) (Err f) h k = absurd (no_first number_of (fault_among known d) f h.0 k)
+  one_among d (Err e) (Ok n) h k = absurd (no_first number_of (fault_among known d) e k.0 h)
+  one_among d (Err e) (Err f) h k = ap Err (one_first number_of (fault_among known d) same_place e f h k)
+
 pub one_meaning : HasOneMeaning
-one_meaning d (Ok m) (Ok n) h k = ap Ok (one_script d m n h.1 k.1)
-one_meaning d (Ok m) (Err f) h k = absurd (no_fault d f h.0 k)
-one_meaning d (Err e) (Ok n) h k = absurd (no_fault d e k.0 h)
-one_meaning d (Err e) (Err f) h k = ap Err (one_fault d e f h k _ refl)
+one_meaning = one_among known_members

@@ -134,4 +134,5 @@ module _ (lines : PortName → ℕ) where
   bad_check d order is names_ok (error.Range l i) h = absurd h
   bad_check d order is names_ok (error.TooMany l) h = absurd h
   bad_check d order is names_ok (error.Order name) h = bad_share d order is names_ok name h.0 h.1
+  bad_check d order is names_ok (error.Before name) h = absurd h
   bad_check d order is names_ok error.Memory h = tt

@@ -1,7 +1,7 @@
 -- Bytes that were read mean one thing: what reading answered.
 use Rattle.std.proofs.Common.{◌≡◌, ℕ, List, refl, subst, Result, Ok, Err}
 use Rattle.ccan_script.specs.declared.script_error.ScriptError.{ScriptError}
-use Rattle.ccan_script.specs.declared.script_error.ScriptError.TheVariants.{NotJson, Shape, Range, TooMany, Order, Memory}
+use Rattle.ccan_script.specs.declared.script_error.ScriptError.TheVariants.{NotJson, Shape, Range, TooMany, Order, Before, Memory}
 use Rattle.ccan_line.specs.Script.{fields_of, ScriptFields}
 use Rattle.ccan_script.specs.Reader.{Shows}
 use Rattle.ccan_script.specs.Script.{Means}
@@ -28,3 +28,5 @@ read_meaning bytes (Err (TooMany list)) h memory json =
     (Err (TooMany list), h, λ other also. one_shown bytes other (Err (TooMany list)) also h)
 read_meaning bytes (Err (Order port)) h memory json =
     (Err (Order port), h, λ other also. one_shown bytes other (Err (Order port)) also h)
+read_meaning bytes (Err (Before port)) h memory json =
+    (Err (Before port), h, λ other also. one_shown bytes other (Err (Before port)) also h)

@@ -13,7 +13,7 @@ use Rattle.ccan_script.specs.declared.list_name.ListName.TheVariants.{Top}
 use Rattle.ccan_script.specs.declared.line_fault.LineFault.{LineFault}
 use Rattle.ccan_script.specs.declared.line_fault.LineFault.TheVariants as fault
 use Rattle.ccan_script.specs.declared.script_error.ScriptError.{ScriptError}
-use Rattle.ccan_script.specs.declared.script_error.ScriptError.TheVariants.{NotJson, Shape, Range, TooMany, Order, Memory}
+use Rattle.ccan_script.specs.declared.script_error.ScriptError.TheVariants.{NotJson, Shape, Range, TooMany, Order, Before, Memory}
 use Rattle.ccan_line.specs.declared.script.Script.{Script}
 use Rattle.ccan_ram.specs.declared.port.PortName.{PortName}
 use Rattle.ccan_script.specs.Json.{can_be_list, has_only, lines_in, whole}
@@ -22,7 +22,7 @@ use Rattle.ccan_script.specs.ListPlace.{ListPlace, count, line, list, list_fault
 use Rattle.ccan_line.specs.Order.{times}
 use Rattle.ccan_script.specs.Order.{OrderPlace, names, named_ports, order_fault, share, times_fault}
 use Rattle.ccan_script.specs.Reader.{ReadsScript, ReadsValue, RefusesText}
-use Rattle.ccan_script.specs.Script.{Place, bus, fault_at, if1, if2, members, nodes, number_fault, order, profile, quota, tries}
+use Rattle.ccan_script.specs.Script.{Place, bus, fault_among, if1, if2, members, nodes, number_fault, order, profile, quota, tries}
 use Rattle.ccan_script.specs.ScriptError.{IsRefusalOf}
 
 -- ---- no fault of a value is that the bytes are no JSON
@@ -54,7 +54,7 @@ number_is_json least greatest (Some d) h = go (whole d) h
     go None h = cc
     go (Some n) h = range_or (nat_le least n && nat_le n greatest) Top 0 h
 
-list_is_json : (name : ListName) (most : ℕ) (fault : Data → Option LineFault) (o : Option Data) (p : ListPlace)
+pub list_is_json : (name : ListName) (most : ℕ) (fault : Data → Option LineFault) (o : Option Data) (p : ListPlace)
     → list_fault name most fault o p ≡ Some NotJson → ⊥
 unfolding list_fault
 list_is_json name most fault o list h = shape_or (can_be_list o) name 0 h
@@ -74,28 +74,29 @@ order_is_json : (lines : PortName → ℕ) (o : Option Data) (p : OrderPlace) �
 order_is_json lines o (names p) h = list_is_json _ _ _ o p h
 order_is_json lines o (share n) h = times_is_json lines o n h
 
-is_json : (d : Data) (p : Place) → fault_at d p ≡ Some NotJson → ⊥
-unfolding fault_at
-is_json d members h = shape_or (has_only _ d) _ 0 h
-is_json d profile h = number_is_json _ _ _ h
-is_json d quota h = number_is_json _ _ _ h
-is_json d tries h = number_is_json _ _ _ h
-is_json d nodes h = number_is_json _ _ _ h
-is_json d (if1 p) h = list_is_json _ _ _ _ p h
-is_json d (if2 p) h = list_is_json _ _ _ _ p h
-is_json d (bus p) h = list_is_json _ _ _ _ p h
-is_json d (order p) h = order_is_json _ _ p h
+pub is_json : (known : List (List ℕ)) (d : Data) (p : Place) → fault_among known d p ≡ Some NotJson → ⊥
+unfolding fault_among
+is_json known d members h = shape_or (has_only _ d) _ 0 h
+is_json known d profile h = number_is_json _ _ _ h
+is_json known d quota h = number_is_json _ _ _ h
+is_json known d tries h = number_is_json _ _ _ h
+is_json known d nodes h = number_is_json _ _ _ h
+is_json known d (if1 p) h = list_is_json _ _ _ _ p h
+is_json known d (if2 p) h = list_is_json _ _ _ _ p h
+is_json known d (bus p) h = list_is_json _ _ _ _ p h
+is_json known d (order p) h = order_is_json _ _ p h
 
 -- ---- texts
 
 pub reads_value : (bytes : List ℕ) (d : Data) (r : Result Script ScriptError) → IsUtf8 bytes → read bytes ≡ Some d
     → ReadsValue d r → ReadsScript bytes r
 reads_value bytes d (Ok s) utf8 is h = record { utf8 = utf8; value = d; read = is; means = h }
-reads_value bytes d (Err NotJson) utf8 is h = absurd (is_json d h.place h.is)
+reads_value bytes d (Err NotJson) utf8 is h = absurd (is_json _ d h.place h.is)
 reads_value bytes d (Err (Shape l i)) utf8 is h = record { utf8 = utf8; value = d; read = is; means = h }
 reads_value bytes d (Err (Range l i)) utf8 is h = record { utf8 = utf8; value = d; read = is; means = h }
 reads_value bytes d (Err (TooMany l)) utf8 is h = record { utf8 = utf8; value = d; read = is; means = h }
 reads_value bytes d (Err (Order n)) utf8 is h = record { utf8 = utf8; value = d; read = is; means = h }
+reads_value bytes d (Err (Before n)) utf8 is h = record { utf8 = utf8; value = d; read = is; means = h }
 reads_value bytes d (Err Memory) utf8 is h = tt
 
 pub refuses_text : (bytes : List ℕ) (from : Error) (e : ScriptError) → ((IsMemory from → ⊥) → IsUtf8 bytes → read bytes ≡ None)

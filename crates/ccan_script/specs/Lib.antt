@@ -14,13 +14,16 @@ pub mod Round
 pub mod BusOp
 pub mod BusLine
 pub mod OrderName
+pub mod HostName
 pub mod Lines
 pub mod Places
 pub mod ListPlace
 pub mod LineCounts
 pub mod Order
+pub mod Before
 pub mod Script
 pub mod Reader
+pub mod Race
 pub mod PrintedLine
 pub mod Print
 pub mod Laws

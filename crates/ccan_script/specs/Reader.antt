@@ -15,7 +15,7 @@ use Rattle.ccan_script.specs.Order.{number_in_order, order_by, order_fault}
 use Rattle.ccan_script.specs.Places.{IsFaultless, IsFirst}
 use Rattle.ccan_script.specs.ListPlace.{list_fault, number_in_list}
 use Rattle.ccan_line.specs.Script.{ScriptFields, fields_of}
-use Rattle.ccan_script.specs.Script.{Means, number_fault, number_or}
+use Rattle.ccan_script.specs.Script.{Means, MeansAmong, known_members, number_fault, number_or}
 
 -- it holds for each refusal except lack of memory
 abbrev pub UnlessMemory : ScriptError → Type 0 → Type 0
@@ -42,9 +42,13 @@ ReadsOrder lines o (Err e) = UnlessMemory e (IsFirst number_in_order (order_faul
 
 -- ---- a value
 
+-- that may have the members of these names
+abbrev pub ReadsAmong : List (List ℕ) → Data → Result Script ScriptError → Type 0
+ReadsAmong known d (Ok script) = MeansAmong known d (Ok (fields_of script))
+ReadsAmong known d (Err e) = UnlessMemory e (MeansAmong known d (Err e))
+
 abbrev pub ReadsValue : Data → Result Script ScriptError → Type 0
-ReadsValue d (Ok script) = Means d (Ok (fields_of script))
-ReadsValue d (Err e) = UnlessMemory e (Means d (Err e))
+ReadsValue = ReadsAmong known_members
 
 -- ---- bytes
 

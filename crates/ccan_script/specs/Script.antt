@@ -81,16 +81,20 @@ nodes_of d = number_or default_nodes (get (codes "nodes") d)
 abbrev pub lines_of_port : Data → PortName → ℕ
 lines_of_port d name = length (lines_in (get (port_text name) d))
 
-unfoldable pub fault_at : Data → Place → Option ScriptError
-fault_at d members = if has_only known_members d then None else Some (Shape Top 0)
-fault_at d profile = number_fault 1 most_profile (get (codes "profile") d)
-fault_at d quota = number_fault 1 most_quota (get (codes "quota") d)
-fault_at d tries = number_fault 1 most_tries (get (codes "tries") d)
-fault_at d nodes = number_fault 0 most_nodes (get (codes "nodes") d)
-fault_at d (if1 place) = list_fault If1 most_lines (host_fault (profile_of d)) (get (codes "if1") d) place
-fault_at d (if2 place) = list_fault If2 most_lines (host_fault (profile_of d)) (get (codes "if2") d) place
-fault_at d (bus place) = list_fault Bus most_lines (bus_fault (nodes_of d)) (get (codes "bus") d) place
-fault_at d (order place) = order_fault (lines_of_port d) (get (codes "order") d) place
+-- the faults of a value that may have the members of these names
+unfoldable pub fault_among : List (List ℕ) → Data → Place → Option ScriptError
+fault_among known d members = if has_only known d then None else Some (Shape Top 0)
+fault_among known d profile = number_fault 1 most_profile (get (codes "profile") d)
+fault_among known d quota = number_fault 1 most_quota (get (codes "quota") d)
+fault_among known d tries = number_fault 1 most_tries (get (codes "tries") d)
+fault_among known d nodes = number_fault 0 most_nodes (get (codes "nodes") d)
+fault_among known d (if1 place) = list_fault If1 most_lines (host_fault (profile_of d)) (get (codes "if1") d) place
+fault_among known d (if2 place) = list_fault If2 most_lines (host_fault (profile_of d)) (get (codes "if2") d) place
+fault_among known d (bus place) = list_fault Bus most_lines (bus_fault (nodes_of d)) (get (codes "bus") d) place
+fault_among known d (order place) = order_fault (lines_of_port d) (get (codes "order") d) place
+
+abbrev pub fault_at : Data → Place → Option ScriptError
+fault_at = fault_among known_members
 
 -- ---- the meaning
 
@@ -105,7 +109,11 @@ pub record Says (d : Data) (script : ScriptFields) : Type 0 where
   pub bus_lines : AreLines BusSays (lines_in (get (codes "bus") d)) script.bus
   pub order_is : script.order ≡ order_by (count_of script) (get (codes "order") d)
 
--- what a value means: its script if it has no fault, else its fault of the least place
+-- what a value that may have the members of these names means: its script if it has no fault, else its fault of the least place
+abbrev pub MeansAmong : List (List ℕ) → Data → Result ScriptFields ScriptError → Type 0
+MeansAmong known d (Ok script) = IsFaultless number_of (fault_among known d) × Says d script
+MeansAmong known d (Err e) = IsFirst number_of (fault_among known d) e
+
+-- what a value means
 abbrev pub Means : Data → Result ScriptFields ScriptError → Type 0
-Means d (Ok script) = IsFaultless number_of (fault_at d) × Says d script
-Means d (Err e) = IsFirst number_of (fault_at d) e
+Means = MeansAmong known_members

@@ -7,6 +7,8 @@
 //!                |
 //!                +--> the first fault in the order of the checks, with the list and the line where it is
 //!
+//!   bytes --> JSON value --> RaceScript { script, before }, for a race, with lines of hosts that run alone before it
+//!
 //!   LineAnswer --> one printed line        Record --> the final line of an object
 //! ```
 //!
@@ -23,6 +25,7 @@ pub mod flag_name;
 pub mod frame_data;
 pub mod frame_line;
 pub mod host_line;
+pub mod host_name;
 pub mod host_op;
 pub mod json;
 pub mod laws;
@@ -38,6 +41,8 @@ pub mod print;
 mod print_answer;
 mod print_bus;
 pub mod printed_line;
+pub mod race;
+pub mod race_script;
 pub mod reader;
 pub mod register_set;
 mod round;
@@ -49,12 +54,15 @@ pub use ccan_line::{
     MAX_FRAMES, MAX_GROUPS, MAX_LINES, MAX_NAMES, MAX_NODES, MAX_PROFILE, MAX_QUOTA, MAX_TRIES,
     MAX_TURNS, RegisterSet, Script,
 };
+pub use host_name::HostName;
 pub use line_context::LineContext;
 pub use line_fault::LineFault;
 pub use list_name::ListName;
 pub use order::times;
 pub use print::{print_final, print_line};
 pub use printed_line::PrintedLine;
+pub use race::read_race;
+pub use race_script::RaceScript;
 pub use reader::read_script;
 pub use script_error::ScriptError;
 pub use script_line::ScriptLine;

@@ -13,6 +13,8 @@ pub enum ListName {
     Bus,
     /// The order in which the ports run.
     Order,
+    /// The lines of hosts that run before a race.
+    Before,
 }
 
 impl fmt::Display for ListName {
@@ -28,6 +30,7 @@ impl fmt::Display for ListName {
             ListName::If2 => "if2",
             ListName::Bus => "bus",
             ListName::Order => "order",
+            ListName::Before => "before",
         })
     }
 }

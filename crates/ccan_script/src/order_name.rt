@@ -10,7 +10,7 @@ use serde_json::Value;
 
 /// The port that a value names.
 #[tactic(auto, unfolding(crate::specs::OrderName::port_in, crate::specs::OrderName::port_named))]
-fn port_in(value: &Value) -> Option<PortName>
+pub(crate) fn port_in(value: &Value) -> Option<PortName>
     ensures { result ≡ port_in (view value.now) }
 {
     match value.as_str()? {

@@ -1,5 +1,6 @@
+ghost use Rattle.std.specs.Prelude.{map};
 ghost use Rattle.serde_json.specs.View.{view};
-ghost use Rattle.ccan_script.specs.Reader.{ReadsValue, ReadsScript};
+ghost use Rattle.ccan_script.specs.Reader.{ReadsAmong, ReadsScript};
 
 use crate::json::has_only;
 use crate::line_context::LineContext;
@@ -16,16 +17,20 @@ use ccan_line::{
 use serde_json::Value;
 use std::alloc::Global;
 
-/// The script that a value means.
-fn script_of(alloc: Global, value: &Value) -> Result<Script, ScriptError>
-    ensures { ReadsValue (view value.now) result }
+/// The members that a script may have.
+const SCRIPT_MEMBERS: [&str; 8] = [
+    "profile", "quota", "tries", "nodes", "if1", "if2", "bus", "order",
+];
+
+/// The script that a value means, which may have the members of these names.
+pub(crate) fn script_among(
+    alloc: Global,
+    value: &Value,
+    members: &[&str],
+) -> Result<Script, ScriptError>
+    ensures { ReadsAmong (map (λ name. name.now) members.now) (view value.now) result }
 {
-    if !has_only(
-        value,
-        &[
-            "profile", "quota", "tries", "nodes", "if1", "if2", "bus", "order",
-        ],
-    ) {
+    if !has_only(value, members) {
         return Err(TOP_SHAPE);
     }
     let profile = number_member(value, "profile", 1, MAX_PROFILE, DEFAULT_PROFILE)?;
@@ -59,5 +64,5 @@ pub fn read_script(alloc: Global, bytes: &[u8]) -> Result<Script, ScriptError>
     ensures { ReadsScript bytes.now result }
 {
     let value = Value::from_slice(alloc, bytes)?;
-    script_of(alloc, &value)
+    script_among(alloc, &value, &SCRIPT_MEMBERS)
 }

@@ -21,6 +21,9 @@ pub enum ScriptError {
     /// The order names a port more or less often than it has lines.
     #[error("ccan: script: order, {port}")]
     Order { port: PortName },
+    /// The lines that run before a race are more of a host than it has.
+    #[error("ccan: script: before, {port}")]
+    Before { port: PortName },
     /// Memory ran out.
     #[error("ccan: out of memory")]
     Memory,

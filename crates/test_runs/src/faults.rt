@@ -61,7 +61,7 @@ const RUNS: [(RunError, &str, u8); 7] = [
 ];
 
 /// The faults of a script. Each list is named once.
-const SCRIPTS: [(ScriptError, &str, u8); 8] = [
+const SCRIPTS: [(ScriptError, &str, u8); 10] = [
     (ScriptError::NotJson, "ccan: script: not JSON", 1),
     (
         ScriptError::Shape {
@@ -107,6 +107,20 @@ const SCRIPTS: [(ScriptError, &str, u8); 8] = [
             port: PortName::Bus,
         },
         "ccan: script: order, bus",
+        1,
+    ),
+    (
+        ScriptError::TooMany {
+            list: ListName::Before,
+        },
+        "ccan: script: too many, before",
+        1,
+    ),
+    (
+        ScriptError::Before {
+            port: PortName::If1,
+        },
+        "ccan: script: before, if1",
         1,
     ),
     (ScriptError::Memory, "ccan: out of memory", 3),

@@ -10,4 +10,4 @@ returns-in_err-value c =
 
 pub returns : goal.returns
 returns c = reads_value c.args.bytes.now
-    (view c.in_ok-value.value) c.script_of.result c.in_ok-value.ensures.ok.0 c.in_ok-value.ensures.ok.1 c.script_of.ensures
+    (view c.in_ok-value.value) c.script_among.result c.in_ok-value.ensures.ok.0 c.in_ok-value.ensures.ok.1 c.script_among.ensures
