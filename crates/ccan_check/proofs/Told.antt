@@ -1,5 +1,5 @@
 -- That a fault is the first one of some bytes, and told with its path, from how it was found.
-use Rattle.std.proofs.Common.{◌≡◌, ◌≢◌, ◌∙◌, ℕ, List, ◌++◌, Option, Some, None, Result, String, codes, decimal}
+use Rattle.std.proofs.Common.{◌≡◌, ◌∙◌, ℕ, List, ◌++◌, Option, Some, None, Result, String, codes, decimal}
 use Rattle.std.proofs.Common.{subst, sym, ap, refl, string_bytes}
 use Rattle.std.specs.Prelude.{IfOk, IsTrue, IsUtf8, nat_eq, slice_get}
 use Rattle.std.specs.declared.alloc.Global.{Global}
@@ -9,27 +9,25 @@ use Rattle.std.proofs.lemmas.Slice.Eq.{starts_is}
 use Rattle.serde_json.specs.Data.{Data}
 use Rattle.serde_json.specs.Read.{read}
 use Rattle.ccan_script.specs.declared.script_error.ScriptError.{ScriptError}
-use Rattle.ccan_script.specs.declared.script_error.ScriptError.TheVariants.{Memory}
 use Rattle.serde_json.specs.Find.{get}
 use Rattle.ccan_script.specs.declared.list_name.ListName.{ListName}
 use Rattle.ccan_script.specs.Json.{lines_in}
 use Rattle.ccan_script.specs.ListName.{list_text}
-use Rattle.ccan_script.specs.Reader.{RefusesText}
 use Rattle.ccan_check.specs.declared.line_path.LinePath.{LinePath}
 use Rattle.ccan_check.specs.LinePath.{path_text}
 use Rattle.ccan_check.specs.declared.report.Fault.{Fault}
-use Rattle.ccan_check.specs.ScriptCheck.{IsFirstOf, IsToldAs, context_of, fault_path, line_path, place_in}
+use Rattle.ccan_check.specs.ScriptCheck.{IsFirstTold, IsToldAs}
+use Rattle.ccan_check.specs.ScriptCheck.{context_of, fault_path, line_path, place_in}
 
 some_inj : (a b : Data) → Some a ≡ Some b → a ≡ b
 some_inj a b h = cc
 
-module _ (bytes : List ℕ) (error : ScriptError) (known : error ≢ Memory) (refuses : RefusesText bytes error) where
+module _ (bytes : List ℕ) (error : ScriptError) where
   pub first_of_value : (path : List ℕ) (d : Data) (o : Option Fault) → read bytes ≡ Some d → path ≡ fault_path d error
-      → IsToldAs error path o → IsFirstOf bytes o
+      → IsToldAs error path o → IsFirstTold bytes error o
   first_of_value path d None is at told = absurd told
   first_of_value path d (Some fault) is at told = (
-    λ memory. known (sym told.0 ∙ memory),
-    subst (λ e. RefusesText bytes e) (sym told.0) refuses,
+    told.0,
     λ e utf8 reads.
         let same : path ≡ fault_path e fault.error =
         at ∙ ap (λ x. fault_path x error) (some_inj d e (sym is ∙ reads)) ∙ ap (λ x. fault_path e x) (sym told.0) in
@@ -37,13 +35,10 @@ module _ (bytes : List ℕ) (error : ScriptError) (known : error ≢ Memory) (re
   )
 
   pub first_of_text : (path : List ℕ) (o : Option Fault) → (IsUtf8 bytes → read bytes ≡ None) → IsToldAs error path o
-      → IsFirstOf bytes o
+      → IsFirstTold bytes error o
   first_of_text path None none told = absurd told
-  first_of_text path (Some fault) none told = (
-    λ memory. known (sym told.0 ∙ memory),
-    subst (λ e. RefusesText bytes e) (sym told.0) refuses,
-    λ e utf8 reads. let never : Some e ≡ None = sym reads ∙ none utf8 in cc,
-  )
+  first_of_text path (Some fault) none told =
+      (told.0, λ e utf8 reads. let never : Some e ≡ None = sym reads ∙ none utf8 in cc)
 
 -- ---- how it is told
 

@@ -14,10 +14,11 @@ use Rattle.ccan_script.specs.declared.line_context.LineContext.{LineContext}
 use Rattle.ccan_script.specs.declared.list_name.ListName.{ListName}
 use Rattle.ccan_script.specs.declared.list_name.ListName.TheVariants as list
 use Rattle.ccan_script.specs.declared.script_error.ScriptError.{ScriptError}
-use Rattle.ccan_script.specs.declared.script_error.ScriptError.TheVariants.{NotJson, Shape, Range, TooMany, Order}
+use Rattle.ccan_script.specs.declared.script_error.ScriptError.TheVariants.{NotJson, Shape, Range, TooMany, Order, Before}
 use Rattle.ccan_script.specs.declared.script_error.ScriptError.TheVariants.{Memory}
 use Rattle.ccan_script.specs.Json.{lines_in}
 use Rattle.ccan_script.specs.ListName.{list_text}
+use Rattle.ccan_script.specs.Race.{RaceFields, RefusesRace, ShowsRace}
 use Rattle.ccan_script.specs.Reader.{RefusesText, Shows}
 use Rattle.ccan_script.specs.Script.{number_fault, number_or, profile_numbered}
 use Rattle.ccan_check.specs.declared.line_path.LinePath.{LinePath}
@@ -49,6 +50,7 @@ place_in list.If1 context line = host_place context line
 place_in list.If2 context line = host_place context line
 place_in list.Bus context line = bus_place context line
 place_in list.Order context line = in_line Whole
+place_in list.Before context line = in_line Whole
 
 -- a list and the index of a line in it, and the place in the line; only the list if it has no such line
 abbrev pub line_path : Data → ListName → ℕ → List ℕ
@@ -67,6 +69,7 @@ fault_path d (Range list.Top index) = []
 fault_path d (Range name index) = line_path d name index
 fault_path d (TooMany name) = list_text name
 fault_path d (Order port) = codes "order"
+fault_path d (Before port) = codes "before"
 fault_path d Memory = []
 
 -- ---- the first fault
@@ -86,7 +89,17 @@ BeginsWithPath bytes fault =
     (d : Data) → IsUtf8 bytes → read bytes ≡ Some d
     → IsTrue (starts_with nat_eq (string_bytes fault.remark.text) (fault_path d fault.error))
 
+-- it is this fault of the bytes, reported with its path
+abbrev pub IsFirstTold : List ℕ → ScriptError → Option Fault → Type 0
+IsFirstTold bytes error None = ⊥
+IsFirstTold bytes error (Some fault) = (fault.error ≡ error) × BeginsWithPath bytes fault
+
 -- if the bytes are a script, there is no first fault; otherwise it is the refusal of the bytes, reported with its path
 abbrev pub IsFirstOf : List ℕ → Option Fault → Type 0
 IsFirstOf bytes None = (script : ScriptFields) × Shows bytes (Ok script)
 IsFirstOf bytes (Some fault) = (fault.error ≢ Memory) × RefusesText bytes fault.error × BeginsWithPath bytes fault
+
+-- the same of a script for a race
+abbrev pub IsFirstOfRace : List ℕ → Option Fault → Type 0
+IsFirstOfRace bytes None = (race : RaceFields) × ShowsRace bytes (Ok race)
+IsFirstOfRace bytes (Some fault) = (fault.error ≢ Memory) × RefusesRace bytes fault.error × BeginsWithPath bytes fault

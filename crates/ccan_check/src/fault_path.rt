@@ -55,6 +55,7 @@ fn list_text(list: ListName) -> &'static str
         ListName::If2 => "if2",
         ListName::Bus => "bus",
         ListName::Order => "order",
+        ListName::Before => "before",
     }
 }
 
@@ -66,7 +67,7 @@ fn place_in(list: ListName, context: LineContext, line: &Value) -> LinePath
     match list {
         ListName::If1 | ListName::If2 => host_place(line, context),
         ListName::Bus => bus_place(line, context),
-        ListName::Top | ListName::Order => LinePath {
+        ListName::Top | ListName::Order | ListName::Before => LinePath {
             frame: None,
             part: Part::Whole,
         },
@@ -140,6 +141,7 @@ pub(crate) fn fault_path(
             format!(in alloc; "{name}")
         }
         ScriptError::Order { .. } => format!(in alloc; "order"),
+        ScriptError::Before { .. } => format!(in alloc; "before"),
         ScriptError::NotJson => format!(in alloc; "not JSON"),
     }
 }

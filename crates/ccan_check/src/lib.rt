@@ -7,9 +7,10 @@
 //!                         +--> file.json:20:18: if1[15].set.cmask: "00g0" is not four hexadecimal digits
 //! ```
 //!
-//! Whether a script has a fault, and which comes first, is what [`ccan_script::read_script`] says, and for each line it is what
-//! its reader says. Which member of a line is at fault first is proved here, by the order of the checks
-//! (`specs/FirstFault.antt`). The rest finds the place of that member in the text, and words for it.
+//! Whether a script has a fault, and which comes first, is what [`ccan_script::read_script`] says, or
+//! [`ccan_script::read_race`] of a script for a race, and for each line it is what its reader says. Which member of a line is
+//! at fault first is proved here, by the order of the checks (`specs/FirstFault.antt`). The rest finds the place of that member
+//! in the text, and words for it.
 #![tactic(auto)]
 
 mod fault_path;
@@ -25,6 +26,7 @@ mod not_json;
 mod object_image;
 pub mod place;
 pub mod print;
+mod reading;
 pub mod report;
 pub mod script_check;
 mod script_image;
@@ -38,4 +40,4 @@ pub use line_texts::{LineSpan, has_member, line_spans};
 pub use place::Place;
 pub use print::{print_report, remark_line};
 pub use report::{Fault, Remark, Report};
-pub use script_check::check;
+pub use script_check::{check, check_race};

@@ -1,22 +1,25 @@
-ghost use Rattle.std.specs.Prelude.{◌≡◌, ◌≢◌, ◌++◌, IfOk, codes, IsTrue, IsUtf8, Some, None, nat_eq, string_bytes};
+ghost use Rattle.std.specs.Prelude.{◌≡◌, ◌++◌, IfOk, codes, IsTrue, IsUtf8, Some, None, nat_eq, string_bytes};
 ghost use Rattle.std.specs.List.{starts_with};
 ghost use Rattle.serde_json.specs.Errors.{IsMemory};
 ghost use Rattle.serde_json.specs.Read.{read};
 ghost use Rattle.serde_json.specs.View.{view};
-ghost use Rattle.ccan_script.specs.declared.script_error.ScriptError.TheVariants.{Memory};
-ghost use Rattle.ccan_script.specs.Reader.{RefusesText};
-ghost use Rattle.ccan_check.specs.ScriptCheck.{first_fault, IsToldAs, IsFirstOf};
+ghost use Rattle.ccan_check.specs.ScriptCheck.{first_fault, IsToldAs, IsFirstTold};
+ghost use Rattle.ccan_check.specs.ScriptCheck.{IsFirstOf, IsFirstOfRace};
 
 use crate::fault_path::fault_path;
 use crate::json_text::after_spaces;
 use crate::not_json::json_fault;
+use crate::reading::Reading;
 use crate::report::{Fault, Remark, Report};
 use crate::script_warning::warn_of_script;
 use crate::spot::{Spot, joined};
 use crate::walk::walk;
-use ccan_script::{Script, ScriptError, read_script};
+use ccan_script::{Script, ScriptError, read_race, read_script};
 use serde_json::{Error, Value};
 use std::alloc::{AllocError, Global};
+
+/// What is said of lines that run before a race.
+const LAB_ONLY: &str = "before: only ccan-lab reads this member; ccan refuses the script";
 
 /// What is said of bytes that are not JSON.
 fn json_report(alloc: Global, bytes: &[u8], error: &Error) -> Result<Report, AllocError>
@@ -107,13 +110,13 @@ fn value_report(
     bytes: &[u8],
     value: &Value,
     error: ScriptError,
+    reading: Reading,
 ) -> Result<Report, AllocError>
-    requires memory { error ≢ Memory }
-    requires refuses { RefusesText bytes.now error }
-    requires reads { read bytes.now ≡ Some (view value.now) }
-    ensures { IfOk result (λ report. IsFirstOf bytes.now (first_fault report.faults.items)) }
+    requires { read bytes.now ≡ Some (view value.now) }
+    ensures { IfOk result (λ report.
+        IsFirstTold bytes.now error (first_fault report.faults.items)) }
 {
-    let Report { faults, warnings } = walk(alloc, top_of(bytes, value))?;
+    let Report { faults, warnings } = walk(alloc, top_of(bytes, value), reading)?;
     let path = fault_path(alloc, value, error)?;
     let told = told_first(alloc, error, path.as_str(), faults)?;
     Ok(Report {
@@ -129,10 +132,9 @@ fn text_report(
     stop: &Error,
     error: ScriptError,
 ) -> Result<Report, AllocError>
-    requires memory { error ≢ Memory }
-    requires refuses { RefusesText bytes.now error }
-    requires none { ¬ IsMemory stop.now → IsUtf8 bytes.now → read bytes.now ≡ None }
-    ensures { IfOk result (λ report. IsFirstOf bytes.now (first_fault report.faults.items)) }
+    requires { ¬ IsMemory stop.now → IsUtf8 bytes.now → read bytes.now ≡ None }
+    ensures { IfOk result (λ report.
+        IsFirstTold bytes.now error (first_fault report.faults.items)) }
 {
     let Report { faults, warnings } = json_report(alloc, bytes, stop)?;
     let told = told_first(alloc, error, "", faults)?;
@@ -143,19 +145,45 @@ fn text_report(
 }
 
 /// What is said of bytes that reading refuses with this fault.
-fn refused_report(alloc: Global, bytes: &[u8], error: ScriptError) -> Result<Report, AllocError>
-    requires memory { error ≢ Memory }
-    requires refuses { RefusesText bytes.now error }
-    ensures { IfOk result (λ report. IsFirstOf bytes.now (first_fault report.faults.items)) }
+fn refused_report(
+    alloc: Global,
+    bytes: &[u8],
+    error: ScriptError,
+    reading: Reading,
+) -> Result<Report, AllocError>
+    ensures { IfOk result (λ report.
+        IsFirstTold bytes.now error (first_fault report.faults.items)) }
 {
     match Value::from_slice(alloc, bytes) {
-        Ok(value) => value_report(alloc, bytes, &value, error),
+        Ok(value) => value_report(alloc, bytes, &value, error, reading),
         Err(stop) => text_report(alloc, bytes, &stop, error),
     }
 }
 
+/// Adds a warning if lines run before a race.
+fn warn_of_before(
+    alloc: Global,
+    top: Spot<'_>,
+    reading: Reading,
+    warnings: &mut Vec<Remark>,
+) -> Result<(), AllocError> {
+    if let Some(before) = reading.before(top) {
+        let text = joined(alloc, &[LAB_ONLY])?;
+        warnings.push(Remark {
+            offset: before.offset,
+            text,
+        })?;
+    }
+    Ok(())
+}
+
 /// What is rarely meant in a script without faults.
-fn warnings_of(alloc: Global, bytes: &[u8], script: &Script) -> Result<Vec<Remark>, AllocError> {
+fn warnings_of(
+    alloc: Global,
+    bytes: &[u8],
+    script: &Script,
+    reading: Reading,
+) -> Result<Vec<Remark>, AllocError> {
     let Ok(value) = Value::from_slice(alloc, bytes) else {
         return Err(AllocError);
     };
@@ -163,7 +191,8 @@ fn warnings_of(alloc: Global, bytes: &[u8], script: &Script) -> Result<Vec<Remar
     let Report {
         faults: _,
         mut warnings,
-    } = walk(alloc, top)?;
+    } = walk(alloc, top, reading)?;
+    warn_of_before(alloc, top, reading, &mut warnings)?;
     warn_of_script(alloc, top, script, &mut warnings)?;
     Ok(warnings)
 }
@@ -179,9 +208,26 @@ pub fn check(alloc: Global, bytes: &[u8]) -> Result<Report, AllocError>
     match read_script(alloc, bytes) {
         Ok(script) => Ok(Report {
             faults: Vec::new(alloc),
-            warnings: warnings_of(alloc, bytes, &script)?,
+            warnings: warnings_of(alloc, bytes, &script, Reading::Script)?,
         }),
         Err(ScriptError::Memory) => Err(AllocError),
-        Err(error) => refused_report(alloc, bytes, error),
+        Err(error) => refused_report(alloc, bytes, error, Reading::Script),
+    }
+}
+
+/// The faults of a script for a race, the first of each of its lines, and what is accepted but rarely meant.
+///
+/// It has no faults exactly when [`read_race`] answers a script for a race. Otherwise the first is the fault that `read_race`
+/// answers, and what is said of it begins with its path, as in a report of [`check`].
+pub fn check_race(alloc: Global, bytes: &[u8]) -> Result<Report, AllocError>
+    ensures { IfOk result (λ report. IsFirstOfRace bytes.now (first_fault report.faults.items)) }
+{
+    match read_race(alloc, bytes) {
+        Ok(race) => Ok(Report {
+            faults: Vec::new(alloc),
+            warnings: warnings_of(alloc, bytes, &race.script, Reading::Race)?,
+        }),
+        Err(ScriptError::Memory) => Err(AllocError),
+        Err(error) => refused_report(alloc, bytes, error, Reading::Race),
     }
 }

@@ -4,6 +4,7 @@ ghost use Rattle.ccan_line.specs.Limits.{most_nodes};
 use crate::fault_path::context_of;
 use crate::json_text::item_after;
 use crate::member_remark::{remark_on, remark_on_name};
+use crate::reading::Reading;
 use crate::report::{Fault, Remark, Report};
 use crate::spot::{Spot, joined};
 use crate::told_line::ToldLine;
@@ -12,18 +13,12 @@ use ccan_ram::PortName;
 use ccan_script::bus_op::{BusOp, bus_op};
 use ccan_script::number::number_member;
 use ccan_script::{
-    BusLine, DEFAULT_NODES, DEFAULT_PROFILE, DEFAULT_QUOTA, DEFAULT_TRIES, HostLine, LineContext,
-    ListName, MAX_LINES, MAX_NAMES, MAX_NODES, MAX_PROFILE, MAX_QUOTA, MAX_TRIES, ScriptError,
+    BusLine, DEFAULT_NODES, DEFAULT_PROFILE, DEFAULT_QUOTA, DEFAULT_TRIES, HostLine, HostName,
+    LineContext, ListName, MAX_LINES, MAX_NAMES, MAX_NODES, MAX_PROFILE, MAX_QUOTA, MAX_TRIES,
+    ScriptError,
 };
 use serde_json::Value;
 use std::alloc::{AllocError, Global};
-
-/// The members that a script has.
-const KNOWN: [&str; 8] = [
-    "profile", "quota", "tries", "nodes", "if1", "if2", "bus", "order",
-];
-
-const UNKNOWN: &str = "is unknown here; known: profile quota tries nodes if1 if2 bus order";
 
 const TOP_SHAPE: ScriptError = ScriptError::Shape {
     list: ListName::Top,
@@ -31,7 +26,12 @@ const TOP_SHAPE: ScriptError = ScriptError::Shape {
 };
 
 /// Adds a fault for each member that a script can't have.
-fn add_unknown(alloc: Global, top: Spot<'_>, report: &mut Report) -> Result<(), AllocError> {
+fn add_unknown(
+    alloc: Global,
+    top: Spot<'_>,
+    reading: Reading,
+    report: &mut Report,
+) -> Result<(), AllocError> {
     let Some(members) = top.value.as_object() else {
         let remark = remark_on(alloc, "the script", top, "is not an object, such as {}")?;
         report.faults.push(Fault {
@@ -41,13 +41,14 @@ fn add_unknown(alloc: Global, top: Spot<'_>, report: &mut Report) -> Result<(), 
         return Ok(());
     };
     for name in members.keys() {
-        if KNOWN.iter().any(|known| *known == name.as_str()) {
+        if reading.knows(name.as_str()) {
             continue;
         }
         let offset = top
             .member(name.as_str())
             .map_or(top.offset, |spot| spot.offset);
-        let remark = remark_on_name(alloc, "the script", name.as_str(), UNKNOWN, offset)?;
+        let wrong = reading.unknown();
+        let remark = remark_on_name(alloc, "the script", name.as_str(), wrong, offset)?;
         report.faults.push(Fault {
             error: TOP_SHAPE,
             remark,
@@ -170,6 +171,14 @@ fn lines_in(top: Spot<'_>, name: &str) -> usize {
     }
 }
 
+/// How often a list has this name.
+fn times_in(names: &[Value], name: &str) -> usize {
+    names
+        .iter()
+        .filter(|value| value.as_str() == Some(name))
+        .count()
+}
+
 /// Adds a fault if the order doesn't name a port as often as it has lines.
 fn add_times(
     alloc: Global,
@@ -183,10 +192,7 @@ fn add_times(
         return Ok(());
     };
     let lines = lines_in(top, name);
-    let times = names
-        .iter()
-        .filter(|value| value.as_str() == Some(name))
-        .count();
+    let times = times_in(names, name);
     if times != lines {
         let error = ScriptError::Order { port };
         let text = format!(in alloc;
@@ -207,13 +213,14 @@ fn add_times(
 fn add_order(
     alloc: Global,
     top: Spot<'_>,
+    reading: Reading,
     context: LineContext,
     report: &mut Report,
 ) -> Result<(), AllocError>
     requires { context.nodes ≤ most_nodes }
 {
     let Some(order) = top.member("order") else {
-        return warn_of_default(alloc, top, report);
+        return warn_of_default(alloc, top, reading, report);
     };
     let before = report.faults.len();
     add_list::<PortName>(
@@ -255,8 +262,76 @@ fn has_sends(top: Spot<'_>) -> bool {
     }
 }
 
-/// Adds a warning if two ports that depend on each other run one after the other, since no order is given.
-fn warn_of_default(alloc: Global, top: Spot<'_>, report: &mut Report) -> Result<(), AllocError> {
+/// Adds a fault if a host is named more often than it has lines.
+fn add_share(
+    alloc: Global,
+    top: Spot<'_>,
+    before: Spot<'_>,
+    host: HostName,
+    name: &str,
+    report: &mut Report,
+) -> Result<(), AllocError> {
+    let Some(names) = before.value.as_array() else {
+        return Ok(());
+    };
+    let lines = lines_in(top, name);
+    let times = times_in(names, name);
+    if times > lines {
+        let error = ScriptError::Before { port: host.port() };
+        let text = format!(in alloc;
+            "before: names {name} {times} times, and {name} has {lines} lines"
+        )?;
+        report.faults.push(Fault {
+            error,
+            remark: Remark {
+                offset: before.offset,
+                text,
+            },
+        })?;
+    }
+    Ok(())
+}
+
+/// Adds the faults of the hosts of which lines run before a race.
+fn add_before(
+    alloc: Global,
+    top: Spot<'_>,
+    reading: Reading,
+    context: LineContext,
+    report: &mut Report,
+) -> Result<(), AllocError>
+    requires { context.nodes ≤ most_nodes }
+{
+    let Some(before) = reading.before(top) else {
+        return Ok(());
+    };
+    let earlier = report.faults.len();
+    add_list::<HostName>(
+        alloc,
+        ListName::Before,
+        MAX_NAMES,
+        Some(before),
+        context,
+        report,
+    )?;
+    if report.faults.len() != earlier {
+        return Ok(());
+    }
+    add_share(alloc, top, before, HostName::If1, "if1", report)?;
+    add_share(alloc, top, before, HostName::If2, "if2", report)
+}
+
+/// Adds a warning if two ports that depend on each other run one after the other, since no order is given, and no line is to run
+/// before a race.
+fn warn_of_default(
+    alloc: Global,
+    top: Spot<'_>,
+    reading: Reading,
+    report: &mut Report,
+) -> Result<(), AllocError> {
+    if reading.before(top).is_some() {
+        return Ok(());
+    }
     let hosts = usize::from(lines_in(top, "if1") > 0) + usize::from(lines_in(top, "if2") > 0);
     if hosts == 2 || hosts == 1 && has_sends(top) {
         let text = joined(
@@ -299,18 +374,19 @@ fn add_port<L: ToldLine>(
 }
 
 /// All that is said of a script, in the order of the checks.
-pub(crate) fn walk(alloc: Global, top: Spot<'_>) -> Result<Report, AllocError> {
+pub(crate) fn walk(alloc: Global, top: Spot<'_>, reading: Reading) -> Result<Report, AllocError> {
     let mut report = Report {
         faults: Vec::new(alloc),
         warnings: Vec::new(alloc),
     };
     warn_of_twice(alloc, "the script", top, &mut report.warnings)?;
-    add_unknown(alloc, top, &mut report)?;
+    add_unknown(alloc, top, reading, &mut report)?;
     add_numbers(alloc, top, &mut report)?;
     let context = context_of(top.value);
     add_port::<HostLine>(alloc, top, ListName::If1, "if1", context, &mut report)?;
     add_port::<HostLine>(alloc, top, ListName::If2, "if2", context, &mut report)?;
     add_port::<BusLine>(alloc, top, ListName::Bus, "bus", context, &mut report)?;
-    add_order(alloc, top, context, &mut report)?;
+    add_order(alloc, top, reading, context, &mut report)?;
+    add_before(alloc, top, reading, context, &mut report)?;
     Ok(report)
 }

@@ -5,5 +5,5 @@ use Rattle.ccan_check.proofs.script_check.text_report.Goals as goal
 
 pub returns : goal.returns
 returns c =
-    first_of_text c.args.bytes.now c.args.error c.requires.memory c.requires.refuses []
-    (first_fault c.in_ok-told.told.items) (c.requires.none c.in_ok-faults.ensures) c.in_ok-told.ensures
+    first_of_text c.args.bytes.now c.args.error []
+    (first_fault c.in_ok-told.told.items) (c.requires c.in_ok-faults.ensures) c.in_ok-told.ensures

@@ -6,6 +6,6 @@ use Rattle.ccan_check.proofs.script_check.value_report.Goals as goal
 
 pub returns : goal.returns
 returns c =
-    first_of_value c.args.bytes.now c.args.error c.requires.memory c.requires.refuses c.as_str.result.now
-    (view c.args.value.now) (first_fault c.in_ok-told.told.items) c.requires.reads
+    first_of_value c.args.bytes.now c.args.error c.as_str.result.now
+    (view c.args.value.now) (first_fault c.in_ok-told.told.items) c.requires
     (c.as_str.ensures.value ∙ c.in_ok-path.ensures) c.in_ok-told.ensures
