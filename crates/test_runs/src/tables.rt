@@ -14,10 +14,16 @@
 //!
 //! A thread that reads the word by turns at two places until it is 1 is stuck at both. One that writes 1 and 0 by turns is not
 //! stuck, but never ends. If one of two threads takes the lock and ends, the other one waits for ever.
+//!
+//! Nine threads that read the word once come to 2 to the 9th, or 512, situations: each thread has read it or has not. A thread may
+//! go to a place whose number needs more than sixteen bits.
 use crate::expect::{holds, same};
 use crate::shared_word::{SharedWord, WordAct};
-use ccan_every::{Entry, Fate, Goes, Lack, Outcome, Program, Situation, Table, every_schedule};
-use ccan_search::{Reached, Untold, tale};
+use ccan_every::{
+    Entry, Fate, Found, Goes, Lack, Outcome, Places, Program, Situation, Table, every_schedule,
+    way_to,
+};
+use ccan_search::Untold;
 use std::alloc::{AllocError, Global};
 use std::process::Abort;
 
@@ -75,11 +81,21 @@ fn lockers(alloc: Global) -> Result<Vec<Table<WordAct, u64>>, AllocError> {
     Ok(tables)
 }
 
+/// Whether the places are these.
+fn are(at: &Places, places: &[usize]) -> bool {
+    for thread in 0..places.len() {
+        if at.get(thread) != Some(places[thread]) {
+            return false;
+        }
+    }
+    at.len() == places.len()
+}
+
 /// Whether two threads can come to this, and their places are these.
-fn comes(found: &Reached<Situation<u64, u64>, Option<usize>>, word: u64, places: &[usize]) -> bool {
-    for situation in found.states.iter() {
+fn comes(found: &Found<u64, u64>, word: u64, places: &[usize]) -> bool {
+    for situation in found.situations.iter() {
         if let Situation::At { memory, places: at } = situation {
-            if *memory == word && at.as_slice() == places {
+            if *memory == word && are(at, places) {
                 return true;
             }
         }
@@ -87,21 +103,32 @@ fn comes(found: &Reached<Situation<u64, u64>, Option<usize>>, word: u64, places:
     false
 }
 
-/// What threads with these tables can come to, and what can still come of that, if none of them lacks a place.
+/// What threads with these tables can come to, at most twelve situations, and what can still come of that, if none of them lacks a
+/// place.
 fn whole(
     rt: &impl Abort,
     alloc: Global,
     tables: &[Table<WordAct, u64>],
-) -> (Reached<Situation<u64, u64>, Option<usize>>, Vec<Fate>) {
+) -> (Found<u64, u64>, Vec<Fate>) {
+    whole_of(rt, alloc, tables, 12)
+}
+
+/// The same, of at most so many situations.
+fn whole_of(
+    rt: &impl Abort,
+    alloc: Global,
+    tables: &[Table<WordAct, u64>],
+    most: usize,
+) -> (Found<u64, u64>, Vec<Fate>) {
     let program = Program {
         device: &SharedWord,
         tables,
     };
-    let found = every_schedule(&program, alloc, 0, 12, &Untold);
-    let Ok(Some(Outcome::Whole { reached, fates })) = found else {
+    let found = every_schedule(&program, alloc, 0, most, &Untold);
+    let Ok(Some(Outcome::Whole { found, fates })) = found else {
         panic!(rt; "not all situations")
     };
-    (reached, fates)
+    (found, fates)
 }
 
 #[test]
@@ -110,7 +137,7 @@ fn an_update_can_be_lost(rt: HostRuntime) {
         panic!(&rt; "no memory")
     };
     let (found, _) = whole(&rt, rt.alloc(), tables.as_slice());
-    same(&rt, found.states.len(), 12);
+    same(&rt, found.situations.len(), 12);
     holds(&rt, comes(&found, 2, &[3, 3]));
     holds(&rt, comes(&found, 1, &[3, 3]));
     let program = Program {
@@ -127,20 +154,20 @@ fn an_update_can_be_lost(rt: HostRuntime) {
 }
 
 /// Who moves on the way to the situation of this index.
-fn way_to(
+fn moves_to(
     rt: &impl Abort,
     alloc: Global,
     program: &Program<SharedWord>,
     index: usize,
 ) -> Vec<Option<usize>> {
     let found = every_schedule(program, alloc, 0, 12, &Untold);
-    let Ok(Some(Outcome::Whole { reached, .. })) = found else {
+    let Ok(Some(Outcome::Whole { found, .. })) = found else {
         panic!(rt; "not all situations")
     };
-    if reached.states.len() <= index {
+    if found.situations.len() <= index {
         panic!(rt; "too few situations")
     }
-    let Ok(way) = tale(program, alloc, &reached, index) else {
+    let Ok(way) = way_to(program, alloc, &found, index) else {
         panic!(rt; "no memory")
     };
     way
@@ -155,7 +182,7 @@ fn last_way(rt: &impl Abort, alloc: Global) -> Vec<Option<usize>> {
         device: &SharedWord,
         tables: tables.as_slice(),
     };
-    way_to(rt, alloc, &program, 11)
+    moves_to(rt, alloc, &program, 11)
 }
 
 /// Both read before one of them writes.
@@ -171,7 +198,7 @@ fn a_lock_is_taken_by_one(rt: HostRuntime) {
         panic!(&rt; "no memory")
     };
     let (found, _) = whole(&rt, rt.alloc(), tables.as_slice());
-    same(&rt, found.states.len(), 8);
+    same(&rt, found.situations.len(), 8);
     holds(&rt, comes(&found, 0, &[2, 2]));
     holds(&rt, !comes(&found, 1, &[1, 1]));
 }
@@ -221,7 +248,7 @@ fn a_wake_up_can_be_lost(rt: HostRuntime) {
         panic!(&rt; "no memory")
     };
     let (found, fates) = whole(&rt, rt.alloc(), tables.as_slice());
-    same(&rt, found.states.len(), 6);
+    same(&rt, found.situations.len(), 6);
     holds(&rt, comes(&found, 0, &[1, 1]));
     let want = [
         Fate::GoesOn,
@@ -236,7 +263,7 @@ fn a_wake_up_can_be_lost(rt: HostRuntime) {
         device: &SharedWord,
         tables: tables.as_slice(),
     };
-    let way = way_to(&rt, rt.alloc(), &program, 4);
+    let way = moves_to(&rt, rt.alloc(), &program, 4);
     same(&rt, way.as_slice(), &[Some(1), Some(0)]);
 }
 
@@ -310,4 +337,48 @@ fn a_lock_that_is_kept_is_waited_for_ever(rt: HostRuntime) {
         fates.as_slice(),
         &[Fate::Endless, Fate::Stuck, Fate::Stuck],
     );
+}
+
+/// Nine threads of which each reads the word, and has ended then.
+fn readers(alloc: Global) -> Result<Vec<Table<WordAct, u64>>, AllocError> {
+    let mut tables = Vec::new(alloc);
+    for _ in 0..9 {
+        let mut entries = Vec::new(alloc);
+        entries.push(does(alloc, WordAct::Reads, &[(0, 1)])?)?;
+        entries.push(Entry::Ended)?;
+        tables.push(Table { entries })?;
+    }
+    Ok(tables)
+}
+
+#[test]
+fn many_threads_are_searched(rt: HostRuntime) {
+    let Ok(tables) = readers(rt.alloc()) else {
+        panic!(&rt; "no memory")
+    };
+    let (found, _) = whole_of(&rt, rt.alloc(), tables.as_slice(), 512);
+    same(&rt, found.situations.len(), 512);
+    holds(&rt, comes(&found, 0, &[1, 1, 1, 1, 1, 1, 1, 1, 1]));
+}
+
+/// A thread that reads the word and goes to this place, and has ended there.
+fn goes_far(alloc: Global, far: usize) -> Result<Vec<Table<WordAct, u64>>, AllocError> {
+    let mut entries = Vec::new(alloc);
+    entries.push(does(alloc, WordAct::Reads, &[(0, far)])?)?;
+    for _ in 0..far {
+        entries.push(Entry::Ended)?;
+    }
+    let mut tables = Vec::new(alloc);
+    tables.push(Table { entries })?;
+    Ok(tables)
+}
+
+#[test]
+fn a_far_place_is_gone_to(rt: HostRuntime) {
+    let Ok(tables) = goes_far(rt.alloc(), 65536) else {
+        panic!(&rt; "no memory")
+    };
+    let (found, _) = whole(&rt, rt.alloc(), tables.as_slice());
+    same(&rt, found.situations.len(), 2);
+    holds(&rt, comes(&found, 0, &[65536]));
 }
