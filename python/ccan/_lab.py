@@ -59,7 +59,8 @@ class LabStreamError(LabError):
 class TooManyStatesError(LabError):
     """Status 5: the search comes to more states than it may keep, or the outcomes to more nodes.
 
-    If only the nodes are too many, ``output`` of a short list still says what each line may be, without the number of outcomes.
+    If only the nodes are too many, ``output`` of a short list still says what each line may be, without the number of outcomes, and a
+    search for lines ends so only if they are several, each of which some outcome has.
     """
 
 
@@ -240,7 +241,7 @@ def outcomes_data(script: Script, *, frames: bool = False, most: Optional[int] =
 
 def can_come(script: Script, line: str, *more: str, most: Optional[int] = None) -> str:
     """The first outcome that has a line which begins so, for each line that is given, with its history. A ``*`` is any bytes. A line
-    of a frame is, for example, ``can0 123#1122``.
+    of a frame is, for example, ``can0 123#1122``. If the outcomes need too many nodes, it says only that an outcome has the line.
 
     Raises
     ------

@@ -1,5 +1,5 @@
 -- Whether the ports can come to an end with some lines, by a list of all ends, and for the script whose waits look once.
-use Rattle.std.proofs.Common.{ℕ, ◌≡◌, ◌-◌, suc, Bool, true, false, cond, List, [], ◌∷◌, ◌++◌, Option, Some, None, length, map, option_map, replicate, refl, sym, ap, ◌∙◌, inl, inr}
+use Rattle.std.proofs.Common.{ℕ, ◌≡◌, ◌-◌, ◌&&◌, arith, zero, suc, Bool, true, false, cond, List, [], ◌∷◌, ◌++◌, Option, Some, None, length, map, option_map, replicate, refl, sym, ap, ◌∙◌, inl, inr}
 use Rattle.std.specs.List.{Contains, position_or_len}
 use Rattle.std.proofs.lemmas.Bool.{lt-ltb}
 use Rattle.ccan_language.proofs.Borne.{place_is, place_of}
@@ -17,11 +17,13 @@ use Rattle.ccan_lab.specs.declared.asked.Asked.{Asked}
 use Rattle.ccan_lab.specs.declared.asked.Asked.TheVariants.{Summary, All, Json, Can, Never, Observed, AllObserved}
 use Rattle.ccan_lab.specs.declared.history_form.HistoryForm.{HistoryForm}
 use Rattle.ccan_lab.specs.Answer.{first_with}
+use Rattle.ccan_lab.specs.Apart.{MissesOne, SaysOneApart}
 use Rattle.ccan_lab.specs.Answered.{CanHave, EndsAsAsked, IsOneIf, status_if}
 use Rattle.ccan_lab.specs.Counting.{TellsCount}
-use Rattle.ccan_lab.specs.Rows.{has_lines, lines_of}
-use Rattle.ccan_lab.specs.Words.{TellsLine}
-use Rattle.ccan_lab.proofs.Taken.{found_within}
+use Rattle.ccan_lab.specs.Rows.{has_line, has_lines, lines_of}
+use Rattle.ccan_lab.specs.Words.{AnswersLine}
+use Rattle.ccan_lab.proofs.Fitting.{and_right}
+use Rattle.ccan_lab.proofs.Taken.{found_within, it_alone}
 
 -- ---- by a list of all ends
 
@@ -62,21 +64,56 @@ one_can frames script endings begins number are is =
     (sym (place_is (has_lines begins) (map lines_of endings)) ∙ is) in
     (found.0, (are found.0).0 found.1, found.2)
 
-module _ (frames : Bool) (form : HistoryForm) (script : ScriptFields) (eq : Ending → Ending → Bool) (begins : List (List ℕ))
-    (text : List ℕ) (holds : Bool) (status : ℕ) (is : status ≡ status_if holds) where
+-- ---- by how each line may end
+
+-- what has all lines has each of them
+each_of_all : (begins : List (List ℕ)) (rows : List (List ℕ)) (begin : List ℕ) → Contains begins begin
+    → has_lines begins rows ≡ true → has_line begin rows ≡ true
+unfolding has_lines
+each_of_all [] rows begin (k, low, at) has = absurd (omega (arith, low))
+each_of_all (first ∷ rest) rows begin (zero, low, at) has =
+    ap (λ (b : List ℕ). has_line b rows) (sym at) ∙ and_left (has_line first rows) (has_lines rest rows) has
+  where
+    and_left : (a b : Bool) → (a && b) ≡ true → a ≡ true
+    and_left true b both = refl
+    and_left false b both = both
+each_of_all (first ∷ rest) rows begin (suc k, low, at) has =
+    each_of_all rest rows begin (k, omega (arith, low), at) (and_right (has_line first rows) (has_lines rest rows) has)
+
+-- none can come if none has one of the lines
+none_apart : (frames : Bool) (script : ScriptFields) (begins : List (List ℕ)) → MissesOne (IsOfEnd frames script) begins
+    → CanHave frames script begins → ⊥
+none_apart frames script begins (begin, asked, none) (told, of, has) =
+    none (told, of, each_of_all begins (lines_of told) begin asked has)
+
+-- one can come if one has the line, which is alone
+one_apart : (frames : Bool) (script : ScriptFields) (most : ℕ) (begins : List (List ℕ)) (text : List ℕ)
+    → SaysOneApart (IsOfEnd frames script) most begins text → CanHave frames script begins
+one_apart frames script most begins text says =
+    let (told, of, has) = says.has in
+    (told, of, ap (λ (lines : List (List ℕ)). has_lines lines (lines_of told)) says.alone ∙ it_alone says.begin (lines_of told) has)
+
+-- ---- the status
+
+module _ (frames : Bool) (form : HistoryForm) (script : ScriptFields) (eq : Ending → Ending → Bool) (most : ℕ)
+    (begins : List (List ℕ)) (text : List ℕ) (holds : Bool) (status : ℕ) (is : status ≡ status_if holds) where
   -- the status of an answer to --can
-  pub can_ends : TellsLine frames form script eq begins false text holds → IsOneIf (CanHave frames script begins) 0 6 status
-  can_ends (inl (none, so)) =
+  pub can_ends : AnswersLine frames form script eq most begins false text holds → IsOneIf (CanHave frames script begins) 0 6 status
+  can_ends (inl (inl (none, so))) =
       inr (none_can frames script none.outcomes begins none.ends none.says.none, is ∙ ap status_if so)
-  can_ends (inr (found, so)) =
+  can_ends (inl (inr (found, so))) =
       inl (one_can frames script found.outcomes begins found.says.0 found.ends found.says.1, is ∙ ap status_if so)
+  can_ends (inr (inl (none, so))) = inr (none_apart frames script begins none.says.misses, is ∙ ap status_if so)
+  can_ends (inr (inr (one, so))) = inl (one_apart frames script most begins text one.says, is ∙ ap status_if so)
 
   -- the status of an answer to --never
-  pub never_ends : TellsLine frames form script eq begins true text holds → IsOneIf (CanHave frames script begins) 6 0 status
-  never_ends (inl (none, so)) =
+  pub never_ends : AnswersLine frames form script eq most begins true text holds → IsOneIf (CanHave frames script begins) 6 0 status
+  never_ends (inl (inl (none, so))) =
       inr (none_can frames script none.outcomes begins none.ends none.says.none, is ∙ ap status_if so)
-  never_ends (inr (found, so)) =
+  never_ends (inl (inr (found, so))) =
       inl (one_can frames script found.outcomes begins found.says.0 found.ends found.says.1, is ∙ ap status_if so)
+  never_ends (inr (inl (none, so))) = inr (none_apart frames script begins none.says.misses, is ∙ ap status_if so)
+  never_ends (inr (inr (one, so))) = inl (one_apart frames script most begins text one.says, is ∙ ap status_if so)
 
 -- ---- of the script whose waits look once
 

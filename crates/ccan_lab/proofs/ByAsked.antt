@@ -11,16 +11,18 @@ use Rattle.ccan_lab.specs.Answered.{AnswersAsked, EndsAsAsked, TellsBy, TellsSho
 use Rattle.ccan_lab.specs.Observed.{names_in}
 use Rattle.ccan_lab.specs.Seen.{TellsSeen}
 use Rattle.ccan_lab.specs.Sorted.{texts_of}
-use Rattle.ccan_lab.specs.Words.{TellsLine}
+use Rattle.ccan_lab.specs.Words.{AnswersLine}
 use Rattle.ccan_lab.proofs.Allowed.{can_ends, never_ends}
 
 -- the answer of what is asked
 module _ (question : OutcomesQuestion) (name : List ℕ) (script : ScriptFields) (answer : FileAnswer) where
   by_asked : (asked : Asked) → question.asked ≡ asked → TellsBy asked question name script answer
-      → EndsAsAsked asked question.frames script (texts_of question.lines.items) answer.status → AnswersAsked question name script answer
+      → EndsAsAsked asked question.frames script (texts_of question.lines.items) answer.status
+      → AnswersAsked question name script answer
   by_asked asked is tells ends = record {
     tells = subst (λ (it : Asked). TellsBy it question name script answer) (sym is) tells;
-    ends = subst (λ (it : Asked). EndsAsAsked it question.frames script (texts_of question.lines.items) answer.status) (sym is) ends;
+    ends = subst (λ (it : Asked). EndsAsAsked it question.frames script (texts_of question.lines.items) answer.status)
+        (sym is) ends;
   }
 
   ends_of_list : TellsShortList question.frames script ending_is.eq question.most answer → (answer.status ≡ 0) ⊎ (answer.status ≡ 5)
@@ -39,30 +41,41 @@ module _ (question : OutcomesQuestion) (name : List ℕ) (script : ScriptFields)
       → TellsSeen question.frames question.form (names_in names.now) script ending_is.eq (string_bytes given.text)
       → given.holds ≡ true → AnswersAsked question name script answer
   by_names names is told holds =
-      by_asked question name script answer (Observed names) is (subst (TellsSeen question.frames question.form (names_in names.now) script ending_is.eq) (sym text) told)
+      by_asked question name script answer (Observed names) is
+      (subst (TellsSeen question.frames question.form (names_in names.now) script ending_is.eq) (sym text) told)
       (status ∙ ap status_if holds)
 
   module _ (lines : List (Bor (List ℕ))) (are : lines ≡ question.lines.items) where
     pub by_can : question.asked ≡ Can
-        → TellsLine question.frames question.form script ending_is.eq (texts_of lines) false (string_bytes given.text) given.holds
+        → AnswersLine question.frames question.form script ending_is.eq question.most (texts_of lines) false
+        (string_bytes given.text) given.holds
         → AnswersAsked question name script answer
     by_can is told =
         let begins = texts_of question.lines.items in
-        let moved : TellsLine question.frames question.form script ending_is.eq begins false answer.text.items given.holds =
-        subst (λ (t : List ℕ). TellsLine question.frames question.form script ending_is.eq begins false t given.holds) (sym text)
-        (subst (λ (l : List (Bor (List ℕ))). TellsLine question.frames question.form script ending_is.eq (texts_of l) false
+        let moved : AnswersLine question.frames question.form script ending_is.eq question.most begins false answer.text.items
+        given.holds =
+        subst (λ (t : List ℕ). AnswersLine question.frames question.form script ending_is.eq question.most begins false t
+        given.holds) (sym text)
+        (subst (λ (l : List (Bor (List ℕ))). AnswersLine question.frames question.form script ending_is.eq question.most
+        (texts_of l) false
         (string_bytes given.text) given.holds) are told) in
         by_asked question name script answer Can is (given.holds, status, moved)
-        (can_ends question.frames question.form script ending_is.eq begins answer.text.items given.holds answer.status status moved)
+        (can_ends question.frames question.form script ending_is.eq question.most begins answer.text.items given.holds
+        answer.status status moved)
 
     pub by_never : question.asked ≡ Never
-        → TellsLine question.frames question.form script ending_is.eq (texts_of lines) true (string_bytes given.text) given.holds
+        → AnswersLine question.frames question.form script ending_is.eq question.most (texts_of lines) true
+        (string_bytes given.text) given.holds
         → AnswersAsked question name script answer
     by_never is told =
         let begins = texts_of question.lines.items in
-        let moved : TellsLine question.frames question.form script ending_is.eq begins true answer.text.items given.holds =
-        subst (λ (t : List ℕ). TellsLine question.frames question.form script ending_is.eq begins true t given.holds) (sym text)
-        (subst (λ (l : List (Bor (List ℕ))). TellsLine question.frames question.form script ending_is.eq (texts_of l) true
+        let moved : AnswersLine question.frames question.form script ending_is.eq question.most begins true answer.text.items
+        given.holds =
+        subst (λ (t : List ℕ). AnswersLine question.frames question.form script ending_is.eq question.most begins true t
+        given.holds) (sym text)
+        (subst (λ (l : List (Bor (List ℕ))). AnswersLine question.frames question.form script ending_is.eq question.most
+        (texts_of l) true
         (string_bytes given.text) given.holds) are told) in
         by_asked question name script answer Never is (given.holds, status, moved)
-        (never_ends question.frames question.form script ending_is.eq begins answer.text.items given.holds answer.status status moved)
+        (never_ends question.frames question.form script ending_is.eq question.most begins answer.text.items given.holds
+        answer.status status moved)

@@ -108,7 +108,7 @@ some_drop passes (x ∷ xs) (suc k) is = or_later (passes (x ∷ xs)) (some_rest
     or_later true b it_is = refl
     or_later false b it_is = it_is
 
-and_right : (a b : Bool) → (a && b) ≡ true → b ≡ true
+pub and_right : (a b : Bool) → (a && b) ≡ true → b ≡ true
 and_right true b both = both
 and_right false b both = absurd (true≢false (sym both))
 
@@ -124,9 +124,11 @@ module _ (begin later : List ℕ) (wanted : ℕ) (is : begin ≡ wanted ∷ late
   rest_fits : (k : ℕ) (line : List ℕ) → (wanted == star) ≡ false → fits begin (drop k line) ≡ true
       → fits later (drop (suc k) line) ≡ true
   rest_fits k [] not fits_it =
-      absurd (true≢false (sym fits_it ∙ ap (fits begin) (drop_past [] k (omega arith)) ∙ fits_end begin later wanted is [] not refl))
+      absurd (true≢false (sym fits_it ∙ ap (fits begin) (drop_past [] k (omega arith))
+      ∙ fits_end begin later wanted is [] not refl))
   rest_fits zero (byte ∷ rest) not fits_it =
-      and_right (wanted == byte) (fits later rest) (sym (fits_first begin later wanted is (byte ∷ rest) rest byte not refl) ∙ fits_it)
+      and_right (wanted == byte) (fits later rest) (sym (fits_first begin later wanted is (byte ∷ rest) rest byte not refl)
+      ∙ fits_it)
   rest_fits (suc k) (byte ∷ rest) not fits_it = rest_fits k rest not fits_it
 
   -- the same byte first: the line fits if what is left of it does

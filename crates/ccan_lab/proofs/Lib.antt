@@ -19,6 +19,7 @@ pub mod Told
 pub mod Listed
 pub mod Unanswered
 pub mod Sought
+pub mod SomeLines
 pub mod Detailed
 pub mod Grouped
 pub mod Fitting

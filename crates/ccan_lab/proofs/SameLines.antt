@@ -105,7 +105,8 @@ module _ (marks : List Bool) (one other : Ending) (if1 : length one.if1 ≡ leng
             let line = k - (length one.if1 + length one.if2) in
             let at : length one.if1 + (length one.if2 + line) ≡ k = omega (arith, high) in
             let place : length one.if1 + length one.if2 + line ≡ k = omega (arith, high) in
-            subst Same at (same_bus line (omega (arith, low, high)) (subst (λ (p : ℕ). is_marked marks p ≡ true) (sym place) marked))
+            subst Same at (same_bus line (omega (arith, low, high))
+            (subst (λ (p : ℕ). is_marked marks p ≡ true) (sym place) marked))
         | inr more ↦ behind_bus k more marked
       ]
 

@@ -53,7 +53,7 @@ range_more a (suc n) =
     ∙ ap (λ (l : List ℕ). a ∷ l) (range_more (a + 1) n ∙ ap (λ (k : ℕ). range_with_len (a + 1) n ++ k ∷ []) same)
 
 -- a line stands among lists that are put together where it stands in one of them
-any_of_each : {X : Type 0} (begin : List ℕ) (f : X → List (List ℕ)) (xs : List X)
+pub any_of_each : {X : Type 0} (begin : List ℕ) (f : X → List (List ℕ)) (xs : List X)
     → has_line begin (flat_map f xs) ≡ list_any (λ x. has_line begin (f x)) xs
 unfolding has_line
 any_of_each begin f [] = refl

@@ -28,7 +28,7 @@ found_within f p (y ∷ ys) (suc k) x within at passes = by (found_within f p ys
     by later true = omega arith
     by later false = omega (arith, later)
 
-it_alone : (begin : List ℕ) (rows : List (List ℕ)) → has_line begin rows ≡ true → has_lines (begin ∷ []) rows ≡ true
+pub it_alone : (begin : List ℕ) (rows : List (List ℕ)) → has_line begin rows ≡ true → has_lines (begin ∷ []) rows ≡ true
 unfolding has_lines
 it_alone begin rows has = ap (λ (b : Bool). b && true) has
 
@@ -45,7 +45,8 @@ taken script endings ending begin here some has =
     not_empty = ne_eqb (length begin) 0 (λ none. absurd (omega arith))
 
     within : place < length (map lines_of endings)
-    within = found_within lines_of (has_lines (begin ∷ [])) endings here.0 ending here.1 here.2 (it_alone begin (lines_of ending) has)
+    within = found_within lines_of (has_lines (begin ∷ [])) endings here.0 ending here.1 here.2
+        (it_alone begin (lines_of ending) has)
 
     first : first_with (begin ∷ []) endings ≡ Some place
     first = ap (λ (b : Bool). cond b (Some place) None) (lt-ltb place (length (map lines_of endings)) within)

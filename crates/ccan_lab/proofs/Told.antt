@@ -18,7 +18,8 @@ names_lead LeadsTo None h = h
 names_lead LeadsTo (Some order) h = h
 
 -- the run has the outcome that is equal to what is shown of it
-pub replays_equal : (frames : Bool) (script : ScriptFields) (ending shown : Ending) (order : List PortName) → ending_is.eq ending shown ≡ true
+pub replays_equal : (frames : Bool) (script : ScriptFields) (ending shown : Ending) (order : List PortName)
+    → ending_is.eq ending shown ≡ true
     → Replays frames script shown order → Replays frames script ending order
 replays_equal frames script ending shown order equal replays =
     subst (λ (e : Ending). Replays frames script e order) (sym (same_ending ending shown equal)) replays

@@ -96,7 +96,8 @@ module _ (question : OutcomesQuestion) (script : ScriptFields) where
     are = are;
     runs = runs;
     once = once;
-    text_is = subst (λ (count : ℕ). AnswersTo question.frames question.form script outcomes question.asked count list.text) list.ends
+    text_is = subst (λ (count : ℕ). AnswersTo question.frames question.form script outcomes question.asked
+        count list.text) list.ends
         (subst (λ (it : Bool). AnswersTo it question.form script outcomes question.asked list.count list.text) same list.is_list);
   }
   lists_asked frames same outcomes ends are runs once (GivenUp why) old new above list = (

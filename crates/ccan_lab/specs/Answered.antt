@@ -23,7 +23,7 @@ use Rattle.ccan_lab.specs.Rows.{has_lines, lines_of}
 use Rattle.ccan_lab.specs.Seen.{HasNoSeenList, TellsSeen}
 use Rattle.ccan_lab.specs.Sorted.{texts_of}
 use Rattle.ccan_lab.specs.Summary.{TellsSummary, TellsWithoutNumber}
-use Rattle.ccan_lab.specs.Words.{HasNoGraph, HasNoWords, IsUnanswered, IsWithout, TellsLine}
+use Rattle.ccan_lab.specs.Words.{AnswersLine, HasNoGraph, HasNoWords, IsUnanswered, IsWithout}
 
 -- ---- the script that is searched
 
@@ -83,7 +83,8 @@ status_if false = 6
 abbrev pub TellsLines : OutcomesQuestion → ScriptFields → Bool → FileAnswer → Type 0
 TellsLines question script never answer =
     (holds : Bool) × (answer.status ≡ status_if holds)
-    × TellsLine question.frames question.form script ending_is.eq (texts_of question.lines.items) never answer.text.items holds
+    × AnswersLine question.frames question.form script ending_is.eq question.most (texts_of question.lines.items) never
+    answer.text.items holds
 
 -- the short list, with status 0; or it without the number, as the outcomes need too many nodes, with status 5
 abbrev pub TellsShortList : Bool → ScriptFields → (Ending → Ending → Bool) → ℕ → FileAnswer → Type 0

@@ -1,4 +1,5 @@
 pub mod Answered
+pub mod Apart
 pub mod Beginnings
 pub mod BusForms
 pub mod CheckCommand

@@ -5,12 +5,11 @@ use Rattle.ccan_line.specs.Script.{ScriptFields}
 use Rattle.ccan_outcomes.specs.declared.all_ports.AllPorts.{AllPorts}
 use Rattle.ccan_outcomes.specs.declared.ending.Ending.{Ending}
 use Rattle.ccan_outcomes.specs.declared.line_ends.LineEnds.{LineEnds}
-use Rattle.ccan_outcomes.specs.declared.words.OutcomeWords.{OutcomeWords}
 use Rattle.ccan_outcomes.specs.AllPortsReached.{HasMoreAtOnce}
 use Rattle.ccan_outcomes.specs.AnswerGraph.{HasLargeGraph}
 use Rattle.ccan_outcomes.specs.Ending.{AreAllEnds, AreOfRuns, AreOutcomes}
 use Rattle.ccan_outcomes.specs.LineEnds.{AreSaidOfLines, SayAllEnds, SayWholeOutcomes}
-use Rattle.ccan_outcomes.specs.OutcomeWords.{AreComplete, AreOfLines, endings_in}
+use Rattle.ccan_outcomes.specs.OutcomeWords.{endings_in}
 use Rattle.ccan_outcomes.specs.WordStates.{TellsManyWords}
 use Rattle.ccan_lab.specs.declared.history_form.HistoryForm.{HistoryForm}
 use Rattle.ccan_lab.specs.declared.lab_error.LabError.{LabError}
@@ -19,9 +18,12 @@ use Rattle.ccan_lab.specs.declared.line_search.LineSearch.{LineSearch}
 use Rattle.ccan_lab.specs.declared.line_search.LineSearch.TheVariants.{Found, NotFound, Refused}
 use Rattle.ccan_lab.specs.declared.outcome_words.Gathered.{Gathered}
 use Rattle.ccan_lab.specs.declared.outcome_words.Gathered.TheVariants.{Together, Apart}
+use Rattle.ccan_lab.specs.declared.outcome_words.OutcomeList.{OutcomeList}
 use Rattle.ccan_lab.specs.Answer.{are_refused, first_with, none_text}
+use Rattle.ccan_lab.specs.Apart.{IsNotCertain, RefusesApart, TellsApart}
 use Rattle.ccan_lab.specs.Counting.{greatest}
 use Rattle.ccan_lab.specs.Listing.{IsFoundText}
+use Rattle.ccan_lab.specs.Telling.{CanBeTold, frames_in}
 
 -- why there are no words: so many states can be reached, or so many steps made one after the other, or the words need so many
 -- nodes, or memory ran out
@@ -31,15 +33,14 @@ HasNoWords frames script eq most (fault.Nodes told) = (told ≡ most) × TellsMa
 HasNoWords frames script eq most fault.Memory = Unit {0}
 HasNoWords frames script eq most _ = ⊥
 
--- these are words of all outcomes that the promise allows, as they are printed, each once, and of no other; each is that of a run,
--- and has an end for each line
-pub record AreAllWords (frames : Bool) (script : ScriptFields) (eq : Ending → Ending → Bool) (words : OutcomeWords) : Type 0 where
-  pub ends : AreAllEnds frames script (endings_in words)
-  pub are : AreOutcomes script (endings_in words)
-  pub runs : AreOfRuns script (endings_in words)
-  pub once : IsDistinct eq (endings_in words)
-  pub complete : AreComplete script (endings_in words)
-  pub letters : AreOfLines words
+-- these are all outcomes that the promise allows, as they are printed, each once, and no other; each is that of a run, and has an
+-- end for each line; and a history of each can be found along the graph
+pub record AreAllOutcomes (frames : Bool) (script : ScriptFields) (eq : Ending → Ending → Bool) (list : OutcomeList) : Type 0
+  where
+    pub can : CanBeTold script list
+    pub are : AreOutcomes script (endings_in list.words)
+    pub once : IsDistinct eq (endings_in list.words)
+    pub asked : frames_in list ≡ frames
 
 -- the words need too many nodes, and these are the ends of the lines of all outcomes
 pub record AreAllLineEnds (frames : Bool) (script : ScriptFields) (most : ℕ) (lines : LineEnds) : Type 0 where
@@ -48,9 +49,9 @@ pub record AreAllLineEnds (frames : Bool) (script : ScriptFields) (most : ℕ) (
   pub whole : SayWholeOutcomes script lines
   pub said : AreSaidOfLines lines
 
--- what is gathered for the short list: the words, or the ends of the lines if the words need too many nodes
+-- what is gathered: the outcomes, or the ends of the lines if the words need too many nodes
 abbrev pub IsGathered : Bool → ScriptFields → (Ending → Ending → Bool) → ℕ → Gathered → Type 0
-IsGathered frames script eq most (Together words) = AreAllWords frames script eq words
+IsGathered frames script eq most (Together list) = AreAllOutcomes frames script eq list
 IsGathered frames script eq most (Apart lines) = AreAllLineEnds frames script most lines
 
 -- why nothing is gathered: so many states can be reached, or so many steps made one after the other, or memory ran out
@@ -113,13 +114,22 @@ pub record TellsFound (frames : Bool) (form : HistoryForm) (script : ScriptField
   pub says : IsFoundText frames form script outcomes begins text
   pub taken : are_refused script outcomes begins ≡ false
 
--- the text answers whether an outcome has all the lines, or, if it is asked so, whether none has
+-- the text answers by the words of all outcomes whether one has all the lines, or, if it is asked so, whether none has
 abbrev pub TellsLine : Bool → HistoryForm → ScriptFields → (Ending → Ending → Bool) → List (List ℕ) → Bool → List ℕ → Bool → Type 0
 TellsLine frames form script eq begins never text holds =
     (TellsNone frames script eq begins text × (holds ≡ never))
     ⊎ (TellsFound frames form script eq begins text × (holds ≡ not never))
 
--- why there is no answer: a line is refused, or there are no words, or there is an outcome without a history
+-- it answers so, or, if the outcomes need too many nodes, by what is certain without their words
+abbrev pub AnswersLine : Bool → HistoryForm → ScriptFields → (Ending → Ending → Bool) → ℕ → List (List ℕ) → Bool → List ℕ → Bool
+    → Type 0
+AnswersLine frames form script eq most begins never text holds =
+    TellsLine frames form script eq begins never text holds ⊎ TellsApart frames script most begins never text holds
+
+-- why there is no answer: a line is refused; or the words need too many nodes, and it isn't certain without them whether one outcome
+-- has all the lines; or there is no graph, or an outcome without a history
 abbrev pub IsUnanswered : Bool → ScriptFields → List (List ℕ) → (AllPorts → AllPorts → Bool) → ℕ → LabError → Type 0
-IsUnanswered frames script begins eq most fault.NoLine = RefusesLine frames script begins
+IsUnanswered frames script begins eq most fault.NoLine =
+    RefusesLine frames script begins ⊎ RefusesApart frames script most begins
+IsUnanswered frames script begins eq most (fault.Nodes told) = (told ≡ most) × IsNotCertain frames script most begins
 IsUnanswered frames script begins eq most why = IsWithout frames script eq most why

@@ -30,7 +30,7 @@ pub struct Answer {
 }
 
 /// Adds a beginning, and a line feed.
-fn add_ended(text: &mut String, begin: &str) -> Result<(), AllocError>
+pub fn add_ended(text: &mut String, begin: &str) -> Result<(), AllocError>
     ensures { OnOk result
         (string_bytes text.new ≡ string_bytes text.old ++ (begin.now ++ codes "\n")) }
 {
@@ -57,7 +57,7 @@ fn add_lines_not_had(text: &mut String, begins: &[&str]) -> Result<(), AllocErro
 }
 
 /// Adds what no outcome has: a line that begins so, or lines that begin so.
-fn add_not_had(text: &mut String, begins: &[&str]) -> Result<(), AllocError>
+pub fn add_not_had(text: &mut String, begins: &[&str]) -> Result<(), AllocError>
     ensures { OnOk result
         (string_bytes text.new ≡ string_bytes text.old ++ not_had (texts_of begins.now)) }
 {

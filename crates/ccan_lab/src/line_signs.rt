@@ -107,7 +107,7 @@ fn any_final_begins(records: &[Record], begin: &str) -> bool
 }
 
 /// Whether the line of one of the objects at the end begins so.
-fn finals_have_line(records: &[Record], begin: &str) -> bool
+pub fn finals_have_line(records: &[Record], begin: &str) -> bool
     ensures { result ≡ has_line begin.now (final_rows records.now) }
 {
     any_final_begins(first_records(records), begin)

@@ -45,6 +45,7 @@ pub mod input;
 pub mod lab_error;
 pub mod laws;
 pub mod line_search;
+pub mod line_search_apart;
 pub mod line_signs;
 pub mod list_end;
 pub mod moved;

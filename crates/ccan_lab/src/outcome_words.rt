@@ -78,11 +78,11 @@ pub fn words_of<P: Progress>(
     Ok(words)
 }
 
-/// The outcomes of a script, as they are gathered for the short list.
+/// The outcomes of a script, as they are gathered for the short list, and for a search for lines.
 #[derive(Drop)]
 pub enum Gathered {
     /// All of them, put together.
-    Together(OutcomeWords),
+    Together(OutcomeList),
     /// How each line may end in them, by itself: they need too many nodes to be put together.
     Apart(LineEnds),
 }
@@ -105,7 +105,7 @@ pub fn gathered_of<P: Progress>(
         return Err(LabError::More(most));
     };
     match words_of_graph(alloc, script, &graph, frames, most)? {
-        Some(words) => Ok(Gathered::Together(words)),
+        Some(words) => Ok(Gathered::Together(OutcomeList { words, graph })),
         None => Ok(Gathered::Apart(line_ends_of(alloc, script, &graph, frames)?)),
     }
 }

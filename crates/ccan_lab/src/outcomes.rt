@@ -20,7 +20,8 @@ ghost use Rattle.ccan_lab.specs.Observed.{names_in};
 ghost use Rattle.ccan_lab.specs.Question.{AsksFramesBy, asks_frame, begins_with_c, files_named, is_of_frame, lines_given};
 ghost use Rattle.ccan_lab.specs.Seen.{HasNoSeenList, TellsSeen};
 ghost use Rattle.ccan_lab.specs.Sorted.{texts_of};
-ghost use Rattle.ccan_lab.specs.Words.{HasNoGraph, IsUnanswered, TellsLine};
+ghost use Rattle.ccan_lab.specs.Words.{AnswersLine, AreAllLineEnds, HasNoGraph, HasNoHistory, IsUnanswered, IsWithout, TellsLine};
+ghost use Rattle.ccan_lab.specs.Apart.{TellsApart};
 
 use crate::answer::{Answer, found_text};
 use crate::asked::Asked;
@@ -34,6 +35,7 @@ use crate::history_form::HistoryForm;
 use crate::input::{searched_script, tell_terminal};
 use crate::lab_error::LabError;
 use crate::line_search::{LineSearch, search_among};
+use crate::line_search_apart::{ApartSearch, search_apart};
 use crate::observed::first_unknown;
 use crate::outcome_words::{Gathered, OutcomeList, gathered_of};
 use crate::outcomes_json::answer_of_json;
@@ -42,8 +44,8 @@ use crate::progress_line::ProgressLine;
 use crate::seen::seen_text;
 use crate::summary::{list_without_number, short_list};
 use crate::telling::{Query, Telling, list_asked};
-use ccan_outcomes::Ending;
 use ccan_outcomes::all_ports::AllPorts;
+use ccan_outcomes::{Ending, LineEnds};
 use ccan_script::Script;
 use ccan_search::Progress;
 use clap::{Arg, ArgMatches, Command};
@@ -64,7 +66,7 @@ pub const UNCOUNTED: u8 = 5;
 #[derive(Drop)]
 pub struct OutcomesQuestion<'a> {
     /// How many states the search keeps at most, and how many nodes the words of the outcomes have. If a script needs more, nothing
-    /// is answered of it, except the short list if it needs more nodes only.
+    /// is answered of it, except the short list, and what is certain of LINEs, if it needs more nodes only.
     pub most: usize,
     /// The files: `-` means standard input.
     pub files: Vec<&'a str>,
@@ -419,6 +421,34 @@ fn answer_of_list<P: Progress>(
     answer_by_line(alloc, &telling, begins, never)
 }
 
+/// What is answered to that question by how each line may end in the outcomes: they need too many nodes to be put together.
+fn answer_apart<P: Progress>(
+    alloc: Global,
+    query: &Query<'_, P>,
+    lines: &LineEnds,
+    begins: &[&str],
+    never: bool,
+) -> Result<Answer, LabError>
+    requires { AreAllLineEnds query.now.frames (fields_of query.now.script.now) query.now.most
+        lines.now }
+    ensures told { IfOk result (λ answer.
+        TellsApart query.now.frames (fields_of query.now.script.now) query.now.most
+        (texts_of begins.now) never (string_bytes answer.text) answer.holds) }
+    ensures without { IfErr result
+        (IsUnanswered query.now.frames (fields_of query.now.script.now)
+        (texts_of begins.now) ⟦<AllPorts as PartialEq>⟧.eq query.now.most) }
+{
+    match search_apart(alloc, query.script, lines, begins, query.most)? {
+        ApartSearch::Found(text) => Ok(Answer {
+            text,
+            holds: !never,
+        }),
+        ApartSearch::NotFound(text) => Ok(Answer { text, holds: never }),
+        ApartSearch::Uncertain => Err(LabError::Nodes(query.most)),
+        ApartSearch::Refused => Err(LabError::NoLine),
+    }
+}
+
 /// What is answered to the question whether an outcome of a script has a line that begins so for each of these beginnings, or, if
 /// `never` is set, whether none has.
 fn answer_of_line<P: Progress>(
@@ -428,15 +458,18 @@ fn answer_of_line<P: Progress>(
     never: bool,
 ) -> Result<Answer, LabError>
     ensures told { IfOk result (λ answer.
-        TellsLine query.now.frames query.now.form (fields_of query.now.script.now)
-        ⟦<Ending as PartialEq>⟧.eq (texts_of begins.now) never
+        AnswersLine query.now.frames query.now.form (fields_of query.now.script.now)
+        ⟦<Ending as PartialEq>⟧.eq query.now.most (texts_of begins.now) never
         (string_bytes answer.text) answer.holds) }
     ensures without { IfErr result
         (IsUnanswered query.now.frames (fields_of query.now.script.now)
         (texts_of begins.now) ⟦<AllPorts as PartialEq>⟧.eq query.now.most) }
 {
-    let list = list_asked(alloc, query)?;
-    answer_of_list(alloc, query, list, begins, never)
+    let (script, frames, most) = (query.script, query.frames, query.most);
+    match gathered_of(alloc, script, frames, most, query.progress)? {
+        Gathered::Together(list) => answer_of_list(alloc, query, list, begins, never),
+        Gathered::Apart(lines) => answer_apart(alloc, query, &lines, begins, never),
+    }
 }
 
 /// What is answered to the question what of the outcomes of a script can be told apart by the lines and objects of these
@@ -501,8 +534,8 @@ fn answer_of_summary<P: Progress>(
 {
     let (script, frames, most) = (query.script, query.frames, query.most);
     match gathered_of(alloc, script, frames, most, query.progress)? {
-        Gathered::Together(words) => {
-            let text = short_list(alloc, script, words)?;
+        Gathered::Together(list) => {
+            let text = short_list(alloc, script, list.words)?;
             Ok(file_answer(Answer { text, holds: true }))
         }
         Gathered::Apart(lines) => {

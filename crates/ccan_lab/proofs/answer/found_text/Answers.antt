@@ -39,7 +39,8 @@ returns-clause-text g c =
     ∙ ap (different_lines choices) (sym (rows_there endings c.args.number ending at)) in
     record {
       choices = choices;
-      has_choices = has_choices script (Contains endings) rows choices c.in_ok-rows.ensures.places c.in_ok-rows.ensures.lines ordered;
+      has_choices = has_choices script (Contains endings) rows choices c.in_ok-rows.ensures.places
+          c.in_ok-rows.ensures.lines ordered;
       outcome = added;
       is_one = subst (λ (lines : List ℕ). IsOutcomeText frames form script endings lines c.args.number added) lines_are
           c.in_ok-add_outcome.ensures.text.2;

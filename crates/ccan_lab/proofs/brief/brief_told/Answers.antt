@@ -17,7 +17,8 @@ returns c =
       are = subst (λ (states : List AllPorts). AreDetails script history.steps.items states details) c.as_slice.ensures.value
           (subst (λ (steps : List HistoryStep). AreDetails script steps c.as_slice.result.now details)
           c.as_slice-steps.ensures.value c.in_ok-details.ensures);
-      text_is = is ∙ ap (λ (all : List (String Global)). brief_text c.as_slice-steps.result.now (texts all)) c.as_slice-2.ensures.value
+      text_is = is ∙ ap (λ (all : List (String Global)). brief_text c.as_slice-steps.result.now (texts all))
+          c.as_slice-2.ensures.value
           ∙ ap (λ (steps : List HistoryStep). brief_text steps details) c.as_slice-steps.ensures.value;
     })
     c.groups_told.ensures

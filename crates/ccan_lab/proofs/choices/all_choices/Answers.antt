@@ -20,7 +20,8 @@ returns-clause-places g c =
     subst (λ (n : ℕ). HasPort IsOutcome If2 n c.add_port.new.all.items c.add_port-2.new.all.items) (search (rules, c.len-2.ensures))
     c.in_ok-add_port-2.ensures in
     let three : HasPort IsOutcome Bus (length script.bus) c.add_port-2.new.all.items c.add_port-3.new.all.items =
-    subst (λ (n : ℕ). HasPort IsOutcome Bus n c.add_port-2.new.all.items c.add_port-3.new.all.items) (search (rules, c.len-3.ensures))
+    subst (λ (n : ℕ). HasPort IsOutcome Bus n c.add_port-2.new.all.items c.add_port-3.new.all.items)
+    (search (rules, c.len-3.ensures))
     c.in_ok-add_port-3.ensures in
     let four : HasObjects memories (objects_in script.profile) c.add_port-3.new.all.items c.add_objects.new.all.items =
     subst (λ (m : List (List Record)). HasObjects m (objects_in script.profile) c.add_port-3.new.all.items
@@ -41,7 +42,8 @@ returns-clause-lines g c =
     subst (λ (n : ℕ). HasPort IsOutcome If2 n c.add_port.new.all.items c.add_port-2.new.all.items) (search (rules, c.len-2.ensures))
     c.in_ok-add_port-2.ensures in
     let three : HasPort IsOutcome Bus (length script.bus) c.add_port-2.new.all.items c.add_port-3.new.all.items =
-    subst (λ (n : ℕ). HasPort IsOutcome Bus n c.add_port-2.new.all.items c.add_port-3.new.all.items) (search (rules, c.len-3.ensures))
+    subst (λ (n : ℕ). HasPort IsOutcome Bus n c.add_port-2.new.all.items c.add_port-3.new.all.items)
+    (search (rules, c.len-3.ensures))
     c.in_ok-add_port-3.ensures in
     let four : HasObjects memories (objects_in script.profile) c.add_port-3.new.all.items c.add_objects.new.all.items =
     subst (λ (m : List (List Record)). HasObjects m (objects_in script.profile) c.add_port-3.new.all.items

@@ -22,7 +22,8 @@ returns-in-All-clause-written g c =
     let old = g.W.Write.contents c.args.writer.now in
     let new = g.W.Write.contents c.write_listing.new.writer in
     IfOk-weaker c.write_listing.result _ _
-    (λ end. written_as (heading_if c.args.is_shown c.args.name.now) (IsListingTo frames form script endings) (AnswersTo frames form script endings c.args.asked)
+    (λ end. written_as (heading_if c.args.is_shown c.args.name.now) (IsListingTo frames form script endings)
+    (AnswersTo frames form script endings c.args.asked)
     (HasNoHistory script ports_are.eq c.args.telling.now.query.now.most) (length endings)
     (λ count text is. subst (λ (asked : Asked). AnswersTo frames form script endings asked count text) (sym c.in-All.is) is)
     end old new)
@@ -37,7 +38,9 @@ returns-in-AllObserved-clause-written g c =
     let old = g.W.Write.contents c.args.writer.now in
     let new = g.W.Write.contents c.write_observed.new.writer in
     IfOk-weaker c.write_observed.result _ _
-    (λ end. written_as (heading_if c.args.is_shown c.args.name.now) (IsObservedListingTo frames form (names_in c.in-AllObserved.names.now) script endings) (AnswersTo frames form script endings c.args.asked)
+    (λ end. written_as (heading_if c.args.is_shown c.args.name.now)
+    (IsObservedListingTo frames form (names_in c.in-AllObserved.names.now) script endings)
+    (AnswersTo frames form script endings c.args.asked)
     (HasNoHistory script ports_are.eq c.args.telling.now.query.now.most) (length endings)
     (λ count text is. subst (λ (asked : Asked). AnswersTo frames form script endings asked count text) (sym c.in-AllObserved.is) is)
     end old new)

@@ -25,4 +25,5 @@ returns-clause-text g c =
     c.as_str-lines.ensures.value ∙ ap string_bytes c.index.ensures ∙ sym (text_in texts number shown within) in
     let told : IsOutcomeText frames form script keys lines number added =
     subst (λ (l : List ℕ). IsOutcomeText frames form script keys l number added) lines_are c.in_ok-add_outcome.ensures.text.2 in
-    (added, c.in_ok-add_outcome.ensures.text.1, first_text (IsOutcomeText frames form script keys) repeat lines number added first told)
+    (added, c.in_ok-add_outcome.ensures.text.1, first_text
+    (IsOutcomeText frames form script keys) repeat lines number added first told)

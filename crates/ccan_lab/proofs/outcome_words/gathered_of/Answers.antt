@@ -1,4 +1,7 @@
-use Rattle.std.proofs.Common.{◌≡◌, Option, Some, None, IfSome, IfNone, subst}
+use Rattle.std.proofs.Common.{◌≡◌, Bool, Option, Some, None, IfSome, IfNone, subst, sym}
+use Rattle.ccan_line.specs.Script.{fields_of}
+use Rattle.ccan_outcomes.specs.Ending.{AreAllEnds}
+use Rattle.ccan_outcomes.specs.OutcomeWords.{endings_in}
 use Rattle.ccan_lab.proofs.outcome_words.gathered_of.Goals as goal
 
 of_some : {T : Type 0} (P : T → Type 0) (o : Option T) (found : T) → o ≡ Some found → IfSome o P → P found
@@ -7,9 +10,30 @@ of_some {T} P o found is holds = subst (λ (x : Option T). IfSome x P) is holds
 of_none : {T : Type 0} (P : Type 0) (o : Option T) → o ≡ None → IfNone o P → P
 of_none {T} P o is holds = subst (λ (x : Option T). IfNone x P) is holds
 
+-- what stands of the words, by whether they have frames
+pub returns-in-Some-2-clause-gathered : goal.returns-in-Some-2-clause-gathered
+returns-in-Some-2-clause-gathered g c =
+    let script = fields_of c.args.script.now in
+    let words = c.in-Some-2.words in
+    let is = c.in-Some-2.is in
+    let so : words.numbers.frames ≡ c.args.frames = of_some _ _ _ is c.in_ok-words.ensures.told in
+    record {
+      can = record {
+        machine = of_some _ _ _ c.in-Some.is c.in_ok-graph.ensures.machine;
+        ends = subst (λ (frames : Bool). AreAllEnds frames script (endings_in words)) (sym so)
+            (of_some _ _ _ is c.in_ok-words.ensures.ends);
+        runs = of_some _ _ _ is c.in_ok-words.ensures.runs;
+        complete = of_some _ _ _ is c.in_ok-words.ensures.complete;
+        letters = of_some _ _ _ is c.in_ok-words.ensures.letters;
+      };
+      are = of_some _ _ _ is c.in_ok-words.ensures.all;
+      once = of_some _ _ _ is c.in_ok-words.ensures.distinct;
+      asked = so;
+    }
+
 -- the graph is of the machine, and its words need so many nodes
-pub returns-clause-gathered : goal.returns-clause-gathered
-returns-clause-gathered g c = record {
+pub returns-in_ok-line_ends_of-in-None-clause-gathered : goal.returns-in_ok-line_ends_of-in-None-clause-gathered
+returns-in_ok-line_ends_of-in-None-clause-gathered g c = record {
   why = (
     c.in-Some.graph,
     of_some _ _ _ c.in-Some.is c.in_ok-graph.ensures.machine,

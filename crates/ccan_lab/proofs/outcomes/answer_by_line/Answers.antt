@@ -46,7 +46,8 @@ returns-in_err-number-clause-without g c =
     let script = fields_of c.args.telling.now.query.now.script.now in
     let frames = c.args.telling.now.list.now.words.numbers.frames in
     IfErr-weaker c.from_residual.result (λ why. why ≡ fault.Memory) _
-    (λ why is. subst (IsUnanswered frames script (texts_of c.args.begins.now) ports_are.eq c.args.telling.now.query.now.most) (sym is) (inl tt))
+    (λ why is. subst (IsUnanswered frames script (texts_of c.args.begins.now) ports_are.eq c.args.telling.now.query.now.most)
+    (sym is) (inl tt))
     (search rules)
 
 pub returns-in_err-text-in-Found-clause-without : goal.returns-in_err-text-in-Found-clause-without
@@ -55,3 +56,8 @@ returns-in_err-text-in-Found-clause-without g c =
     let frames = c.args.telling.now.list.now.words.numbers.frames in
     IfErr-weaker c.from_residual-in_err-text-in-Found.result (HasNoHistory script ports_are.eq c.args.telling.now.query.now.most) _
     (no_history frames script (texts_of c.args.begins.now) ports_are.eq c.args.telling.now.query.now.most) (search rules)
+
+pub returns-in-Refused-clause-without : goal.returns-in-Refused-clause-without
+returns-in-Refused-clause-without g c =
+    let refused = rw c.in-Refused.is at c.in_ok-number.ensures in
+    inl (endings_in c.args.telling.now.list.now.words, c.requires.can.ends, c.requires.all, refused)

@@ -18,6 +18,7 @@ returns-clause-answered g c =
       is_for = it;
       known = c.in_ok-refuse_unknown.ensures.known;
       tells = asked.tells;
-      ends = ends_so it.script searched it.same_ends question.frames question.asked (texts_of question.lines.items) answer.status asked.ends;
+      ends = ends_so it.script searched it.same_ends question.frames question.asked
+          (texts_of question.lines.items) answer.status asked.ends;
     })
     c.answered_or_told.ensures.answered

@@ -33,7 +33,8 @@ returns-clause-written g c =
     c.as_str.ensures.value ∙ c.in_ok-head.ensures
     ∙ ap (λ (l : List Lines). count_text (min (length endings) greatest) ++ same_parts (all_texts l)) c.as_slice-2.ensures.value in
     let above = heading_if c.args.is_shown c.args.name.now in
-    let whole : (count : ℕ) (text : List ℕ) → AreOutcomeTexts frames form script endings (all_texts c.as_slice-3.result.now) count text
+    let whole : (count : ℕ) (text : List ℕ) → AreOutcomeTexts frames form script endings (all_texts c.as_slice-3.result.now)
+    count text
     → IsListingTo frames form script endings count (head ++ text) =
     λ count text are. record {
       choices = choices;
@@ -49,7 +50,8 @@ returns-clause-written g c =
     IfOk-weaker c.write_outcomes.result _ _ (λ end later.
     written_below above head (AreOutcomeTexts frames form script endings (all_texts c.as_slice-3.result.now))
     (IsListingTo frames form script endings) (HasNoHistory script ports_are.eq c.args.telling.now.query.now.most) (length endings)
-    whole end old between new (subst (λ (t : List ℕ). Appends old between (above ++ t)) head_is c.in_ok-write_below.ensures.ok) later)
+    whole end old between new (subst (λ (t : List ℕ). Appends old between (above ++ t)) head_is
+    c.in_ok-write_below.ensures.ok) later)
     c.write_outcomes.ensures.written
 
 pub returns-clause-unwritten : goal.returns-clause-unwritten

@@ -32,7 +32,8 @@ loop-number-preserved g c =
       told = (
         so_far.0 ++ text,
         Appends-trans old between new so_far.0 text so_far.1 written,
-        subst (λ (count : ℕ). AreOutcomeTexts frames form script endings choices count (so_far.0 ++ text)) (sym (add-one number)) (so_far.0, text, refl, so_far.2, made.1),
+        subst (λ (count : ℕ). AreOutcomeTexts frames form script endings choices count (so_far.0 ++ text)) (sym (add-one number))
+        (so_far.0, text, refl, so_far.2, made.1),
       );
     }
 

@@ -17,7 +17,8 @@ returns-then-starts_literally bound c =
     subst (λ (rest : List ℕ). (k : ℕ) → passes (drop k rest) ≡ true → passes rest ≡ true) rest_is
     (c.starts_literally.ensures.earliest c.if-starts_literally.true) in
     c.fits.ensures ∙ ap passes rest_is
-    ∙ sym (fits_star c.args.begin.now later c.in-Some.wanted.now c.in-Some.ensures.cases.0 line (eq-eqb c.in-Some.wanted.now 42 c.if-wanted-eq42.true)
+    ∙ sym (fits_star c.args.begin.now later c.in-Some.wanted.now c.in-Some.ensures.cases.0 line
+    (eq-eqb c.in-Some.wanted.now 42 c.if-wanted-eq42.true)
     ∙ (c.loop-start.invariant ∙ some_first passes (drop start line) earliest))
 
 pub loop-start-preserved : goal.loop-start-preserved
@@ -40,7 +41,8 @@ returns-then-wanted-eq42 bound c =
     let passes : List ℕ → Bool = fits later in
     let is : c.fits-then-wanted-eq42.result ≡ fits later [] = search rules in
     let gone : drop start line ≡ [] = drop_past line start (omega arith) in
-    is ∙ sym (fits_star c.args.begin.now later c.in-Some.wanted.now c.in-Some.ensures.cases.0 line (eq-eqb c.in-Some.wanted.now 42 c.if-wanted-eq42.true)
+    is ∙ sym (fits_star c.args.begin.now later c.in-Some.wanted.now c.in-Some.ensures.cases.0 line
+    (eq-eqb c.in-Some.wanted.now 42 c.if-wanted-eq42.true)
     ∙ (c.loop-start.invariant ∙ (ap (some_rest passes) gone ∙ some_last passes)))
 
 pub returns-then-wanted-byte : goal.returns-then-wanted-byte

@@ -41,7 +41,8 @@ loop-place-preserved g c =
         so_far.0 ++ last,
         part_more (string_bytes c.loop-place.text) (string_bytes c.add_if_new.new.text) (string_bytes c.args.text.now)
             so_far.0 last so_far.1 c.in_ok-add_if_new.ensures.text.1,
-        subst (λ (n : ℕ). AreFirstTexts (IsSeenText frames form script marks keys texts) texts n (so_far.0 ++ last)) (sym (add-one place))
+        subst (λ (n : ℕ). AreFirstTexts (IsSeenText frames form script marks keys texts) texts n (so_far.0 ++ last))
+        (sym (add-one place))
             (so_far.0, last, refl, so_far.2, c.in_ok-add_if_new.ensures.text.2),
       ),
     )

@@ -10,5 +10,6 @@ abbrev pub invariant-loop-place : goal.invariant-loop-place
 invariant-loop-place g l =
     (l.count ≤ l.place) × (l.count ≡ first_count (map string_bytes l.texts.lines.items) l.place)
     × ((added : List ℕ) × (string_bytes l.text ≡ string_bytes l.initial.text ++ added)
-    × AreFirstTexts (IsSeenText (frames_in l.telling.list.now) l.telling.query.now.form (fields_of l.telling.query.now.script.now) l.marks l.shown.endings.items (map string_bytes l.texts.lines.items))
+    × AreFirstTexts (IsSeenText (frames_in l.telling.list.now) l.telling.query.now.form
+    (fields_of l.telling.query.now.script.now) l.marks l.shown.endings.items (map string_bytes l.texts.lines.items))
     (map string_bytes l.texts.lines.items) l.place added)

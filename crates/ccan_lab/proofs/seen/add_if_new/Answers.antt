@@ -28,7 +28,8 @@ returns-clause-text g c =
     c.as_str-lines.ensures.value ∙ ap string_bytes c.index.ensures ∙ sym (text_in texts place shown within) in
     let is_text : List ℕ → ℕ → Type 0 =
     λ shown_lines number.
-    IsTextWith (IsHistoryOf frames script) (IsHistoryText form script) (λ _. ReplaysShown frames script marks shown_lines) keys place shown_lines
+    IsTextWith (IsHistoryOf frames script) (IsHistoryText form script)
+    (λ _. ReplaysShown frames script marks shown_lines) keys place shown_lines
     number added in
     let told : IsSeenText frames form script marks keys (map string_bytes texts) lines place added =
     subst (λ (n : ℕ). is_text lines n) c.requires.counts

@@ -20,7 +20,8 @@ returns-clause-text g c =
     let texts = map string_bytes c.in_ok-texts.texts.lines.items in
     let is_told : List (List ℕ) → List ℕ → Type 0 =
     λ told added. AreFirstTexts (IsSeenText frames form script marks keys told) told count added in
-    let texts_are = ap (λ (lines : Vec (String Global)). map string_bytes lines.items) c.in_ok-texts.ensures ∙ c.in_ok-lines.ensures in
+    let texts_are = ap (λ (lines : Vec (String Global)). map string_bytes lines.items) c.in_ok-texts.ensures
+    ∙ c.in_ok-lines.ensures in
     let added = c.in_ok-apart.ensures.text.0 in
     let are : is_told texts added = c.in_ok-apart.ensures.text.2 in
     let apart : c.in_ok-apart.apart ≡ first_count texts count = c.in_ok-apart.ensures.count in
@@ -38,6 +39,7 @@ returns-clause-text g c =
 pub add_all_seen-requires-clause-as_many : goal.add_all_seen-requires-clause-as_many
 add_all_seen-requires-clause-as_many g c =
     let texts = c.in_ok-texts.texts.lines.items in
-    let texts_are = ap (λ (lines : Vec (String Global)). map string_bytes lines.items) c.in_ok-texts.ensures ∙ c.in_ok-lines.ensures in
+    let texts_are = ap (λ (lines : Vec (String Global)). map string_bytes lines.items) c.in_ok-texts.ensures
+    ∙ c.in_ok-lines.ensures in
     sym (length-map texts string_bytes) ∙ ap (λ (l : List (List ℕ)). length l) texts_are
     ∙ length-map c.args.shown.now.endings.items (λ (ending : Ending). observed_lines c.args.marks.now (rows_of ending))

@@ -14,10 +14,12 @@ returns-clause-text g c =
 pub returns-clause-without : goal.returns-clause-without
 returns-clause-without g c =
     IfErr-weaker c.seen_listing.result
-    (HasNoHistory (fields_of c.args.telling.now.query.now.script.now) ports_are.eq c.args.telling.now.query.now.most) _ (λ why none. inr none)
+    (HasNoHistory (fields_of c.args.telling.now.query.now.script.now) ports_are.eq c.args.telling.now.query.now.most) _
+    (λ why none. inr none)
     c.seen_listing.ensures.without
 
 pub returns-in_err-shown-clause-without : goal.returns-in_err-shown-clause-without
 returns-in_err-shown-clause-without g c =
-    IfErr-weaker c.from_residual.result (HasNoImages c.args.telling.now.list.now.words c.args.marks.now c.args.telling.now.query.now.most) _
+    IfErr-weaker c.from_residual.result (HasNoImages c.args.telling.now.list.now.words c.args.marks.now
+    c.args.telling.now.query.now.most) _
     (λ why none. inl none) (search rules)

@@ -23,7 +23,8 @@ returns-clause-text g c =
       are = c.in_ok-list.ensures.all;
       runs = c.in_ok-list.ensures.told.runs;
       once = c.in_ok-list.ensures.distinct;
-      lists = subst (λ (it : Bool). ListsSeen it form script (marks_of (names_in c.args.names.now) script) endings (string_bytes text))
+      lists = subst (λ (it : Bool). ListsSeen it form script (marks_of (names_in c.args.names.now) script) endings
+          (string_bytes text))
           c.in_ok-list.ensures.frames
           (subst (λ (marks : List Bool). ListsSeen (frames_in list) form script marks endings (string_bytes text)) marks_are lists);
     })

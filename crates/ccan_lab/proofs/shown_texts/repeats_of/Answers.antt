@@ -18,7 +18,8 @@ loop-number-preserved c =
     text_in c.args.texts.now number c.index-texts-number.result within_args
     ∙ sym (c.as_str.ensures.value ∙ ap string_bytes c.index-texts-number.is) in
     let is_new : not c.in_ok-is_new.is_new ≡ is_repeat texts number =
-    ap not c.in_ok-is_new.ensures.added ∙ not_not (list_any (λ kept. bytes_eq shown.now kept.now) c.loop-number.seen.keys) ∙ (c.loop-number.invariant.1 shown ∙ repeat_of texts number shown.now text_is) in (
+    ap not c.in_ok-is_new.ensures.added ∙ not_not (list_any (λ kept. bytes_eq shown.now kept.now) c.loop-number.seen.keys)
+    ∙ (c.loop-number.invariant.1 shown ∙ repeat_of texts number shown.now text_is) in (
       c.in_ok-push.ensures.items ∙ (λ i. c.loop-number.invariant.0 i ++ is_new i ∷ []) ∙ sym (repeats_more texts number),
       λ text.
           c.in_ok-is_new.ensures.updates.0 text

@@ -21,7 +21,8 @@ returns-clause-shows g c =
     record {
       count_is = c.count.ensures;
       choices = choices;
-      has_choices = has_choices script (Contains endings) rows choices c.in_ok-rows.ensures.places c.in_ok-rows.ensures.lines ordered;
+      has_choices = has_choices script (Contains endings) rows choices c.in_ok-rows.ensures.places
+          c.in_ok-rows.ensures.lines ordered;
       same_is = c.in_ok-add_same_parts.ensures
           ∙ (λ i. c.new-same.ensures.bytes i ++ same_parts (all_texts (c.as_slice-2.ensures.value i)));
       are_shown = subst (λ (l : List Lines). AreShown frames script endings (all_texts l) (min c.args.limit (length endings))

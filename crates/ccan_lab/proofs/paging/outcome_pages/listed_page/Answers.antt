@@ -15,7 +15,8 @@ returns-clause-outcomes g c =
       complete = c.in_ok-list.ensures.all;
       runs = c.in_ok-list.ensures.told.runs;
       once = c.in_ok-list.ensures.distinct;
-      shows = subst (λ (it : Bool). ShowsEndings it (fields_of c.args.query.now.script.now) (endings_in c.in_ok-list.list.words) c.args.limit made)
+      shows = subst (λ (it : Bool). ShowsEndings it (fields_of c.args.query.now.script.now) (endings_in c.in_ok-list.list.words)
+          c.args.limit made)
           c.in_ok-list.ensures.frames shows;
     })
     c.found_page.ensures.shows

@@ -40,7 +40,8 @@ returns-in_default-clause-shown g c =
     let none : slice_get endings place ≡ None = sym c.in_ok-ending.ensures ∙ c.in_default.is in
     let past = past_all endings place none in
     let same : place ≡ min c.args.limit (length endings) = omega (arith, low, within, past) in
-    subst (λ (n : ℕ). AreShown (frames_in c.args.telling.now.list.now) (fields_of c.args.telling.now.query.now.script.now) endings (all_texts c.args.choices.now) n
+    subst (λ (n : ℕ). AreShown (frames_in c.args.telling.now.list.now) (fields_of c.args.telling.now.query.now.script.now) endings
+    (all_texts c.args.choices.now) n
     c.loop-place.shown.items) same c.loop-place.invariant.are
 
 -- behind as many as are to be shown
@@ -52,5 +53,6 @@ returns-clause-shown g c =
     let end = c.loop-place.auto.place-end in
     let within = c.loop-place.invariant.within in
     let same : place ≡ min c.args.limit (length endings) = omega (arith, high, end, within) in
-    subst (λ (n : ℕ). AreShown (frames_in c.args.telling.now.list.now) (fields_of c.args.telling.now.query.now.script.now) endings (all_texts c.args.choices.now) n
+    subst (λ (n : ℕ). AreShown (frames_in c.args.telling.now.list.now) (fields_of c.args.telling.now.query.now.script.now) endings
+    (all_texts c.args.choices.now) n
     c.loop-place.shown.items) same c.loop-place.invariant.are

@@ -10,6 +10,7 @@ use Rattle.ccan_lab.proofs.paging.outcome_pages.outcomes_shown.Given as goal
 abbrev pub invariant-loop-place : goal.invariant-loop-place
 invariant-loop-place g l = record {
   within : l.place ≤ length (endings_in l.telling.list.now.words);
-  are : AreShown (frames_in l.telling.list.now) (fields_of l.telling.query.now.script.now) (endings_in l.telling.list.now.words) (all_texts l.choices) l.place
+  are : AreShown (frames_in l.telling.list.now) (fields_of l.telling.query.now.script.now) (endings_in l.telling.list.now.words)
+      (all_texts l.choices) l.place
       l.shown.items;
 }

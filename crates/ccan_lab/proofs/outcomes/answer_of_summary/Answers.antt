@@ -1,0 +1,31 @@
+use Rattle.std.proofs.Common.{◌≡◌, ◌∙◌, Bool, List, ℕ, inl, subst, sym, ap, rules, string_bytes, refl}
+use Rattle.ccan_line.specs.Script.{fields_of}
+use Rattle.ccan_outcomes.specs.Ending.{AreAllEnds}
+use Rattle.ccan_outcomes.specs.OutcomeWords.{endings_in}
+use Rattle.ccan_lab.specs.Summary.{IsSummary}
+use Rattle.ccan_lab.proofs.outcomes.answer_of_summary.Goals as goal
+
+pub short_list-requires-clause-letters : goal.short_list-requires-clause-letters
+short_list-requires-clause-letters g c =
+    let gathered = rw c.in-Together.is at c.in_ok-list.ensures.gathered in gathered.can.letters
+
+pub short_list-requires-clause-complete : goal.short_list-requires-clause-complete
+short_list-requires-clause-complete g c =
+    let gathered = rw c.in-Together.is at c.in_ok-list.ensures.gathered in gathered.can.complete
+
+pub returns-in_ok-text-in-Together-clause-told : goal.returns-in_ok-text-in-Together-clause-told
+returns-in_ok-text-in-Together-clause-told g c =
+    let script = fields_of c.args.query.now.script.now in
+    let gathered = rw c.in-Together.is at c.in_ok-list.ensures.gathered in
+    let outcomes = endings_in c.in-Together.list.words in
+    inl (
+      record {
+        outcomes = outcomes;
+        ends = subst (λ (frames : Bool). AreAllEnds frames script outcomes) gathered.asked gathered.can.ends;
+        are = gathered.are;
+        runs = gathered.can.runs;
+        once = gathered.once;
+        text_is = subst (IsSummary script outcomes) (sym c.file_answer.ensures.text) c.in_ok-text-in-Together.ensures;
+      },
+      c.file_answer.ensures.status,
+    )
