@@ -51,7 +51,7 @@ TOLD = [
     ('[]',
      ['-:1:1: the script: a list is not an object, such as {}']),
     ('{"if3":[]}',
-     ['-:1:8: the script: "if3" is unknown here; known: profile quota tries nodes if1 if2 bus order']),
+     ['-:1:8: the script: "if3" is unknown here; known: profile quota tries nodes if1 if2 bus order before']),
     ('{"profile":3,"quota":0}',
      ['-:1:12: profile: 3 is not a whole number in 1 to 2', '-:1:22: quota: 0 is not a whole number in 1 to 4096']),
     ('{"if1":{}}',

@@ -5,7 +5,7 @@ use Rattle.std.specs.List.{flat_map, list_any}
 use Rattle.ccan_line.specs.Script.{ScriptFields}
 use Rattle.ccan_words.specs.OneWordEach.{same_object}
 use Rattle.ccan_run.specs.declared.outcome.Outcome.{Outcome}
-use Rattle.ccan_run.specs.Threads.{RunsAtOnce}
+use Rattle.ccan_process.specs.Begun.{RunsBehind}
 use Rattle.ccan_outcomes.specs.declared.ending.Ending.{Ending}
 use Rattle.ccan_outcomes.specs.Ending.{AreOutcomes, Shows}
 use Rattle.ccan_lab.specs.Beginnings.{can_begin}
@@ -50,7 +50,7 @@ HasLine script begin outcome = (ending : Ending) → Shows script ending outcome
 -- a printed line of some outcome that the promise allows begins so
 abbrev pub IsOfSomeOutcome : ScriptFields → List ℕ → Type 0
 IsOfSomeOutcome script begin =
-    (0 < length begin) × (outcome : Outcome) × RunsAtOnce same_object script outcome × HasLine script begin outcome
+    (0 < length begin) × (outcome : Outcome) × RunsBehind same_object script outcome × HasLine script begin outcome
 
 -- beginnings of printed lines of outcomes that the promise allows are never refused by a list of all of these
 abbrev pub LinesOfOutcomesAreTaken : Type 0

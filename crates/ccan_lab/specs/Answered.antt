@@ -1,6 +1,7 @@
 -- What `ccan-lab outcomes` and `ccan-lab count` answer for the script in a file. Source: this project's own.
 use Rattle.std.specs.Prelude.{ℕ, ◌≡◌, ◌+◌, ◌⊎◌, Bool, true, false, not, List, Some, Result, Ok, Err, map, option_map, position}
-use Rattle.ccan_script.specs.Reader as reader
+use Rattle.ccan_script.specs.Race.{RaceFields, RefusesRace, ShowsRace}
+use Rattle.ccan_script.specs.Reader.{RefusesText}
 use Rattle.ccan_line.specs.Script.{ScriptFields}
 use Rattle.ccan_process.specs.WaitLaws.{looking_once}
 use Rattle.ccan_run.specs.declared.run_error.RunError.TheVariants as input
@@ -8,6 +9,7 @@ use Rattle.ccan_outcomes.specs.contracts.all_ports.AllPortsPartialEq.TheImpl.{gh
 use Rattle.ccan_outcomes.specs.contracts.ending.EndingPartialEq.TheImpl.{ghosts as ending_is}
 use Rattle.ccan_outcomes.specs.declared.ending.Ending.{Ending}
 use Rattle.ccan_outcomes.specs.Ending.{IsOfEnd}
+use Rattle.ccan_outcomes.specs.Race.{behind}
 use Rattle.ccan_outcomes.specs.Waits.{HaveSameEnds, HaveSameOutcomes}
 use Rattle.ccan_lab.specs.declared.asked.Asked.{Asked}
 use Rattle.ccan_lab.specs.declared.asked.Asked.TheVariants.{Summary, All, Json, Can, Never, Observed, AllObserved}
@@ -27,19 +29,29 @@ use Rattle.ccan_lab.specs.Words.{AnswersLine, HasNoGraph, HasNoWords, IsUnanswer
 
 -- ---- the script that is searched
 
--- it is the script in these bytes, except that each wait looks once; both have the same outcomes, by the same frames
-pub record IsSearchedFor (bytes : List ℕ) (searched : ScriptFields) : Type 0 where
-  pub script : ScriptFields
-  pub read : reader.Shows bytes (Ok script)
-  pub once : searched ≡ looking_once script
-  pub same_outcomes : HaveSameOutcomes script searched
-  pub same_ends : HaveSameEnds script searched
+-- the script of a race, with the lines that run before it as its order
+abbrev pub raced : RaceFields → ScriptFields
+raced race = behind race.before race.script
 
--- why there is none: the reader of scripts refuses the bytes, or memory ran out
+-- it is the script for a race in these bytes, except that each wait looks once; both have the same outcomes, by the same frames
+pub record IsSearchedFor (bytes : List ℕ) (searched : ScriptFields) : Type 0 where
+  pub race : RaceFields
+  pub read : ShowsRace bytes (Ok race)
+  pub once : searched ≡ looking_once (raced race)
+  pub same_outcomes : HaveSameOutcomes (raced race) searched
+  pub same_ends : HaveSameEnds (raced race) searched
+
+-- why there is none: the reader of scripts for a race refuses the bytes, or memory ran out
 abbrev pub RefusesBytes : List ℕ → LabError → Type 0
-RefusesBytes bytes (fault.Input (input.Script why)) = reader.RefusesText bytes why
+RefusesBytes bytes (fault.Input (input.Script why)) = RefusesRace bytes why
 RefusesBytes bytes fault.Memory = Unit {0}
 RefusesBytes bytes _ = ⊥
+
+-- why there is no script to run: the reader of scripts refuses the bytes, or memory ran out
+abbrev pub RefusesScript : List ℕ → LabError → Type 0
+RefusesScript bytes (fault.Input (input.Script why)) = RefusesText bytes why
+RefusesScript bytes fault.Memory = Unit {0}
+RefusesScript bytes _ = ⊥
 
 -- why there are no bytes: the file can't be opened, or a read fails, or they are too many, or memory ran out
 abbrev pub IsUnread : LabError → Type 0
@@ -152,7 +164,7 @@ pub record AnswersFile (question : OutcomesQuestion) (name bytes : List ℕ) (an
   pub is_for : IsSearchedFor bytes searched
   pub known : AreKnown searched question.asked
   pub tells : TellsBy question.asked question name searched answer
-  pub ends : EndsAsAsked question.asked question.frames is_for.script (texts_of question.lines.items) answer.status
+  pub ends : EndsAsAsked question.asked question.frames (raced is_for.race) (texts_of question.lines.items) answer.status
 
 -- why it is not: the bytes are no script, a name is not known in it, or it has no answer
 abbrev pub RefusesFile : OutcomesQuestion → List ℕ → LabError → Type 0
@@ -181,9 +193,9 @@ names_its_file (AllObserved names) = false
 -- what is printed is the number of outcomes that the promise allows of the script in these bytes, told apart by what is
 -- printed, with frames or without
 pub record AnswersCount (frames : Bool) (bytes : List ℕ) (answer : FileAnswer) : Type 0 where
-  pub script : ScriptFields
-  pub read : reader.Shows bytes (Ok script)
-  pub tells : TellsCount frames script ending_is.eq answer.text.items
+  pub race : RaceFields
+  pub read : ShowsRace bytes (Ok race)
+  pub tells : TellsCount frames (raced race) ending_is.eq answer.text.items
   pub ends : answer.status ≡ 0
 
 -- why there is none: the bytes are no script, or there are too many states or nodes, or memory ran out

@@ -1,6 +1,6 @@
 //! What is printed of an outcome that has some lines.
 ghost use Rattle.std.specs.Prelude.{◌≡◌, ◌-◌, ◌^◌, ◌<◌, ◌++◌, IfErr, IfOk, OnOk, codes, length, string_bytes};
-ghost use Rattle.ccan_line.specs.Script.{fields_of};
+ghost use Rattle.ccan_outcomes.specs.RaceScript.{fields_of};
 ghost use Rattle.ccan_outcomes.specs.OutcomeWords.{endings_in};
 ghost use Rattle.ccan_lab.specs.Answer.{each_below, none_text, not_had};
 ghost use Rattle.ccan_lab.specs.Listing.{IsOneText};
@@ -17,6 +17,7 @@ use crate::telling::Telling;
 use crate::wording::add_number;
 use ccan_outcomes::Histories;
 use ccan_outcomes::all_ports::AllPorts;
+use ccan_script::RaceScript;
 use ccan_search::Progress;
 use std::alloc::{AllocError, Global};
 
@@ -105,20 +106,20 @@ pub fn found_text<P: Progress>(
     telling: &Telling<'_, P>,
     number: usize,
 ) -> Result<String, LabError>
-    requires can { CanBeTold (fields_of telling.now.query.now.script.now) telling.now.list.now }
+    requires can { CanBeTold (fields_of telling.now.query.now.race.now) telling.now.list.now }
     requires within { number < length (endings_in telling.now.list.now.words) }
     requires few { number < 2 ^ 64 - 1 }
     ensures text { IfOk result (λ text. IsOneText (frames_in telling.now.list.now)
-        telling.now.query.now.form (fields_of telling.now.query.now.script.now)
+        telling.now.query.now.form (fields_of telling.now.query.now.race.now)
         (endings_in telling.now.list.now.words) number (string_bytes text)) }
-    ensures without { IfErr result (HasNoHistory (fields_of telling.now.query.now.script.now)
+    ensures without { IfErr result (HasNoHistory (fields_of telling.now.query.now.race.now)
         ⟦<AllPorts as PartialEq>⟧.eq telling.now.query.now.most) }
 {
     let words = &telling.list.words;
     let Some(ending) = words.ending(alloc, number as u64)? else {
         unreachable!()
     };
-    let rows = all_choices(alloc, telling.query.script, words)?;
+    let rows = all_choices(alloc, telling.query.race, words)?;
     let choices = all_in_order(alloc, rows.as_slice())?;
     let lines = different_lines(alloc, choices.as_slice(), &ending)?;
     let mut text = count_text(alloc, words.count())?;

@@ -1,7 +1,7 @@
 //! Which texts a printed line of a script can begin with.
 ghost use Rattle.std.specs.Prelude.{◌≡◌, ◌==◌, IfOk, codes};
 ghost use Rattle.std.specs.List.{before_first, list_any};
-ghost use Rattle.ccan_line.specs.Script.{fields_of};
+ghost use Rattle.ccan_outcomes.specs.RaceScript.{fields_of};
 ghost use Rattle.ccan_lab.specs.Beginnings.{can_begin, can_begin_among, has_transfer_of, is_transfer_of};
 ghost use Rattle.ccan_lab.specs.Beginnings.{transferred_objects};
 ghost use Rattle.ccan_lab.specs.BusForms.{bus_begins};
@@ -13,7 +13,7 @@ use crate::forms::{host_begins, shown_begins};
 use crate::history::add_object;
 use ccan_object::{ObjectNo, Profile};
 use ccan_ram::PortName;
-use ccan_script::{BusLine, HostLine, Script};
+use ccan_script::{BusLine, HostLine, RaceScript};
 use std::alloc::{AllocError, Global};
 
 /// Whether a line of a host is a transfer of this object.
@@ -36,23 +36,23 @@ fn any_transfer_of(profile: Profile, object: ObjectNo, lines: &[HostLine]) -> bo
 }
 
 /// Whether a host has a transfer of this object.
-fn has_transfer_of(script: &Script, object: ObjectNo) -> bool
-    ensures { result ≡ has_transfer_of (fields_of script.now) object }
+fn has_transfer_of(race: &RaceScript, object: ObjectNo) -> bool
+    ensures { result ≡ has_transfer_of (fields_of race.now) object }
 {
-    any_transfer_of(script.profile, object, script.if1.as_slice())
-        || any_transfer_of(script.profile, object, script.if2.as_slice())
+    any_transfer_of(race.script.profile, object, race.script.if1.as_slice())
+        || any_transfer_of(race.script.profile, object, race.script.if2.as_slice())
 }
 
 /// The objects that transfers name, each once.
 #[tactic(auto, unfolding(crate::specs::Beginnings::transferred_objects))]
-fn transferred_objects(alloc: Global, script: &Script) -> Result<Vec<ObjectNo>, AllocError>
+fn transferred_objects(alloc: Global, race: &RaceScript) -> Result<Vec<ObjectNo>, AllocError>
     ensures { IfOk result
-        (λ objects. objects.items ≡ transferred_objects (fields_of script.now)) }
+        (λ objects. objects.items ≡ transferred_objects (fields_of race.now)) }
 {
     let mut objects = Vec::new(alloc);
-    for index in 0..script.profile.objects() {
+    for index in 0..race.script.profile.objects() {
         let object = ObjectNo::new(index + 1).unwrap();
-        if has_transfer_of(script, object) {
+        if has_transfer_of(race, object) {
             objects.push(object)?;
         }
     }
@@ -89,13 +89,25 @@ fn finals_begin(text: &str, objects: &[ObjectNo]) -> bool
 
 /// Whether a printed line of a script can begin so, if its transfers name these objects.
 #[tactic(auto, unfolding(crate::specs::Beginnings::can_begin_among))]
-fn can_begin_among(script: &Script, objects: &[ObjectNo], text: &str) -> bool
-    ensures { result ≡ can_begin_among (fields_of script.now) objects.now text.now }
+fn can_begin_among(race: &RaceScript, objects: &[ObjectNo], text: &str) -> bool
+    ensures { result ≡ can_begin_among (fields_of race.now) objects.now text.now }
 {
-    any_host_begins(text, PortName::If1, script.profile, script.if1.as_slice())
-        || any_host_begins(text, PortName::If2, script.profile, script.if2.as_slice())
-        || any_bus_begins(text, script.profile, objects, script.bus.as_slice())
-        || finals_begin(text, objects)
+    any_host_begins(
+        text,
+        PortName::If1,
+        race.script.profile,
+        race.script.if1.as_slice(),
+    ) || any_host_begins(
+        text,
+        PortName::If2,
+        race.script.profile,
+        race.script.if2.as_slice(),
+    ) || any_bus_begins(
+        text,
+        race.script.profile,
+        objects,
+        race.script.bus.as_slice(),
+    ) || finals_begin(text, objects)
 }
 
 /// What comes before the first `*` of a text.
@@ -109,11 +121,11 @@ fn before_star(text: &str) -> &str
 }
 
 /// Whether a printed line of a script can begin with the text: an answer of a port, the frame of a round, or an object at the end.
-pub fn can_begin(alloc: Global, script: &Script, text: &str) -> Result<bool, AllocError>
-    ensures { IfOk result (λ can. can ≡ can_begin (fields_of script.now) text.now) }
+pub fn can_begin(alloc: Global, race: &RaceScript, text: &str) -> Result<bool, AllocError>
+    ensures { IfOk result (λ can. can ≡ can_begin (fields_of race.now) text.now) }
 {
-    let objects = transferred_objects(alloc, script)?;
-    Ok(can_begin_among(script, objects.as_slice(), before_star(text)))
+    let objects = transferred_objects(alloc, race)?;
+    Ok(can_begin_among(race, objects.as_slice(), before_star(text)))
 }
 
 /// Beginnings of lines, each of a kind of its own.
@@ -157,9 +169,9 @@ const KINDS: [&str; 36] = [
 ];
 
 /// Adds the kinds of lines that a script can print, in quotes, if its transfers name these objects.
-fn add_kinds(text: &mut String, script: &Script, objects: &[ObjectNo]) -> Result<(), AllocError> {
+fn add_kinds(text: &mut String, race: &RaceScript, objects: &[ObjectNo]) -> Result<(), AllocError> {
     for kind in KINDS {
-        if can_begin_among(script, objects, kind) {
+        if can_begin_among(race, objects, kind) {
             text.push_str(" \"")?;
             text.push_str(kind)?;
             text.push_str("\"")?;
@@ -179,20 +191,20 @@ fn add_objects(text: &mut String, objects: &[ObjectNo]) -> Result<(), AllocError
 /// Adds what lines begin with, if transfers name these objects.
 fn add_beginnings(
     text: &mut String,
-    script: &Script,
+    race: &RaceScript,
     objects: &[ObjectNo],
 ) -> Result<(), AllocError> {
     text.push_str("ccan-lab: outcomes: lines of this script begin with:")?;
-    add_kinds(text, script, objects)?;
+    add_kinds(text, race, objects)?;
     text.push_str("; objects:")?;
     add_objects(text, objects)?;
     text.push_str("; hexadecimal digits are in lower case, in frames in upper case: can0 123#1A2B")
 }
 
 /// What the printed lines of a script begin with, in words.
-pub fn beginnings_text(alloc: Global, script: &Script) -> Result<String, AllocError> {
-    let objects = transferred_objects(alloc, script)?;
+pub fn beginnings_text(alloc: Global, race: &RaceScript) -> Result<String, AllocError> {
+    let objects = transferred_objects(alloc, race)?;
     let mut text = String::new(alloc);
-    add_beginnings(&mut text, script, objects.as_slice())?;
+    add_beginnings(&mut text, race, objects.as_slice())?;
     Ok(text)
 }

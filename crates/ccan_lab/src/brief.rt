@@ -10,7 +10,7 @@
 //! another port comes between. After a change is what its object became, and after the decision of a round the frame that was on
 //! the bus.
 ghost use Rattle.std.specs.Prelude.{◌≡◌, ◌+◌, ◌^◌, ◌<◌, ◌++◌, false, IfOk, OnOk, length, map, slice_get, string_bytes};
-ghost use Rattle.ccan_line.specs.Script.{fields_of};
+ghost use Rattle.ccan_outcomes.specs.RaceScript.{fields_of};
 ghost use Rattle.ccan_lab.specs.Brief.{AreDetails, IsBriefText, IsDetail, IsDetailOf, IsTextOf, IsWinnerText, brief_text};
 ghost use Rattle.ccan_lab.specs.Report.{history_text};
 ghost use Rattle.ccan_lab.specs.Brief.{changed_text, first_at, goes_on, goes_on_at, group_line, group_text, is_change};
@@ -27,7 +27,7 @@ use ccan_object::ObjectNo;
 use ccan_outcomes::all_ports::AllPorts;
 use ccan_outcomes::step::record_of;
 use ccan_outcomes::{History, HistoryKind, HistoryStep};
-use ccan_script::Script;
+use ccan_script::RaceScript;
 use std::alloc::{AllocError, Global};
 
 /// Whether a step is a look that leaves its line under way.
@@ -264,15 +264,15 @@ fn add_winner(text: &mut String, winner: Option<(u8, Frame)>) -> Result<(), Allo
 /// The frame that is on the bus as a round is decided, by the line's number from 1 and the state before.
 fn winner_text(
     alloc: Global,
-    script: &Script,
+    race: &RaceScript,
     line: usize,
     before: &AllPorts,
 ) -> Result<String, AllocError>
     ensures { IfOk result (λ text.
-        IsWinnerText (fields_of script.now) line before.now (string_bytes text)) }
+        IsWinnerText (fields_of race.now) line before.now (string_bytes text)) }
 {
     let mut text = String::new(alloc);
-    add_winner(&mut text, winner_at(script, line, before))?;
+    add_winner(&mut text, winner_at(race, line, before))?;
     Ok(text)
 }
 
@@ -297,15 +297,15 @@ fn changed_text(
 /// What is written of a step between these states.
 fn detail_between(
     alloc: Global,
-    script: &Script,
+    race: &RaceScript,
     step: &HistoryStep,
     moved: &Moved<'_>,
 ) -> Result<String, AllocError>
-    ensures { IfOk result (λ text. IsDetailOf (fields_of script.now) step.now step.now.kind
+    ensures { IfOk result (λ text. IsDetailOf (fields_of race.now) step.now step.now.kind
         moved.now.before.now moved.now.after.now (string_bytes text)) }
 {
     match step.kind {
-        HistoryKind::Decides => winner_text(alloc, script, step.line, moved.before),
+        HistoryKind::Decides => winner_text(alloc, race, step.line, moved.before),
         HistoryKind::Writes
         | HistoryKind::ReadsAndClears
         | HistoryKind::Starts
@@ -324,17 +324,17 @@ fn detail_between(
 /// What is written of the step of this place.
 fn detail_at(
     alloc: Global,
-    script: &Script,
+    race: &RaceScript,
     step: &HistoryStep,
     states: &[AllPorts],
     place: usize,
 ) -> Result<String, AllocError>
     requires { place + 1 < 2 ^ 64 }
-    ensures { IfOk result (λ text. IsDetail (fields_of script.now) step.now
+    ensures { IfOk result (λ text. IsDetail (fields_of race.now) step.now
         (slice_get states.now place) (slice_get states.now (place + 1)) (string_bytes text)) }
 {
     match moved_at(states, place) {
-        Some(moved) => detail_between(alloc, script, step, &moved),
+        Some(moved) => detail_between(alloc, race, step, &moved),
         None => Ok(String::new(alloc)),
     }
 }
@@ -342,16 +342,16 @@ fn detail_at(
 /// What is written of each step.
 fn details_of(
     alloc: Global,
-    script: &Script,
+    race: &RaceScript,
     steps: &[HistoryStep],
     states: &[AllPorts],
 ) -> Result<Vec<String>, AllocError>
-    ensures { IfOk result (λ details. AreDetails (fields_of script.now) steps.now states.now
+    ensures { IfOk result (λ details. AreDetails (fields_of race.now) steps.now states.now
         (map string_bytes details.items)) }
 {
     let mut details = Vec::new(alloc);
     for (place, step) in steps.iter().enumerate() {
-        details.push(detail_at(alloc, script, step, states, place)?)?;
+        details.push(detail_at(alloc, race, step, states, place)?)?;
     }
     Ok(details)
 }
@@ -372,12 +372,12 @@ fn groups_told(
 }
 
 /// A history in few lines.
-fn brief_told(alloc: Global, script: &Script, history: &History) -> Result<String, AllocError>
-    ensures { IfOk result (λ text. IsBriefText (fields_of script.now)
+fn brief_told(alloc: Global, race: &RaceScript, history: &History) -> Result<String, AllocError>
+    ensures { IfOk result (λ text. IsBriefText (fields_of race.now)
         history.now.steps.items history.now.states.items (string_bytes text)) }
 {
     let steps = history.steps.as_slice();
-    let details = details_of(alloc, script, steps, history.states.as_slice())?;
+    let details = details_of(alloc, race, steps, history.states.as_slice())?;
     groups_told(alloc, steps, details.as_slice())
 }
 
@@ -393,15 +393,15 @@ fn steps_told(alloc: Global, history: &History) -> Result<String, AllocError>
 /// A history in this form.
 pub fn history_told(
     alloc: Global,
-    script: &Script,
+    race: &RaceScript,
     form: HistoryForm,
     history: &History,
 ) -> Result<String, AllocError>
-    ensures { IfOk result (λ text. IsTextOf form (fields_of script.now)
+    ensures { IfOk result (λ text. IsTextOf form (fields_of race.now)
         history.now.steps.items history.now.states.items (string_bytes text)) }
 {
     match form {
         HistoryForm::EachStep => steps_told(alloc, history),
-        HistoryForm::Brief => brief_told(alloc, script, history),
+        HistoryForm::Brief => brief_told(alloc, race, history),
     }
 }

@@ -11,7 +11,7 @@ use crate::each_file::{FileAnswer, answer_each};
 use crate::expect::compare_run;
 use crate::explaining::print_text;
 use crate::lab_error::LabError;
-use ccan_check::{Report, check, print_report};
+use ccan_check::{Report, check_race, print_report};
 use ccan_run::{RunError, read_all};
 use ccan_script::read_script;
 use clap::error::ErrorKind;
@@ -121,7 +121,7 @@ fn end_of(report: &Report) -> CheckEnd
 
 /// What is said of a script in these bytes of a file, and how its check ends.
 fn checked(alloc: Global, file: &str, bytes: &[u8]) -> Result<(String, CheckEnd), LabError> {
-    let report = check(alloc, bytes)?;
+    let report = check_race(alloc, bytes)?;
     let text = print_report(alloc, file, bytes, &report)?;
     Ok((text, end_of(&report)))
 }

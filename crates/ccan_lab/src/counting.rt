@@ -2,7 +2,7 @@
 
 ghost use Rattle.std.specs.Prelude.{◌≡◌, [], IfErr, IfOk, codes, false, length, map, option_map, string_bytes};
 ghost use Rattle.clap.specs.Words.{found_of, matched_of, one_text, raw_values};
-ghost use Rattle.ccan_line.specs.Script.{fields_of};
+ghost use Rattle.ccan_outcomes.specs.RaceScript.{fields_of};
 ghost use Rattle.ccan_lab.specs.declared.lab_error.LabError.TheVariants as LabError;
 ghost use Rattle.ccan_lab.specs.Answered.{AnswersCount, IsCounted, RefusesCount};
 ghost use Rattle.ccan_lab.specs.Counting.{IsCount, TellsCount, count_text};
@@ -20,7 +20,7 @@ use crate::progress_line::ProgressLine;
 use crate::wording::add_counted;
 use ccan_outcomes::Ending;
 use ccan_outcomes::all_ports::AllPorts;
-use ccan_script::Script;
+use ccan_script::RaceScript;
 use ccan_search::Progress;
 use clap::{ArgMatches, Command};
 use std::alloc::{AllocError, Global};
@@ -83,34 +83,34 @@ pub fn count_text(alloc: Global, number: u64) -> Result<String, AllocError>
 /// How many outcomes a script has.
 fn outcome_count<P: Progress>(
     alloc: Global,
-    script: &Script,
+    race: &RaceScript,
     frames: bool,
     most: usize,
     progress: &P,
 ) -> Result<u64, LabError>
     ensures count { IfOk result
-        (IsCount frames (fields_of script.now) ⟦<Ending as PartialEq>⟧.eq) }
+        (IsCount frames (fields_of race.now) ⟦<Ending as PartialEq>⟧.eq) }
     ensures without { IfErr result
-        (HasNoWords frames (fields_of script.now) ⟦<AllPorts as PartialEq>⟧.eq most) }
+        (HasNoWords frames (fields_of race.now) ⟦<AllPorts as PartialEq>⟧.eq most) }
 {
-    let words = words_of(alloc, script, frames, most, progress)?;
+    let words = words_of(alloc, race, frames, most, progress)?;
     Ok(words.count())
 }
 
 /// The line with the number of outcomes of a script.
 fn counted<P: Progress>(
     alloc: Global,
-    script: &Script,
+    race: &RaceScript,
     frames: bool,
     most: usize,
     progress: &P,
 ) -> Result<String, LabError>
-    ensures counted { IfOk result (λ text. TellsCount frames (fields_of script.now)
+    ensures counted { IfOk result (λ text. TellsCount frames (fields_of race.now)
         ⟦<Ending as PartialEq>⟧.eq (string_bytes text)) }
     ensures without { IfErr result
-        (HasNoWords frames (fields_of script.now) ⟦<AllPorts as PartialEq>⟧.eq most) }
+        (HasNoWords frames (fields_of race.now) ⟦<AllPorts as PartialEq>⟧.eq most) }
 {
-    let number = outcome_count(alloc, script, frames, most, progress)?;
+    let number = outcome_count(alloc, race, frames, most, progress)?;
     Ok(count_text(alloc, number)?)
 }
 
@@ -125,8 +125,8 @@ fn count_bytes<P: Progress>(
     ensures counted { IfOk result (AnswersCount frames bytes.now) }
     ensures refused { IfErr result (RefusesCount frames most bytes.now) }
 {
-    let script = searched_script(alloc, bytes)?;
-    let text = counted(alloc, &script, frames, most, progress)?;
+    let race = searched_script(alloc, bytes)?;
+    let text = counted(alloc, &race, frames, most, progress)?;
     Ok(FileAnswer {
         text: text.into_bytes(),
         status: 0,

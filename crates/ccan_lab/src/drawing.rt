@@ -2,14 +2,14 @@
 ghost use Rattle.std.specs.Prelude.{◌≡◌, [], codes};
 ghost use Rattle.std.specs.Option.{option_map};
 ghost use Rattle.clap.specs.Words.{first_value, found_of, one_text};
-ghost use Rattle.ccan_line.specs.Script.{fields_of};
+ghost use Rattle.ccan_outcomes.specs.RaceScript.{fields_of};
 ghost use Rattle.ccan_lab.specs.Question.{AsksFramesBy, IsChosenBy, IsGivenBy};
 ghost use Rattle.ccan_lab.specs.Telling.{CanBeTold};
 
 use crate::command_words::{command, file, number, switch, with};
 use crate::explaining::print_text;
 use crate::history_form::HistoryForm;
-use crate::input::script_asked;
+use crate::input::{bytes_asked, script_in, searched_script};
 use crate::lab_error::LabError;
 use crate::outcome_rows::picture_of_history;
 use crate::outcome_words::OutcomeList;
@@ -18,7 +18,7 @@ use crate::progress_line::ProgressLine;
 use crate::telling::{Query, Telling, history_to, list_asked};
 use ccan_explain::draw::{Picture, picture_of_run, svg_of};
 use ccan_explain::tell;
-use ccan_outcomes::{Histories, looking_once};
+use ccan_outcomes::Histories;
 use ccan_script::Script;
 use ccan_search::Progress;
 use clap::{Arg, ArgMatches, Command};
@@ -105,7 +105,7 @@ fn numbered_drawn<P: Progress>(
     telling: &Telling<'_, P>,
     number: usize,
 ) -> Result<Picture, LabError>
-    requires { CanBeTold (fields_of telling.now.query.now.script.now) telling.now.list.now }
+    requires { CanBeTold (fields_of telling.now.query.now.race.now) telling.now.list.now }
 {
     let words = &telling.list.words;
     let none = LabError::NoOutcome(number, words.count() as usize);
@@ -117,7 +117,7 @@ fn numbered_drawn<P: Progress>(
     };
     let mut histories = Histories::new(alloc);
     let history = history_to(alloc, telling, &mut histories, place, &ending)?;
-    Ok(picture_of_history(alloc, telling.query.script, &history, &ending)?)
+    Ok(picture_of_history(alloc, telling.query.race, &history, &ending)?)
 }
 
 /// The picture of a history of the outcome of this number, from 1, of these, which are dropped.
@@ -127,7 +127,7 @@ fn listed_drawn<P: Progress>(
     list: OutcomeList,
     number: usize,
 ) -> Result<Picture, LabError>
-    requires { CanBeTold (fields_of query.now.script.now) list }
+    requires { CanBeTold (fields_of query.now.race.now) list }
 {
     let telling = Telling { query, list: &list };
     numbered_drawn(alloc, &telling, number)
@@ -149,26 +149,38 @@ fn run_drawn(alloc: Global, script: &Script) -> Result<Picture, AllocError> {
     picture_of_run(alloc, script, &told)
 }
 
-/// The picture that is asked for of a script.
+/// The picture of a history of the outcome of this number, from 1, of the race in these bytes.
+fn race_drawn<P: Progress>(
+    alloc: Global,
+    bytes: &[u8],
+    question: &DrawQuestion<'_>,
+    number: usize,
+    progress: &P,
+) -> Result<Picture, LabError> {
+    let race = searched_script(alloc, bytes)?;
+    let query = Query {
+        race: &race,
+        frames: question.frames,
+        most: question.most,
+        progress,
+        form: HistoryForm::EachStep,
+    };
+    outcome_drawn(alloc, &query, number)
+}
+
+/// The picture that is asked for of the script in these bytes.
 fn drawn<P: Progress>(
     alloc: Global,
-    script: Script,
+    bytes: &[u8],
     question: &DrawQuestion<'_>,
     progress: &P,
 ) -> Result<Picture, LabError> {
     match question.outcome {
-        Some(number) => {
-            let once = looking_once(alloc, script)?;
-            let query = Query {
-                script: &once,
-                frames: question.frames,
-                most: question.most,
-                progress,
-                form: HistoryForm::EachStep,
-            };
-            outcome_drawn(alloc, &query, number)
+        Some(number) => race_drawn(alloc, bytes, question, number, progress),
+        None => {
+            let script = script_in(alloc, bytes)?;
+            Ok(run_drawn(alloc, &script)?)
         }
-        None => Ok(run_drawn(alloc, &script)?),
     }
 }
 
@@ -178,8 +190,8 @@ pub fn answer_draw<T: AllocGlobal + Input + Files + Print + Eprint>(
     question: &DrawQuestion<'_>,
     progress: &ProgressLine<'_, T>,
 ) -> Result<(), LabError> {
-    let script = script_asked(rt, question.file)?;
-    let made = drawn(rt.alloc(), script, question, progress);
+    let bytes = bytes_asked(rt, question.file)?;
+    let made = drawn(rt.alloc(), bytes.as_slice(), question, progress);
     progress.clear();
     let picture = made?;
     let text = svg_of(rt.alloc(), &picture)?;

@@ -2,7 +2,7 @@
 
 ghost use Rattle.std.specs.Prelude.{◌≡◌, ◌++◌, List, ℕ, IfErr, IfOk, false, length, map, true};
 ghost use Rattle.std.specs.Io.KnownBytes.{Appends};
-ghost use Rattle.ccan_line.specs.Script.{fields_of};
+ghost use Rattle.ccan_outcomes.specs.RaceScript.{fields_of};
 ghost use Rattle.ccan_outcomes.specs.OutcomeWords.{endings_in};
 ghost use Rattle.ccan_lab.specs.declared.lab_error.LabError.TheVariants as LabError;
 ghost use Rattle.ccan_lab.specs.Answered.{IsAnswered, RefusesAsked, RefusesFile, names_its_file};
@@ -27,7 +27,7 @@ use crate::progress_line::ProgressLine;
 use crate::report::write_listing;
 use crate::telling::{Query, Telling, list_asked};
 use ccan_outcomes::all_ports::AllPorts;
-use ccan_script::Script;
+use ccan_script::RaceScript;
 use std::alloc::Global;
 use std::fs::Files;
 use std::io::{Input, IsTerminal, Write};
@@ -41,13 +41,13 @@ fn write_list<T: Eprint, W: Write>(
     telling: &Telling<'_, ProgressLine<'_, T>>,
     asked: Asked<'_>,
 ) -> Result<ListEnd, LabError>
-    requires can { CanBeTold (fields_of telling.now.query.now.script.now) telling.now.list.now }
+    requires can { CanBeTold (fields_of telling.now.query.now.race.now) telling.now.list.now }
     requires of_all { IsOfAll asked }
     ensures written { IfOk result (λ end. IsWritten (heading_if is_shown name.now) (AnswersTo
         (frames_in telling.now.list.now) telling.now.query.now.form
-        (fields_of telling.now.query.now.script.now) (endings_in telling.now.list.now.words)
+        (fields_of telling.now.query.now.race.now) (endings_in telling.now.list.now.words)
         asked.entry)
-        (HasNoHistory (fields_of telling.now.query.now.script.now)
+        (HasNoHistory (fields_of telling.now.query.now.race.now)
         ⟦<AllPorts as PartialEq>⟧.eq telling.now.query.now.most)
         (length (endings_in telling.now.list.now.words))
         end (W.contents writer.old) (W.contents writer.new)) }
@@ -75,12 +75,12 @@ fn list_outcomes<T: Eprint, W: Write>(
     list: OutcomeList,
     asked: Asked<'_>,
 ) -> Result<ListEnd, LabError>
-    requires can { CanBeTold (fields_of query.now.script.now) list }
+    requires can { CanBeTold (fields_of query.now.race.now) list }
     requires of_all { IsOfAll asked }
     ensures written { IfOk result (λ end. IsWritten (heading_if is_shown name.now)
-        (AnswersTo (frames_in list) query.now.form (fields_of query.now.script.now)
+        (AnswersTo (frames_in list) query.now.form (fields_of query.now.race.now)
         (endings_in list.words) asked.entry)
-        (HasNoHistory (fields_of query.now.script.now)
+        (HasNoHistory (fields_of query.now.race.now)
         ⟦<AllPorts as PartialEq>⟧.eq query.now.most)
         (length (endings_in list.words))
         end (W.contents writer.old) (W.contents writer.new)) }
@@ -97,7 +97,7 @@ fn list_script<T: AllocGlobal + Eprint, W: Write>(
     writer: &mut W,
     is_shown: bool,
     name: &str,
-    script: &Script,
+    race: &RaceScript,
     question: &OutcomesQuestion<'_>,
     progress: &ProgressLine<'_, T>,
 ) -> Result<ListEnd, LabError>
@@ -105,13 +105,13 @@ fn list_script<T: AllocGlobal + Eprint, W: Write>(
     ensures listed { IfOk result (λ end. (text : List ℕ)
         × Appends (W.contents writer.old) (W.contents writer.new)
         (heading_if is_shown name.now ++ text)
-        × ListsAsked question.now (fields_of script.now) end text) }
+        × ListsAsked question.now (fields_of race.now) end text) }
     ensures unlisted { IfErr result
-        (IsUnwritten (RefusesAsked question.now (fields_of script.now))
+        (IsUnwritten (RefusesAsked question.now (fields_of race.now))
         (W.contents writer.old) (W.contents writer.new)) }
 {
     let query = Query {
-        script,
+        race,
         frames: question.frames,
         most: question.most,
         progress,
@@ -150,9 +150,9 @@ fn list_source<T: AllocGlobal + Eprint, W: Write>(
         (IsUnwritten (RefusesFile question.now source.now.text.items)
         (W.contents writer.old) (W.contents writer.new)) }
 {
-    let script = searched_script(rt.alloc(), source.text.as_slice())?;
-    refuse_unknown(rt.alloc(), &script, question.asked)?;
-    list_script(rt, writer, is_shown, name, &script, question, progress)
+    let race = searched_script(rt.alloc(), source.text.as_slice())?;
+    refuse_unknown(rt.alloc(), &race, question.asked)?;
+    list_script(rt, writer, is_shown, name, &race, question, progress)
 }
 
 /// Writes the list of all outcomes of the script of a file. On a terminal it shows how far the search is.

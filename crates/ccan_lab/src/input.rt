@@ -1,14 +1,16 @@
 //! What is read of a file or of standard input: bytes, and the script that they are.
 ghost use Rattle.std.specs.Prelude.{◌≤◌, IfErr, IfOk, Ok, length};
-ghost use Rattle.ccan_line.specs.Script.{fields_of};
+ghost use Rattle.ccan_line.specs.Script.{fields_of as said_by};
 ghost use Rattle.ccan_run.specs.Input.{most_input};
+ghost use Rattle.ccan_script.specs.Race.{ShowsRace, fields_of_race};
 ghost use Rattle.ccan_script.specs.Reader.{Shows};
-ghost use Rattle.ccan_lab.specs.Answered.{IsSearchedFor, IsUnread, RefusesBytes};
+ghost use Rattle.ccan_outcomes.specs.RaceScript.{fields_of};
+ghost use Rattle.ccan_lab.specs.Answered.{IsSearchedFor, IsUnread, RefusesBytes, RefusesScript};
 
 use crate::lab_error::LabError;
 use ccan_outcomes::looking_once;
 use ccan_run::{RunError, read_all, read_input};
-use ccan_script::{Script, read_script};
+use ccan_script::{RaceScript, Script, read_race, read_script};
 use std::alloc::Global;
 use std::fs;
 use std::fs::Files;
@@ -57,8 +59,8 @@ pub fn bytes_asked<T: AllocGlobal + Input + Files>(
 
 /// The script that these bytes are.
 pub fn script_in(alloc: Global, bytes: &[u8]) -> Result<Script, LabError>
-    ensures read { IfOk result (λ script. Shows bytes.now (Ok (fields_of script))) }
-    ensures refused { IfErr result (RefusesBytes bytes.now) }
+    ensures read { IfOk result (λ script. Shows bytes.now (Ok (said_by script))) }
+    ensures refused { IfErr result (RefusesScript bytes.now) }
 {
     match read_script(alloc, bytes) {
         Ok(script) => Ok(script),
@@ -66,11 +68,22 @@ pub fn script_in(alloc: Global, bytes: &[u8]) -> Result<Script, LabError>
     }
 }
 
-/// The script that is searched for the outcomes of the one in these bytes: each of its waits looks once, which changes no outcome.
-pub fn searched_script(alloc: Global, bytes: &[u8]) -> Result<Script, LabError>
-    ensures searched { IfOk result (λ script. IsSearchedFor bytes.now (fields_of script)) }
+/// The script for a race that these bytes are.
+pub fn race_in(alloc: Global, bytes: &[u8]) -> Result<RaceScript, LabError>
+    ensures read { IfOk result (λ race. ShowsRace bytes.now (Ok (fields_of_race race))) }
     ensures refused { IfErr result (RefusesBytes bytes.now) }
 {
-    let script = script_in(alloc, bytes)?;
-    Ok(looking_once(alloc, script)?)
+    match read_race(alloc, bytes) {
+        Ok(race) => Ok(race),
+        Err(refusal) => Err(LabError::Input(RunError::Script(refusal))),
+    }
+}
+
+/// The script that is searched for the outcomes of the race in these bytes: each of its waits looks once, which changes no outcome.
+pub fn searched_script(alloc: Global, bytes: &[u8]) -> Result<RaceScript, LabError>
+    ensures searched { IfOk result (λ race. IsSearchedFor bytes.now (fields_of race)) }
+    ensures refused { IfErr result (RefusesBytes bytes.now) }
+{
+    let race = race_in(alloc, bytes)?;
+    Ok(looking_once(alloc, race)?)
 }

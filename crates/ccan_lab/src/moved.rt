@@ -1,12 +1,12 @@
 //! What the states before and after a step of a history show of the step.
 ghost use Rattle.std.specs.Prelude.{◌≡◌, ◌+◌, IfNone, IfSome, None, Some, option_map, slice_get};
-ghost use Rattle.ccan_line.specs.Script.{fields_of};
+ghost use Rattle.ccan_outcomes.specs.RaceScript.{fields_of};
 ghost use Rattle.ccan_lab.specs.Moved.{IsWonAt, WinsRound, round_at, round_of};
 
 use ccan_accept::Frame;
 use ccan_bus::{Bus, RoundLine};
 use ccan_outcomes::all_ports::AllPorts;
-use ccan_script::{BusLine, Script};
+use ccan_script::{BusLine, RaceScript};
 
 /// The states before and after a step.
 #[derive(Clone, Copy)]
@@ -36,10 +36,10 @@ fn round_of(line: &BusLine) -> Option<&RoundLine>
 }
 
 /// The round that a line of the bus is, by its number from 1.
-fn round_at(script: &Script, line: usize) -> Option<&RoundLine>
-    ensures { option_map (λ round. round.now) result ≡ round_at (fields_of script.now) line }
+fn round_at(race: &RaceScript, line: usize) -> Option<&RoundLine>
+    ensures { option_map (λ round. round.now) result ≡ round_at (fields_of race.now) line }
 {
-    round_of(script.bus.get(line.checked_sub(1)?)?)
+    round_of(race.script.bus.get(line.checked_sub(1)?)?)
 }
 
 /// The frame that wins a round, and the node that sends it; the controller is node 0. None: no frame contends, or some collide.
@@ -50,10 +50,10 @@ fn winner_by(mut bus: Bus, round: &RoundLine) -> Option<(u8, Frame)>
 }
 
 /// The frame that is on the bus as a round is decided, and the node that sends it, by the state before.
-pub fn winner_at(script: &Script, line: usize, before: &AllPorts) -> Option<(u8, Frame)>
-    ensures { IsWonAt (fields_of script.now) line before.now result }
+pub fn winner_at(race: &RaceScript, line: usize, before: &AllPorts) -> Option<(u8, Frame)>
+    ensures { IsWonAt (fields_of race.now) line before.now result }
 {
-    match round_at(script, line) {
+    match round_at(race, line) {
         Some(round) => winner_by(before.bus.bus, round),
         None => None,
     }

@@ -3,7 +3,7 @@ ghost use Rattle.std.specs.Prelude.{◌≡◌, ◌+◌, ◌^◌, ◌<◌, ◌≤
 ghost use Rattle.std.specs.Prelude.{position, slice_get, string_bytes};
 ghost use Rattle.std.specs.List.{list_any, range_with_len};
 ghost use Rattle.std.specs.Str.{bytes_eq};
-ghost use Rattle.ccan_line.specs.Script.{fields_of};
+ghost use Rattle.ccan_outcomes.specs.RaceScript.{fields_of};
 ghost use Rattle.ccan_outcomes.specs.OutcomeWords.{endings_in};
 ghost use Rattle.ccan_lab.specs.declared.lab_error.LabError.TheVariants as LabError;
 ghost use Rattle.ccan_lab.specs.EachFile.{heading_if};
@@ -28,7 +28,7 @@ use crate::telling::Telling;
 use crate::wording::{add_counted, add_number};
 use ccan_outcomes::all_ports::AllPorts;
 use ccan_outcomes::{Ending, Histories, OutcomeWords};
-use ccan_script::Script;
+use ccan_script::RaceScript;
 use ccan_search::Progress;
 use std::alloc::{AllocError, Global};
 use std::io::Write;
@@ -48,23 +48,26 @@ fn is_named(names: &[&str], name: &str) -> bool
 }
 
 /// How many lines the ports of a script have.
-fn counts_of(script: &Script) -> LineCounts
-    ensures if1 { result.if1 ≡ length (fields_of script.now).if1 }
-    ensures if2 { result.if2 ≡ length (fields_of script.now).if2 }
-    ensures bus { result.bus ≡ length (fields_of script.now).bus }
+fn counts_of(race: &RaceScript) -> LineCounts
+    ensures if1 { result.if1 ≡ length (fields_of race.now).if1 }
+    ensures if2 { result.if2 ≡ length (fields_of race.now).if2 }
+    ensures bus { result.bus ≡ length (fields_of race.now).bus }
 {
     LineCounts {
-        if1: script.if1.len(),
-        if2: script.if2.len(),
-        bus: script.bus.len(),
+        if1: race.script.if1.len(),
+        if2: race.script.if2.len(),
+        bus: race.script.bus.len(),
     }
 }
 
 /// How many places the outcomes of a script have: one for each line, and one for each object.
-fn places_of(script: &Script) -> usize
-    ensures { result ≡ places_of (fields_of script.now) }
+fn places_of(race: &RaceScript) -> usize
+    ensures { result ≡ places_of (fields_of race.now) }
 {
-    script.if1.len() + script.if2.len() + script.bus.len() + usize::from(script.profile.objects())
+    race.script.if1.len()
+        + race.script.if2.len()
+        + race.script.bus.len()
+        + usize::from(race.script.profile.objects())
 }
 
 /// Whether a place is looked at.
@@ -105,17 +108,12 @@ fn marks_up_to(
 }
 
 /// For each place of a script whether the names in a list with commas between them have it looked at.
-pub fn marks_of(alloc: Global, script: &Script, list: &str) -> Result<Vec<bool>, AllocError>
+pub fn marks_of(alloc: Global, race: &RaceScript, list: &str) -> Result<Vec<bool>, AllocError>
     ensures { IfOk result (λ marks. marks.items
-        ≡ marks_of (names_in list.now) (fields_of script.now)) }
+        ≡ marks_of (names_in list.now) (fields_of race.now)) }
 {
     let names = names_in(alloc, list)?;
-    let marks = marks_up_to(
-        alloc,
-        names.as_slice(),
-        &counts_of(script),
-        places_of(script),
-    )?;
+    let marks = marks_up_to(alloc, names.as_slice(), &counts_of(race), places_of(race))?;
     Ok(marks)
 }
 
@@ -183,17 +181,17 @@ fn add_if_first<P: Progress>(
     ending: &Ending,
     number: usize,
 ) -> Result<(), LabError>
-    requires can { CanBeTold (fields_of telling.now.query.now.script.now) telling.now.list.now }
+    requires can { CanBeTold (fields_of telling.now.query.now.race.now) telling.now.list.now }
     requires within { number < length texts.now.lines.items }
     requires at { slice_get (endings_in telling.now.list.now.words) number ≡ Some ending.now }
     requires few { number + 1 < 2 ^ 64 }
     ensures text { OnOk result ((added : List ℕ)
         × (string_bytes text.new ≡ string_bytes text.old ++ added)
         × IsFirstText (IsOutcomeText (frames_in telling.now.list.now) telling.now.query.now.form
-        (fields_of telling.now.query.now.script.now) (endings_in telling.now.list.now.words))
+        (fields_of telling.now.query.now.race.now) (endings_in telling.now.list.now.words))
         (is_repeat (map string_bytes texts.now.lines.items) number)
         (text_at (map string_bytes texts.now.lines.items) number) number added) }
-    ensures without { IfErr result (HasNoHistory (fields_of telling.now.query.now.script.now)
+    ensures without { IfErr result (HasNoHistory (fields_of telling.now.query.now.race.now)
         ⟦<AllPorts as PartialEq>⟧.eq telling.now.query.now.most) }
 {
     if texts.is_repeat(number) {
@@ -213,20 +211,20 @@ fn first_text<P: Progress>(
     histories: &mut Histories,
     number: usize,
 ) -> Result<Option<String>, LabError>
-    requires can { CanBeTold (fields_of telling.now.query.now.script.now) telling.now.list.now }
+    requires can { CanBeTold (fields_of telling.now.query.now.race.now) telling.now.list.now }
     requires as_many { length texts.now.lines.items
         ≡ length (endings_in telling.now.list.now.words) }
     requires few { number + 1 < 2 ^ 64 }
     ensures text { IfOk result (λ found. IfSome found (λ text.
         (number < length (endings_in telling.now.list.now.words))
         × IsFirstText (IsOutcomeText (frames_in telling.now.list.now) telling.now.query.now.form
-        (fields_of telling.now.query.now.script.now) (endings_in telling.now.list.now.words))
+        (fields_of telling.now.query.now.race.now) (endings_in telling.now.list.now.words))
         (is_repeat (map string_bytes texts.now.lines.items) number)
         (text_at (map string_bytes texts.now.lines.items) number) number (string_bytes text))) }
     ensures none { IfOk result (λ found. IfNone found
         (length (endings_in telling.now.list.now.words) ≤ number)) }
     ensures without { IfErr result (IsReasonAt
-        (HasNoHistory (fields_of telling.now.query.now.script.now)
+        (HasNoHistory (fields_of telling.now.query.now.race.now)
         ⟦<AllPorts as PartialEq>⟧.eq telling.now.query.now.most)
         (length (endings_in telling.now.list.now.words)) number) }
 {
@@ -245,14 +243,14 @@ fn write_firsts<T: Eprint, W: Write>(
     telling: &Telling<'_, ProgressLine<'_, T>>,
     texts: &ShownTexts,
 ) -> Result<ListEnd, LabError>
-    requires can { CanBeTold (fields_of telling.now.query.now.script.now) telling.now.list.now }
+    requires can { CanBeTold (fields_of telling.now.query.now.race.now) telling.now.list.now }
     requires as_many { length texts.now.lines.items
         ≡ length (endings_in telling.now.list.now.words) }
     ensures written { IfOk result (λ end. IsWritten [] (AreFirstTexts
         (IsOutcomeText (frames_in telling.now.list.now) telling.now.query.now.form
-        (fields_of telling.now.query.now.script.now) (endings_in telling.now.list.now.words))
+        (fields_of telling.now.query.now.race.now) (endings_in telling.now.list.now.words))
         (map string_bytes texts.now.lines.items))
-        (HasNoHistory (fields_of telling.now.query.now.script.now)
+        (HasNoHistory (fields_of telling.now.query.now.race.now)
         ⟦<AllPorts as PartialEq>⟧.eq telling.now.query.now.most)
         (length (endings_in telling.now.list.now.words))
         end (W.contents writer.old) (W.contents writer.new)) }
@@ -284,31 +282,31 @@ fn add_observed_heading(text: &mut String, outcomes: usize, apart: usize) -> Res
 /// The lines of each outcome that the names in a list with commas between them have looked at.
 fn named_texts(
     alloc: Global,
-    script: &Script,
+    race: &RaceScript,
     all: &[Rows],
     list: &str,
 ) -> Result<Vec<String>, AllocError>
     ensures { IfOk result (λ texts. map string_bytes texts.items
-        ≡ map (observed_lines (marks_of (names_in list.now) (fields_of script.now))) all.now) }
+        ≡ map (observed_lines (marks_of (names_in list.now) (fields_of race.now))) all.now) }
 {
-    let marks = marks_of(alloc, script, list)?;
+    let marks = marks_of(alloc, race, list)?;
     observed_texts(alloc, marks.as_slice(), all)
 }
 
 /// What the outcomes show, by the names in a list with commas between them.
 fn shown_by(
     alloc: Global,
-    script: &Script,
+    race: &RaceScript,
     words: &OutcomeWords,
     list: &str,
 ) -> Result<ShownTexts, AllocError>
     ensures { IfOk result (λ texts. map string_bytes texts.lines.items
-        ≡ observed_texts (marks_of (names_in list.now) (fields_of script.now))
+        ≡ observed_texts (marks_of (names_in list.now) (fields_of race.now))
         (endings_in words.now)) }
 {
     let endings = all_endings(alloc, words)?;
     let rows = all_rows(alloc, endings.as_slice())?;
-    let lines = named_texts(alloc, script, rows.as_slice(), list)?;
+    let lines = named_texts(alloc, race, rows.as_slice(), list)?;
     ShownTexts::new(alloc, lines)
 }
 
@@ -337,19 +335,19 @@ pub fn write_observed<T: Eprint, W: Write>(
     telling: &Telling<'_, ProgressLine<'_, T>>,
     list: &str,
 ) -> Result<ListEnd, LabError>
-    requires can { CanBeTold (fields_of telling.now.query.now.script.now) telling.now.list.now }
+    requires can { CanBeTold (fields_of telling.now.query.now.race.now) telling.now.list.now }
     ensures written { IfOk result (λ end. IsWritten (heading_if is_shown name.now)
         (IsObservedListingTo (frames_in telling.now.list.now)
         telling.now.query.now.form (names_in list.now)
-        (fields_of telling.now.query.now.script.now) (endings_in telling.now.list.now.words))
-        (HasNoHistory (fields_of telling.now.query.now.script.now)
+        (fields_of telling.now.query.now.race.now) (endings_in telling.now.list.now.words))
+        (HasNoHistory (fields_of telling.now.query.now.race.now)
         ⟦<AllPorts as PartialEq>⟧.eq telling.now.query.now.most)
         (length (endings_in telling.now.list.now.words))
         end (W.contents writer.old) (W.contents writer.new)) }
     ensures unwritten { IfErr result (IsUnwritten (λ why. why ≡ LabError.Memory)
         (W.contents writer.old) (W.contents writer.new)) }
 {
-    let texts = shown_by(alloc, telling.query.script, &telling.list.words, list)?;
+    let texts = shown_by(alloc, telling.query.race, &telling.list.words, list)?;
     let head = observed_head(alloc, &texts)?;
     write_below(writer, is_shown, name, head.as_str())?;
     write_firsts(alloc, writer, telling, &texts)
@@ -383,21 +381,21 @@ fn is_place(
 }
 
 /// Whether a word names lines or objects of the script.
-fn is_known(alloc: Global, script: &Script, word: &str) -> Result<bool, AllocError>
-    ensures { IfOk result (λ is. is ≡ is_known (fields_of script.now) word.now) }
+fn is_known(alloc: Global, race: &RaceScript, word: &str) -> Result<bool, AllocError>
+    ensures { IfOk result (λ is. is ≡ is_known (fields_of race.now) word.now) }
 {
-    let is_place = is_place(alloc, word, &counts_of(script), places_of(script))?;
+    let is_place = is_place(alloc, word, &counts_of(race), places_of(race))?;
     Ok(is_kind(word) || is_place)
 }
 
 /// For each of these names whether it is that of lines or objects of the script.
-fn are_known(alloc: Global, script: &Script, names: &[&str]) -> Result<Vec<bool>, AllocError>
+fn are_known(alloc: Global, race: &RaceScript, names: &[&str]) -> Result<Vec<bool>, AllocError>
     ensures { IfOk result (λ known. known.items
-        ≡ map (λ name. is_known (fields_of script.now) name.now) names.now) }
+        ≡ map (λ name. is_known (fields_of race.now) name.now) names.now) }
 {
     let mut known = Vec::new(alloc);
     for name in names {
-        known.push(is_known(alloc, script, name)?)?;
+        known.push(is_known(alloc, race, name)?)?;
     }
     Ok(known)
 }
@@ -413,14 +411,14 @@ fn first_false(marks: &[bool]) -> Option<usize>
 /// script.
 pub fn first_unknown(
     alloc: Global,
-    script: &Script,
+    race: &RaceScript,
     list: &str,
 ) -> Result<Option<usize>, AllocError>
     ensures { IfOk result (λ unknown. unknown ≡ option_map (λ index. index + 1)
-        (position not (map (is_known (fields_of script.now)) (names_in list.now)))) }
+        (position not (map (is_known (fields_of race.now)) (names_in list.now)))) }
 {
     let names = names_in(alloc, list)?;
-    let known = are_known(alloc, script, names.as_slice())?;
+    let known = are_known(alloc, race, names.as_slice())?;
     match first_false(known.as_slice()) {
         Some(index) => Ok(Some(index + 1)),
         None => Ok(None),

@@ -13,7 +13,7 @@ use ccan_explain::draw::{Picture, Row};
 use ccan_outcomes::{Ending, History, HistoryKind, HistoryStep};
 use ccan_process::LineEnd;
 use ccan_ram::PortName;
-use ccan_script::Script;
+use ccan_script::RaceScript;
 use std::alloc::{AllocError, Global};
 
 /// How the lines of a port ended in an outcome.
@@ -138,19 +138,19 @@ fn words_of(
 }
 
 /// The frame that was on the bus in the last step of a row, if that is the decision of a round.
-fn frame_of(script: &Script, history: &History, run: &Run) -> Option<Frame> {
+fn frame_of(race: &RaceScript, history: &History, run: &Run) -> Option<Frame> {
     if run.last.kind != HistoryKind::Decides {
         return None;
     }
     let before = history.states.get(run.end.checked_sub(1)?)?;
-    let (_, frame) = winner_at(script, run.last.line, before)?;
+    let (_, frame) = winner_at(race, run.last.line, before)?;
     Some(frame)
 }
 
 /// A row of a history.
 fn row_of(
     alloc: Global,
-    script: &Script,
+    race: &RaceScript,
     history: &History,
     run: &Run,
     ending: &Ending,
@@ -162,7 +162,7 @@ fn row_of(
     Ok(Row {
         number: run.number,
         port: run.last.port,
-        frame: frame_of(script, history, run),
+        frame: frame_of(race, history, run),
         label,
         object: run.last.object,
         words: wrapped(alloc, words.as_str(), WORDS_GLYPHS)?,
@@ -216,13 +216,13 @@ pub(crate) fn behind(steps: &[HistoryStep], place: usize) -> &[HistoryStep] {
 fn add_rows(
     alloc: Global,
     rows: &mut Vec<Row>,
-    script: &Script,
+    race: &RaceScript,
     history: &History,
     runs: &[Run],
     ending: &Ending,
 ) -> Result<(), AllocError> {
     for run in runs {
-        rows.push(row_of(alloc, script, history, run, ending)?)?;
+        rows.push(row_of(alloc, race, history, run, ending)?)?;
     }
     Ok(())
 }
@@ -242,7 +242,7 @@ fn row_ends(alloc: Global, openings: usize, runs: &[Run]) -> Result<Vec<usize>, 
 /// The picture of a history that leads to this outcome.
 pub fn picture_of_history(
     alloc: Global,
-    script: &Script,
+    race: &RaceScript,
     history: &History,
     ending: &Ending,
 ) -> Result<Picture, AllocError> {
@@ -251,7 +251,7 @@ pub fn picture_of_history(
     let runs = runs_of(alloc, steps)?;
     let mut rows = opening_rows(alloc, steps, ending)?;
     let ends = row_ends(alloc, rows.len(), runs.as_slice())?;
-    add_rows(alloc, &mut rows, script, history, runs.as_slice(), ending)?;
+    add_rows(alloc, &mut rows, race, history, runs.as_slice(), ending)?;
     Ok(Picture {
         rows,
         columns: columns_of(alloc, states, runs.as_slice(), ends.as_slice())?,

@@ -1,7 +1,7 @@
 //! The outcomes of a script as words.
 ghost use Rattle.std.specs.Prelude.{◌≡◌, IfErr, IfOk};
 ghost use Rattle.std.specs.List.{IsDistinct};
-ghost use Rattle.ccan_line.specs.Script.{fields_of};
+ghost use Rattle.ccan_outcomes.specs.RaceScript.{fields_of};
 ghost use Rattle.ccan_outcomes.specs.Ending.{AreAllEnds, AreOfRuns, AreOutcomes};
 ghost use Rattle.ccan_outcomes.specs.OutcomeWords.{AreComplete, AreOfLines, endings_in};
 ghost use Rattle.ccan_lab.specs.Telling.{CanBeTold};
@@ -12,7 +12,7 @@ use ccan_outcomes::all_ports::AllPorts;
 use ccan_outcomes::{
     AnswerGraph, Ending, LineEnds, OutcomeWords, answer_graph, line_ends_of, words_of_graph,
 };
-use ccan_script::Script;
+use ccan_script::RaceScript;
 use ccan_search::Progress;
 use std::alloc::{AllocError, Global};
 
@@ -29,26 +29,26 @@ pub struct OutcomeList {
 /// they need no more nodes.
 pub fn list_of<P: Progress>(
     alloc: Global,
-    script: &Script,
+    race: &RaceScript,
     frames: bool,
     most: usize,
     progress: &P,
 ) -> Result<OutcomeList, LabError>
     ensures all { IfOk result (λ list.
-        AreOutcomes (fields_of script.now) (endings_in list.words)) }
+        AreOutcomes (fields_of race.now) (endings_in list.words)) }
     ensures distinct { IfOk result (λ list.
         IsDistinct ⟦<Ending as PartialEq>⟧.eq (endings_in list.words)) }
     ensures ends { IfOk result (λ list.
-        AreAllEnds frames (fields_of script.now) (endings_in list.words)) }
+        AreAllEnds frames (fields_of race.now) (endings_in list.words)) }
     ensures frames { IfOk result (λ list. list.words.numbers.frames ≡ frames) }
-    ensures told { IfOk result (CanBeTold (fields_of script.now)) }
+    ensures told { IfOk result (CanBeTold (fields_of race.now)) }
     ensures without { IfErr result
-        (HasNoWords frames (fields_of script.now) ⟦<AllPorts as PartialEq>⟧.eq most) }
+        (HasNoWords frames (fields_of race.now) ⟦<AllPorts as PartialEq>⟧.eq most) }
 {
-    let Some(graph) = answer_graph(alloc, script, most, progress)? else {
+    let Some(graph) = answer_graph(alloc, race, most, progress)? else {
         return Err(LabError::More(most));
     };
-    match words_of_graph(alloc, script, &graph, frames, most)? {
+    match words_of_graph(alloc, race, &graph, frames, most)? {
         Some(words) => Ok(OutcomeList { words, graph }),
         None => Err(LabError::Nodes(most)),
     }
@@ -57,24 +57,24 @@ pub fn list_of<P: Progress>(
 /// The outcomes of a script as words, with the frames that won the bus or without, for what is answered without a history.
 pub fn words_of<P: Progress>(
     alloc: Global,
-    script: &Script,
+    race: &RaceScript,
     frames: bool,
     most: usize,
     progress: &P,
 ) -> Result<OutcomeWords, LabError>
     ensures ends { IfOk result (λ words.
-        AreAllEnds frames (fields_of script.now) (endings_in words)) }
-    ensures all { IfOk result (λ words. AreOutcomes (fields_of script.now) (endings_in words)) }
-    ensures runs { IfOk result (λ words. AreOfRuns (fields_of script.now) (endings_in words)) }
+        AreAllEnds frames (fields_of race.now) (endings_in words)) }
+    ensures all { IfOk result (λ words. AreOutcomes (fields_of race.now) (endings_in words)) }
+    ensures runs { IfOk result (λ words. AreOfRuns (fields_of race.now) (endings_in words)) }
     ensures distinct { IfOk result (λ words.
         IsDistinct ⟦<Ending as PartialEq>⟧.eq (endings_in words)) }
     ensures complete { IfOk result (λ words.
-        AreComplete (fields_of script.now) (endings_in words)) }
+        AreComplete (fields_of race.now) (endings_in words)) }
     ensures letters { IfOk result AreOfLines }
     ensures without { IfErr result
-        (HasNoWords frames (fields_of script.now) ⟦<AllPorts as PartialEq>⟧.eq most) }
+        (HasNoWords frames (fields_of race.now) ⟦<AllPorts as PartialEq>⟧.eq most) }
 {
-    let OutcomeList { words, graph: _ } = list_of(alloc, script, frames, most, progress)?;
+    let OutcomeList { words, graph: _ } = list_of(alloc, race, frames, most, progress)?;
     Ok(words)
 }
 
@@ -91,22 +91,22 @@ pub enum Gathered {
 /// together, unless they need more nodes.
 pub fn gathered_of<P: Progress>(
     alloc: Global,
-    script: &Script,
+    race: &RaceScript,
     frames: bool,
     most: usize,
     progress: &P,
 ) -> Result<Gathered, LabError>
     ensures gathered { IfOk result
-        (IsGathered frames (fields_of script.now) ⟦<Ending as PartialEq>⟧.eq most) }
+        (IsGathered frames (fields_of race.now) ⟦<Ending as PartialEq>⟧.eq most) }
     ensures without { IfErr result
-        (HasNoGraph (fields_of script.now) ⟦<AllPorts as PartialEq>⟧.eq most) }
+        (HasNoGraph (fields_of race.now) ⟦<AllPorts as PartialEq>⟧.eq most) }
 {
-    let Some(graph) = answer_graph(alloc, script, most, progress)? else {
+    let Some(graph) = answer_graph(alloc, race, most, progress)? else {
         return Err(LabError::More(most));
     };
-    match words_of_graph(alloc, script, &graph, frames, most)? {
+    match words_of_graph(alloc, race, &graph, frames, most)? {
         Some(words) => Ok(Gathered::Together(OutcomeList { words, graph })),
-        None => Ok(Gathered::Apart(line_ends_of(alloc, script, &graph, frames)?)),
+        None => Ok(Gathered::Apart(line_ends_of(alloc, race, &graph, frames)?)),
     }
 }
 

@@ -3,7 +3,7 @@
 ghost use Rattle.std.specs.Prelude.{◌≡◌, ◌↔◌, IfErr, IfOk, IsTrue, codes, length, map, option_map, string_bytes, true};
 ghost use Rattle.clap.specs.Words.{first_value, found_of, matched_of, one_text, raw_values};
 ghost use Rattle.std.specs.List.{IsDistinct, list_any};
-ghost use Rattle.ccan_line.specs.Script.{fields_of};
+ghost use Rattle.ccan_outcomes.specs.RaceScript.{fields_of};
 ghost use Rattle.ccan_outcomes.specs.Ending.{AreOutcomes};
 ghost use Rattle.ccan_outcomes.specs.OutcomeWords.{endings_in};
 ghost use Rattle.ccan_lab.specs.declared.asked.Asked.TheVariants as Asked;
@@ -46,7 +46,7 @@ use crate::summary::{list_without_number, short_list};
 use crate::telling::{Query, Telling, list_asked};
 use ccan_outcomes::all_ports::AllPorts;
 use ccan_outcomes::{Ending, LineEnds};
-use ccan_script::Script;
+use ccan_script::RaceScript;
 use ccan_search::Progress;
 use clap::{Arg, ArgMatches, Command};
 use std::alloc::{AllocError, Global};
@@ -154,7 +154,7 @@ fn choosing<'a>(alloc: Global, command: Command<'a>) -> Result<Command<'a>, Allo
 /// The command that asks about outcomes.
 pub fn outcomes_command<'a>(alloc: Global) -> Result<Command<'a>, AllocError> {
     let about =
-        "Shows what can come of a script whose two hosts and bus run at once; lines are counted from 0, as in jq and \
+        "Shows what can come of a race whose two hosts and bus run at once; lines are counted from 0, as in jq and \
                  in the faults of ccan";
     let asked = choosing(alloc, command(alloc, "outcomes", about))?;
     with(with(asked, most_option(alloc))?, scripts(alloc))
@@ -343,23 +343,23 @@ pub fn outcomes_question<'a>(
 
 /// Refuses names if one of them is that of no line and no object of the script.
 #[tactic(auto, using(crate::proofs::Apart::none_found))]
-fn refuse_names(alloc: Global, script: &Script, names: &str) -> Result<(), LabError>
-    ensures known { IfOk result (λ done. AreKnownNames (fields_of script.now) names.now) }
-    ensures refused { IfErr result (RefusesNames (fields_of script.now) names.now) }
+fn refuse_names(alloc: Global, race: &RaceScript, names: &str) -> Result<(), LabError>
+    ensures known { IfOk result (λ done. AreKnownNames (fields_of race.now) names.now) }
+    ensures refused { IfErr result (RefusesNames (fields_of race.now) names.now) }
 {
-    match first_unknown(alloc, script, names)? {
+    match first_unknown(alloc, race, names)? {
         Some(number) => Err(LabError::NoPlace(number)),
         None => Ok(()),
     }
 }
 
 /// Refuses names to be observed if one of them is that of no line and no object of the script.
-pub fn refuse_unknown(alloc: Global, script: &Script, asked: Asked<'_>) -> Result<(), LabError>
-    ensures known { IfOk result (λ done. AreKnown (fields_of script.now) asked.entry) }
-    ensures refused { IfErr result (RefusesUnknown (fields_of script.now) asked.entry) }
+pub fn refuse_unknown(alloc: Global, race: &RaceScript, asked: Asked<'_>) -> Result<(), LabError>
+    ensures known { IfOk result (λ done. AreKnown (fields_of race.now) asked.entry) }
+    ensures refused { IfErr result (RefusesUnknown (fields_of race.now) asked.entry) }
 {
     match asked {
-        Asked::Observed(names) | Asked::AllObserved(names) => refuse_names(alloc, script, names),
+        Asked::Observed(names) | Asked::AllObserved(names) => refuse_names(alloc, race, names),
         Asked::Summary | Asked::All | Asked::Json | Asked::Can | Asked::Never => Ok(()),
     }
 }
@@ -372,20 +372,20 @@ fn answer_by_line<P: Progress>(
     begins: &[&str],
     never: bool,
 ) -> Result<Answer, LabError>
-    requires can { CanBeTold (fields_of telling.now.query.now.script.now) telling.now.list.now }
-    requires all { AreOutcomes (fields_of telling.now.query.now.script.now)
+    requires can { CanBeTold (fields_of telling.now.query.now.race.now) telling.now.list.now }
+    requires all { AreOutcomes (fields_of telling.now.query.now.race.now)
         (endings_in telling.now.list.now.words) }
     requires distinct { IsDistinct ⟦<Ending as PartialEq>⟧.eq
         (endings_in telling.now.list.now.words) }
     ensures told { IfOk result (λ answer. TellsLine (frames_in telling.now.list.now)
-        telling.now.query.now.form (fields_of telling.now.query.now.script.now)
+        telling.now.query.now.form (fields_of telling.now.query.now.race.now)
         ⟦<Ending as PartialEq>⟧.eq (texts_of begins.now) never
         (string_bytes answer.text) answer.holds) }
     ensures without { IfErr result (IsUnanswered (frames_in telling.now.list.now)
-        (fields_of telling.now.query.now.script.now) (texts_of begins.now)
+        (fields_of telling.now.query.now.race.now) (texts_of begins.now)
         ⟦<AllPorts as PartialEq>⟧.eq telling.now.query.now.most) }
 {
-    match search_among(alloc, telling.query.script, &telling.list.words, begins)? {
+    match search_among(alloc, telling.query.race, &telling.list.words, begins)? {
         LineSearch::Found(number) => {
             let text = found_text(alloc, telling, number)?;
             Ok(Answer {
@@ -406,15 +406,15 @@ fn answer_of_list<P: Progress>(
     begins: &[&str],
     never: bool,
 ) -> Result<Answer, LabError>
-    requires can { CanBeTold (fields_of query.now.script.now) list }
-    requires all { AreOutcomes (fields_of query.now.script.now) (endings_in list.words) }
+    requires can { CanBeTold (fields_of query.now.race.now) list }
+    requires all { AreOutcomes (fields_of query.now.race.now) (endings_in list.words) }
     requires distinct { IsDistinct ⟦<Ending as PartialEq>⟧.eq (endings_in list.words) }
     ensures told { IfOk result (λ answer.
-        TellsLine (frames_in list) query.now.form (fields_of query.now.script.now)
+        TellsLine (frames_in list) query.now.form (fields_of query.now.race.now)
         ⟦<Ending as PartialEq>⟧.eq (texts_of begins.now) never
         (string_bytes answer.text) answer.holds) }
     ensures without { IfErr result
-        (IsUnanswered (frames_in list) (fields_of query.now.script.now)
+        (IsUnanswered (frames_in list) (fields_of query.now.race.now)
         (texts_of begins.now) ⟦<AllPorts as PartialEq>⟧.eq query.now.most) }
 {
     let telling = Telling { query, list: &list };
@@ -429,16 +429,16 @@ fn answer_apart<P: Progress>(
     begins: &[&str],
     never: bool,
 ) -> Result<Answer, LabError>
-    requires { AreAllLineEnds query.now.frames (fields_of query.now.script.now) query.now.most
+    requires { AreAllLineEnds query.now.frames (fields_of query.now.race.now) query.now.most
         lines.now }
     ensures told { IfOk result (λ answer.
-        TellsApart query.now.frames (fields_of query.now.script.now) query.now.most
+        TellsApart query.now.frames (fields_of query.now.race.now) query.now.most
         (texts_of begins.now) never (string_bytes answer.text) answer.holds) }
     ensures without { IfErr result
-        (IsUnanswered query.now.frames (fields_of query.now.script.now)
+        (IsUnanswered query.now.frames (fields_of query.now.race.now)
         (texts_of begins.now) ⟦<AllPorts as PartialEq>⟧.eq query.now.most) }
 {
-    match search_apart(alloc, query.script, lines, begins, query.most)? {
+    match search_apart(alloc, query.race, lines, begins, query.most)? {
         ApartSearch::Found(text) => Ok(Answer {
             text,
             holds: !never,
@@ -458,15 +458,15 @@ fn answer_of_line<P: Progress>(
     never: bool,
 ) -> Result<Answer, LabError>
     ensures told { IfOk result (λ answer.
-        AnswersLine query.now.frames query.now.form (fields_of query.now.script.now)
+        AnswersLine query.now.frames query.now.form (fields_of query.now.race.now)
         ⟦<Ending as PartialEq>⟧.eq query.now.most (texts_of begins.now) never
         (string_bytes answer.text) answer.holds) }
     ensures without { IfErr result
-        (IsUnanswered query.now.frames (fields_of query.now.script.now)
+        (IsUnanswered query.now.frames (fields_of query.now.race.now)
         (texts_of begins.now) ⟦<AllPorts as PartialEq>⟧.eq query.now.most) }
 {
-    let (script, frames, most) = (query.script, query.frames, query.most);
-    match gathered_of(alloc, script, frames, most, query.progress)? {
+    let (race, frames, most) = (query.race, query.frames, query.most);
+    match gathered_of(alloc, race, frames, most, query.progress)? {
         Gathered::Together(list) => answer_of_list(alloc, query, list, begins, never),
         Gathered::Apart(lines) => answer_apart(alloc, query, &lines, begins, never),
     }
@@ -481,11 +481,11 @@ fn answer_of_observed<P: Progress>(
 ) -> Result<Answer, LabError>
     ensures told { IfOk result (λ answer.
         TellsSeen query.now.frames query.now.form (names_in names.now)
-        (fields_of query.now.script.now) ⟦<Ending as PartialEq>⟧.eq
+        (fields_of query.now.race.now) ⟦<Ending as PartialEq>⟧.eq
         (string_bytes answer.text)) }
     ensures holds { IfOk result (λ answer. answer.holds ≡ true) }
     ensures without { IfErr result
-        (HasNoSeenList query.now.frames (names_in names.now) (fields_of query.now.script.now)
+        (HasNoSeenList query.now.frames (names_in names.now) (fields_of query.now.race.now)
         ⟦<AllPorts as PartialEq>⟧.eq query.now.most) }
 {
     let text = seen_text(alloc, query, names)?;
@@ -528,18 +528,18 @@ fn answer_of_summary<P: Progress>(
     query: &Query<'_, P>,
 ) -> Result<FileAnswer, LabError>
     ensures told { IfOk result (TellsShortList query.now.frames
-        (fields_of query.now.script.now) ⟦<Ending as PartialEq>⟧.eq query.now.most) }
+        (fields_of query.now.race.now) ⟦<Ending as PartialEq>⟧.eq query.now.most) }
     ensures without { IfErr result (HasNoGraph
-        (fields_of query.now.script.now) ⟦<AllPorts as PartialEq>⟧.eq query.now.most) }
+        (fields_of query.now.race.now) ⟦<AllPorts as PartialEq>⟧.eq query.now.most) }
 {
-    let (script, frames, most) = (query.script, query.frames, query.most);
-    match gathered_of(alloc, script, frames, most, query.progress)? {
+    let (race, frames, most) = (query.race, query.frames, query.most);
+    match gathered_of(alloc, race, frames, most, query.progress)? {
         Gathered::Together(list) => {
-            let text = short_list(alloc, script, list.words)?;
+            let text = short_list(alloc, race, list.words)?;
             Ok(file_answer(Answer { text, holds: true }))
         }
         Gathered::Apart(lines) => {
-            let text = list_without_number(alloc, script, &lines, frames, most)?;
+            let text = list_without_number(alloc, race, &lines, frames, most)?;
             Ok(uncounted(text))
         }
     }
@@ -548,18 +548,18 @@ fn answer_of_summary<P: Progress>(
 /// What is answered to a question about the outcomes of the script of this source, if it isn't about the list of all.
 fn answer_of_script<P: Progress>(
     alloc: Global,
-    script: &Script,
+    race: &RaceScript,
     source: &Source,
     question: &OutcomesQuestion<'_>,
     progress: &P,
 ) -> Result<FileAnswer, LabError>
     requires { IsNotOfAll question.now.asked }
     ensures answered { IfOk result
-        (AnswersAsked question.now (string_bytes source.now.name) (fields_of script.now)) }
-    ensures refused { IfErr result (RefusesAsked question.now (fields_of script.now)) }
+        (AnswersAsked question.now (string_bytes source.now.name) (fields_of race.now)) }
+    ensures refused { IfErr result (RefusesAsked question.now (fields_of race.now)) }
 {
     let query = Query {
-        script,
+        race,
         frames: question.frames,
         most: question.most,
         progress,
@@ -578,10 +578,10 @@ fn answer_of_script<P: Progress>(
 }
 
 /// Says on standard error what the printed lines of a script begin with.
-fn tell_beginnings<T: AllocGlobal + Eprint>(rt: &T, script: &Script) -> Result<(), LabError>
+fn tell_beginnings<T: AllocGlobal + Eprint>(rt: &T, race: &RaceScript) -> Result<(), LabError>
     ensures { IfErr result (λ why. why ≡ LabError.Memory) }
 {
-    let text = beginnings_text(rt.alloc(), script)?;
+    let text = beginnings_text(rt.alloc(), race)?;
     let _told = rt.eprintln(text.as_str());
     Ok(())
 }
@@ -590,20 +590,20 @@ fn tell_beginnings<T: AllocGlobal + Eprint>(rt: &T, script: &Script) -> Result<(
 /// refused, standard error says what would be right.
 fn answered_or_told<T: AllocGlobal + Eprint>(
     rt: &T,
-    script: &Script,
+    race: &RaceScript,
     source: &Source,
     question: &OutcomesQuestion<'_>,
     progress: &ProgressLine<'_, T>,
 ) -> Result<FileAnswer, LabError>
     requires { IsNotOfAll question.now.asked }
     ensures answered { IfOk result
-        (AnswersAsked question.now (string_bytes source.now.name) (fields_of script.now)) }
-    ensures refused { IfErr result (RefusesAsked question.now (fields_of script.now)) }
+        (AnswersAsked question.now (string_bytes source.now.name) (fields_of race.now)) }
+    ensures refused { IfErr result (RefusesAsked question.now (fields_of race.now)) }
 {
-    let answered = answer_of_script(rt.alloc(), script, source, question, progress);
+    let answered = answer_of_script(rt.alloc(), race, source, question, progress);
     progress.clear();
     if let Err(LabError::NoLine) = answered {
-        tell_beginnings(rt, script)?;
+        tell_beginnings(rt, race)?;
     }
     answered
 }
@@ -621,9 +621,9 @@ fn answer_of_source<T: AllocGlobal + Eprint>(
         (AnswersFile question.now (string_bytes source.now.name) source.now.text.items) }
     ensures refused { IfErr result (RefusesFile question.now source.now.text.items) }
 {
-    let script = searched_script(rt.alloc(), source.text.as_slice())?;
-    refuse_unknown(rt.alloc(), &script, question.asked)?;
-    answered_or_told(rt, &script, source, question, progress)
+    let race = searched_script(rt.alloc(), source.text.as_slice())?;
+    refuse_unknown(rt.alloc(), &race, question.asked)?;
+    answered_or_told(rt, &race, source, question, progress)
 }
 
 /// What is answered to a question about the outcomes of the script of a file. On a terminal it shows how far the search is.

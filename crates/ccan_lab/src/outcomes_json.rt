@@ -1,6 +1,6 @@
 //! All outcomes of a script as JSON: the data of a page that shows each.
 ghost use Rattle.std.specs.Prelude.{◌≡◌, ◌++◌, IfErr, IfOk, codes, string_bytes};
-ghost use Rattle.ccan_line.specs.Script.{fields_of};
+ghost use Rattle.ccan_outcomes.specs.RaceScript.{fields_of};
 ghost use Rattle.ccan_page.specs.Data.{data_text};
 ghost use Rattle.ccan_lab.specs.Paging.{TellsJson};
 ghost use Rattle.ccan_lab.specs.Words.{IsWithout};
@@ -13,6 +13,7 @@ use crate::telling::Query;
 use ccan_outcomes::Ending;
 use ccan_outcomes::all_ports::AllPorts;
 use ccan_page::{Page, data_of};
+use ccan_script::RaceScript;
 use ccan_search::Progress;
 use std::alloc::{AllocError, Global};
 
@@ -33,10 +34,10 @@ pub(crate) fn answer_of_json<P: Progress>(
 ) -> Result<FileAnswer, LabError>
     ensures told { IfOk result (λ answer.
         TellsJson query.now.frames (string_bytes source.now.name)
-        (fields_of query.now.script.now) ⟦<Ending as PartialEq>⟧.eq answer.text.items) }
+        (fields_of query.now.race.now) ⟦<Ending as PartialEq>⟧.eq answer.text.items) }
     ensures status { IfOk result (λ answer. answer.status ≡ 0) }
     ensures without { IfErr result (IsWithout query.now.frames
-        (fields_of query.now.script.now) ⟦<AllPorts as PartialEq>⟧.eq query.now.most) }
+        (fields_of query.now.race.now) ⟦<AllPorts as PartialEq>⟧.eq query.now.most) }
 {
     let empty = empty_page(alloc, source)?;
     let page = listed_page(alloc, query, usize::MAX, empty)?;

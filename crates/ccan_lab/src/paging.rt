@@ -11,7 +11,7 @@ pub(crate) mod outcome_pages;
 mod run_steps;
 
 use crate::command_words::{apart_from, command, file, number, switch, with};
-use crate::input::{bytes_asked, script_in};
+use crate::input::{bytes_asked, race_in, script_in};
 use crate::lab_error::LabError;
 use crate::outcomes::{frames_flag, most_of};
 use crate::paging::outcome_pages::outcomes_page;
@@ -19,7 +19,6 @@ use crate::paging::run_steps::run_page;
 use crate::progress_line::ProgressLine;
 use ccan_check::{has_member, line_spans};
 use ccan_page::{LineText, Page, page_of};
-use ccan_script::Script;
 use ccan_search::Progress;
 use clap::error::ErrorKind;
 use clap::{Arg, ArgMatches, Command, Error};
@@ -224,7 +223,6 @@ fn is_run(kind: PageKind, text: &[u8]) -> bool {
 /// The page that is asked of a script with this source.
 fn paged<'a, P: Progress>(
     alloc: Global,
-    script: Script,
     source: &'a Source,
     question: &PageQuestion<'_>,
     progress: &P,
@@ -232,10 +230,13 @@ fn paged<'a, P: Progress>(
     ensures { IfOk result (λ page. page.file.now ≡ string_bytes source.now.name) }
 {
     let page = empty_page(alloc, source)?;
-    if is_run(question.kind, source.text.as_slice()) {
+    let text = source.text.as_slice();
+    if is_run(question.kind, text) {
+        let script = script_in(alloc, text)?;
         Ok(run_page(alloc, &script, page)?)
     } else {
-        outcomes_page(alloc, script, question, page, progress)
+        let race = race_in(alloc, text)?;
+        outcomes_page(alloc, race, question, page, progress)
     }
 }
 
@@ -246,8 +247,7 @@ pub fn answer_page<T: AllocGlobal + Input + Files + Print + Eprint>(
     progress: &ProgressLine<'_, T>,
 ) -> Result<(), LabError> {
     let source = source_asked(rt, question.file)?;
-    let script = script_in(rt.alloc(), source.text.as_slice())?;
-    let made = paged(rt.alloc(), script, &source, question, progress);
+    let made = paged(rt.alloc(), &source, question, progress);
     progress.clear();
     let page = made?;
     let text = page_of(rt.alloc(), &page)?;

@@ -3,7 +3,7 @@ ghost use Rattle.std.specs.Prelude.{◌≡◌, IfOk, IfSome, List, length, true}
 ghost use Rattle.ccan_ram.specs.History.{leaves};
 ghost use Rattle.ccan_ram.specs.declared.event.Event.{Event};
 ghost use Rattle.ccan_line.specs.Order.{times};
-ghost use Rattle.ccan_line.specs.Script.{fields_of};
+ghost use Rattle.ccan_outcomes.specs.RaceScript.{fields_of};
 ghost use Rattle.ccan_lab.specs.Replay.{Replays, end_of, ends_at, won};
 
 use ccan_accept::Frame;
@@ -14,7 +14,7 @@ use ccan_outcomes::row::Row;
 use ccan_outcomes::{Ending, HistoryStep};
 use ccan_process::LineEnd;
 use ccan_ram::{Access, Array, PortName};
-use ccan_script::{Script, times};
+use ccan_script::{RaceScript, times};
 use std::alloc::{AllocError, Global};
 
 /// Names a port until it is named so often.
@@ -33,37 +33,37 @@ fn is_last(step: &HistoryStep, later: &[HistoryStep]) -> bool {
         .any(|other| other.port == step.port && other.line == step.line)
 }
 
-/// The order in which the lines of a history take their last steps. A line without a step of its own, such as `status`, comes
-/// right before the next one of its port, or after all if none is left.
+/// The order in which the lines of a history take their last steps, behind those that run before the race. A line without a step of
+/// its own, such as `status`, comes right before the next one of its port, or after all if none is left.
 pub fn order_of(
     alloc: Global,
-    script: &Script,
+    race: &RaceScript,
     steps: &[HistoryStep],
 ) -> Result<Vec<PortName>, AllocError> {
-    let mut order = Vec::new(alloc);
+    let mut order = Vec::from_slice(alloc, race.before.as_slice())?;
     for (place, step) in steps.iter().enumerate() {
         if is_last(step, &steps[place + 1..]) {
             name_up_to(&mut order, step.port, step.line)?;
         }
     }
-    name_up_to(&mut order, PortName::If1, script.if1.len())?;
-    name_up_to(&mut order, PortName::If2, script.if2.len())?;
-    name_up_to(&mut order, PortName::Bus, script.bus.len())?;
+    name_up_to(&mut order, PortName::If1, race.script.if1.len())?;
+    name_up_to(&mut order, PortName::If2, race.script.if2.len())?;
+    name_up_to(&mut order, PortName::Bus, race.script.bus.len())?;
     Ok(order)
 }
 
 /// Whether the order names each port as often as it has lines.
-fn is_order(script: &Script, order: &[PortName]) -> bool
+fn is_order(race: &RaceScript, order: &[PortName]) -> bool
     ensures if1 { result ≡ true
-        → times PortName.If1 order.now ≡ length script.now.if1.items }
+        → times PortName.If1 order.now ≡ length race.now.script.if1.items }
     ensures if2 { result ≡ true
-        → times PortName.If2 order.now ≡ length script.now.if2.items }
+        → times PortName.If2 order.now ≡ length race.now.script.if2.items }
     ensures bus { result ≡ true
-        → times PortName.Bus order.now ≡ length script.now.bus.items }
+        → times PortName.Bus order.now ≡ length race.now.script.bus.items }
 {
-    times(order, PortName::If1) == script.if1.len()
-        && times(order, PortName::If2) == script.if2.len()
-        && times(order, PortName::Bus) == script.bus.len()
+    times(order, PortName::If1) == race.script.if1.len()
+        && times(order, PortName::If2) == race.script.if2.len()
+        && times(order, PortName::Bus) == race.script.bus.len()
 }
 
 /// The frame that won the bus, by the report of a round.
@@ -152,33 +152,33 @@ fn ending_of(
 /// `None`: it doesn't name each line once.
 pub fn ending_in(
     alloc: Global,
-    script: &Script,
+    race: &RaceScript,
     frames: bool,
     order: &[PortName],
 ) -> Result<Option<Ending>, AllocError>
     ensures { IfOk result (λ found. IfSome found (λ ending.
-        Replays frames (fields_of script.now) ending order.now)) }
+        Replays frames (fields_of race.now) ending order.now)) }
 {
-    if !is_order(script, order) {
+    if !is_order(race, order) {
         return Ok(None);
     }
-    let told = tell_in(alloc, script, order)?;
-    Ok(Some(ending_of(alloc, frames, &told, script.profile)?))
+    let told = tell_in(alloc, &race.script, order)?;
+    Ok(Some(ending_of(alloc, frames, &told, race.script.profile)?))
 }
 
 /// Whether the lines, run whole one after another in this order, have the outcome, as it is reported.
 #[tactic(auto, using(crate::proofs::Told::replays_equal))]
 fn leads_to(
     alloc: Global,
-    script: &Script,
+    race: &RaceScript,
     frames: bool,
     order: &[PortName],
     ending: &Ending,
 ) -> Result<bool, AllocError>
     ensures { IfOk result (λ leads. leads ≡ true
-        → Replays frames (fields_of script.now) ending.now order.now) }
+        → Replays frames (fields_of race.now) ending.now order.now) }
 {
-    match ending_in(alloc, script, frames, order)? {
+    match ending_in(alloc, race, frames, order)? {
         Some(shown) => Ok(*ending == shown),
         None => Ok(false),
     }
@@ -188,16 +188,16 @@ fn leads_to(
 /// lines are in such an order. If the outcome is reported with frames, the run has the same.
 pub fn order_to(
     alloc: Global,
-    script: &Script,
+    race: &RaceScript,
     frames: bool,
     ending: &Ending,
     steps: &[HistoryStep],
 ) -> Result<Option<Vec<PortName>>, AllocError>
     ensures { IfOk result (λ found. IfSome found (λ order.
-        Replays frames (fields_of script.now) ending.now order.items)) }
+        Replays frames (fields_of race.now) ending.now order.items)) }
 {
-    let order = order_of(alloc, script, steps)?;
-    if leads_to(alloc, script, frames, order.as_slice(), ending)? {
+    let order = order_of(alloc, race, steps)?;
+    if leads_to(alloc, race, frames, order.as_slice(), ending)? {
         Ok(Some(order))
     } else {
         Ok(None)

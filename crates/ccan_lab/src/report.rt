@@ -1,7 +1,7 @@
 ghost use Rattle.std.specs.Prelude.{◌≡◌, ◌+◌, ◌^◌, ◌<◌, ◌≤◌, ◌++◌, List, [], ℕ, Some, IfErr, IfNone, IfOk, IfSome, OnOk, length, min, slice_get};
 ghost use Rattle.std.specs.Prelude.{string_bytes};
 ghost use Rattle.std.specs.Option.{option_map};
-ghost use Rattle.ccan_line.specs.Script.{fields_of};
+ghost use Rattle.ccan_outcomes.specs.RaceScript.{fields_of};
 ghost use Rattle.ccan_outcomes.specs.OutcomeWords.{endings_in};
 ghost use Rattle.ccan_lab.specs.declared.lab_error.LabError.TheVariants as LabError;
 ghost use Rattle.ccan_lab.specs.Counting.{count_text, greatest};
@@ -33,6 +33,7 @@ use crate::wording::add_number;
 use ccan_outcomes::all_ports::AllPorts;
 use ccan_outcomes::{Ending, Histories, OutcomeWords};
 use ccan_ram::PortName;
+use ccan_script::RaceScript;
 use ccan_search::Progress;
 use std::alloc::{AllocError, Global};
 use std::io::Write;
@@ -164,27 +165,27 @@ pub fn add_outcome<P: Progress>(
     lines: &str,
     number: usize,
 ) -> Result<(), LabError>
-    requires can { CanBeTold (fields_of telling.now.query.now.script.now) telling.now.list.now }
+    requires can { CanBeTold (fields_of telling.now.query.now.race.now) telling.now.list.now }
     requires at { slice_get (endings_in telling.now.list.now.words) number ≡ Some ending.now }
     requires few { number + 1 < 2 ^ 64 }
     ensures text { OnOk result ((added : List ℕ)
         × (string_bytes text.new ≡ string_bytes text.old ++ added)
         × IsOutcomeText (frames_in telling.now.list.now) telling.now.query.now.form
-        (fields_of telling.now.query.now.script.now) (endings_in telling.now.list.now.words)
+        (fields_of telling.now.query.now.race.now) (endings_in telling.now.list.now.words)
         lines.now number added) }
-    ensures without { IfErr result (HasNoHistory (fields_of telling.now.query.now.script.now)
+    ensures without { IfErr result (HasNoHistory (fields_of telling.now.query.now.race.now)
         ⟦<AllPorts as PartialEq>⟧.eq telling.now.query.now.most) }
 {
     let history = history_to(alloc, telling, histories, number, ending)?;
     let frames = telling.list.words.numbers.frames;
     let order = order_to(
         alloc,
-        telling.query.script,
+        telling.query.race,
         frames,
         ending,
         history.steps.as_slice(),
     )?;
-    let told = history_told(alloc, telling.query.script, telling.query.form, &history)?;
+    let told = history_told(alloc, telling.query.race, telling.query.form, &history)?;
     add_told_outcome(text, lines, number, told.as_str(), &order)?;
     Ok(())
 }
@@ -197,17 +198,17 @@ fn numbered_text<P: Progress>(
     histories: &mut Histories,
     number: usize,
 ) -> Result<Option<String>, LabError>
-    requires can { CanBeTold (fields_of telling.now.query.now.script.now) telling.now.list.now }
+    requires can { CanBeTold (fields_of telling.now.query.now.race.now) telling.now.list.now }
     requires few { number + 1 < 2 ^ 64 }
     ensures text { IfOk result (λ found. IfSome found (λ text.
         (number < length (endings_in telling.now.list.now.words))
         × IsNumberedText (frames_in telling.now.list.now) telling.now.query.now.form
-        (fields_of telling.now.query.now.script.now) (endings_in telling.now.list.now.words)
+        (fields_of telling.now.query.now.race.now) (endings_in telling.now.list.now.words)
         (all_texts choices.now) number (string_bytes text))) }
     ensures none { IfOk result (λ found. IfNone found
         (length (endings_in telling.now.list.now.words) ≤ number)) }
     ensures without { IfErr result (IsReasonAt
-        (HasNoHistory (fields_of telling.now.query.now.script.now)
+        (HasNoHistory (fields_of telling.now.query.now.race.now)
         ⟦<AllPorts as PartialEq>⟧.eq telling.now.query.now.most)
         (length (endings_in telling.now.list.now.words)) number) }
 {
@@ -235,12 +236,12 @@ fn write_outcomes<T: Eprint, W: Write>(
     telling: &Telling<'_, ProgressLine<'_, T>>,
     choices: &[Vec<&str>],
 ) -> Result<ListEnd, LabError>
-    requires can { CanBeTold (fields_of telling.now.query.now.script.now) telling.now.list.now }
+    requires can { CanBeTold (fields_of telling.now.query.now.race.now) telling.now.list.now }
     ensures written { IfOk result (λ end. IsWritten [] (AreOutcomeTexts
         (frames_in telling.now.list.now) telling.now.query.now.form
-        (fields_of telling.now.query.now.script.now) (endings_in telling.now.list.now.words)
+        (fields_of telling.now.query.now.race.now) (endings_in telling.now.list.now.words)
         (all_texts choices.now))
-        (HasNoHistory (fields_of telling.now.query.now.script.now)
+        (HasNoHistory (fields_of telling.now.query.now.race.now)
         ⟦<AllPorts as PartialEq>⟧.eq telling.now.query.now.most)
         (length (endings_in telling.now.list.now.words))
         end (W.contents writer.old) (W.contents writer.new)) }
@@ -281,11 +282,11 @@ pub fn write_listing<T: Eprint, W: Write>(
     name: &str,
     telling: &Telling<'_, ProgressLine<'_, T>>,
 ) -> Result<ListEnd, LabError>
-    requires can { CanBeTold (fields_of telling.now.query.now.script.now) telling.now.list.now }
+    requires can { CanBeTold (fields_of telling.now.query.now.race.now) telling.now.list.now }
     ensures written { IfOk result (λ end. IsWritten (heading_if is_shown name.now) (IsListingTo
         (frames_in telling.now.list.now) telling.now.query.now.form
-        (fields_of telling.now.query.now.script.now) (endings_in telling.now.list.now.words))
-        (HasNoHistory (fields_of telling.now.query.now.script.now)
+        (fields_of telling.now.query.now.race.now) (endings_in telling.now.list.now.words))
+        (HasNoHistory (fields_of telling.now.query.now.race.now)
         ⟦<AllPorts as PartialEq>⟧.eq telling.now.query.now.most)
         (length (endings_in telling.now.list.now.words))
         end (W.contents writer.old) (W.contents writer.new)) }
@@ -293,7 +294,7 @@ pub fn write_listing<T: Eprint, W: Write>(
         (W.contents writer.old) (W.contents writer.new)) }
 {
     let words = &telling.list.words;
-    let rows = all_choices(alloc, telling.query.script, words)?;
+    let rows = all_choices(alloc, telling.query.race, words)?;
     let choices = all_in_order(alloc, rows.as_slice())?;
     let head = listing_head(alloc, words, choices.as_slice())?;
     write_below(writer, is_shown, name, head.as_str())?;

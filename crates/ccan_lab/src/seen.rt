@@ -1,7 +1,7 @@
 //! A list of what can be told apart of the outcomes by some lines and objects.
 ghost use Rattle.std.specs.Prelude.{◌≡◌, ◌⊎◌, ◌+◌, ◌<◌, ◌≤◌, ◌^◌, ◌++◌, Contains, List, ℕ, IfErr, IfOk, IfSome, OnOk, Some, length, map, not, slice_get, true};
 ghost use Rattle.std.specs.Prelude.{string_bytes};
-ghost use Rattle.ccan_line.specs.Script.{fields_of};
+ghost use Rattle.ccan_outcomes.specs.RaceScript.{fields_of};
 ghost use Rattle.ccan_outcomes.specs.declared.ending.Ending.{Ending};
 ghost use Rattle.ccan_outcomes.specs.History.{IsHistoryOf};
 ghost use Rattle.ccan_outcomes.specs.Observed.{AreImages};
@@ -30,7 +30,7 @@ use ccan_language::Letter;
 use ccan_outcomes::all_ports::AllPorts;
 use ccan_outcomes::{Ending, Histories, HistoryStep, Observed, OutcomeWords};
 use ccan_ram::PortName;
-use ccan_script::Script;
+use ccan_script::RaceScript;
 use ccan_search::Progress;
 use std::alloc::{AllocError, Global};
 
@@ -76,16 +76,16 @@ fn add_seen_heading(text: &mut String, apart: usize) -> Result<(), AllocError>
 /// Whether the lines, run whole one after another in this order, show these lines, by the marks of all places.
 fn shows_lines(
     alloc: Global,
-    script: &Script,
+    race: &RaceScript,
     frames: bool,
     marks: &[bool],
     order: &[PortName],
     lines: &str,
 ) -> Result<bool, AllocError>
     ensures { IfOk result (λ shows. shows ≡ true
-        → ReplaysShown frames (fields_of script.now) marks.now lines.now order.now) }
+        → ReplaysShown frames (fields_of race.now) marks.now lines.now order.now) }
 {
-    match ending_in(alloc, script, frames, order)? {
+    match ending_in(alloc, race, frames, order)? {
         Some(whole) => {
             let rows = rows_of(alloc, &whole)?;
             Ok(observed_lines(alloc, marks, &rows)?.as_str() == lines)
@@ -98,17 +98,17 @@ fn shows_lines(
 /// lines of this history are in such an order.
 fn order_to_lines(
     alloc: Global,
-    script: &Script,
+    race: &RaceScript,
     frames: bool,
     marks: &[bool],
     lines: &str,
     steps: &[HistoryStep],
 ) -> Result<Option<Vec<PortName>>, AllocError>
     ensures { IfOk result (λ found. IfSome found (λ order.
-        ReplaysShown frames (fields_of script.now) marks.now lines.now order.items)) }
+        ReplaysShown frames (fields_of race.now) marks.now lines.now order.items)) }
 {
-    let order = order_of(alloc, script, steps)?;
-    if shows_lines(alloc, script, frames, marks, order.as_slice(), lines)? {
+    let order = order_of(alloc, race, steps)?;
+    if shows_lines(alloc, race, frames, marks, order.as_slice(), lines)? {
         Ok(Some(order))
     } else {
         Ok(None)
@@ -130,7 +130,7 @@ fn add_seen<P: Progress>(
     lines: &str,
     number: usize,
 ) -> Result<(), LabError>
-    requires can { CanBeTold (fields_of telling.now.query.now.script.now) telling.now.list.now }
+    requires can { CanBeTold (fields_of telling.now.query.now.race.now) telling.now.list.now }
     requires listed { (ending : Ending) → Contains shown.now.endings.items ending
         → Contains (endings_in telling.now.list.now.words) ending }
     requires within { place < length shown.now.endings.items }
@@ -138,12 +138,12 @@ fn add_seen<P: Progress>(
     ensures text { OnOk result ((added : List ℕ)
         × (string_bytes text.new ≡ string_bytes text.old ++ added)
         × IsTextWith
-        (IsHistoryOf (frames_in telling.now.list.now) (fields_of telling.now.query.now.script.now))
-        (IsHistoryText telling.now.query.now.form (fields_of telling.now.query.now.script.now))
+        (IsHistoryOf (frames_in telling.now.list.now) (fields_of telling.now.query.now.race.now))
+        (IsHistoryText telling.now.query.now.form (fields_of telling.now.query.now.race.now))
         (λ _. ReplaysShown (frames_in telling.now.list.now)
-        (fields_of telling.now.query.now.script.now) marks.now lines.now)
+        (fields_of telling.now.query.now.race.now) marks.now lines.now)
         shown.now.endings.items place lines.now number added) }
-    ensures without { IfErr result (HasNoHistory (fields_of telling.now.query.now.script.now)
+    ensures without { IfErr result (HasNoHistory (fields_of telling.now.query.now.race.now)
         ⟦<AllPorts as PartialEq>⟧.eq telling.now.query.now.most) }
 {
     let ending = &shown.endings[place];
@@ -151,8 +151,8 @@ fn add_seen<P: Progress>(
     let history = history_by_word(alloc, telling, histories, word, ending)?;
     let steps = history.steps.as_slice();
     let frames = telling.list.words.numbers.frames;
-    let order = order_to_lines(alloc, telling.query.script, frames, marks, lines, steps)?;
-    let told = history_told(alloc, telling.query.script, telling.query.form, &history)?;
+    let order = order_to_lines(alloc, telling.query.race, frames, marks, lines, steps)?;
+    let told = history_told(alloc, telling.query.race, telling.query.form, &history)?;
     add_told_outcome(text, lines, number, told.as_str(), &order)?;
     Ok(())
 }
@@ -169,7 +169,7 @@ fn add_if_new<P: Progress>(
     place: usize,
     number: usize,
 ) -> Result<bool, LabError>
-    requires can { CanBeTold (fields_of telling.now.query.now.script.now) telling.now.list.now }
+    requires can { CanBeTold (fields_of telling.now.query.now.race.now) telling.now.list.now }
     requires listed { (ending : Ending) → Contains shown.now.endings.items ending
         → Contains (endings_in telling.now.list.now.words) ending }
     requires as_many { length texts.now.lines.items ≡ length shown.now.endings.items }
@@ -181,11 +181,11 @@ fn add_if_new<P: Progress>(
     ensures text { OnOk result ((added : List ℕ)
         × (string_bytes text.new ≡ string_bytes text.old ++ added)
         × IsFirstText (IsSeenText (frames_in telling.now.list.now) telling.now.query.now.form
-        (fields_of telling.now.query.now.script.now) marks.now
+        (fields_of telling.now.query.now.race.now) marks.now
         shown.now.endings.items (map string_bytes texts.now.lines.items))
         (is_repeat (map string_bytes texts.now.lines.items) place)
         (text_at (map string_bytes texts.now.lines.items) place) place added) }
-    ensures without { IfErr result (HasNoHistory (fields_of telling.now.query.now.script.now)
+    ensures without { IfErr result (HasNoHistory (fields_of telling.now.query.now.race.now)
         ⟦<AllPorts as PartialEq>⟧.eq telling.now.query.now.most) }
 {
     if texts.is_repeat(place) {
@@ -207,7 +207,7 @@ fn add_all_seen<P: Progress>(
     shown: &Shown,
     texts: &ShownTexts,
 ) -> Result<usize, LabError>
-    requires can { CanBeTold (fields_of telling.now.query.now.script.now) telling.now.list.now }
+    requires can { CanBeTold (fields_of telling.now.query.now.race.now) telling.now.list.now }
     requires listed { (ending : Ending) → Contains shown.now.endings.items ending
         → Contains (endings_in telling.now.list.now.words) ending }
     requires as_many { length texts.now.lines.items ≡ length shown.now.endings.items }
@@ -216,10 +216,10 @@ fn add_all_seen<P: Progress>(
     ensures text { OnOk result ((added : List ℕ)
         × (string_bytes text.new ≡ string_bytes text.old ++ added)
         × AreFirstTexts (IsSeenText (frames_in telling.now.list.now) telling.now.query.now.form
-        (fields_of telling.now.query.now.script.now) marks.now
+        (fields_of telling.now.query.now.race.now) marks.now
         shown.now.endings.items (map string_bytes texts.now.lines.items))
         (map string_bytes texts.now.lines.items) (length shown.now.endings.items) added) }
-    ensures without { IfErr result (HasNoHistory (fields_of telling.now.query.now.script.now)
+    ensures without { IfErr result (HasNoHistory (fields_of telling.now.query.now.race.now)
         ⟦<AllPorts as PartialEq>⟧.eq telling.now.query.now.most) }
 {
     let mut histories = Histories::new(alloc);
@@ -268,13 +268,13 @@ fn seen_listing<P: Progress>(
     marks: &[bool],
     shown: &Shown,
 ) -> Result<String, LabError>
-    requires can { CanBeTold (fields_of telling.now.query.now.script.now) telling.now.list.now }
+    requires can { CanBeTold (fields_of telling.now.query.now.race.now) telling.now.list.now }
     requires listed { (ending : Ending) → Contains shown.now.endings.items ending
         → Contains (endings_in telling.now.list.now.words) ending }
     ensures text { IfOk result (λ text. IsSeenListing (frames_in telling.now.list.now)
-        telling.now.query.now.form (fields_of telling.now.query.now.script.now) marks.now
+        telling.now.query.now.form (fields_of telling.now.query.now.race.now) marks.now
         shown.now.endings.items (string_bytes text)) }
-    ensures without { IfErr result (HasNoHistory (fields_of telling.now.query.now.script.now)
+    ensures without { IfErr result (HasNoHistory (fields_of telling.now.query.now.race.now)
         ⟦<AllPorts as PartialEq>⟧.eq telling.now.query.now.most) }
 {
     let lines = shown_texts(alloc, marks, shown)?;
@@ -290,7 +290,7 @@ fn shown_of<P: Progress>(
     telling: &Telling<'_, P>,
     marks: &[bool],
 ) -> Result<Shown, LabError>
-    requires can { CanBeTold (fields_of telling.now.query.now.script.now) telling.now.list.now }
+    requires can { CanBeTold (fields_of telling.now.query.now.race.now) telling.now.list.now }
     ensures shown { IfOk result (λ shown. AreShownOf marks.now
         (endings_in telling.now.list.now.words) shown.endings.items) }
     ensures without { IfErr result
@@ -309,13 +309,13 @@ fn seen_of<P: Progress>(
     telling: &Telling<'_, P>,
     marks: &[bool],
 ) -> Result<String, LabError>
-    requires can { CanBeTold (fields_of telling.now.query.now.script.now) telling.now.list.now }
+    requires can { CanBeTold (fields_of telling.now.query.now.race.now) telling.now.list.now }
     ensures text { IfOk result (λ text. ListsSeen (frames_in telling.now.list.now)
-        telling.now.query.now.form (fields_of telling.now.query.now.script.now) marks.now
+        telling.now.query.now.form (fields_of telling.now.query.now.race.now) marks.now
         (endings_in telling.now.list.now.words) (string_bytes text)) }
     ensures without { IfErr result (λ why.
         HasNoImages telling.now.list.now.words marks.now telling.now.query.now.most why
-        ⊎ HasNoHistory (fields_of telling.now.query.now.script.now) ⟦<AllPorts as PartialEq>⟧.eq
+        ⊎ HasNoHistory (fields_of telling.now.query.now.race.now) ⟦<AllPorts as PartialEq>⟧.eq
         telling.now.query.now.most why) }
 {
     let shown = shown_of(alloc, telling, marks)?;
@@ -329,12 +329,12 @@ fn seen_of_list<P: Progress>(
     list: OutcomeList,
     marks: &[bool],
 ) -> Result<String, LabError>
-    requires can { CanBeTold (fields_of query.now.script.now) list }
+    requires can { CanBeTold (fields_of query.now.race.now) list }
     ensures text { IfOk result (λ text.
-        ListsSeen (frames_in list) query.now.form (fields_of query.now.script.now)
+        ListsSeen (frames_in list) query.now.form (fields_of query.now.race.now)
         marks.now (endings_in list.words) (string_bytes text)) }
     ensures without { IfErr result (λ why. HasNoImages list.words marks.now query.now.most why
-        ⊎ HasNoHistory (fields_of query.now.script.now) ⟦<AllPorts as PartialEq>⟧.eq
+        ⊎ HasNoHistory (fields_of query.now.race.now) ⟦<AllPorts as PartialEq>⟧.eq
         query.now.most why) }
 {
     let telling = Telling { query, list: &list };
@@ -353,12 +353,12 @@ pub fn seen_text<P: Progress>(
 ) -> Result<String, LabError>
     ensures text { IfOk result (λ text.
         TellsSeen query.now.frames query.now.form (names_in names.now)
-        (fields_of query.now.script.now) ⟦<Ending as PartialEq>⟧.eq (string_bytes text)) }
+        (fields_of query.now.race.now) ⟦<Ending as PartialEq>⟧.eq (string_bytes text)) }
     ensures without { IfErr result
-        (HasNoSeenList query.now.frames (names_in names.now) (fields_of query.now.script.now)
+        (HasNoSeenList query.now.frames (names_in names.now) (fields_of query.now.race.now)
         ⟦<AllPorts as PartialEq>⟧.eq query.now.most) }
 {
-    let marks = marks_of(alloc, query.script, names)?;
+    let marks = marks_of(alloc, query.race, names)?;
     let list = list_asked(alloc, query)?;
     seen_of_list(alloc, query, list, marks.as_slice())
 }

@@ -1,7 +1,7 @@
 //! The short list of outcomes: what each line may be.
 ghost use Rattle.std.specs.Prelude.{◌≡◌, ◌+◌, ◌-◌, ◌^◌, ◌<◌, ◌≤◌, ◌++◌, List, ℕ, Some, IfOk, OnOk, codes, length, map, min, slice_get, string_bytes};
 ghost use Rattle.std.specs.List.{flat_map};
-ghost use Rattle.ccan_line.specs.Script.{fields_of};
+ghost use Rattle.ccan_outcomes.specs.RaceScript.{fields_of};
 ghost use Rattle.ccan_outcomes.specs.declared.ending.Ending.{Ending};
 ghost use Rattle.ccan_outcomes.specs.LineEnds.{AreSaidOfLines, SayAllEnds, SayWholeOutcomes};
 ghost use Rattle.ccan_outcomes.specs.OutcomeWords.{AreComplete, AreOfLines, IsComplete, endings_in};
@@ -19,7 +19,7 @@ use crate::place::{LineCounts, add_place_name};
 use crate::rows::Rows;
 use crate::wording::add_number;
 use ccan_outcomes::{ByLine, LineEnds, OutcomeWords};
-use ccan_script::Script;
+use ccan_script::RaceScript;
 use std::alloc::{AllocError, Global};
 
 /// Adds a line that is the same in all outcomes.
@@ -140,15 +140,15 @@ pub fn all_in_order<'a>(alloc: Global, all: &'a [Rows]) -> Result<Vec<Vec<&'a st
 }
 
 /// How many lines the ports of a script have.
-fn counts_of(script: &Script) -> LineCounts
-    ensures if1 { result.if1 ≡ length script.now.if1.items }
-    ensures if2 { result.if2 ≡ length script.now.if2.items }
-    ensures bus { result.bus ≡ length script.now.bus.items }
+fn counts_of(race: &RaceScript) -> LineCounts
+    ensures if1 { result.if1 ≡ length race.now.script.if1.items }
+    ensures if2 { result.if2 ≡ length race.now.script.if2.items }
+    ensures bus { result.bus ≡ length race.now.script.bus.items }
 {
     LineCounts {
-        if1: script.if1.len(),
-        if2: script.if2.len(),
-        bus: script.bus.len(),
+        if1: race.script.if1.len(),
+        if2: race.script.if2.len(),
+        bus: race.script.bus.len(),
     }
 }
 
@@ -156,44 +156,48 @@ fn counts_of(script: &Script) -> LineCounts
 fn add_parts<T: ByLine>(
     text: &mut String,
     alloc: Global,
-    script: &Script,
+    race: &RaceScript,
     outcomes: &T,
 ) -> Result<(), AllocError>
     requires letters { T.has_all outcomes.now }
     requires complete { (ending : Ending) → T.is_outcome outcomes.now ending
-        → IsComplete (fields_of script.now) ending }
-    ensures { OnOk result (AddsChoices (fields_of script.now) (T.is_outcome outcomes.now)
+        → IsComplete (fields_of race.now) ending }
+    ensures { OnOk result (AddsChoices (fields_of race.now) (T.is_outcome outcomes.now)
         (string_bytes text.old) (string_bytes text.new)) }
 {
-    let choices = all_choices(alloc, script, outcomes)?;
+    let choices = all_choices(alloc, race, outcomes)?;
     let sorted = all_in_order(alloc, choices.as_slice())?;
     add_same_parts(text, sorted.as_slice())?;
-    add_choice_parts(text, &counts_of(script), sorted.as_slice())?;
+    add_choice_parts(text, &counts_of(race), sorted.as_slice())?;
     Ok(())
 }
 
 /// What each line may be in the outcomes of a script.
-fn summary(alloc: Global, script: &Script, words: &OutcomeWords) -> Result<String, AllocError>
+fn summary(alloc: Global, race: &RaceScript, words: &OutcomeWords) -> Result<String, AllocError>
     requires letters { AreOfLines words.now }
-    requires complete { AreComplete (fields_of script.now) (endings_in words.now) }
+    requires complete { AreComplete (fields_of race.now) (endings_in words.now) }
     ensures { IfOk result (λ text.
-        IsSummary (fields_of script.now) (endings_in words.now) (string_bytes text)) }
+        IsSummary (fields_of race.now) (endings_in words.now) (string_bytes text)) }
 {
     let number = words.count();
     let mut text = count_text(alloc, number)?;
-    add_parts(&mut text, alloc, script, words)?;
+    add_parts(&mut text, alloc, race, words)?;
     add_closing(&mut text, number)?;
     Ok(text)
 }
 
 /// What each line may be in the outcomes of a script, which are dropped.
-pub fn short_list(alloc: Global, script: &Script, words: OutcomeWords) -> Result<String, AllocError>
+pub fn short_list(
+    alloc: Global,
+    race: &RaceScript,
+    words: OutcomeWords,
+) -> Result<String, AllocError>
     requires letters { AreOfLines words }
-    requires complete { AreComplete (fields_of script.now) (endings_in words) }
+    requires complete { AreComplete (fields_of race.now) (endings_in words) }
     ensures { IfOk result (λ text.
-        IsSummary (fields_of script.now) (endings_in words) (string_bytes text)) }
+        IsSummary (fields_of race.now) (endings_in words) (string_bytes text)) }
 {
-    summary(alloc, script, &words)
+    summary(alloc, race, &words)
 }
 
 /// The line that stands where the number of outcomes would: they need more nodes than these.
@@ -210,19 +214,19 @@ fn unknown_text(alloc: Global, most: usize) -> Result<String, AllocError>
 /// What each line may be in the outcomes of a script, without their number: they need more nodes than these.
 pub fn list_without_number(
     alloc: Global,
-    script: &Script,
+    race: &RaceScript,
     lines: &LineEnds,
     frames: bool,
     most: usize,
 ) -> Result<String, AllocError>
-    requires why { TellsManyWords frames (fields_of script.now) most }
-    requires ends { SayAllEnds frames (fields_of script.now) lines.now }
-    requires whole { SayWholeOutcomes (fields_of script.now) lines.now }
+    requires why { TellsManyWords frames (fields_of race.now) most }
+    requires ends { SayAllEnds frames (fields_of race.now) lines.now }
+    requires whole { SayWholeOutcomes (fields_of race.now) lines.now }
     requires said { AreSaidOfLines lines.now }
     ensures { IfOk result (λ text.
-        TellsWithoutNumber frames (fields_of script.now) most (string_bytes text)) }
+        TellsWithoutNumber frames (fields_of race.now) most (string_bytes text)) }
 {
     let mut text = unknown_text(alloc, most)?;
-    add_parts(&mut text, alloc, script, lines)?;
+    add_parts(&mut text, alloc, race, lines)?;
     Ok(text)
 }

@@ -1,7 +1,7 @@
 //! The outcomes of a script, shown one by one, each with a history.
 ghost use Rattle.std.specs.Prelude.{◌≡◌, [], Contains, IfErr, IfOk, Some, slice_get};
 ghost use Rattle.std.specs.List.{IsDistinct};
-ghost use Rattle.ccan_line.specs.Script.{fields_of};
+ghost use Rattle.ccan_outcomes.specs.RaceScript.{fields_of};
 ghost use Rattle.ccan_outcomes.specs.Ending.{AreAllEnds, AreOutcomes};
 ghost use Rattle.ccan_outcomes.specs.History.{IsHistoryOf};
 ghost use Rattle.ccan_outcomes.specs.OutcomeWords.{endings_in};
@@ -15,7 +15,7 @@ use crate::outcome_words::{OutcomeList, list_of};
 use ccan_language::Letter;
 use ccan_outcomes::all_ports::AllPorts;
 use ccan_outcomes::{Ending, Histories, History, HistoryStep, searched_history};
-use ccan_script::Script;
+use ccan_script::RaceScript;
 use ccan_search::Progress;
 use std::alloc::Global;
 
@@ -23,7 +23,7 @@ use std::alloc::Global;
 #[derive(Clone, Copy)]
 pub struct Query<'a, P: Progress> {
     /// The script.
-    pub script: &'a Script,
+    pub race: &'a RaceScript,
     /// Whether outcomes are told apart by the frames that won the bus, and show them.
     pub frames: bool,
     /// How many states a search keeps at most, and how many nodes the words of the outcomes have.
@@ -46,23 +46,17 @@ pub struct Telling<'a, P: Progress> {
 /// All outcomes of the script, as it is asked.
 pub fn list_asked<P: Progress>(alloc: Global, query: &Query<'_, P>) -> Result<OutcomeList, LabError>
     ensures all { IfOk result (λ list.
-        AreOutcomes (fields_of query.now.script.now) (endings_in list.words)) }
+        AreOutcomes (fields_of query.now.race.now) (endings_in list.words)) }
     ensures distinct { IfOk result (λ list.
         IsDistinct ⟦<Ending as PartialEq>⟧.eq (endings_in list.words)) }
     ensures ends { IfOk result (λ list.
-        AreAllEnds query.now.frames (fields_of query.now.script.now) (endings_in list.words)) }
+        AreAllEnds query.now.frames (fields_of query.now.race.now) (endings_in list.words)) }
     ensures frames { IfOk result (λ list. frames_in list ≡ query.now.frames) }
-    ensures told { IfOk result (CanBeTold (fields_of query.now.script.now)) }
+    ensures told { IfOk result (CanBeTold (fields_of query.now.race.now)) }
     ensures without { IfErr result (HasNoWords query.now.frames
-        (fields_of query.now.script.now) ⟦<AllPorts as PartialEq>⟧.eq query.now.most) }
+        (fields_of query.now.race.now) ⟦<AllPorts as PartialEq>⟧.eq query.now.most) }
 {
-    list_of(
-        alloc,
-        query.script,
-        query.frames,
-        query.most,
-        query.progress,
-    )
+    list_of(alloc, query.race, query.frames, query.most, query.progress)
 }
 
 /// A history whose states are not known.
@@ -85,26 +79,26 @@ pub fn history_by_word<P: Progress>(
     word: Vec<Letter>,
     ending: &Ending,
 ) -> Result<History, LabError>
-    requires can { CanBeTold (fields_of telling.now.query.now.script.now) telling.now.list.now }
+    requires can { CanBeTold (fields_of telling.now.query.now.race.now) telling.now.list.now }
     requires listed { Contains (endings_in telling.now.list.now.words) ending.now }
     ensures history { IfOk result (λ history.
-        IsHistoryOf (frames_in telling.now.list.now) (fields_of telling.now.query.now.script.now)
+        IsHistoryOf (frames_in telling.now.list.now) (fields_of telling.now.query.now.race.now)
         ending.now history.steps.items) }
     ensures states { IfOk result (λ history.
-        AreAllOrNone (fields_of telling.now.query.now.script.now)
+        AreAllOrNone (fields_of telling.now.query.now.race.now)
         history.steps.items history.states.items) }
-    ensures without { IfErr result (HasNoHistory (fields_of telling.now.query.now.script.now)
+    ensures without { IfErr result (HasNoHistory (fields_of telling.now.query.now.race.now)
         ⟦<AllPorts as PartialEq>⟧.eq telling.now.query.now.most) }
 {
-    let script = telling.query.script;
+    let race = telling.query.race;
     let OutcomeList { words, graph } = telling.list;
-    let found = histories.history(alloc, script, graph, words, word, ending)?;
+    let found = histories.history(alloc, race, graph, words, word, ending)?;
     if let Some(history) = found {
         return Ok(history);
     }
     match searched_history(
         alloc,
-        script,
+        race,
         words.numbers.frames,
         ending,
         telling.query.most,
@@ -123,15 +117,15 @@ pub fn history_to<P: Progress>(
     number: usize,
     ending: &Ending,
 ) -> Result<History, LabError>
-    requires can { CanBeTold (fields_of telling.now.query.now.script.now) telling.now.list.now }
+    requires can { CanBeTold (fields_of telling.now.query.now.race.now) telling.now.list.now }
     requires at { slice_get (endings_in telling.now.list.now.words) number ≡ Some ending.now }
     ensures history { IfOk result (λ history.
-        IsHistoryOf (frames_in telling.now.list.now) (fields_of telling.now.query.now.script.now)
+        IsHistoryOf (frames_in telling.now.list.now) (fields_of telling.now.query.now.race.now)
         ending.now history.steps.items) }
     ensures states { IfOk result (λ history.
-        AreAllOrNone (fields_of telling.now.query.now.script.now)
+        AreAllOrNone (fields_of telling.now.query.now.race.now)
         history.steps.items history.states.items) }
-    ensures without { IfErr result (HasNoHistory (fields_of telling.now.query.now.script.now)
+    ensures without { IfErr result (HasNoHistory (fields_of telling.now.query.now.race.now)
         ⟦<AllPorts as PartialEq>⟧.eq telling.now.query.now.most) }
 {
     let Some(word) = telling.list.words.word(alloc, number as u64)? else {

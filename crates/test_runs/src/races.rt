@@ -1,7 +1,7 @@
 //! The outcomes of scripts in which two hosts race, worked by hand. Lists of outcomes are held to what can come of a script with
 //! the program that prints them.
 ghost use Rattle.std.specs.Prelude.{◌≡◌, Some, false, slice_get};
-ghost use Rattle.ccan_line.specs.Script.{fields_of};
+ghost use Rattle.ccan_outcomes.specs.RaceScript.{fields_of};
 ghost use Rattle.ccan_outcomes.specs.AnswerGraph.{IsOfMachine};
 ghost use Rattle.ccan_outcomes.specs.Ending.{AreAllEnds};
 ghost use Rattle.ccan_outcomes.specs.LineEnds.{AreSaidOfLines};
@@ -9,7 +9,6 @@ ghost use Rattle.ccan_outcomes.specs.Observed.{AreImages};
 ghost use Rattle.ccan_outcomes.specs.OutcomeWords.{AreOfLines, endings_in};
 
 use crate::expect::{holds, same};
-use crate::runs::read;
 use ccan_accept::Frame;
 use ccan_bus::RoundAnswer;
 use ccan_object::{ObjectNo, Record};
@@ -21,7 +20,7 @@ use ccan_outcomes::{
 };
 use ccan_process::LineEnd;
 use ccan_ram::PortName;
-use ccan_script::{LineAnswer, Script};
+use ccan_script::{LineAnswer, RaceScript, read_race};
 use ccan_search::Untold;
 use std::alloc::Global;
 use std::process::Abort;
@@ -35,6 +34,13 @@ const TWO_WRITES: &str = r#"{
 /// They do, and may try it once.
 const ONE_TRY: &str = r#"{
     "tries":1,
+    "if1":[{"op":"transfer","request":"0001","set":{"cmask":"0082","dataa1":"1111"}}],
+    "if2":[{"op":"transfer","request":"0001","set":{"cmask":"0082","dataa1":"2222"}}]
+}"#;
+
+/// They do, but one wrote before the other begins.
+const ONE_BEHIND_THE_OTHER: &str = r#"{
+    "before":["if1"],
     "if1":[{"op":"transfer","request":"0001","set":{"cmask":"0082","dataa1":"1111"}}],
     "if2":[{"op":"transfer","request":"0001","set":{"cmask":"0082","dataa1":"2222"}}]
 }"#;
@@ -67,6 +73,14 @@ const WRITE_BEFORE_A_LOOP: &str = r#"{
     "bus":[{"op":"loopback","on":1},{"op":"round"}]
 }"#;
 
+/// The race that a text says.
+fn race_of(rt: &impl Abort, alloc: Global, text: &str) -> RaceScript {
+    match read_race(alloc, text.as_bytes()) {
+        Ok(race) => race,
+        Err(_) => panic!(rt; "no script"),
+    }
+}
+
 /// Holds a history to four steps, each of line 1 at object 1, the last of which writes.
 fn writes_at_last(rt: &impl Abort, history: &[HistoryStep]) {
     same(rt, history.len(), 4);
@@ -80,13 +94,13 @@ fn writes_at_last(rt: &impl Abort, history: &[HistoryStep]) {
 }
 
 /// How many outcomes a script has. Each has to have such a history.
-fn races(rt: &impl Abort, alloc: Global, script: &Script) -> usize {
-    let Ok(Some(found)) = all_outcomes(alloc, script, false, 1000, &Untold) else {
+fn races(rt: &impl Abort, alloc: Global, race: &RaceScript) -> usize {
+    let Ok(Some(found)) = all_outcomes(alloc, race, false, 1000, &Untold) else {
         panic!(rt; "not all outcomes")
     };
     let endings = found.listing.endings.len();
     for place in 0..endings {
-        let Ok(history) = history_of(alloc, script, false, &found, place) else {
+        let Ok(history) = history_of(alloc, race, false, &found, place) else {
             panic!(rt; "no memory")
         };
         writes_at_last(rt, history.as_slice());
@@ -97,14 +111,14 @@ fn races(rt: &impl Abort, alloc: Global, script: &Script) -> usize {
 #[test]
 fn answers_a_history_of_each_outcome(rt: HostRuntime) {
     // A look and a change of each host lead to an end, so four steps after the start. Either host may write last.
-    let script = read(&rt, rt.alloc(), TWO_WRITES);
-    same(&rt, races(&rt, rt.alloc(), &script), 2);
+    let race = race_of(&rt, rt.alloc(), TWO_WRITES);
+    same(&rt, races(&rt, rt.alloc(), &race), 2);
 }
 
 /// The graph of a script's outcomes.
 fn graph(rt: &impl Abort, alloc: Global, text: &str) -> AnswerGraph {
-    let script = read(rt, alloc, text);
-    match answer_graph(alloc, &script, 1000, &Untold) {
+    let race = race_of(rt, alloc, text);
+    match answer_graph(alloc, &race, 1000, &Untold) {
         Ok(Some(found)) => found,
         Ok(None) | Err(_) => panic!(rt; "not all outcomes"),
     }
@@ -151,9 +165,9 @@ fn finds_who_loses_the_only_try(rt: HostRuntime) {
 fn words_with(rt: &impl Abort, alloc: Global, text: &str, frames: bool) -> OutcomeWords
     ensures { AreOfLines result }
 {
-    let script = read(rt, alloc, text);
-    match answer_graph(alloc, &script, 1000, &Untold) {
-        Ok(Some(graph)) => match words_of_graph(alloc, &script, &graph, frames, 1000) {
+    let race = race_of(rt, alloc, text);
+    match answer_graph(alloc, &race, 1000, &Untold) {
+        Ok(Some(graph)) => match words_of_graph(alloc, &race, &graph, frames, 1000) {
             Ok(Some(words)) => words,
             Ok(None) | Err(_) => panic!(rt; "not all words"),
         },
@@ -274,9 +288,9 @@ fn says_what_each_line_may_answer(rt: HostRuntime) {
 fn line_ends(rt: &impl Abort, alloc: Global, text: &str) -> LineEnds
     ensures { AreSaidOfLines result }
 {
-    let script = read(rt, alloc, text);
-    match answer_graph(alloc, &script, 1000, &Untold) {
-        Ok(Some(graph)) => match line_ends_of(alloc, &script, &graph, false) {
+    let race = race_of(rt, alloc, text);
+    match answer_graph(alloc, &race, 1000, &Untold) {
+        Ok(Some(graph)) => match line_ends_of(alloc, &race, &graph, false) {
             Ok(lines) => lines,
             Err(_) => panic!(rt; "memory"),
         },
@@ -297,6 +311,14 @@ fn left(rt: &impl Abort, alloc: Global, words: &OutcomeWords, number: u64) -> u8
         Some(record) => first_byte(record),
         None => panic!(rt; "no object"),
     }
+}
+
+#[test]
+fn begins_behind_what_runs_before_a_race(rt: HostRuntime) {
+    // IF1 has written, so the write of IF2 is the last.
+    let outcomes = words(&rt, rt.alloc(), ONE_BEHIND_THE_OTHER);
+    same(&rt, outcomes.count(), 1);
+    same(&rt, left(&rt, rt.alloc(), &outcomes, 0), 0x22);
 }
 
 #[test]
@@ -405,12 +427,12 @@ fn ends_with(rt: &impl Abort, states: &[AllPorts], ending: &Ending) {
 fn hold_histories(
     rt: &impl Abort,
     alloc: Global,
-    script: &Script,
+    race: &RaceScript,
     graph: &AnswerGraph,
     words: &OutcomeWords,
 )
-    requires machine { IsOfMachine (fields_of script.now) graph.now }
-    requires ends { AreAllEnds false (fields_of script.now) (endings_in words.now) }
+    requires machine { IsOfMachine (fields_of race.now) graph.now }
+    requires ends { AreAllEnds false (fields_of race.now) (endings_in words.now) }
 {
     let mut histories = Histories::new(alloc);
     for number in 0..words.count() {
@@ -418,7 +440,7 @@ fn hold_histories(
         let Ok(Some(word)) = words.word(alloc, number) else {
             panic!(rt; "no such outcome")
         };
-        match histories.history(alloc, script, graph, words, word, &ending) {
+        match histories.history(alloc, race, graph, words, word, &ending) {
             Ok(Some(history)) => {
                 writes_at_last(rt, history.steps.as_slice());
                 same(rt, history.states.len(), 5);
@@ -426,7 +448,7 @@ fn hold_histories(
             }
             Ok(None) | Err(_) => panic!(rt; "no history along the graph"),
         }
-        match searched_history(alloc, script, false, &ending, 1000, &Untold) {
+        match searched_history(alloc, race, false, &ending, 1000, &Untold) {
             Ok(Some(history)) => same(rt, history.len(), 4),
             Ok(None) | Err(_) => panic!(rt; "no history"),
         }
@@ -435,11 +457,11 @@ fn hold_histories(
 
 /// How many outcomes a script has. Each has to have such histories.
 fn told(rt: &impl Abort, alloc: Global, text: &str) -> u64 {
-    let script = read(rt, alloc, text);
-    match answer_graph(alloc, &script, 1000, &Untold) {
-        Ok(Some(graph)) => match words_of_graph(alloc, &script, &graph, false, 1000) {
+    let race = race_of(rt, alloc, text);
+    match answer_graph(alloc, &race, 1000, &Untold) {
+        Ok(Some(graph)) => match words_of_graph(alloc, &race, &graph, false, 1000) {
             Ok(Some(words)) => {
-                hold_histories(rt, alloc, &script, &graph, &words);
+                hold_histories(rt, alloc, &race, &graph, &words);
                 words.count()
             }
             Ok(None) | Err(_) => panic!(rt; "not all words"),

@@ -6,7 +6,7 @@ use ccan_bus::{LoadAnswer, RoundAnswer};
 use ccan_object::{DataLength, Identifier, ObjectNo, Profile, Record};
 use ccan_outcomes::looking_once;
 use ccan_ram::{Flag, PortName};
-use ccan_script::{HostLine, LineAnswer, PrintedLine, Script, print_final, print_line};
+use ccan_script::{HostLine, LineAnswer, PrintedLine, RaceScript, Script, print_final, print_line};
 use std::alloc::Global;
 use std::process::Abort;
 
@@ -40,8 +40,8 @@ const MOST: &str = r#"{"nodes":8,"tries":1000,"quota":4096,"profile":2,
 
 /// The same script with waits that look once.
 fn looks_once(rt: &impl Abort, alloc: Global, script: Script) -> Script {
-    match looking_once(alloc, script) {
-        Ok(script) => script,
+    match looking_once(alloc, RaceScript::at_once(alloc, script)) {
+        Ok(race) => race.script,
         Err(_) => panic!(rt; "no memory"),
     }
 }

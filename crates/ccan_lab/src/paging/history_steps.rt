@@ -12,7 +12,7 @@ use ccan_outcomes::{Ending, HistoryKind, HistoryStep};
 use ccan_page as page;
 use ccan_page::{Change, ObjectChange, SentFrame};
 use ccan_ram::PortName;
-use ccan_script::Script;
+use ccan_script::RaceScript;
 use std::alloc::{AllocError, Global};
 
 /// A change, if it is one.
@@ -54,11 +54,11 @@ fn objects_of(alloc: Global, moved: &Moved<'_>) -> Result<Vec<ObjectChange>, All
 }
 
 /// The frame that was on the bus in a step: the winner of a decision.
-fn frame_of(script: &Script, step: &HistoryStep, moved: &Moved<'_>) -> Option<SentFrame> {
+fn frame_of(race: &RaceScript, step: &HistoryStep, moved: &Moved<'_>) -> Option<SentFrame> {
     if step.kind != HistoryKind::Decides {
         return None;
     }
-    let (node, frame) = winner_at(script, step.line, moved.before)?;
+    let (node, frame) = winner_at(race, step.line, moved.before)?;
     Some(SentFrame { node, frame })
 }
 
@@ -95,13 +95,13 @@ struct Seen {
 /// What the states before and after a step show of it; nothing if one of them is not known.
 fn seen_of(
     alloc: Global,
-    script: &Script,
+    race: &RaceScript,
     step: &HistoryStep,
     moved: Option<Moved<'_>>,
 ) -> Result<Seen, AllocError> {
     match moved {
         Some(moved) => Ok(Seen {
-            frame: frame_of(script, step, &moved),
+            frame: frame_of(race, step, &moved),
             registers: registers_of(&moved, step.port),
             objects: objects_of(alloc, &moved)?,
         }),
@@ -116,7 +116,7 @@ fn seen_of(
 /// A step of a history, as a page shows it, by the steps after it and the states around it.
 fn shown_step(
     alloc: Global,
-    script: &Script,
+    race: &RaceScript,
     step: &HistoryStep,
     later: &[HistoryStep],
     moved: Option<Moved<'_>>,
@@ -130,7 +130,7 @@ fn shown_step(
         frame,
         registers,
         objects,
-    } = seen_of(alloc, script, step, moved)?;
+    } = seen_of(alloc, race, step, moved)?;
     Ok(page::Step {
         port: step.port,
         line: step.line.saturating_sub(1),
@@ -146,7 +146,7 @@ fn shown_step(
 /// The steps of a history, as a page shows them: one for each.
 pub(crate) fn shown_history(
     alloc: Global,
-    script: &Script,
+    race: &RaceScript,
     steps: &[HistoryStep],
     states: &[AllPorts],
     ending: &Ending,
@@ -157,7 +157,7 @@ pub(crate) fn shown_history(
     for step in steps {
         let place = made.len();
         let later = behind(steps, place.saturating_add(1));
-        made.push(shown_step(alloc, script, step, later, moved_at(states, place), ending)?)?;
+        made.push(shown_step(alloc, race, step, later, moved_at(states, place), ending)?)?;
     }
     Ok(made)
 }

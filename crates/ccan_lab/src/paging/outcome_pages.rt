@@ -1,6 +1,6 @@
 //! The outcomes of a script, as a page shows them.
 ghost use Rattle.std.specs.Prelude.{◌≡◌, ◌+◌, ◌^◌, ◌++◌, ◌∷◌, [], ◌<◌, Some, IfErr, IfOk, OnOk, length, map, min, slice_get};
-ghost use Rattle.ccan_line.specs.Script.{fields_of};
+ghost use Rattle.ccan_outcomes.specs.RaceScript.{fields_of};
 ghost use Rattle.ccan_outcomes.specs.OutcomeWords.{endings_in};
 ghost use Rattle.ccan_lab.specs.Paging.{AreShown, IsShown, ShowsEndings, ShowsList, ShowsOutcomes};
 ghost use Rattle.ccan_lab.specs.Paging.{line_of, line_stepped};
@@ -23,7 +23,7 @@ use ccan_outcomes::{Ending, Histories, History, HistoryStep, looking_once};
 use ccan_page as page;
 use ccan_page::{Outcome, Page};
 use ccan_ram::PortName;
-use ccan_script::Script;
+use ccan_script::RaceScript;
 use ccan_search::Progress;
 use std::alloc::{AllocError, Global};
 
@@ -37,14 +37,14 @@ struct Ordered {
 /// The order that was found for a history, with its run.
 fn ordered_of(
     alloc: Global,
-    script: &Script,
+    race: &RaceScript,
     frames: bool,
     ending: &Ending,
     steps: &[HistoryStep],
 ) -> Result<Ordered, AllocError> {
-    match order_to(alloc, script, frames, ending, steps)? {
+    match order_to(alloc, race, frames, ending, steps)? {
         Some(order) => {
-            let run = ordered_steps(alloc, script, order.as_slice())?;
+            let run = ordered_steps(alloc, &race.script, order.as_slice())?;
             Ok(Ordered {
                 order: Some(order),
                 run,
@@ -60,7 +60,7 @@ fn ordered_of(
 /// The steps of a history, as a page shows them.
 fn steps_shown(
     alloc: Global,
-    script: &Script,
+    race: &RaceScript,
     ending: &Ending,
     history: &History,
 ) -> Result<Vec<page::Step>, AllocError>
@@ -68,7 +68,7 @@ fn steps_shown(
         map line_of made.items ≡ map line_stepped history.now.steps.items) }
 {
     let steps = history.steps.as_slice();
-    shown_history(alloc, script, steps, history.states.as_slice(), ending)
+    shown_history(alloc, race, steps, history.states.as_slice(), ending)
 }
 
 /// The outcome of this place in the list, from 0.
@@ -80,26 +80,26 @@ fn outcome_at<P: Progress>(
     ending: &Ending,
     place: usize,
 ) -> Result<Outcome, LabError>
-    requires can { CanBeTold (fields_of telling.now.query.now.script.now) telling.now.list.now }
+    requires can { CanBeTold (fields_of telling.now.query.now.race.now) telling.now.list.now }
     requires at { slice_get (endings_in telling.now.list.now.words) place ≡ Some ending.now }
     requires few { place + 1 < 2 ^ 64 }
     ensures shown { IfOk result (IsShown (frames_in telling.now.list.now)
-        (fields_of telling.now.query.now.script.now) (endings_in telling.now.list.now.words)
+        (fields_of telling.now.query.now.race.now) (endings_in telling.now.list.now.words)
         (all_texts choices.now) place) }
-    ensures without { IfErr result (HasNoHistory (fields_of telling.now.query.now.script.now)
+    ensures without { IfErr result (HasNoHistory (fields_of telling.now.query.now.race.now)
         ⟦<AllPorts as PartialEq>⟧.eq telling.now.query.now.most) }
 {
-    let script = telling.query.script;
+    let race = telling.query.race;
     let history = history_to(alloc, telling, histories, place, ending)?;
     let steps = history.steps.as_slice();
     let frames = telling.list.words.numbers.frames;
-    let Ordered { order, run } = ordered_of(alloc, script, frames, ending, steps)?;
+    let Ordered { order, run } = ordered_of(alloc, race, frames, ending, steps)?;
     Ok(Outcome {
         number: place + 1,
         lines: different_lines(alloc, choices, ending)?,
         order,
         opening: opening_of(alloc, steps, ending)?,
-        history: steps_shown(alloc, script, ending, &history)?,
+        history: steps_shown(alloc, race, ending, &history)?,
         run,
     })
 }
@@ -119,12 +119,12 @@ fn outcomes_shown<P: Progress>(
     choices: &[Vec<&str>],
     limit: usize,
 ) -> Result<Vec<Outcome>, LabError>
-    requires can { CanBeTold (fields_of telling.now.query.now.script.now) telling.now.list.now }
+    requires can { CanBeTold (fields_of telling.now.query.now.race.now) telling.now.list.now }
     ensures shown { IfOk result (λ shown. AreShown (frames_in telling.now.list.now)
-        (fields_of telling.now.query.now.script.now) (endings_in telling.now.list.now.words)
+        (fields_of telling.now.query.now.race.now) (endings_in telling.now.list.now.words)
         (all_texts choices.now)
         (min limit (length (endings_in telling.now.list.now.words))) shown.items) }
-    ensures without { IfErr result (HasNoHistory (fields_of telling.now.query.now.script.now)
+    ensures without { IfErr result (HasNoHistory (fields_of telling.now.query.now.race.now)
         ⟦<AllPorts as PartialEq>⟧.eq telling.now.query.now.most) }
 {
     let mut histories = Histories::new(alloc);
@@ -146,15 +146,15 @@ fn found_page<'a, P: Progress>(
     limit: usize,
     mut page: Page<'a>,
 ) -> Result<Page<'a>, LabError>
-    requires can { CanBeTold (fields_of telling.now.query.now.script.now) telling.now.list.now }
+    requires can { CanBeTold (fields_of telling.now.query.now.race.now) telling.now.list.now }
     ensures file { IfOk result (λ made. made.file.now ≡ page.entry.file.now) }
     ensures shows { IfOk result (ShowsEndings (frames_in telling.now.list.now)
-        (fields_of telling.now.query.now.script.now) (endings_in telling.now.list.now.words) limit) }
-    ensures without { IfErr result (HasNoHistory (fields_of telling.now.query.now.script.now)
+        (fields_of telling.now.query.now.race.now) (endings_in telling.now.list.now.words) limit) }
+    ensures without { IfErr result (HasNoHistory (fields_of telling.now.query.now.race.now)
         ⟦<AllPorts as PartialEq>⟧.eq telling.now.query.now.most) }
 {
     let words = &telling.list.words;
-    let rows = all_choices(alloc, telling.query.script, words)?;
+    let rows = all_choices(alloc, telling.query.race, words)?;
     let choices = all_in_order(alloc, rows.as_slice())?;
     let mut same = String::new(alloc);
     add_same_parts(&mut same, choices.as_slice())?;
@@ -172,10 +172,10 @@ pub(crate) fn listed_page<'a, P: Progress>(
     page: Page<'a>,
 ) -> Result<Page<'a>, LabError>
     ensures file { IfOk result (λ made. made.file.now ≡ page.entry.file.now) }
-    ensures outcomes { IfOk result (ShowsList query.now.frames (fields_of query.now.script.now)
+    ensures outcomes { IfOk result (ShowsList query.now.frames (fields_of query.now.race.now)
         ⟦<Ending as PartialEq>⟧.eq limit) }
     ensures without { IfErr result (IsWithout query.now.frames
-        (fields_of query.now.script.now) ⟦<AllPorts as PartialEq>⟧.eq query.now.most) }
+        (fields_of query.now.race.now) ⟦<AllPorts as PartialEq>⟧.eq query.now.most) }
 {
     let list = list_asked(alloc, query)?;
     let telling = Telling { query, list: &list };
@@ -185,18 +185,18 @@ pub(crate) fn listed_page<'a, P: Progress>(
 /// The same page, on which a wait is shown by its last look, as `ccan-lab outcomes` shows it.
 pub(crate) fn outcomes_page<'a, P: Progress>(
     alloc: Global,
-    script: Script,
+    race: RaceScript,
     question: &PageQuestion<'_>,
     page: Page<'a>,
     progress: &P,
 ) -> Result<Page<'a>, LabError>
     ensures file { IfOk result (λ made. made.file.now ≡ page.entry.file.now) }
-    ensures outcomes { IfOk result (ShowsOutcomes question.now.frames (fields_of script)
+    ensures outcomes { IfOk result (ShowsOutcomes question.now.frames (fields_of race)
         ⟦<Ending as PartialEq>⟧.eq question.now.limit) }
 {
-    let script = looking_once(alloc, script)?;
+    let race = looking_once(alloc, race)?;
     let query = Query {
-        script: &script,
+        race: &race,
         frames: question.frames,
         most: question.most,
         progress,

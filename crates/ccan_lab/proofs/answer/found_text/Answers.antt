@@ -1,5 +1,5 @@
 use Rattle.std.proofs.Common.{Contains, ◌≡◌, ◌++◌, List, ℕ, length, min, None, Some, slice_get, sym, ap, subst, ◌∙◌, arith}
-use Rattle.ccan_line.specs.Script.{fields_of}
+use Rattle.ccan_outcomes.specs.RaceScript.{fields_of}
 use Rattle.ccan_outcomes.specs.OutcomeWords.{endings_in}
 use Rattle.ccan_lab.specs.Counting.{count_text, greatest}
 use Rattle.ccan_lab.specs.Listing.{different_lines}
@@ -21,7 +21,7 @@ unreachable-requires g c =
 
 pub returns-clause-text : goal.returns-clause-text
 returns-clause-text g c =
-    let script = fields_of c.args.telling.now.query.now.script.now in
+    let script = fields_of c.args.telling.now.query.now.race.now in
     let frames = frames_in c.args.telling.now.list.now in
     let form = c.args.telling.now.query.now.form in
     let endings = endings_in c.args.telling.now.list.now.words in

@@ -1,5 +1,5 @@
 use Rattle.std.proofs.Common.{◌≡◌, ◌+◌, ◌++◌, ◌∷◌, [], ap, sym, ◌∙◌, rules}
-use Rattle.ccan_line.specs.Script.{fields_of}
+use Rattle.ccan_outcomes.specs.RaceScript.{fields_of}
 use Rattle.ccan_lab.specs.Beginnings.{has_transfer_of}
 use Rattle.ccan_lab.proofs.Formed.{object_added, object_passed}
 use Rattle.ccan_lab.proofs.beginnings.transferred_objects.Goals as goal
@@ -7,7 +7,7 @@ use Rattle.ccan_lab.proofs.beginnings.transferred_objects.Goals.{then-has_transf
 
 pub loop-index-preserved : goal.loop-index-preserved
 loop-index-preserved c =
-    let script = fields_of c.args.script.now in
+    let script = fields_of c.args.race.now in
     let count = c.loop-index.index in
     let here : c.unwrap-object.result ≡ count + 1 = search rules in
     let named : c.has_transfer_of.result ≡ has_transfer_of script (count + 1) =

@@ -1,6 +1,6 @@
 use Rattle.std.proofs.Common.{ℕ, ◌∙◌, List, String, Global, map, string_bytes, ap, subst}
 use Rattle.std.proofs.lemmas.Result.{IfOk-weaker}
-use Rattle.ccan_line.specs.Script.{fields_of}
+use Rattle.ccan_outcomes.specs.RaceScript.{fields_of}
 use Rattle.ccan_outcomes.specs.declared.all_ports.AllPorts.{AllPorts}
 use Rattle.ccan_outcomes.specs.declared.history_step.HistoryStep.{HistoryStep}
 use Rattle.ccan_lab.specs.Brief.{AreDetails, brief_text}
@@ -8,7 +8,7 @@ use Rattle.ccan_lab.proofs.brief.brief_told.Goals as goal
 
 pub returns : goal.returns
 returns c =
-    let script = fields_of c.args.script.now in
+    let script = fields_of c.args.race.now in
     let history = c.args.history.now in
     let texts : List (String Global) → List (List ℕ) = map string_bytes in
     let details = texts c.in_ok-details.details.items in

@@ -1,14 +1,14 @@
 use Rattle.std.proofs.Common.{ℕ, ◌≡◌, ◌++◌, ◌∷◌, [], ◌∙◌, List, Some, length, map, refl, slice_get, string_bytes, String, Global, subst, sym, ap, arith}
 use Rattle.std.proofs.lemmas.List.{length-map, map-append}
 use Rattle.std.proofs.lemmas.Option.{slice_get_read}
-use Rattle.ccan_line.specs.Script.{fields_of}
+use Rattle.ccan_outcomes.specs.RaceScript.{fields_of}
 use Rattle.ccan_outcomes.proofs.ImageRows.{push_long}
 use Rattle.ccan_lab.proofs.Detailed.{AreSoFar, detail_push}
 use Rattle.ccan_lab.proofs.brief.details_of.Goals as goal
 
 pub loop-place-preserved : goal.loop-place-preserved
 loop-place-preserved c =
-    let script = fields_of c.args.script.now in
+    let script = fields_of c.args.race.now in
     let steps = c.args.steps.now in
     let states = c.args.states.now in
     let place = c.loop-place.place in

@@ -1,5 +1,5 @@
 use Rattle.std.proofs.Common.{[], List, ℕ, length, subst, rules}
-use Rattle.ccan_line.specs.Script.{fields_of}
+use Rattle.ccan_outcomes.specs.RaceScript.{fields_of}
 use Rattle.ccan_object.specs.declared.record.Record.{Record}
 use Rattle.ccan_object.specs.Profile.{objects_in}
 use Rattle.ccan_ram.specs.declared.port.PortName.TheVariants.{If1, If2, Bus}
@@ -9,7 +9,7 @@ use Rattle.ccan_lab.proofs.choices.all_choices.Goals as goal
 
 pub returns-clause-places : goal.returns-clause-places
 returns-clause-places g c =
-    let script = fields_of c.args.script.now in
+    let script = fields_of c.args.race.now in
     let IsOutcome = g.T.ByLine.is_outcome c.args.outcomes.now in
     let memories = c.in_ok-memories.memories.items in
     let one : HasPort IsOutcome If1 (length script.if1) [] c.add_port.new.all.items =
@@ -31,7 +31,7 @@ returns-clause-places g c =
 
 pub returns-clause-lines : goal.returns-clause-lines
 returns-clause-lines g c =
-    let script = fields_of c.args.script.now in
+    let script = fields_of c.args.race.now in
     let IsOutcome = g.T.ByLine.is_outcome c.args.outcomes.now in
     let memories = c.in_ok-memories.memories.items in
     let one : HasPort IsOutcome If1 (length script.if1) [] c.add_port.new.all.items =

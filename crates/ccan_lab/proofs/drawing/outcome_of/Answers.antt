@@ -1,4 +1,4 @@
-use Rattle.std.proofs.Common.{decimal, ◌∙◌}
+use Rattle.std.proofs.Common.{decimal}
 use Rattle.ccan_lab.proofs.Most.{read_if_given}
 use Rattle.ccan_lab.proofs.drawing.outcome_of.Goals as goal
 

@@ -1,4 +1,4 @@
-use Rattle.std.proofs.Common.{◌≡◌, ◌∙◌, Bool, Bor, List, ℕ, ap, length, map, subst}
+use Rattle.std.proofs.Common.{◌≡◌, ◌∙◌, Bool, Bor, List, ℕ, length, map, subst}
 use Rattle.std.proofs.lemmas.Result.{IfOk-weaker}
 use Rattle.ccan_lab.specs.Answered.{names_its_file}
 use Rattle.ccan_lab.specs.EachFile.{AreAnswered, has_headings}

@@ -1,6 +1,6 @@
 use Rattle.std.proofs.Common.{length, subst, sym}
 use Rattle.std.proofs.lemmas.Result.{IfOk-weaker}
-use Rattle.ccan_line.specs.Script.{fields_of}
+use Rattle.ccan_outcomes.specs.RaceScript.{fields_of}
 use Rattle.ccan_outcomes.specs.contracts.all_ports.AllPortsPartialEq.TheImpl.{ghosts as ports_are}
 use Rattle.ccan_outcomes.specs.OutcomeWords.{endings_in}
 use Rattle.ccan_lab.specs.declared.asked.Asked.{Asked}
@@ -15,7 +15,7 @@ use Rattle.ccan_lab.proofs.each_list.write_list.Goals as goal
 
 pub returns-in-All-clause-written : goal.returns-in-All-clause-written
 returns-in-All-clause-written g c =
-    let script = fields_of c.args.telling.now.query.now.script.now in
+    let script = fields_of c.args.telling.now.query.now.race.now in
     let frames = frames_in c.args.telling.now.list.now in
     let form = c.args.telling.now.query.now.form in
     let endings = endings_in c.args.telling.now.list.now.words in
@@ -31,7 +31,7 @@ returns-in-All-clause-written g c =
 
 pub returns-in-AllObserved-clause-written : goal.returns-in-AllObserved-clause-written
 returns-in-AllObserved-clause-written g c =
-    let script = fields_of c.args.telling.now.query.now.script.now in
+    let script = fields_of c.args.telling.now.query.now.race.now in
     let frames = frames_in c.args.telling.now.list.now in
     let form = c.args.telling.now.query.now.form in
     let endings = endings_in c.args.telling.now.list.now.words in

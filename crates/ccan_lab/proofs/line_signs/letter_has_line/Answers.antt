@@ -3,7 +3,7 @@ use Rattle.ccan_line.specs.declared.line_answer.LineAnswer.TheVariants.{Init}
 use Rattle.ccan_ram.specs.declared.port.PortName.{PortName}
 use Rattle.ccan_script.specs.Print.{line_text}
 use Rattle.ccan_process.specs.LineEnd.{unframed}
-use Rattle.ccan_lab.specs.LineSigns.{lines_of_letter, lines_told, port_at}
+use Rattle.ccan_lab.specs.LineSigns.{lines_told, port_at}
 use Rattle.ccan_lab.specs.Rows.{begins_so, has_line, told_frame}
 use Rattle.ccan_lab.proofs.FrameLines.{either_begins}
 use Rattle.ccan_lab.proofs.line_signs.letter_has_line.Goals as goal

@@ -1,5 +1,5 @@
 use Rattle.std.proofs.Common.{◌≡◌, false, ℕ, List, map, ap, sym, ◌∙◌, subst, string_bytes, rules}
-use Rattle.ccan_line.specs.Script.{fields_of}
+use Rattle.ccan_outcomes.specs.RaceScript.{fields_of}
 use Rattle.ccan_outcomes.specs.OutcomeWords.{endings_in}
 use Rattle.ccan_lab.specs.Observed.{is_repeat, text_at}
 use Rattle.ccan_lab.specs.OutcomeText.{IsOutcomeText}
@@ -11,7 +11,7 @@ pub returns-clause-text : goal.returns-clause-text
 returns-clause-text g c =
     let texts = c.args.texts.now.lines.items in
     let number = c.args.number in
-    let script = fields_of c.args.telling.now.query.now.script.now in
+    let script = fields_of c.args.telling.now.query.now.race.now in
     let frames = frames_in c.args.telling.now.list.now in
     let form = c.args.telling.now.query.now.form in
     let keys = endings_in c.args.telling.now.list.now.words in
@@ -24,6 +24,9 @@ returns-clause-text g c =
     let lines_are : c.as_str-lines.result.now ≡ lines =
     c.as_str-lines.ensures.value ∙ ap string_bytes c.index.ensures ∙ sym (text_in texts number shown within) in
     let told : IsOutcomeText frames form script keys lines number added =
-    subst (λ (l : List ℕ). IsOutcomeText frames form script keys l number added) lines_are c.in_ok-add_outcome.ensures.text.2 in
-    (added, c.in_ok-add_outcome.ensures.text.1, first_text
-    (IsOutcomeText frames form script keys) repeat lines number added first told)
+    subst (λ (l : List ℕ). IsOutcomeText frames form script keys l number added) lines_are c.in_ok-add_outcome.ensures.text.2 in (
+      added,
+      c.in_ok-add_outcome.ensures.text.1,
+      first_text
+          (IsOutcomeText frames form script keys) repeat lines number added first told,
+    )

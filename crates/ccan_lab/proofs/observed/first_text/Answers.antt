@@ -1,7 +1,7 @@
 use Rattle.std.proofs.Common.{◌≡◌, ◌++◌, ℕ, List, Some, None, map, slice_get, string_bytes, length, sym, ap, ◌∙◌, subst, arith, rules}
 use Rattle.std.proofs.lemmas.Option.{slice_get_within}
 use Rattle.std.proofs.lemmas.Result.{IfErr-weaker}
-use Rattle.ccan_line.specs.Script.{fields_of}
+use Rattle.ccan_outcomes.specs.RaceScript.{fields_of}
 use Rattle.ccan_outcomes.specs.contracts.all_ports.AllPortsPartialEq.TheImpl.{ghosts as ports_are}
 use Rattle.ccan_outcomes.specs.OutcomeWords.{endings_in}
 use Rattle.ccan_lab.specs.declared.lab_error.LabError.TheVariants as fault
@@ -25,7 +25,7 @@ add_if_first-requires-clause-within g c =
 pub returns-clause-text : goal.returns-clause-text
 returns-clause-text g c =
     let number = c.args.number in
-    let script = fields_of c.args.telling.now.query.now.script.now in
+    let script = fields_of c.args.telling.now.query.now.race.now in
     let frames = frames_in c.args.telling.now.list.now in
     let form = c.args.telling.now.query.now.form in
     let endings = endings_in c.args.telling.now.list.now.words in
@@ -47,7 +47,7 @@ returns-in_default-clause-none g c =
 
 pub returns-in_err-ending-clause-without : goal.returns-in_err-ending-clause-without
 returns-in_err-ending-clause-without g c =
-    let script = fields_of c.args.telling.now.query.now.script.now in
+    let script = fields_of c.args.telling.now.query.now.race.now in
     IfErr-weaker c.from_residual.result (λ why. why ≡ fault.Memory) _
     (no_memory (HasNoHistory script ports_are.eq c.args.telling.now.query.now.most) tt
     (length (endings_in c.args.telling.now.list.now.words)) c.args.number)
@@ -55,7 +55,7 @@ returns-in_err-ending-clause-without g c =
 
 pub returns-in_err-add_if_first-clause-without : goal.returns-in_err-add_if_first-clause-without
 returns-in_err-add_if_first-clause-without g c =
-    let script = fields_of c.args.telling.now.query.now.script.now in
+    let script = fields_of c.args.telling.now.query.now.race.now in
     let number = c.args.number in
     let endings = endings_in c.args.telling.now.list.now.words in
     let at : slice_get endings number ≡ Some c.in-Some.ending = sym c.in_ok-ending.ensures ∙ c.in-Some.is in

@@ -1,12 +1,12 @@
 use Rattle.std.proofs.Common.{◌≡◌, ℕ, List, length, map, ap, ◌∙◌}
 use Rattle.std.specs.List.{range_with_len}
-use Rattle.ccan_line.specs.Script.{fields_of}
+use Rattle.ccan_outcomes.specs.RaceScript.{fields_of}
 use Rattle.ccan_lab.specs.Observed.{is_observed, names_in}
 use Rattle.ccan_lab.proofs.observed.marks_of.Goals as goal
 
 pub returns : goal.returns
 returns c =
-    let script = fields_of c.args.script.now in
+    let script = fields_of c.args.race.now in
     let names = names_in c.args.list.now in
     let k = c.counts_of.result in
     let p = c.places_of.result in

@@ -2,7 +2,7 @@ use Rattle.std.proofs.Common.{◌≡◌, ◌++◌, ◌∙◌, ℕ, List, ap, inl
 use Rattle.std.proofs.lemmas.List.{length-map}
 use Rattle.std.proofs.lemmas.Result.{IfErr-weaker, IfOk-weaker}
 use Rattle.std.specs.Io.KnownBytes.{Appends}
-use Rattle.ccan_line.specs.Script.{fields_of}
+use Rattle.ccan_outcomes.specs.RaceScript.{fields_of}
 use Rattle.ccan_outcomes.specs.contracts.all_ports.AllPortsPartialEq.TheImpl.{ghosts as ports_are}
 use Rattle.ccan_outcomes.specs.OutcomeWords.{endings_in}
 use Rattle.ccan_lab.specs.declared.lab_error.LabError.TheVariants as fault
@@ -24,14 +24,14 @@ as_many f texts told endings same =
 
 pub write_firsts-requires-clause-as_many : goal.write_firsts-requires-clause-as_many
 write_firsts-requires-clause-as_many g c =
-    let script = fields_of c.args.telling.now.query.now.script.now in
+    let script = fields_of c.args.telling.now.query.now.race.now in
     let marks = marks_of (names_in c.args.list.now) script in
     as_many string_bytes c.in_ok-texts.texts.lines.items (λ ending. observed_lines marks (rows_of ending))
     (endings_in c.args.telling.now.list.now.words) c.in_ok-texts.ensures
 
 pub returns-clause-written : goal.returns-clause-written
 returns-clause-written g c =
-    let script = fields_of c.args.telling.now.query.now.script.now in
+    let script = fields_of c.args.telling.now.query.now.race.now in
     let frames = frames_in c.args.telling.now.list.now in
     let form = c.args.telling.now.query.now.form in
     let names = names_in c.args.list.now in

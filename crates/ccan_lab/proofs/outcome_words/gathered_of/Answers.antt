@@ -1,5 +1,5 @@
 use Rattle.std.proofs.Common.{◌≡◌, Bool, Option, Some, None, IfSome, IfNone, subst, sym}
-use Rattle.ccan_line.specs.Script.{fields_of}
+use Rattle.ccan_outcomes.specs.RaceScript.{fields_of}
 use Rattle.ccan_outcomes.specs.Ending.{AreAllEnds}
 use Rattle.ccan_outcomes.specs.OutcomeWords.{endings_in}
 use Rattle.ccan_lab.proofs.outcome_words.gathered_of.Goals as goal
@@ -13,7 +13,7 @@ of_none {T} P o is holds = subst (λ (x : Option T). IfNone x P) is holds
 -- what stands of the words, by whether they have frames
 pub returns-in-Some-2-clause-gathered : goal.returns-in-Some-2-clause-gathered
 returns-in-Some-2-clause-gathered g c =
-    let script = fields_of c.args.script.now in
+    let script = fields_of c.args.race.now in
     let words = c.in-Some-2.words in
     let is = c.in-Some-2.is in
     let so : words.numbers.frames ≡ c.args.frames = of_some _ _ _ is c.in_ok-words.ensures.told in

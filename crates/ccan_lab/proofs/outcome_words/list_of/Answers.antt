@@ -1,5 +1,5 @@
 use Rattle.std.proofs.Common.{◌≡◌, Bool, Option, Some, None, IfSome, IfNone, refl, subst, sym}
-use Rattle.ccan_line.specs.Script.{fields_of}
+use Rattle.ccan_outcomes.specs.RaceScript.{fields_of}
 use Rattle.ccan_outcomes.specs.Ending.{AreAllEnds}
 use Rattle.ccan_outcomes.specs.OutcomeWords.{endings_in}
 use Rattle.ccan_lab.proofs.outcome_words.list_of.Goals as goal
@@ -24,7 +24,7 @@ returns-in-None-clause-without g c = (
 -- what stands of the words, by whether they have frames
 pub returns-in-Some-2-clause-told : goal.returns-in-Some-2-clause-told
 returns-in-Some-2-clause-told g c =
-    let script = fields_of c.args.script.now in
+    let script = fields_of c.args.race.now in
     let words = c.in-Some-2.words in
     let is = c.in-Some-2.is in
     let so : words.numbers.frames ≡ c.args.frames = of_some _ _ _ is c.in_ok-words.ensures.told in

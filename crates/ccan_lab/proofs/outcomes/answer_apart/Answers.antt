@@ -1,19 +1,15 @@
-use Rattle.std.proofs.Common.{◌≡◌, inl, inr, refl, rules, subst, sym}
-use Rattle.std.proofs.lemmas.Result.{IfErr-weaker}
-use Rattle.ccan_line.specs.Script.{fields_of}
-use Rattle.ccan_outcomes.specs.contracts.all_ports.AllPortsPartialEq.TheImpl.{ghosts as ports_are}
+use Rattle.std.proofs.Common.{inl, inr, refl}
+use Rattle.ccan_outcomes.specs.RaceScript.{fields_of}
 use Rattle.ccan_outcomes.specs.declared.ending.Ending.{Ending}
 use Rattle.ccan_outcomes.specs.Ending.{IsOfEnd}
 use Rattle.ccan_outcomes.specs.LineEnds.{SaysOutcome}
-use Rattle.ccan_lab.specs.declared.lab_error.LabError.TheVariants as fault
 use Rattle.ccan_lab.specs.Sorted.{texts_of}
-use Rattle.ccan_lab.specs.Words.{IsUnanswered}
 use Rattle.ccan_lab.proofs.SomeLines.{refuses_moved, says_none_moved, says_one_moved, uncertain_moved}
 use Rattle.ccan_lab.proofs.outcomes.answer_apart.Goals as goal
 
 pub returns-in-Found-clause-told : goal.returns-in-Found-clause-told
 returns-in-Found-clause-told g c =
-    let script = fields_of c.args.query.now.script.now in
+    let script = fields_of c.args.query.now.race.now in
     let begins = texts_of c.args.begins.now in
     let Said = SaysOutcome c.args.lines.now in
     let Ends = IsOfEnd c.args.query.now.frames script in
@@ -31,7 +27,7 @@ returns-in-Found-clause-told g c =
 
 pub returns-in-NotFound-clause-told : goal.returns-in-NotFound-clause-told
 returns-in-NotFound-clause-told g c =
-    let script = fields_of c.args.query.now.script.now in
+    let script = fields_of c.args.query.now.race.now in
     let begins = texts_of c.args.begins.now in
     let Said = SaysOutcome c.args.lines.now in
     let Ends = IsOfEnd c.args.query.now.frames script in
@@ -49,7 +45,7 @@ returns-in-NotFound-clause-told g c =
 
 pub returns-in-Uncertain-clause-without : goal.returns-in-Uncertain-clause-without
 returns-in-Uncertain-clause-without g c =
-    let script = fields_of c.args.query.now.script.now in
+    let script = fields_of c.args.query.now.race.now in
     let begins = texts_of c.args.begins.now in
     let Said = SaysOutcome c.args.lines.now in
     let Ends = IsOfEnd c.args.query.now.frames script in
@@ -66,7 +62,7 @@ returns-in-Uncertain-clause-without g c =
 
 pub returns-in-Refused-clause-without : goal.returns-in-Refused-clause-without
 returns-in-Refused-clause-without g c =
-    let script = fields_of c.args.query.now.script.now in
+    let script = fields_of c.args.query.now.race.now in
     let begins = texts_of c.args.begins.now in
     let Said = SaysOutcome c.args.lines.now in
     let Ends = IsOfEnd c.args.query.now.frames script in

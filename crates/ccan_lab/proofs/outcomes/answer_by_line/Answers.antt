@@ -1,6 +1,6 @@
 use Rattle.std.proofs.Common.{◌≡◌, inl, inr, refl, rules, subst, sym}
 use Rattle.std.proofs.lemmas.Result.{IfErr-weaker}
-use Rattle.ccan_line.specs.Script.{fields_of}
+use Rattle.ccan_outcomes.specs.RaceScript.{fields_of}
 use Rattle.ccan_outcomes.specs.contracts.all_ports.AllPortsPartialEq.TheImpl.{ghosts as ports_are}
 use Rattle.ccan_outcomes.specs.OutcomeWords.{endings_in}
 use Rattle.ccan_lab.specs.declared.lab_error.LabError.TheVariants as fault
@@ -43,7 +43,7 @@ returns-in-NotFound-clause-told g c =
 
 pub returns-in_err-number-clause-without : goal.returns-in_err-number-clause-without
 returns-in_err-number-clause-without g c =
-    let script = fields_of c.args.telling.now.query.now.script.now in
+    let script = fields_of c.args.telling.now.query.now.race.now in
     let frames = c.args.telling.now.list.now.words.numbers.frames in
     IfErr-weaker c.from_residual.result (λ why. why ≡ fault.Memory) _
     (λ why is. subst (IsUnanswered frames script (texts_of c.args.begins.now) ports_are.eq c.args.telling.now.query.now.most)
@@ -52,7 +52,7 @@ returns-in_err-number-clause-without g c =
 
 pub returns-in_err-text-in-Found-clause-without : goal.returns-in_err-text-in-Found-clause-without
 returns-in_err-text-in-Found-clause-without g c =
-    let script = fields_of c.args.telling.now.query.now.script.now in
+    let script = fields_of c.args.telling.now.query.now.race.now in
     let frames = c.args.telling.now.list.now.words.numbers.frames in
     IfErr-weaker c.from_residual-in_err-text-in-Found.result (HasNoHistory script ports_are.eq c.args.telling.now.query.now.most) _
     (no_history frames script (texts_of c.args.begins.now) ports_are.eq c.args.telling.now.query.now.most) (search rules)

@@ -1,6 +1,6 @@
 use Rattle.std.proofs.Common.{◌≡◌, ◌∙◌, ap, string_bytes}
 use Rattle.std.proofs.lemmas.Result.{IfOk-weaker}
-use Rattle.ccan_line.specs.Script.{fields_of}
+use Rattle.ccan_outcomes.specs.RaceScript.{fields_of}
 use Rattle.ccan_lab.specs.declared.answer.Answer.{Answer}
 use Rattle.ccan_lab.specs.Answered.{status_if}
 use Rattle.ccan_lab.proofs.ByAsked.{by_can, by_names, by_never, by_summary}
@@ -11,14 +11,14 @@ use Rattle.ccan_lab.proofs.outcomes.answer_of_script.Goals.{in-Never+in_ok-answe
 pub returns-in-Summary-clause-answered : goal.returns-in-Summary-clause-answered
 returns-in-Summary-clause-answered g c =
     IfOk-weaker c.answer_of_summary.result _ _ (λ answer told.
-    by_summary c.args.question.now (string_bytes c.args.source.now.name) (fields_of c.args.script.now) answer c.in-Summary.is told)
+    by_summary c.args.question.now (string_bytes c.args.source.now.name) (fields_of c.args.race.now) answer c.in-Summary.is told)
     c.answer_of_summary.ensures.told
 
 pub returns-clause-answered : goal.returns-clause-answered
 returns-clause-answered g c =
     let question = c.args.question.now in
     let name = string_bytes c.args.source.now.name in
-    let script = fields_of c.args.script.now in
+    let script = fields_of c.args.race.now in
     let answer = c.file_answer.result in
     let lines = c.as_slice-lines.result.now in
     let text = λ (given : Answer) (is : c.match-question.answer ≡ given).

@@ -1,5 +1,5 @@
-use Rattle.std.proofs.Common.{◌≡◌, ◌∙◌, Bool, List, ℕ, inl, subst, sym, ap, rules, string_bytes, refl}
-use Rattle.ccan_line.specs.Script.{fields_of}
+use Rattle.std.proofs.Common.{Bool, inl, subst, sym}
+use Rattle.ccan_outcomes.specs.RaceScript.{fields_of}
 use Rattle.ccan_outcomes.specs.Ending.{AreAllEnds}
 use Rattle.ccan_outcomes.specs.OutcomeWords.{endings_in}
 use Rattle.ccan_lab.specs.Summary.{IsSummary}
@@ -15,7 +15,7 @@ short_list-requires-clause-complete g c =
 
 pub returns-in_ok-text-in-Together-clause-told : goal.returns-in_ok-text-in-Together-clause-told
 returns-in_ok-text-in-Together-clause-told g c =
-    let script = fields_of c.args.query.now.script.now in
+    let script = fields_of c.args.query.now.race.now in
     let gathered = rw c.in-Together.is at c.in_ok-list.ensures.gathered in
     let outcomes = endings_in c.in-Together.list.words in
     inl (

@@ -1,5 +1,5 @@
 use Rattle.std.proofs.Common.{ℕ, ◌≡◌, ◌++◌, List, IfSome, sym, ap, subst, refl, ◌∙◌, string_bytes}
-use Rattle.ccan_line.specs.Script.{fields_of}
+use Rattle.ccan_outcomes.specs.RaceScript.{fields_of}
 use Rattle.ccan_language.proofs.Grown.{same_some}
 use Rattle.ccan_outcomes.specs.declared.ending.Ending.{Ending}
 use Rattle.ccan_outcomes.specs.History.{IsHistoryOf}
@@ -13,7 +13,7 @@ use Rattle.ccan_lab.proofs.report.add_outcome.Goals as goal
 pub returns-clause-text : goal.returns-clause-text
 returns-clause-text g c =
     let lines = c.args.lines.now in
-    let script = fields_of c.args.telling.now.query.now.script.now in
+    let script = fields_of c.args.telling.now.query.now.race.now in
     let frames = frames_in c.args.telling.now.list.now in
     let number = c.args.number in
     let ending = c.args.ending.now in

@@ -1,7 +1,7 @@
-use Rattle.std.proofs.Common.{◌≡◌, ◌++◌, ℕ, List, [], string_bytes, length, refl, add-one, subst, sym, arith}
+use Rattle.std.proofs.Common.{◌++◌, ℕ, [], string_bytes, refl, add-one, subst, sym, arith}
 use Rattle.std.proofs.KnownBytes.{Appends-nil, Appends-trans}
 use Rattle.std.specs.Io.KnownBytes.{Appends}
-use Rattle.ccan_line.specs.Script.{fields_of}
+use Rattle.ccan_outcomes.specs.RaceScript.{fields_of}
 use Rattle.ccan_outcomes.specs.OutcomeWords.{endings_in}
 use Rattle.ccan_lab.specs.Listing.{AreOutcomeTexts}
 use Rattle.ccan_lab.specs.Sorted.{all_texts}
@@ -14,7 +14,7 @@ loop-number-init g c = record { within = omega arith; told = ([], Appends-nil (g
 pub loop-number-preserved : goal.loop-number-preserved
 loop-number-preserved g c =
     let number = c.loop-number.number in
-    let script = fields_of c.args.telling.now.query.now.script.now in
+    let script = fields_of c.args.telling.now.query.now.race.now in
     let frames = frames_in c.args.telling.now.list.now in
     let form = c.args.telling.now.query.now.form in
     let endings = endings_in c.args.telling.now.list.now.words in
@@ -33,7 +33,7 @@ loop-number-preserved g c =
         so_far.0 ++ text,
         Appends-trans old between new so_far.0 text so_far.1 written,
         subst (λ (count : ℕ). AreOutcomeTexts frames form script endings choices count (so_far.0 ++ text)) (sym (add-one number))
-        (so_far.0, text, refl, so_far.2, made.1),
+            (so_far.0, text, refl, so_far.2, made.1),
       );
     }
 

@@ -1,6 +1,6 @@
 use Rattle.std.proofs.Common.{◌≤◌, ℕ, List, length}
 use Rattle.std.specs.Io.KnownBytes.{Appends}
-use Rattle.ccan_line.specs.Script.{fields_of}
+use Rattle.ccan_outcomes.specs.RaceScript.{fields_of}
 use Rattle.ccan_outcomes.specs.OutcomeWords.{endings_in}
 use Rattle.ccan_lab.specs.Listing.{AreOutcomeTexts}
 use Rattle.ccan_lab.specs.Sorted.{all_texts}
@@ -12,6 +12,6 @@ abbrev pub invariant-loop-number : goal.invariant-loop-number
 invariant-loop-number g l = record {
   within : l.number ≤ length (endings_in l.telling.list.now.words);
   told : (added : List ℕ) × Appends (g.W.Write.contents l.initial.writer) (g.W.Write.contents l.writer) added
-      × AreOutcomeTexts (frames_in l.telling.list.now) l.telling.query.now.form (fields_of l.telling.query.now.script.now)
+      × AreOutcomeTexts (frames_in l.telling.list.now) l.telling.query.now.form (fields_of l.telling.query.now.race.now)
       (endings_in l.telling.list.now.words) (all_texts l.choices) l.number added;
 }

@@ -1,5 +1,5 @@
 use Rattle.std.proofs.Common.{◌≡◌, ◌≤◌, ◌+◌, ◌++◌, ℕ, Bool, [], ap, ◌∙◌, if◌then◌else◌, map, string_bytes, sym, refl, le_refl, length, append-nil, add-one, arith, subst, rules}
-use Rattle.ccan_line.specs.Script.{fields_of}
+use Rattle.ccan_outcomes.specs.RaceScript.{fields_of}
 use Rattle.ccan_lab.specs.Observed.{AreFirstTexts}
 use Rattle.ccan_lab.specs.Seen.{IsSeenText}
 use Rattle.ccan_lab.specs.Telling.{frames_in}
@@ -19,7 +19,7 @@ pub loop-place-preserved : goal.loop-place-preserved
 loop-place-preserved g c =
     let texts = map string_bytes c.args.texts.now.lines.items in
     let marks = c.args.marks.now in
-    let script = fields_of c.args.telling.now.query.now.script.now in
+    let script = fields_of c.args.telling.now.query.now.race.now in
     let frames = frames_in c.args.telling.now.list.now in
     let form = c.args.telling.now.query.now.form in
     let keys = c.args.shown.now.endings.items in
@@ -42,7 +42,7 @@ loop-place-preserved g c =
         part_more (string_bytes c.loop-place.text) (string_bytes c.add_if_new.new.text) (string_bytes c.args.text.now)
             so_far.0 last so_far.1 c.in_ok-add_if_new.ensures.text.1,
         subst (λ (n : ℕ). AreFirstTexts (IsSeenText frames form script marks keys texts) texts n (so_far.0 ++ last))
-        (sym (add-one place))
+            (sym (add-one place))
             (so_far.0, last, refl, so_far.2, c.in_ok-add_if_new.ensures.text.2),
       ),
     )
@@ -51,7 +51,7 @@ pub returns-clause-text : goal.returns-clause-text
 returns-clause-text g c =
     let texts = map string_bytes c.args.texts.now.lines.items in
     let marks = c.args.marks.now in
-    let script = fields_of c.args.telling.now.query.now.script.now in
+    let script = fields_of c.args.telling.now.query.now.race.now in
     let frames = frames_in c.args.telling.now.list.now in
     let form = c.args.telling.now.query.now.form in
     let keys = c.args.shown.now.endings.items in

@@ -1,5 +1,5 @@
 use Rattle.std.proofs.Common.{◌≡◌, ◌<◌, length, false, ℕ, List, map, ap, sym, ◌∙◌, subst, string_bytes, rules}
-use Rattle.ccan_line.specs.Script.{fields_of}
+use Rattle.ccan_outcomes.specs.RaceScript.{fields_of}
 use Rattle.ccan_outcomes.specs.History.{IsHistoryOf}
 use Rattle.ccan_lab.specs.Brief.{IsHistoryText}
 use Rattle.ccan_lab.specs.Observed.{is_repeat, text_at}
@@ -14,7 +14,7 @@ returns-clause-text g c =
     let texts = c.args.texts.now.lines.items in
     let place = c.args.place in
     let marks = c.args.marks.now in
-    let script = fields_of c.args.telling.now.query.now.script.now in
+    let script = fields_of c.args.telling.now.query.now.race.now in
     let frames = frames_in c.args.telling.now.list.now in
     let form = c.args.telling.now.query.now.form in
     let keys = c.args.shown.now.endings.items in

@@ -1,7 +1,7 @@
 use Rattle.std.proofs.Common.{◌≡◌, ◌++◌, ℕ, List, length, map, ap, ◌∙◌, sym, subst, string_bytes, String, Global}
 use Rattle.std.proofs.lemmas.List.{length-map}
 use Rattle.std.specs.Global.{Vec}
-use Rattle.ccan_line.specs.Script.{fields_of}
+use Rattle.ccan_outcomes.specs.RaceScript.{fields_of}
 use Rattle.ccan_outcomes.specs.declared.ending.Ending.{Ending}
 use Rattle.ccan_lab.specs.Observed.{AreFirstTexts, first_count, observed_lines}
 use Rattle.ccan_lab.specs.Rows.{rows_of}
@@ -11,7 +11,7 @@ use Rattle.ccan_lab.proofs.seen.seen_listing.Goals as goal
 
 pub returns-clause-text : goal.returns-clause-text
 returns-clause-text g c =
-    let script = fields_of c.args.telling.now.query.now.script.now in
+    let script = fields_of c.args.telling.now.query.now.race.now in
     let frames = frames_in c.args.telling.now.list.now in
     let form = c.args.telling.now.query.now.form in
     let marks = c.args.marks.now in

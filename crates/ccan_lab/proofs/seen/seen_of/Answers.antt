@@ -1,6 +1,6 @@
 use Rattle.std.proofs.Common.{inl, inr, rules}
 use Rattle.std.proofs.lemmas.Result.{IfErr-weaker, IfOk-weaker}
-use Rattle.ccan_line.specs.Script.{fields_of}
+use Rattle.ccan_outcomes.specs.RaceScript.{fields_of}
 use Rattle.ccan_outcomes.specs.contracts.all_ports.AllPortsPartialEq.TheImpl.{ghosts as ports_are}
 use Rattle.ccan_lab.specs.Seen.{HasNoImages}
 use Rattle.ccan_lab.specs.Words.{HasNoHistory}
@@ -14,7 +14,7 @@ returns-clause-text g c =
 pub returns-clause-without : goal.returns-clause-without
 returns-clause-without g c =
     IfErr-weaker c.seen_listing.result
-    (HasNoHistory (fields_of c.args.telling.now.query.now.script.now) ports_are.eq c.args.telling.now.query.now.most) _
+    (HasNoHistory (fields_of c.args.telling.now.query.now.race.now) ports_are.eq c.args.telling.now.query.now.most) _
     (λ why none. inr none)
     c.seen_listing.ensures.without
 

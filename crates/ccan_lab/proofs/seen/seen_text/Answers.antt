@@ -1,6 +1,6 @@
 use Rattle.std.proofs.Common.{◌⊎◌, inl, inr, ◌∙◌, Bool, List, string_bytes, subst}
 use Rattle.std.proofs.lemmas.Result.{IfErr-weaker, IfOk-weaker}
-use Rattle.ccan_line.specs.Script.{fields_of}
+use Rattle.ccan_outcomes.specs.RaceScript.{fields_of}
 use Rattle.ccan_outcomes.specs.OutcomeWords.{endings_in}
 use Rattle.ccan_outcomes.specs.contracts.all_ports.AllPortsPartialEq.TheImpl.{ghosts as ports_are}
 use Rattle.ccan_lab.specs.Observed.{marks_of, names_in}
@@ -11,7 +11,7 @@ use Rattle.ccan_lab.proofs.seen.seen_text.Goals as goal
 
 pub returns-clause-text : goal.returns-clause-text
 returns-clause-text g c =
-    let script = fields_of c.args.query.now.script.now in
+    let script = fields_of c.args.query.now.race.now in
     let list = c.in_ok-list.list in
     let endings = endings_in list.words in
     let form = c.args.query.now.form in
@@ -32,7 +32,7 @@ returns-clause-text g c =
 
 pub returns-clause-without : goal.returns-clause-without
 returns-clause-without g c =
-    let script = fields_of c.args.query.now.script.now in
+    let script = fields_of c.args.query.now.race.now in
     let words = c.in_ok-list.list.words in
     let most = c.args.query.now.most in
     let names = names_in c.args.names.now in

@@ -1,5 +1,5 @@
-use Rattle.std.proofs.Common.{◌≡◌, ◌++◌, ◌∙◌, List, ℕ, append_assoc, ap, string_bytes, subst}
-use Rattle.ccan_line.specs.Script.{fields_of}
+use Rattle.std.proofs.Common.{◌≡◌, ◌++◌, ◌∙◌, List, ℕ, append_assoc, string_bytes, subst}
+use Rattle.ccan_outcomes.specs.RaceScript.{fields_of}
 use Rattle.ccan_lab.specs.Place.{place_name}
 use Rattle.ccan_lab.specs.Sorted.{AreAllInOrder, all_texts}
 use Rattle.ccan_lab.specs.Summary.{choice_parts, name_in, same_parts}
@@ -8,7 +8,7 @@ use Rattle.ccan_lab.proofs.summary.add_parts.Goals as goal
 
 pub returns : goal.returns
 returns g c =
-    let script = fields_of c.args.script.now in
+    let script = fields_of c.args.race.now in
     let IsOutcome = g.T.ByLine.is_outcome c.args.outcomes.now in
     let rows = c.in_ok-choices.choices.items in
     let choices = all_texts c.in_ok-sorted.sorted.items in

@@ -1,5 +1,5 @@
 use Rattle.std.proofs.Common.{◌++◌, ◌∙◌, List, ℕ, ap}
-use Rattle.ccan_line.specs.Script.{fields_of}
+use Rattle.ccan_outcomes.specs.RaceScript.{fields_of}
 use Rattle.ccan_outcomes.specs.Ending.{IsOfEnd}
 use Rattle.ccan_outcomes.specs.LineEnds.{SaysOutcome}
 use Rattle.ccan_lab.specs.Summary.{choice_parts, name_in, same_parts}
@@ -8,7 +8,7 @@ use Rattle.ccan_lab.proofs.summary.list_without_number.Goals as goal
 
 pub returns : goal.returns
 returns c =
-    let script = fields_of c.args.script.now in
+    let script = fields_of c.args.race.now in
     let added = c.in_ok-add_parts.ensures in
     let parts = same_parts added.choices ++ choice_parts added.choices (name_in script) in
     record {

@@ -1,5 +1,5 @@
 use Rattle.std.proofs.Common.{◌≡◌, ◌++◌, List, ℕ, length, min, append_assoc, ap, ◌∙◌}
-use Rattle.ccan_line.specs.Script.{fields_of}
+use Rattle.ccan_outcomes.specs.RaceScript.{fields_of}
 use Rattle.ccan_outcomes.specs.OutcomeWords.{endings_in}
 use Rattle.ccan_lab.specs.Counting.{count_text, greatest}
 use Rattle.ccan_lab.specs.Summary.{choice_parts, closing_text, name_in, same_parts}
@@ -7,7 +7,7 @@ use Rattle.ccan_lab.proofs.summary.summary.Goals as goal
 
 pub returns : goal.returns
 returns c =
-    let script = fields_of c.args.script.now in
+    let script = fields_of c.args.race.now in
     let endings = endings_in c.args.words.now in
     let added = c.in_ok-add_parts.ensures in
     let number : c.count-number.result ≡ min (length endings) greatest = c.count-number.ensures in

@@ -1,5 +1,5 @@
 use Rattle.std.proofs.Common.{Contains, ◌++◌, List, ℕ, length, min, subst, ◌∙◌}
-use Rattle.ccan_line.specs.Script.{fields_of}
+use Rattle.ccan_outcomes.specs.RaceScript.{fields_of}
 use Rattle.ccan_outcomes.specs.OutcomeWords.{endings_in}
 use Rattle.ccan_lab.specs.Paging.{AreShown}
 use Rattle.ccan_lab.specs.Sorted.{AreAllInOrder, all_texts}
@@ -11,7 +11,7 @@ use Rattle.ccan_lab.proofs.paging.outcome_pages.found_page.Goals as goal
 
 pub returns-clause-shows : goal.returns-clause-shows
 returns-clause-shows g c =
-    let script = fields_of c.args.telling.now.query.now.script.now in
+    let script = fields_of c.args.telling.now.query.now.race.now in
     let frames = frames_in c.args.telling.now.list.now in
     let endings = endings_in c.args.telling.now.list.now.words in
     let rows = c.in_ok-rows.rows.items in

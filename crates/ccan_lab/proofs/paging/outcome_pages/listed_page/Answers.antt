@@ -1,6 +1,6 @@
 use Rattle.std.proofs.Common.{Bool, inr, subst}
 use Rattle.std.proofs.lemmas.Result.{IfErr-weaker, IfOk-weaker}
-use Rattle.ccan_line.specs.Script.{fields_of}
+use Rattle.ccan_outcomes.specs.RaceScript.{fields_of}
 use Rattle.ccan_outcomes.specs.OutcomeWords.{endings_in}
 use Rattle.ccan_outcomes.specs.contracts.all_ports.AllPortsPartialEq.TheImpl.{ghosts as ports_are}
 use Rattle.ccan_lab.specs.Paging.{ShowsEndings}
@@ -15,7 +15,7 @@ returns-clause-outcomes g c =
       complete = c.in_ok-list.ensures.all;
       runs = c.in_ok-list.ensures.told.runs;
       once = c.in_ok-list.ensures.distinct;
-      shows = subst (λ (it : Bool). ShowsEndings it (fields_of c.args.query.now.script.now) (endings_in c.in_ok-list.list.words)
+      shows = subst (λ (it : Bool). ShowsEndings it (fields_of c.args.query.now.race.now) (endings_in c.in_ok-list.list.words)
           c.args.limit made)
           c.in_ok-list.ensures.frames shows;
     })
@@ -23,5 +23,5 @@ returns-clause-outcomes g c =
 
 pub returns-clause-without : goal.returns-clause-without
 returns-clause-without g c =
-    IfErr-weaker c.found_page.result (HasNoHistory (fields_of c.args.query.now.script.now) ports_are.eq c.args.query.now.most) _
+    IfErr-weaker c.found_page.result (HasNoHistory (fields_of c.args.query.now.race.now) ports_are.eq c.args.query.now.most) _
     (λ why none. inr none) c.found_page.ensures.without

@@ -1,7 +1,7 @@
 -- The steps that are shown are those of the history that was found.
 use Rattle.std.proofs.Common.{ap, refl, sym, subst, ◌∙◌}
 use Rattle.ccan_language.proofs.Grown.{same_some}
-use Rattle.ccan_line.specs.Script.{fields_of}
+use Rattle.ccan_outcomes.specs.RaceScript.{fields_of}
 use Rattle.ccan_outcomes.specs.declared.ending.Ending.{Ending}
 use Rattle.ccan_outcomes.specs.History.{IsHistoryOf}
 use Rattle.ccan_outcomes.specs.OutcomeWords.{endings_in}
@@ -13,7 +13,7 @@ use Rattle.ccan_lab.proofs.paging.outcome_pages.outcome_at.Goals as goal
 
 pub returns-clause-shown : goal.returns-clause-shown
 returns-clause-shown g c =
-    let script = fields_of c.args.telling.now.query.now.script.now in
+    let script = fields_of c.args.telling.now.query.now.race.now in
     let frames = frames_in c.args.telling.now.list.now in
     let ending = c.args.ending.now in
     let steps = c.in_ok-history.history.steps.items in

@@ -1,6 +1,6 @@
 use Rattle.std.proofs.Common.{◌≡◌, ◌∙◌, ℕ, Some, None, length, min, slice_get, sym, subst, add-one, arith}
 use Rattle.std.proofs.lemmas.Option.{slice_get_within}
-use Rattle.ccan_line.specs.Script.{fields_of}
+use Rattle.ccan_outcomes.specs.RaceScript.{fields_of}
 use Rattle.ccan_outcomes.specs.OutcomeWords.{endings_in}
 use Rattle.ccan_lab.specs.Paging.{AreShown}
 use Rattle.ccan_lab.specs.Sorted.{all_texts}
@@ -12,7 +12,7 @@ use Rattle.ccan_lab.proofs.paging.outcome_pages.outcomes_shown.Goals as goal
 pub loop-place-preserved : goal.loop-place-preserved
 loop-place-preserved g c =
     let place = c.loop-place.place in
-    let script = fields_of c.args.telling.now.query.now.script.now in
+    let script = fields_of c.args.telling.now.query.now.race.now in
     let frames = frames_in c.args.telling.now.list.now in
     let endings = endings_in c.args.telling.now.list.now.words in
     let ending = c.in-Some.ending in
@@ -40,7 +40,7 @@ returns-in_default-clause-shown g c =
     let none : slice_get endings place ≡ None = sym c.in_ok-ending.ensures ∙ c.in_default.is in
     let past = past_all endings place none in
     let same : place ≡ min c.args.limit (length endings) = omega (arith, low, within, past) in
-    subst (λ (n : ℕ). AreShown (frames_in c.args.telling.now.list.now) (fields_of c.args.telling.now.query.now.script.now) endings
+    subst (λ (n : ℕ). AreShown (frames_in c.args.telling.now.list.now) (fields_of c.args.telling.now.query.now.race.now) endings
     (all_texts c.args.choices.now) n
     c.loop-place.shown.items) same c.loop-place.invariant.are
 
@@ -53,6 +53,6 @@ returns-clause-shown g c =
     let end = c.loop-place.auto.place-end in
     let within = c.loop-place.invariant.within in
     let same : place ≡ min c.args.limit (length endings) = omega (arith, high, end, within) in
-    subst (λ (n : ℕ). AreShown (frames_in c.args.telling.now.list.now) (fields_of c.args.telling.now.query.now.script.now) endings
+    subst (λ (n : ℕ). AreShown (frames_in c.args.telling.now.list.now) (fields_of c.args.telling.now.query.now.race.now) endings
     (all_texts c.args.choices.now) n
     c.loop-place.shown.items) same c.loop-place.invariant.are
