@@ -80,6 +80,25 @@ TOLD = [
     ({"bus": [{"op": "round"}]}, 2, "bus", [["bus idle"]]),
     # With a frame, 32 looks more for an object that takes it, and none does.
     ({"nodes": 1, "bus": [{"op": "round", "send": [{"node": 1, "id": 291, "dlc": 0}]}]}, 2, "bus", [["bus received none"]]),
+    # IF1 requests the transmission of object 1 and then writes other data into it, while the bus loads. Kept are the beginning, the
+    # state between the two writes, and the three ends, which differ in what is loaded. The look that finds the object and its start
+    # are one step, so no state is kept between them; and if object 1 is looked at before the first write, nothing is found.
+    (
+        {
+            "if1": [
+                transfer("0001", cmask="00b3", arb2="a48c", ctrl="0188", dataa1="1111"),
+                transfer("0001", cmask="0082", dataa1="2222"),
+            ],
+            "bus": [{"op": "load"}],
+        },
+        5,
+        "bus",
+        [
+            ["bus loaded 01 a48c0000 00000000 0188 1111000000000000"],
+            ["bus loaded 01 a48c0000 00000000 0188 2222000000000000"],
+            ["bus loaded none"],
+        ],
+    ),
     # Lines without a look are run at once.
     (
         {"bus": [{"op": "status"}, {"op": "init"}, {"op": "counters", "node": 0}]},
