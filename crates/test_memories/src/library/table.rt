@@ -10,6 +10,7 @@ use ccan_c::{
     ShownRecord, ShownWire, ccan_version, code, fault_numbered, flag_numbered, map_numbered,
     register_numbered, state_number, step_number,
 };
+use ccan_calls::laws::host_calls_are_processes;
 use ccan_chip::ChipReport;
 use ccan_confine::{Controller, NodeState};
 use ccan_map::{FlagPart, Interface, Map, Register};
@@ -410,4 +411,10 @@ fn sizes(rt: HostRuntime) {
     same(&rt, size_of::<ShownWire>(), 56); // sizeof(ccan_wire)
     same(&rt, size_of::<ShownFinished>(), 64); // sizeof(ccan_finished)
     same(&rt, size_of::<ShownNode>(), 12); // sizeof(ccan_node)
+}
+
+/// The law does nothing: it is called so that it is seen to hold.
+#[test]
+fn calls_are_processes(_rt: HostRuntime) {
+    host_calls_are_processes();
 }

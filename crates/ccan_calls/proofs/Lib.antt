@@ -1,0 +1,16 @@
+pub mod Processes
+pub mod Comes
+pub mod FirstSet
+pub mod FirstLook
+pub mod Parting
+pub mod Interrupts
+pub mod Changing
+pub mod Transfers
+pub mod Waits
+pub mod Finding
+pub mod RegistersFound
+pub mod WordsFound
+pub mod ReadsRun
+pub mod WritesRun
+pub mod WordsRun
+pub mod HostCallsRun

@@ -1,0 +1,10 @@
+pub mod Process
+pub mod Runs
+pub mod Parts
+pub mod Offsets
+pub mod ReadProcess
+pub mod WriteProcess
+pub mod WordProcess
+pub mod HostAsk
+pub mod HostCallProcess
+pub mod Laws

@@ -1,0 +1,7 @@
+//! Calls are their processes. The functions do nothing: their contracts are the laws.
+ghost use Rattle.ccan_calls.specs.Laws.{HostCallsAreProcesses};
+
+/// A call on the handle of a host is its process.
+pub fn host_calls_are_processes()
+    ensures { HostCallsAreProcesses }
+{}
