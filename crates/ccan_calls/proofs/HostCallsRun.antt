@@ -28,8 +28,9 @@ use Rattle.ccan_c.specs.Note.{Tells, TellsOf}
 use Rattle.ccan_c.specs.Record.{c_record}
 use Rattle.ccan_c.specs.Settings.{is_from_one_to}
 use Rattle.ccan_c.specs.Step.{Rests}
-use Rattle.ccan_calls.specs.HostAsk.{IsIn, Nothing, Number, NumberAt, Shown, asked_by, place_of}
-use Rattle.ccan_calls.specs.HostCallProcess.{HostProcess, end_of, heeded, host_process, note_end, noted, reads_off, refuses, waits, word_given, writes_off}
+use Rattle.ccan_calls.specs.Answer.{IsIn, NoPlace, NoteAt, Nothing, Number, NumberAt, Place, RecordAt, Shown, end_of, refuses, word_given}
+use Rattle.ccan_calls.specs.HostAsk.{asked_by, place_of}
+use Rattle.ccan_calls.specs.HostCallProcess.{HostProcess, heeded, host_process, note_end, noted, reads_off, waits, writes_off}
 use Rattle.ccan_calls.specs.Laws.{ComesTo, HostCallsAreProcesses}
 use Rattle.ccan_calls.specs.Parts.{flag_shown, interrupt_value, line_pulled, look, transfer, until_shown}
 use Rattle.ccan_calls.specs.Process.{Ended, Heeds as HeedsAct, Notes, Process, ending}
@@ -50,7 +51,7 @@ use Rattle.ccan_calls.proofs.WritesRun.{write_at, write_byte}
 module _ (terms : Terms) (tries : ℕ) (own left : InterfaceSet) (seen added : ChipHistory) where
   -- what a call comes to by a process
   abbrev Comes : HostCall → HostProcess → Type 0
-  Comes call process = ComesTo terms tries call process seen added left
+  Comes call process = ComesTo terms tries (code_got call) (place_of call) process seen added left
 
   -- ---- calls without a step
 
@@ -59,14 +60,14 @@ module _ (terms : Terms) (tries : ℕ) (own left : InterfaceSet) (seen added : C
       ↔ Comes (host.set number value result)
       (Ended (end_of done Nothing (record own { registers = set_register reg value own.registers })))
   sets number value result reg =
-      rests terms tries (host.set number value result) left seen added done
+      rests terms tries result NoPlace left seen added done
       (record own { registers = set_register reg value own.registers })
 
   gets : (number result out : ℕ) (reg : Reg)
       → Rests done own left added result × (out ≡ shown reg own.registers)
       ↔ Comes (host.get number result out) (Ended (end_of done (Number (shown reg own.registers)) own))
   gets number result out reg =
-      let end = ended terms tries (host.get number result out) left seen added
+      let end = ended terms tries result (NumberAt out) left seen added
       (end_of done (Number (shown reg own.registers)) own) in (
         λ h. let (r, is) = h in end.0 (r.quiet, (r.code_is, is, r.leaves)),
         λ h. let (none, got) = end.1 h in (record { code_is = got.0; quiet = none; leaves = got.2 }, got.1),
@@ -78,7 +79,7 @@ module _ (terms : Terms) (tries : ℕ) (own left : InterfaceSet) (seen added : C
       ↔ Comes (host.request number result)
       (ending (transfer (requested terms.profile number) own) (λ end. end_of (code_of end.0) Nothing end.1))
   requests number result =
-      let all = ends_with terms tries (host.request number result) left seen added
+      let all = ends_with terms tries result NoPlace left seen added
       (λ (end : LineAnswer × InterfaceSet). Transferred terms tries number own seen added end.0 end.1)
       (transfer (requested terms.profile number) own) (λ end. end_of (code_of end.0) Nothing end.1)
       (λ end. transfers terms tries number own end.1 seen added end.0) in (
@@ -91,7 +92,7 @@ module _ (terms : Terms) (tries : ℕ) (own left : InterfaceSet) (seen added : C
   peeks : (object result : ℕ) (out : ShownRecord) → Peeks terms object own seen added result out left
       ↔ Comes (host.peek object result out) (ending (look object) (λ found. end_of done (Shown (c_record found)) own))
   peeks object result out =
-      let all = ends_with terms tries (host.peek object result out) left seen added
+      let all = ends_with terms tries result (RecordAt out) left seen added
       (λ found. ShowsObject terms object seen added found) (look object) (λ found. end_of done (Shown (c_record found)) own)
       (λ found. looks_once terms tries seen added object found) in (
         λ h. let (code, (found, is, shows), same) = h in all.0 (found, shows, (code, is, same)),
@@ -101,7 +102,7 @@ module _ (terms : Terms) (tries : ℕ) (own left : InterfaceSet) (seen added : C
   reads_flag : (number result out : ℕ) (flag : Flag) → ReadsFlag terms flag own seen added result out left
       ↔ Comes (host.flags number result out) (ending (flag_shown flag) (λ word. end_of done (Number word) own))
   reads_flag number result out flag =
-      let all = ends_with terms tries (host.flags number result out) left seen added
+      let all = ends_with terms tries result (NumberAt out) left seen added
       (λ word. ShowsFlags terms flag seen added word) (flag_shown flag) (λ word. end_of done (Number word) own)
       (λ word. shows_flag terms tries seen added flag word) in (
         λ h. let (code, shows, same) = h in all.0 (out, shows, (code, refl, same)),
@@ -113,7 +114,7 @@ module _ (terms : Terms) (tries : ℕ) (own left : InterfaceSet) (seen added : C
   interrupts : (result out : ℕ) → (result ≡ done) × ShowsInterrupt terms false seen added out × (left ≡ own)
       ↔ Comes (host.interrupt result out) (ending (interrupt_value false) (λ value. end_of done (Number value) own))
   interrupts result out =
-      let all = ends_with terms tries (host.interrupt result out) left seen added
+      let all = ends_with terms tries result (NumberAt out) left seen added
       (λ value. ShowsInterrupt terms false seen added value) (interrupt_value false) (λ value. end_of done (Number value) own)
       (λ value. shows_value terms tries seen added false value) in (
         λ h. let (code, shows, same) = h in all.0 (out, shows, (code, refl, same)),
@@ -126,7 +127,7 @@ module _ (terms : Terms) (tries : ℕ) (own left : InterfaceSet) (seen added : C
       → (result ≡ done) × ((pulled : Bool) × (out ≡ number_of pulled) × PullsLine terms seen added pulled) × (left ≡ own)
       ↔ Comes (host.line result out) (ending line_pulled (λ pulled. end_of done (Number (number_of pulled)) own))
   pulls result out =
-      let all = ends_with terms tries (host.line result out) left seen added
+      let all = ends_with terms tries result (NumberAt out) left seen added
       (λ pulled. PullsLine terms seen added pulled) line_pulled (λ pulled. end_of done (Number (number_of pulled)) own)
       (λ pulled. pulls_line terms tries seen added pulled) in (
         λ h. let (code, (pulled, is, so), same) = h in all.0 (pulled, so, (code, is, same)),
@@ -138,7 +139,7 @@ module _ (terms : Terms) (tries : ℕ) (own left : InterfaceSet) (seen added : C
       ↔ Comes (host.until object number (suc turns) result out)
       (ending (until_shown object flag (suc turns)) (λ found. end_of done (Number (number_of found)) own))
   waits_so object number turns result out flag =
-      let all = ends_with terms tries (host.until object number (suc turns) result out) left seen added
+      let all = ends_with terms tries result (NumberAt out) left seen added
       (λ found. WaitsFor terms object flag (suc turns) seen added found) (until_shown object flag (suc turns))
       (λ found. end_of done (Number (number_of found)) own)
       (λ found. watches terms tries object flag turns seen added found) in (
@@ -151,60 +152,56 @@ module _ (terms : Terms) (tries : ℕ) (own left : InterfaceSet) (seen added : C
       (Rests turns_range own left added result)
       ↔ Comes (host.until object number turns result out) (waits object turns own flag)
   waits_by object number zero result out flag =
-      rests terms tries (host.until object number 0 result out) left seen added turns_range own
+      rests terms tries result (NumberAt out) left seen added turns_range own
   waits_by object number (suc turns) result out flag =
-      let call = host.until object number (suc turns) result out in
-      chosen terms tries call left seen added (is_from_one_to most_turns (suc turns)) _ _ _ _
-      (waits_so object number turns result out flag) (rests terms tries call left seen added turns_range own)
+      chosen terms tries result (NumberAt out) left seen added (is_from_one_to most_turns (suc turns)) _ _ _ _
+      (waits_so object number turns result out flag) (rests terms tries result (NumberAt out) left seen added turns_range own)
 
 -- ---- registers at an offset
 
 -- what was read is what C gets
-read_in : (told : Option Word) (out : ℕ) → IsRead told out → IsIn (word_given told) (NumberAt out)
+pub read_in : (told : Option Word) (out : ℕ) → IsRead told out → IsIn (word_given told) (NumberAt out)
 read_in None out is = is
 read_in (Some (Ok value)) out is = is
 read_in (Some (Err why)) out is = is
 
-in_read : (told : Option Word) (out : ℕ) → IsIn (word_given told) (NumberAt out) → IsRead told out
+pub in_read : (told : Option Word) (out : ℕ) → IsIn (word_given told) (NumberAt out) → IsRead told out
 in_read None out is = is
 in_read (Some (Ok value)) out is = is
 in_read (Some (Err why)) out is = is
 
-module _ (terms : Terms) (tries : ℕ) (own left : InterfaceSet) (seen added : ChipHistory) (call : HostCall) (out : ℕ)
-    (place : place_of call ≡ NumberAt out) (process : Process (Option Word)) (what : Option Word → Type 0)
+module _ {State : Type 0} (terms : Terms) (tries : ℕ) (own left : State) (seen added : ChipHistory) (result out : ℕ)
+    (process : Process (Option Word)) (what : Option Word → Type 0)
     (same : (told : Option Word) → what told ↔ Runs terms tries process seen added told) where
-  reads_so : ((told : Option Word) × what told × (code_got call ≡ code_of_access told) × IsRead told out) × (left ≡ own)
-      ↔ ComesTo terms tries call (reads_off process own) seen added left
+  pub reads_so : ((told : Option Word) × what told × (result ≡ code_of_access told) × IsRead told out) × (left ≡ own)
+      ↔ ComesTo terms tries result (NumberAt out) (reads_off process own) seen added left
   reads_so =
-      let all = ends_with terms tries call left seen added what process
+      let all = ends_with terms tries result (NumberAt out) left seen added what process
       (λ told. end_of (code_of_access told) (word_given told) own) same in (
-        λ h.
-            let ((told, so, code, is), rests) = h in
-            all.0 (told, so, (code, subst (λ p. IsIn (word_given told) p) (sym place) (read_in told out is), rests)),
-        λ h.
-            let (told, so, got) = all.1 h in
-            ((told, so, got.0, in_read told out (subst (λ p. IsIn (word_given told) p) place got.1)), got.2),
+        λ h. let ((told, so, code, is), rests) = h in all.0 (told, so, (code, read_in told out is, rests)),
+        λ h. let (told, so, got) = all.1 h in ((told, so, got.0, in_read told out got.1), got.2),
       )
 
 -- a write, or a clearing of all objects
-module _ (terms : Terms) (tries : ℕ) (left : InterfaceSet) (seen added : ChipHistory) (call : HostCall)
+module _ (terms : Terms) (tries : ℕ) (left : InterfaceSet) (seen added : ChipHistory) (result : ℕ)
     (process : Process (Option Written × InterfaceSet)) (what : Option Written → InterfaceSet → Type 0)
-    (same : (told : Option Written) (kept : InterfaceSet) → what told kept ↔ Runs terms tries process seen added (told, kept)) where
-  writes_so : ((told : Option Written) × what told left × (code_got call ≡ code_of_access told))
-      ↔ ComesTo terms tries call (writes_off process) seen added left
+    (same : (told : Option Written) (kept : InterfaceSet)
+    → what told kept ↔ Runs terms tries process seen added (told, kept)) where
+  writes_so : ((told : Option Written) × what told left × (result ≡ code_of_access told))
+      ↔ ComesTo terms tries result NoPlace (writes_off process) seen added left
   writes_so =
-      let all = ends_with terms tries call left seen added (λ (end : Option Written × InterfaceSet). what end.0 end.1) process
-      (λ end. end_of (code_of_access end.0) Nothing end.1) (λ end. same end.0 end.1) in (
+      let all = ends_with terms tries result NoPlace left seen added (λ (end : Option Written × InterfaceSet). what end.0 end.1)
+      process (λ end. end_of (code_of_access end.0) Nothing end.1) (λ end. same end.0 end.1) in (
         λ h. let (told, so, code) = h in all.0 ((told, left), so, (code, tt, refl)),
         λ h. let (end, so, got) = all.1 h in (end.0, subst (λ l. what end.0 l) (sym got.2) so, got.0),
       )
 
 module _ (terms : Terms) (tries : ℕ) (own left : InterfaceSet) (seen added : ChipHistory) (result : ℕ) where
   clears : ((told : Written) × ClearsObjects terms tries seen added told × (result ≡ code_of_access (Some told))) × (left ≡ own)
-      ↔ ComesTo terms tries (host.clear result)
+      ↔ ComesTo terms tries result NoPlace
       (ending (change_all terms zeros) (λ told. end_of (code_of_access (Some told)) Nothing own)) seen added left
   clears =
-      let all = ends_with terms tries (host.clear result) left seen added
+      let all = ends_with terms tries result NoPlace left seen added
       (λ told. ClearsObjects terms tries seen added told) (change_all terms zeros)
       (λ told. end_of (code_of_access (Some told)) Nothing own) (λ told. changes_all zeros terms tries seen added told) in (
         λ h. let ((told, so, code), same) = h in all.0 (told, so, (code, tt, same)),
@@ -213,7 +210,8 @@ module _ (terms : Terms) (tries : ℕ) (own left : InterfaceSet) (seen added : C
 
 -- ---- notes
 
-module _ (terms : Terms) (tries : ℕ) (own left : InterfaceSet) (seen added : ChipHistory) (result : ℕ) (note : Option Told) where
+module _ {State : Type 0} (terms : Terms) (tries : ℕ) (own left : State) (seen added : ChipHistory) (result : ℕ)
+    (note : Option Told) where
   -- what is noted without a step
   abbrev Notes_so : Option ChipHistory → Type 0
   Notes_so told = (added ≡ []) × IfSome told (λ whole. whole ≡ seen)
@@ -226,17 +224,17 @@ module _ (terms : Terms) (tries : ℕ) (own left : InterfaceSet) (seen added : C
       )
 
   told_as : (told : Option ChipHistory) → Notes_so told
-      → Got terms tries (host.tell note result) left seen added (note_end own told) → Tells note own seen added result left
+      → Got terms tries result (NoteAt note) left seen added (note_end own told) → Tells note own seen added result left
   told_as None so got = inr (record { code_is = got.0; quiet = so.0; leaves = got.2 })
   told_as (Some whole) so got = inl (
     subst (λ es. TellsOf note es) so.1 got.1,
     record { code_is = got.0; quiet = so.0; leaves = got.2 },
   )
 
-  tells : Tells note own seen added result left ↔ ComesTo terms tries (host.tell note result) (ending noted (note_end own)) seen
+  pub tells : Tells note own seen added result left ↔ ComesTo terms tries result (NoteAt note) (ending noted (note_end own)) seen
       added left
   tells =
-      let all = ends_with terms tries (host.tell note result) left seen added Notes_so noted (note_end own) notes_so in (
+      let all = ends_with terms tries result (NoteAt note) left seen added Notes_so noted (note_end own) notes_so in (
         λ h. elim h [
           | inl one ↦ all.0 (Some seen, (one.1.quiet, refl), (one.1.code_is, one.0, one.1.leaves))
           | inr none ↦ all.0 (None, (none.quiet, tt), (none.code_is, tt, none.leaves))
@@ -244,11 +242,11 @@ module _ (terms : Terms) (tries : ℕ) (own left : InterfaceSet) (seen added : C
         λ h. let (told, so, got) = all.1 h in told_as told so got,
       )
 
-  heeds : (told : Told) → (result ≡ done) × Heeds terms.port told.whole seen added × (left ≡ own)
-      ↔ ComesTo terms tries (host.heed note result) (ending (heeded told.whole) (λ done_so. end_of done Nothing own)) seen added
+  pub heeds : (told : Told) → (result ≡ done) × Heeds terms.port told.whole seen added × (left ≡ own)
+      ↔ ComesTo terms tries result NoPlace (ending (heeded told.whole) (λ done_so. end_of done Nothing own)) seen added
       left
   heeds told =
-      let all = ends_with terms tries (host.heed note result) left seen added
+      let all = ends_with terms tries result NoPlace left seen added
       (λ done_so. Heeds terms.port told.whole seen added) (heeded told.whole) (λ done_so. end_of done Nothing own)
       (λ done_so.
       let one = one_act terms tries (HeedsAct told.whole) (λ (d : Unit {0}). d) seen added done_so in (
@@ -265,66 +263,64 @@ module _ (terms : Terms) (tries : ℕ) (map : Map) (own left : InterfaceSet) (se
   abbrev IsProcess : HostCall → Type 0
   IsProcess call =
       HostCallMeans terms tries map call own seen added left
-      ↔ ComesTo terms tries call (host_process terms map (asked_by call) own) seen added left
+      ↔ ComesTo terms tries (code_got call) (place_of call) (host_process terms map (asked_by call) own) seen added left
 
-  refused : (call : HostCall) (code : ℕ) → Rests code own left added (code_got call)
-      ↔ ComesTo terms tries call (refuses code own) seen added left
-  refused call code = rests terms tries call left seen added code own
+  refused : (result : ℕ) (place : Place) (code : ℕ) → Rests code own left added result
+      ↔ ComesTo terms tries result place (refuses code own) seen added left
+  refused result place code = rests terms tries result place left seen added code own
 
   each : (call : HostCall) → IsProcess call
   each (host.set number value result) =
-      let call = host.set number value result in
-      picked terms tries call left seen added (register_numbered number) _ _ _ _ (refused call register_range)
+      picked terms tries result NoPlace left seen added (register_numbered number) _ _ _ _ (refused result NoPlace register_range)
       (λ reg. sets terms tries own left seen added number value result reg)
   each (host.get number result out) =
-      let call = host.get number result out in
-      picked terms tries call left seen added (register_numbered number) _ _ _ _ (refused call register_range)
+      picked terms tries result (NumberAt out) left seen added (register_numbered number) _ _ _ _
+      (refused result (NumberAt out) register_range)
       (λ reg. gets terms tries own left seen added number result out reg)
   each (host.request number result) = requests terms tries own left seen added number result
   each (host.flags number result out) =
-      let call = host.flags number result out in
-      picked terms tries call left seen added (flag_numbered number) _ _ _ _ (refused call flag_range)
+      picked terms tries result (NumberAt out) left seen added (flag_numbered number) _ _ _ _
+      (refused result (NumberAt out) flag_range)
       (λ flag. reads_flag terms tries own left seen added number result out flag)
   each (host.interrupt result out) = interrupts terms tries own left seen added result out
   each (host.peek object result out) =
-      let call = host.peek object result out in
-      chosen terms tries call left seen added (is_object terms.profile object) _ _ _ _
-      (peeks terms tries own left seen added object result out) (refused call object_range)
+      chosen terms tries result (RecordAt out) left seen added (is_object terms.profile object) _ _ _ _
+      (peeks terms tries own left seen added object result out) (refused result (RecordAt out) object_range)
   each (host.until object number turns result out) =
-      let call = host.until object number turns result out in
-      chosen terms tries call left seen added (is_object terms.profile object) _ _ _ _
-      (picked terms tries call left seen added (flag_numbered number) _ _ _ _ (refused call flag_range)
-      (λ flag. waits_by terms tries own left seen added object number turns result out flag)) (refused call object_range)
+      chosen terms tries result (NumberAt out) left seen added (is_object terms.profile object) _ _ _ _
+      (picked terms tries result (NumberAt out) left seen added (flag_numbered number) _ _ _ _
+      (refused result (NumberAt out) flag_range)
+      (λ flag. waits_by terms tries own left seen added object number turns result out flag))
+      (refused result (NumberAt out) object_range)
   each (host.read8 offset result out) =
-      reads_so terms tries own left seen added (host.read8 offset result out) out refl (reads_byte terms map offset own)
+      reads_so terms tries own left seen added result out (reads_byte terms map offset own)
       (λ told. ReadsByte terms tries map offset own seen added told)
       (λ told. read_byte terms tries map own seen added offset told)
   each (host.write8 offset value result) =
-      writes_so terms tries left seen added (host.write8 offset value result) (writes_byte terms map offset value own)
+      writes_so terms tries left seen added result (writes_byte terms map offset value own)
       (λ told kept. WritesByte terms tries map offset value own seen added told kept)
       (λ told kept. write_byte terms tries map offset value own seen added kept told)
   each (host.read16 offset result out) =
-      reads_so terms tries own left seen added (host.read16 offset result out) out refl (reads_at terms map offset own)
+      reads_so terms tries own left seen added result out (reads_at terms map offset own)
       (λ told. ReadsAt terms tries map offset own seen added told)
       (λ told. read_at terms tries map own seen added offset told)
   each (host.write16 offset value result) =
-      writes_so terms tries left seen added (host.write16 offset value result) (writes_at terms map offset value own)
+      writes_so terms tries left seen added result (writes_at terms map offset value own)
       (λ told kept. WritesAt terms tries map offset value own seen added told kept)
       (λ told kept. write_at terms tries map offset value own seen added kept told)
   each (host.read32 offset result out) =
-      reads_so terms tries own left seen added (host.read32 offset result out) out refl (reads_word terms map offset own)
+      reads_so terms tries own left seen added result out (reads_word terms map offset own)
       (λ told. ReadsWord terms tries map offset own seen added told)
       (λ told. read_word terms tries map offset own seen added told)
   each (host.write32 offset value result) =
-      writes_so terms tries left seen added (host.write32 offset value result) (writes_word terms map offset value own)
+      writes_so terms tries left seen added result (writes_word terms map offset value own)
       (λ told kept. WritesWord terms tries map offset value own seen added told kept)
       (λ told kept. write_word terms tries map offset value own seen added told kept)
   each (host.line result out) = pulls terms tries own left seen added result out
   each (host.clear result) = clears terms tries own left seen added result
   each (host.tell note result) = tells terms tries own left seen added result note
   each (host.heed note result) =
-      let call = host.heed note result in
-      picked terms tries call left seen added note _ _ _ _ (refused call untold)
+      picked terms tries result NoPlace left seen added note _ _ _ _ (refused result NoPlace untold)
       (λ told. heeds terms tries own left seen added result note told)
 
 pub host_calls : HostCallsAreProcesses

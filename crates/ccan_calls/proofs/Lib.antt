@@ -14,3 +14,6 @@ pub mod ReadsRun
 pub mod WritesRun
 pub mod WordsRun
 pub mod HostCallsRun
+pub mod BusReads
+pub mod BusWrites
+pub mod BusCallsRun

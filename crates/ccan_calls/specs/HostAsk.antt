@@ -1,11 +1,9 @@
--- A call on the handle of a host before it is answered, and how it is answered. Source: this project's own.
-use Rattle.std.specs.Prelude.{ℕ, ◌≡◌, Option}
-use Rattle.ccan_endless.specs.Chip.{ChipHistory}
+-- A call on the handle of a host before it is answered. Source: this project's own.
+use Rattle.std.specs.Prelude.{ℕ, Option}
 use Rattle.ccan_endless.specs.Note.{Told}
-use Rattle.ccan_c.specs.declared.shown_record.ShownRecord.{ShownRecord}
 use Rattle.ccan_c.specs.HostCall.{HostCall, code_got}
 use Rattle.ccan_c.specs.HostCall as host
-use Rattle.ccan_c.specs.Note.{TellsOf}
+use Rattle.ccan_calls.specs.Answer.{Place, NoPlace, NumberAt, RecordAt, NoteAt}
 
 -- what C passes
 pub data HostAsk : Type 0 where
@@ -48,26 +46,7 @@ asked_by (host.clear result) = clear
 asked_by (host.tell _ result) = tell
 asked_by (host.heed note result) = heed note
 
--- what a call gives, if it gives something
-pub data Given : Type 0 where
-  Nothing : Given
-  Number : (value : ℕ) → Given
-  Shown : (shown : ShownRecord) → Given
-  -- a note that says this
-  Noted : (seen : ChipHistory) → Given
-
--- what C gets: a code, and what the call gives
-pub record Answer : Type 0 where
-  pub code : ℕ
-  pub given : Given
-
 -- what stands in the place for the result after a call, or in the note
-pub data Place : Type 0 where
-  NoPlace : Place
-  NumberAt : (out : ℕ) → Place
-  RecordAt : (out : ShownRecord) → Place
-  NoteAt : (note : Option Told) → Place
-
 abbrev pub place_of : HostCall → Place
 place_of (host.get number result out) = NumberAt out
 place_of (host.flags number result out) = NumberAt out
@@ -80,16 +59,3 @@ place_of (host.read32 offset result out) = NumberAt out
 place_of (host.line result out) = NumberAt out
 place_of (host.tell note result) = NoteAt note
 place_of call = NoPlace
-
--- what was given stands there; if nothing was, anything may stand there
-abbrev pub IsIn : Given → Place → Type 0
-IsIn Nothing place = Unit {0}
-IsIn (Number value) (NumberAt out) = out ≡ value
-IsIn (Shown shown) (RecordAt out) = out ≡ shown
-IsIn (Noted seen) (NoteAt note) = TellsOf note seen
-IsIn given place = ⊥
-
--- the call got this answer
-pub record IsAnswered (call : HostCall) (answer : Answer) : Type 0 where
-  pub code : code_got call ≡ answer.code
-  pub given : IsIn answer.given (place_of call)

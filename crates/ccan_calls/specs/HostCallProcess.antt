@@ -1,5 +1,5 @@
 -- Each call on the handle of a host as a process. Source: this project's own, after what the calls stand for.
-use Rattle.std.specs.Prelude.{ℕ, false, Option, Some, None, Ok, if◌then◌else◌}
+use Rattle.std.specs.Prelude.{ℕ, false, Option, Some, None, if◌then◌else◌}
 use Rattle.std.specs.Option.{option_map_or}
 use Rattle.ccan_object.specs.Interface.{set_register, shown}
 use Rattle.ccan_object.specs.Number.{requested}
@@ -16,26 +16,19 @@ use Rattle.ccan_c.specs.Host.{register_numbered, flag_numbered, is_object, numbe
 use Rattle.ccan_c.specs.HostCall.{code_of_access}
 use Rattle.ccan_c.specs.Record.{c_record}
 use Rattle.ccan_c.specs.Settings.{is_from_one_to}
-use Rattle.ccan_calls.specs.HostAsk.{Answer, Given, HostAsk, Noted, Nothing, Number, Shown, set, get, request, flags, interrupt, peek, until, read8, write8, read16, write16, read32, write32, line, clear, tell, heed}
+use Rattle.ccan_calls.specs.Answer.{CallEnd, CallProcess, Noted, Nothing, Number, Shown, end_of, refuses, word_given}
+use Rattle.ccan_calls.specs.HostAsk.{HostAsk, set, get, request, flags, interrupt, peek, until, read8, write8, read16, write16, read32, write32, line, clear, tell, heed}
 use Rattle.ccan_calls.specs.Parts.{flag_shown, interrupt_value, line_pulled, look, transfer, until_shown}
 use Rattle.ccan_calls.specs.Process.{Does, Ended, Heeds, Notes, Process, ending}
 use Rattle.ccan_calls.specs.ReadProcess.{Word, reads_at, reads_byte}
 use Rattle.ccan_calls.specs.WordProcess.{reads_word, writes_word}
 use Rattle.ccan_calls.specs.WriteProcess.{Written, change_all, writes_at, writes_byte}
 
--- how a call ends: with an answer, and the interface registers after it
 abbrev pub HostEnd : Type 0
-HostEnd = Answer × InterfaceSet
+HostEnd = CallEnd InterfaceSet
 
 abbrev pub HostProcess : Type 0
-HostProcess = Process HostEnd
-
-abbrev pub end_of : ℕ → Given → InterfaceSet → HostEnd
-end_of code given left = (record { code = code; given = given }, left)
-
--- the numbers of the call are refused, and nothing happens
-abbrev pub refuses : ℕ → InterfaceSet → HostProcess
-refuses code own = Ended (end_of code Nothing own)
+HostProcess = CallProcess InterfaceSet
 
 -- looks for a flag, at most this many
 abbrev pub waits : ℕ → ℕ → InterfaceSet → Flag → HostProcess
@@ -44,13 +37,8 @@ waits object turns own flag =
     then ending (until_shown object flag turns) (λ found. end_of done (Number (number_of found)) own)
     else refuses turns_range own
 
--- what a read writes into the place for its result
-abbrev pub word_given : Option Word → Given
-word_given (Some (Ok word)) = Number word
-word_given told = Nothing
-
 -- a read at an offset
-abbrev pub reads_off : Process (Option Word) → InterfaceSet → HostProcess
+abbrev pub reads_off : {State : Type 0} → Process (Option Word) → State → CallProcess State
 reads_off process own = ending process (λ told. end_of (code_of_access told) (word_given told) own)
 
 -- a write at an offset
@@ -63,7 +51,7 @@ abbrev pub noted : Process (Option ChipHistory)
 noted = Does Notes (λ seen. Ended seen)
 
 -- a note, or memory has run out
-abbrev pub note_end : InterfaceSet → Option ChipHistory → HostEnd
+abbrev pub note_end : {State : Type 0} → State → Option ChipHistory → CallEnd State
 note_end own None = end_of no_memory Nothing own
 note_end own (Some seen) = end_of done (Noted seen) own
 

@@ -1,22 +1,36 @@
 -- Calls are their processes. Source: this project's own.
-use Rattle.std.specs.Prelude.{ℕ, ◌↔◌}
+use Rattle.std.specs.Prelude.{ℕ, ◌≡◌, ◌↔◌, IfSome}
+use Rattle.ccan_ram.specs.declared.port.PortName.TheVariants.{Bus}
 use Rattle.ccan_ram.specs.Terms.{Terms}
+use Rattle.ccan_bus.specs.Past.{BusPast}
 use Rattle.ccan_endless.specs.Chip.{ChipHistory}
 use Rattle.ccan_map.specs.declared.map.Map.{Map}
 use Rattle.ccan_registers.specs.declared.interface_set.InterfaceSet.{InterfaceSet}
-use Rattle.ccan_c.specs.HostCall.{HostCall, HostCallMeans}
-use Rattle.ccan_calls.specs.HostAsk.{Answer, IsAnswered, asked_by}
-use Rattle.ccan_calls.specs.HostCallProcess.{HostProcess, host_process}
+use Rattle.ccan_c.specs.BusCall.{BusCall, BusCallMeans, code_got as code_on}
+use Rattle.ccan_c.specs.HostCall.{HostCall, HostCallMeans, code_got}
+use Rattle.ccan_calls.specs.Answer.{Answer, CallProcess, IsAnswered, Place}
+use Rattle.ccan_calls.specs.BusAsk.{asked_on, place_on}
+use Rattle.ccan_calls.specs.BusCallProcess.{bus_process}
+use Rattle.ccan_calls.specs.HostAsk.{asked_by, place_of}
+use Rattle.ccan_calls.specs.HostCallProcess.{host_process}
 use Rattle.ccan_calls.specs.Runs.{Runs}
 
--- a process adds these events and leaves these interface registers, and the call got its answer
-abbrev pub ComesTo : Terms → ℕ → HostCall → HostProcess → ChipHistory → ChipHistory → InterfaceSet → Type 0
-ComesTo terms tries call process seen added left =
-    (answer : Answer) × IsAnswered call answer × Runs terms tries process seen added (answer, left)
+-- a process adds these events and leaves this, and the call got its answer: this code, and this in the place for the result
+abbrev pub ComesTo : {State : Type 0} → Terms → ℕ → ℕ → Place → CallProcess State → ChipHistory → ChipHistory → State → Type 0
+ComesTo terms tries code place process seen added left =
+    (answer : Answer) × IsAnswered code place answer × Runs terms tries process seen added (answer, left)
 
 -- a call on the handle of a host stands for exactly what the process of what it asked runs to
 abbrev pub HostCallsAreProcesses : Type 0
 HostCallsAreProcesses =
     (terms : Terms) (tries : ℕ) (map : Map) (call : HostCall) (own left : InterfaceSet) (seen added : ChipHistory)
     → HostCallMeans terms tries map call own seen added left
-    ↔ ComesTo terms tries call (host_process terms map (asked_by call) own) seen added left
+    ↔ ComesTo terms tries (code_got call) (place_of call) (host_process terms map (asked_by call) own) seen added left
+
+-- so does a call on the bus's handle, if it is one of those of which a process is given
+abbrev pub BusCallsAreProcesses : Type 0
+BusCallsAreProcesses =
+    (terms : Terms) (tries nodes : ℕ) (map : Map) (call : BusCall) (past after : BusPast) (seen added : ChipHistory)
+    → terms.port ≡ Bus
+    → IfSome (asked_on call) (λ ask. BusCallMeans terms tries nodes map call past seen added after
+    ↔ ComesTo terms tries (code_on call) (place_on call) (bus_process terms map nodes ask past) seen added after)

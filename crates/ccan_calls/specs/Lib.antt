@@ -5,6 +5,10 @@ pub mod Offsets
 pub mod ReadProcess
 pub mod WriteProcess
 pub mod WordProcess
+pub mod Answer
 pub mod HostAsk
 pub mod HostCallProcess
+pub mod BusRegisters
+pub mod BusAsk
+pub mod BusCallProcess
 pub mod Laws

@@ -1,7 +1,14 @@
-//! The calls of the C library as processes: steps, each of which says what comes next by what came of it.
+//! The calls on the handles of a host and of the bus, in the library for C, as processes of steps.
 //!
-//! A step is a look at an object or an attempt to change it, a picture of all objects, or a look at the controller or a change of
-//! it. A call comes to exactly what its process runs to. Nothing here runs: the crate has definitions and laws.
+//! A process is an end, or an act and what comes next by what came of it. An act is a look at an object or an attempt to change
+//! it, a picture of all objects, a look at the controller or a change of it, or a note. Nothing here runs: the crate has
+//! definitions, and laws that tie them to the contracts of the calls.
+//!
+//! ```text
+//! a call ─ host_calls_are_processes ─ host_process ─┐
+//!                                                   ├─ a Process of Acts ─ Runs: the events that it adds, and its result
+//! a call ─ bus_calls_are_processes  ─ bus_process  ─┘
+//! ```
 #![tactic(auto)]
 
 pub mod laws;

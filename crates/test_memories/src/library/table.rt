@@ -10,7 +10,7 @@ use ccan_c::{
     ShownRecord, ShownWire, ccan_version, code, fault_numbered, flag_numbered, map_numbered,
     register_numbered, state_number, step_number,
 };
-use ccan_calls::laws::host_calls_are_processes;
+use ccan_calls::laws;
 use ccan_chip::ChipReport;
 use ccan_confine::{Controller, NodeState};
 use ccan_map::{FlagPart, Interface, Map, Register};
@@ -413,8 +413,9 @@ fn sizes(rt: HostRuntime) {
     same(&rt, size_of::<ShownNode>(), 12); // sizeof(ccan_node)
 }
 
-/// The law does nothing: it is called so that it is seen to hold.
+/// The laws do nothing: they are called so that each is seen to hold.
 #[test]
 fn calls_are_processes(_rt: HostRuntime) {
-    host_calls_are_processes();
+    laws::host_calls_are_processes();
+    laws::bus_calls_are_processes();
 }
