@@ -7,7 +7,10 @@ use Rattle.ccan_confine.specs.Counters.{Counts, counts_of}
 use Rattle.ccan_ram.specs.declared.flag.Flag.{Flag}
 use Rattle.ccan_ram.specs.declared.port.PortName.TheVariants.{Bus}
 use Rattle.ccan_ram.specs.Terms.{Terms}
+use Rattle.ccan_bus.specs.declared.answer.LoadAnswer.{LoadAnswer}
+use Rattle.ccan_bus.specs.declared.choice.Choice.TheVariants.{AtOnce}
 use Rattle.ccan_bus.specs.Past.{BusPast}
+use Rattle.ccan_line.specs.declared.line_answer.LineAnswer.TheVariants as answer
 use Rattle.ccan_line.specs.Limits.{most_groups}
 use Rattle.ccan_endless.specs.declared.chip.ControllerStep.TheVariants.{Look}
 use Rattle.ccan_endless.specs.declared.controller_changed.ControllerBusy.{ControllerBusy}
@@ -22,9 +25,11 @@ use Rattle.ccan_registers.specs.ChipSteps.{AtController, Changes, Makes, Then, m
 use Rattle.ccan_registers.specs.InterfaceSet.{zero_set}
 use Rattle.ccan_registers.specs.Objects.{ShowsFlags}
 use Rattle.ccan_registers.specs.Register.{ReadsAt, ReadsWord, WritesAt, WritesWord, InterruptValue, PullsLine, ReadsStatus, read_of, status_told}
-use Rattle.ccan_registers.specs.Rounds.{RecoversOnChip}
+use Rattle.ccan_registers.specs.Rounds.{LoadsOnChip, RecoversOnChip}
 use Rattle.ccan_c.specs.declared.shown_counters.ShownCounters.{ShownCounters}
-use Rattle.ccan_c.specs.Answer.{c_counters}
+use Rattle.ccan_c.specs.declared.shown_load.ShownLoad.{ShownLoad}
+use Rattle.ccan_c.specs.Answer.{c_counters, code_of}
+use Rattle.ccan_c.specs.Load.{c_load}
 use Rattle.ccan_c.specs.Bus.{enabling, is_on, looping, starting, testing}
 use Rattle.ccan_c.specs.BusCall.{BusCall, BusCallMeans, Counts0, CountsController, CountsNode, LoopsBack, MakesChange, TellsState, TellsStatus, code_got as code_on}
 use Rattle.ccan_c.specs.BusCall as bus
@@ -33,11 +38,12 @@ use Rattle.ccan_c.specs.Host.{flag_numbered, number_of}
 use Rattle.ccan_c.specs.HostCall.{IsRead, code_of_access}
 use Rattle.ccan_c.specs.Settings.{is_from_one_to}
 use Rattle.ccan_c.specs.Step.{Rests}
-use Rattle.ccan_calls.specs.Answer.{Counters, CountersAt, NoPlace, Nothing, Number, NumberAt, Place, end_of, refuses, word_given}
+use Rattle.ccan_calls.specs.Answer.{Counters, CountersAt, LoadingAt, NoPlace, Nothing, Number, NumberAt, Place, end_of, refuses, word_given}
 use Rattle.ccan_calls.specs.BusAsk.{asked_on, place_on}
-use Rattle.ccan_calls.specs.BusCallProcess.{bus_process, coded, controller_shown, counts, loops_back, recessive_bits, recessive_end, status_read, writes_by}
+use Rattle.ccan_calls.specs.BusCallProcess.{bus_process, coded, controller_shown, counts, load_end, loops_back, recessive_bits, recessive_end, status_read, writes_by}
 use Rattle.ccan_calls.specs.BusRegisters.{bus_writes_at, bus_writes_byte, bus_writes_word}
 use Rattle.ccan_calls.specs.HostCallProcess.{reads_off}
+use Rattle.ccan_calls.specs.LoadProcess.{LoadEnd, loads}
 use Rattle.ccan_calls.specs.Laws.{BusCallsAreProcesses, ComesTo}
 use Rattle.ccan_calls.specs.Parts.{flag_shown, line_pulled, value_shown}
 use Rattle.ccan_calls.specs.Process.{ChangesController, Ended, LooksAtController, Process, ending}
@@ -48,8 +54,9 @@ use Rattle.ccan_calls.specs.WriteProcess.{writes_at, writes_byte, Written, chang
 use Rattle.ccan_calls.proofs.BusReads.{reads_at_alike, reads_byte_alike, reads_word_alike}
 use Rattle.ccan_calls.proofs.BusWrites.{at_kept, byte_at_kept, word_kept, writes_kept}
 use Rattle.ccan_calls.proofs.Comes.{Got, chosen, ended, ends_with, picked, rests}
-use Rattle.ccan_calls.proofs.HostCallsRun.{heeds, in_read, read_in, reads_so, tells}
+use Rattle.ccan_calls.proofs.AnyHandle.{heeds, in_read, read_in, reads_so, tells}
 use Rattle.ccan_calls.proofs.Interrupts.{pulls_line, shows_flag, values}
+use Rattle.ccan_calls.proofs.LoadsRun.{loads_so}
 use Rattle.ccan_calls.proofs.Processes.{one_act, only_first}
 use Rattle.ccan_calls.proofs.ReadsRun.{read_at, read_byte}
 use Rattle.ccan_calls.proofs.WordsRun.{read_word, write_word}
@@ -313,7 +320,7 @@ module _ (terms : Terms) (tries : ℕ) (past after : BusPast) (seen added : Chip
 -- ---- all calls
 
 module _ (terms : Terms) (tries nodes : ℕ) (map : Map) (past after : BusPast) (seen added : ChipHistory)
-    (is_bus : terms.port ≡ Bus) where
+    (is_bus : terms.port ≡ Bus) (at_once : past.choice ≡ AtOnce) where
   abbrev IsProcess : BusCall → Type 0
   IsProcess call =
       IfSome (asked_on call) (λ ask. BusCallMeans terms tries nodes map call past seen added after
@@ -361,8 +368,28 @@ module _ (terms : Terms) (tries nodes : ℕ) (map : Map) (past after : BusPast) 
             (own, (told, writes, got.0), got.2),
       )
 
+  loaded : (result : ℕ) (out : ShownLoad)
+      → ((found : Controller) × (loading : LoadAnswer) × LoadsOnChip terms tries past seen added after found loading
+      × (result ≡ code_of (answer.Load loading)) × (out ≡ c_load loading after.loaded))
+      ↔ ComesTo terms tries result (LoadingAt out) (ending (loads terms.profile past) load_end) seen added after
+  loaded result out =
+      let all = ends_with terms tries result (LoadingAt out) after seen added
+      (λ (end : LoadEnd). (found : Controller) × LoadsOnChip terms tries past seen added end.1 found end.0)
+      (loads terms.profile past) load_end (λ end. loads_so terms tries past at_once seen added end.0 end.1) in (
+        λ h. let (found, loading, so, code, is) = h in all.0 ((loading, after), (found, so), (code, is, refl)),
+        λ h.
+            let (end, loads_it, got) = all.1 h in
+            let (found, so) = loads_it in (
+              found,
+              end.0,
+              subst (λ p. LoadsOnChip terms tries past seen added p found end.0) (sym got.2) so,
+              got.0,
+              got.1 ∙ ap (λ (p : BusPast). c_load end.0 p.loaded) (sym got.2),
+            ),
+      )
+
   each : (call : BusCall) → IsProcess call
-  each (bus.load result out) = tt
+  each (bus.load result out) = loaded result out
   each (bus.status result out) = tells_status terms tries past after seen added result out
   each (bus.control sie eie result) =
       changes terms tries past after seen added result (enabling (is_on sie) (is_on eie))
@@ -413,4 +440,5 @@ module _ (terms : Terms) (tries nodes : ℕ) (map : Map) (past after : BusPast) 
       (λ told. heeds terms tries past after seen added result note told)
 
 pub bus_calls : BusCallsAreProcesses
-bus_calls terms tries nodes map call past after seen added is_bus = each terms tries nodes map past after seen added is_bus call
+bus_calls terms tries nodes map call past after seen added is_bus at_once =
+    each terms tries nodes map past after seen added is_bus at_once call

@@ -30,24 +30,7 @@ use Rattle.ccan_calls.specs.Process.{Does, Ended, LooksAtController, Process, en
 use Rattle.ccan_calls.specs.Runs.{Runs}
 use Rattle.ccan_calls.specs.WordProcess.{OffEnd, some_written, writes_control_word, writes_halves, writes_word}
 use Rattle.ccan_calls.specs.WriteProcess.{WriteEnd, WriteProcess, Written, access_at, change_controller, keeping, others, requests_by, resets, resets_in_init, sets, writes, writes_at, writes_byte, writes_byte_of, writes_lower, writes_rest, writes_timing_byte, writes_upper}
-use Rattle.ccan_calls.proofs.Processes.{ends_so}
-
--- ---- parts put together
-
-pub ending_twice : {A B C : Type 0} (process : Process A) (one : A → B) (other : B → C)
-    → ending (ending process one) other ≡ ending process (λ x. other (one x))
-ending_twice (Ended result) one other = refl
-ending_twice (Does act next) one other = λ i. Does act (λ out. ending_twice (next out) one other i)
-
-pub follow_ending : {A B C : Type 0} (process : Process A) (one : A → B) (next : B → Process C)
-    → followed_by (ending process one) next ≡ followed_by process (λ x. next (one x))
-follow_ending (Ended result) one next = refl
-follow_ending (Does act on_from) one next = λ i. Does act (λ out. follow_ending (on_from out) one next i)
-
-pub ending_follow : {A B C : Type 0} (process : Process A) (next : A → Process B) (other : B → C)
-    → ending (followed_by process next) other ≡ followed_by process (λ x. ending (next x) other)
-ending_follow (Ended result) next other = refl
-ending_follow (Does act on_from) next other = λ i. Does act (λ out. ending_follow (on_from out) next other i)
+use Rattle.ccan_calls.proofs.Processes.{ending_follow, ending_twice, ends_so, follow_ending}
 
 module _ {A B : Type 0} (end : A → B) where
   case_ends : (b : Bool) (one other : Process A) (one' other' : Process B) → one' ≡ ending one end → other' ≡ ending other end

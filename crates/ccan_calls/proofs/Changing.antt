@@ -58,9 +58,9 @@ module _ (change : Change) where
         )
 
     -- the objects before this one were changed, or the change of one was refused
-    abbrev Changed_so : ℕ → ChipHistory → ChipHistory → Written → Type 0
-    Changed_so n seen added (Ok done) = HaveChanged terms change tries n seen added
-    Changed_so n seen added (Err why) =
+    abbrev ChangedSo : ℕ → ChipHistory → ChipHistory → Written → Type 0
+    ChangedSo n seen added (Ok done) = HaveChanged terms change tries n seen added
+    ChangedSo n seen added (Err why) =
         (m : ℕ) × (m < n)
         × Then (λ s a. HaveChanged terms change tries m s a) (λ s a. ChangesObject terms change tries (suc m) s a (Err why)) seen
         added
@@ -83,7 +83,7 @@ module _ (change : Change) where
         subst (λ p. Runs terms tries p seen added told) (sym (last_of n 1 (suc n) (omega arith)))
         (follow terms tries (later n) (change_each change n 1) seen added told h)
 
-    to_each : (n : ℕ) (seen added : ChipHistory) (told : Written) → Changed_so n seen added told → Each n seen added told
+    to_each : (n : ℕ) (seen added : ChipHistory) (told : Written) → ChangedSo n seen added told → Each n seen added told
     to_each zero seen added (Ok done) h = (h, refl)
     to_each zero seen added (Err why) (m, less, steps) = absurd (omega (arith, less))
     to_each (suc n) seen added (Ok done) h = to_later n seen added (Ok done) (
@@ -127,16 +127,16 @@ module _ (change : Change) where
     -- the objects before were changed, and then one more is, or its change is refused
     one_more : (n : ℕ) (seen added : ChipHistory) (told : Written)
         → Then (λ s a. HaveChanged terms change tries n s a) (λ s a. ChangesObject terms change tries (suc n) s a told) seen added
-        → Changed_so (suc n) seen added told
+        → ChangedSo (suc n) seen added told
     one_more n seen added (Ok done) steps = steps
     one_more n seen added (Err why) steps = (n, omega arith, steps)
 
-    after_none : (seen added : ChipHistory) (told : Written) → added ≡ [] → told ≡ Ok tt → Changed_so 0 seen added told
-    after_none seen added told none is = subst (λ t. Changed_so 0 seen added t) (sym is) none
+    after_none : (seen added : ChipHistory) (told : Written) → added ≡ [] → told ≡ Ok tt → ChangedSo 0 seen added told
+    after_none seen added told none is = subst (λ t. ChangedSo 0 seen added t) (sym is) none
 
     by_middle : (n : ℕ) (seen added : ChipHistory) (told middle : Written) (earlier rest : ChipHistory)
-        → added ≡ rest ++ earlier → Changed_so n seen earlier middle
-        → Runs terms tries (later n middle) (earlier ++ seen) rest told → Changed_so (suc n) seen added told
+        → added ≡ rest ++ earlier → ChangedSo n seen earlier middle
+        → Runs terms tries (later n middle) (earlier ++ seen) rest told → ChangedSo (suc n) seen added told
     by_middle n seen added told (Ok done) earlier rest whole before on = one_more n seen added told (record {
       earlier = earlier;
       later = rest;
@@ -145,7 +145,7 @@ module _ (change : Change) where
       ends = (changes_one (suc n) (earlier ++ seen) rest told).1 on;
     })
     by_middle n seen added told (Err why) earlier rest whole (m, less, steps) (none, is) =
-        subst (λ t. Changed_so (suc n) seen added t) (sym is) (
+        subst (λ t. ChangedSo (suc n) seen added t) (sym is) (
           m,
           omega (arith, less),
           subst (λ es. Then
@@ -153,7 +153,7 @@ module _ (change : Change) where
               (only_first added earlier rest whole none) steps,
         )
 
-    of_each : (n : ℕ) (seen added : ChipHistory) (told : Written) → Each n seen added told → Changed_so n seen added told
+    of_each : (n : ℕ) (seen added : ChipHistory) (told : Written) → Each n seen added told → ChangedSo n seen added told
     of_each zero seen added told on = after_none seen added told on.0 on.1
     of_each (suc n) seen added told on =
         let (middle, steps) = of_later n seen added told on in
@@ -161,7 +161,7 @@ module _ (change : Change) where
         steps.ends
 
     by_told : (seen added : ChipHistory) (told : Written)
-        → ChangesObjects terms change tries seen added told ↔ Changed_so (objects_in terms.profile) seen added told
+        → ChangesObjects terms change tries seen added told ↔ ChangedSo (objects_in terms.profile) seen added told
     by_told seen added (Ok done) = (λ h. h, λ h. h)
     by_told seen added (Err why) = (λ h. h, λ h. h)
 

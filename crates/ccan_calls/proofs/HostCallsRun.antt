@@ -1,6 +1,6 @@
 -- A call on the handle of a host is its process.
-use Rattle.std.proofs.Common.{ℕ, zero, suc, ◌≡◌, ◌↔◌, inl, inr, [], Bool, false, Option, Some, None, Ok, Err, IfSome, refl, sym, subst}
-use Rattle.std.specs.Prelude.{MatchBool, IfSome}
+use Rattle.std.proofs.Common.{ℕ, zero, suc, ◌≡◌, ◌↔◌, Bool, false, Option, Some, refl, sym, subst}
+use Rattle.std.specs.Prelude.{MatchBool}
 use Rattle.ccan_object.specs.declared.register.Reg.{Reg}
 use Rattle.ccan_object.specs.Interface.{set_register, shown}
 use Rattle.ccan_object.specs.Number.{requested}
@@ -9,11 +9,9 @@ use Rattle.ccan_ram.specs.Terms.{Terms}
 use Rattle.ccan_line.specs.declared.line_answer.LineAnswer.{LineAnswer}
 use Rattle.ccan_line.specs.Limits.{most_turns}
 use Rattle.ccan_endless.specs.Chip.{ChipHistory}
-use Rattle.ccan_endless.specs.Note.{Told}
 use Rattle.ccan_map.specs.declared.map.Map.{Map}
 use Rattle.ccan_registers.specs.declared.interface_set.InterfaceSet.{InterfaceSet}
 use Rattle.ccan_registers.specs.InterfaceSet.{Transferred}
-use Rattle.ccan_registers.specs.Notes.{Heeds}
 use Rattle.ccan_registers.specs.Objects.{ShowsFlags, ShowsInterrupt, ShowsObject, WaitsFor}
 use Rattle.ccan_registers.specs.Bytes.{ReadsByte, WritesByte}
 use Rattle.ccan_registers.specs.Clearing.{ClearsObjects, zeros}
@@ -24,24 +22,23 @@ use Rattle.ccan_c.specs.Codes.{done, flag_range, object_range, register_range, t
 use Rattle.ccan_c.specs.Host.{flag_numbered, is_object, number_of, register_numbered}
 use Rattle.ccan_c.specs.HostCall.{HostCall, HostCallMeans, IsRead, Peeks, ReadsFlag, Requests, Waits, code_got, code_of_access}
 use Rattle.ccan_c.specs.HostCall as host
-use Rattle.ccan_c.specs.Note.{Tells, TellsOf}
 use Rattle.ccan_c.specs.Record.{c_record}
 use Rattle.ccan_c.specs.Settings.{is_from_one_to}
 use Rattle.ccan_c.specs.Step.{Rests}
-use Rattle.ccan_calls.specs.Answer.{IsIn, NoPlace, NoteAt, Nothing, Number, NumberAt, Place, RecordAt, Shown, end_of, refuses, word_given}
+use Rattle.ccan_calls.specs.Answer.{NoPlace, Nothing, Number, NumberAt, Place, RecordAt, Shown, end_of, refuses}
 use Rattle.ccan_calls.specs.HostAsk.{asked_by, place_of}
-use Rattle.ccan_calls.specs.HostCallProcess.{HostProcess, heeded, host_process, note_end, noted, reads_off, waits, writes_off}
+use Rattle.ccan_calls.specs.HostCallProcess.{HostProcess, host_process, waits, writes_off}
 use Rattle.ccan_calls.specs.Laws.{ComesTo, HostCallsAreProcesses}
 use Rattle.ccan_calls.specs.Parts.{flag_shown, interrupt_value, line_pulled, look, transfer, until_shown}
-use Rattle.ccan_calls.specs.Process.{Ended, Heeds as HeedsAct, Notes, Process, ending}
-use Rattle.ccan_calls.specs.ReadProcess.{Word, reads_at, reads_byte}
+use Rattle.ccan_calls.specs.Process.{Ended, Process, ending}
+use Rattle.ccan_calls.specs.ReadProcess.{reads_at, reads_byte}
 use Rattle.ccan_calls.specs.Runs.{Runs}
 use Rattle.ccan_calls.specs.WordProcess.{reads_word, writes_word}
 use Rattle.ccan_calls.specs.WriteProcess.{Written, change_all, writes_at, writes_byte}
+use Rattle.ccan_calls.proofs.AnyHandle.{heeds, reads_so, tells}
 use Rattle.ccan_calls.proofs.Changing.{changes_all}
-use Rattle.ccan_calls.proofs.Comes.{Got, chosen, ended, ends_with, picked, rests}
+use Rattle.ccan_calls.proofs.Comes.{chosen, ended, ends_with, picked, rests}
 use Rattle.ccan_calls.proofs.Interrupts.{looks_once, pulls_line, shows_flag, shows_value}
-use Rattle.ccan_calls.proofs.Processes.{one_act}
 use Rattle.ccan_calls.proofs.ReadsRun.{read_at, read_byte}
 use Rattle.ccan_calls.proofs.Transfers.{transfers}
 use Rattle.ccan_calls.proofs.Waits.{watches}
@@ -159,29 +156,6 @@ module _ (terms : Terms) (tries : ℕ) (own left : InterfaceSet) (seen added : C
 
 -- ---- registers at an offset
 
--- what was read is what C gets
-pub read_in : (told : Option Word) (out : ℕ) → IsRead told out → IsIn (word_given told) (NumberAt out)
-read_in None out is = is
-read_in (Some (Ok value)) out is = is
-read_in (Some (Err why)) out is = is
-
-pub in_read : (told : Option Word) (out : ℕ) → IsIn (word_given told) (NumberAt out) → IsRead told out
-in_read None out is = is
-in_read (Some (Ok value)) out is = is
-in_read (Some (Err why)) out is = is
-
-module _ {State : Type 0} (terms : Terms) (tries : ℕ) (own left : State) (seen added : ChipHistory) (result out : ℕ)
-    (process : Process (Option Word)) (what : Option Word → Type 0)
-    (same : (told : Option Word) → what told ↔ Runs terms tries process seen added told) where
-  pub reads_so : ((told : Option Word) × what told × (result ≡ code_of_access told) × IsRead told out) × (left ≡ own)
-      ↔ ComesTo terms tries result (NumberAt out) (reads_off process own) seen added left
-  reads_so =
-      let all = ends_with terms tries result (NumberAt out) left seen added what process
-      (λ told. end_of (code_of_access told) (word_given told) own) same in (
-        λ h. let ((told, so, code, is), rests) = h in all.0 (told, so, (code, read_in told out is, rests)),
-        λ h. let (told, so, got) = all.1 h in ((told, so, got.0, in_read told out got.1), got.2),
-      )
-
 -- a write, or a clearing of all objects
 module _ (terms : Terms) (tries : ℕ) (left : InterfaceSet) (seen added : ChipHistory) (result : ℕ)
     (process : Process (Option Written × InterfaceSet)) (what : Option Written → InterfaceSet → Type 0)
@@ -206,55 +180,6 @@ module _ (terms : Terms) (tries : ℕ) (own left : InterfaceSet) (seen added : C
       (λ told. end_of (code_of_access (Some told)) Nothing own) (λ told. changes_all zeros terms tries seen added told) in (
         λ h. let ((told, so, code), same) = h in all.0 (told, so, (code, tt, same)),
         λ h. let (told, so, got) = all.1 h in ((told, so, got.0), got.2),
-      )
-
--- ---- notes
-
-module _ {State : Type 0} (terms : Terms) (tries : ℕ) (own left : State) (seen added : ChipHistory) (result : ℕ)
-    (note : Option Told) where
-  -- what is noted without a step
-  abbrev Notes_so : Option ChipHistory → Type 0
-  Notes_so told = (added ≡ []) × IfSome told (λ whole. whole ≡ seen)
-
-  notes_so : (told : Option ChipHistory) → Notes_so told ↔ Runs terms tries noted seen added told
-  notes_so told =
-      let one = one_act terms tries Notes (λ (whole : Option ChipHistory). whole) seen added told in (
-        λ h. one.1 (told, h, refl),
-        λ h. let (whole, so, is) = one.0 h in subst Notes_so (sym is) so,
-      )
-
-  told_as : (told : Option ChipHistory) → Notes_so told
-      → Got terms tries result (NoteAt note) left seen added (note_end own told) → Tells note own seen added result left
-  told_as None so got = inr (record { code_is = got.0; quiet = so.0; leaves = got.2 })
-  told_as (Some whole) so got = inl (
-    subst (λ es. TellsOf note es) so.1 got.1,
-    record { code_is = got.0; quiet = so.0; leaves = got.2 },
-  )
-
-  pub tells : Tells note own seen added result left ↔ ComesTo terms tries result (NoteAt note) (ending noted (note_end own)) seen
-      added left
-  tells =
-      let all = ends_with terms tries result (NoteAt note) left seen added Notes_so noted (note_end own) notes_so in (
-        λ h. elim h [
-          | inl one ↦ all.0 (Some seen, (one.1.quiet, refl), (one.1.code_is, one.0, one.1.leaves))
-          | inr none ↦ all.0 (None, (none.quiet, tt), (none.code_is, tt, none.leaves))
-        ],
-        λ h. let (told, so, got) = all.1 h in told_as told so got,
-      )
-
-  pub heeds : (told : Told) → (result ≡ done) × Heeds terms.port told.whole seen added × (left ≡ own)
-      ↔ ComesTo terms tries result NoPlace (ending (heeded told.whole) (λ done_so. end_of done Nothing own)) seen added
-      left
-  heeds told =
-      let all = ends_with terms tries result NoPlace left seen added
-      (λ done_so. Heeds terms.port told.whole seen added) (heeded told.whole) (λ done_so. end_of done Nothing own)
-      (λ done_so.
-      let one = one_act terms tries (HeedsAct told.whole) (λ (d : Unit {0}). d) seen added done_so in (
-        λ h. one.1 (tt, h, refl),
-        λ h. let (d, so, is) = one.0 h in so,
-      )) in (
-        λ h. let (code, so, same) = h in all.0 (tt, so, (code, tt, same)),
-        λ h. let (d, so, got) = all.1 h in (got.0, so, got.2),
       )
 
 -- ---- all calls

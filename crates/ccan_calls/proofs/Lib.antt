@@ -13,7 +13,10 @@ pub mod WordsFound
 pub mod ReadsRun
 pub mod WritesRun
 pub mod WordsRun
+pub mod AnyHandle
 pub mod HostCallsRun
 pub mod BusReads
 pub mod BusWrites
+pub mod Starting
+pub mod LoadsRun
 pub mod BusCallsRun

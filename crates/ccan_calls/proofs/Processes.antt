@@ -128,3 +128,20 @@ module _ {A : Type 0} (terms : Terms) (tries : ℕ) (seen added : ChipHistory) (
       → MatchOption o P Q ↔ Runs terms tries (option_map_or some o none) seen added result
   picked None P Q none some p q = p
   picked (Some x) P Q none some p q = q x
+
+-- ---- parts put together
+
+pub ending_twice : {A B C : Type 0} (process : Process A) (one : A → B) (other : B → C)
+    → ending (ending process one) other ≡ ending process (λ x. other (one x))
+ending_twice (Ended result) one other = refl
+ending_twice (Does act next) one other = λ i. Does act (λ out. ending_twice (next out) one other i)
+
+pub follow_ending : {A B C : Type 0} (process : Process A) (one : A → B) (next : B → Process C)
+    → followed_by (ending process one) next ≡ followed_by process (λ x. next (one x))
+follow_ending (Ended result) one next = refl
+follow_ending (Does act on_from) one next = λ i. Does act (λ out. follow_ending (on_from out) one next i)
+
+pub ending_follow : {A B C : Type 0} (process : Process A) (next : A → Process B) (other : B → C)
+    → ending (followed_by process next) other ≡ followed_by process (λ x. ending (next x) other)
+ending_follow (Ended result) next other = refl
+ending_follow (Does act on_from) next other = λ i. Does act (λ out. ending_follow (on_from out) next other i)

@@ -264,12 +264,12 @@ module _ (terms : Terms) (tries : ℕ) (map : Map) (offset value : ℕ) (own : I
   abbrev LowerAt : InterfaceSet → ChipHistory → ChipHistory → Option Written → Type 0
   LowerAt between s a low = WritesAt terms tries map offset (value % 2 ^ 16) between s a low left
 
-  abbrev Lower_then : OffEnd → Type 0
-  Lower_then high =
+  abbrev LowerThen : OffEnd → Type 0
+  LowerThen high =
       (low : Option Written) × Then (λ s a. UpperAt s a high.0 high.1) (λ s a. LowerAt high.1 s a low) seen added
       × (told ≡ both_written high.0 low)
 
-  both_so : (high : OffEnd) → Lower_then high
+  both_so : (high : OffEnd) → LowerThen high
       ↔ Then (λ s a. Runs terms tries first s a high) (λ s a. Runs terms tries (second high) s a (told, left)) seen added
   both_so high =
       let end_so : OffEnd → OffEnd = λ low. (both_written high.0 low.0, low.1) in
@@ -306,19 +306,19 @@ module _ (terms : Terms) (tries : ℕ) (map : Map) (offset value : ℕ) (own : I
       )
 
   -- as the definition has it, by whether the upper half was refused
-  abbrev Upper_half : Bool → Option Written → Type 0
-  Upper_half b high =
+  abbrev UpperHalf : Bool → Option Written → Type 0
+  UpperHalf b high =
       MatchBool b (UpperAt seen added high left × (told ≡ high))
       ((low : Option Written) × (between : InterfaceSet)
       × Then (λ s a. UpperAt s a high between) (λ s a. LowerAt between s a low) seen added × (told ≡ both_written high low))
 
   -- and as the process has it
-  abbrev Ran_half : Bool → OffEnd → Type 0
-  Ran_half b high =
+  abbrev RanHalf : Bool → OffEnd → Type 0
+  RanHalf b high =
       MatchBool b (Runs terms tries first seen added high × ◌≡◌ {A = OffEnd} (told, left) high)
       (Then (λ s a. Runs terms tries first s a high) (λ s a. Runs terms tries (second high) s a (told, left)) seen added)
 
-  to_half : (b : Bool) (high : Option Written) → Upper_half b high → (kept : InterfaceSet) × Ran_half b (high, kept)
+  to_half : (b : Bool) (high : Option Written) → UpperHalf b high → (kept : InterfaceSet) × RanHalf b (high, kept)
   to_half true high (upper, is) = (
     left,
     (
@@ -328,7 +328,7 @@ module _ (terms : Terms) (tries : ℕ) (map : Map) (offset value : ℕ) (own : I
   )
   to_half false high (low, between, steps, is) = (between, (both_so (high, between)).0 (low, steps, is))
 
-  of_half : (b : Bool) (high : OffEnd) → Ran_half b high → Upper_half b high.0
+  of_half : (b : Bool) (high : OffEnd) → RanHalf b high → UpperHalf b high.0
   of_half true high (on, is) =
       let upper = (write_at terms tries map (offset + 2) (value / 2 ^ 16) own seen added high.1 high.0).1 on in (
         subst (λ l. UpperAt seen added high.0 l) (sym (rest_of (told, left) high is)) upper,
@@ -380,8 +380,8 @@ module _ (terms : Terms) (tries : ℕ) (map : Map) (offset value : ℕ) (own : I
       some_so (writes_control_word terms map value own)
       (λ ended. WritesControlWord terms tries map value own seen added ended left) control_written
 
-  abbrev Written_kinds : Type 0
-  Written_kinds =
+  abbrev WrittenKinds : Type 0
+  WrittenKinds =
       WritesTiming terms tries map offset value own seen added told left
       ⊎ WritesControl terms tries map offset value own seen added told left
       ⊎ WritesApart terms tries map offset value own seen added told left
@@ -397,7 +397,7 @@ module _ (terms : Terms) (tries : ℕ) (map : Map) (offset value : ℕ) (own : I
   abbrev control_there : Bool
   control_there = are_halves map terms.profile offset Control ControlUpper
 
-  to_written : (timing control : Bool) → timing_there ≡ timing → control_there ≡ control → Written_kinds
+  to_written : (timing control : Bool) → timing_there ≡ timing → control_there ≡ control → WrittenKinds
       → Runs terms tries (written_by timing control) seen added (told, left)
   to_written true control is is' (inl t) = timing_so_written.0 (t.ended, t.writes, t.told_is)
   to_written true control is is' (inr (inl c)) =
@@ -410,7 +410,7 @@ module _ (terms : Terms) (tries : ℕ) (map : Map) (offset value : ℕ) (own : I
   to_written false false is is' (inr (inr apart)) = write_halves.0 apart.halves
 
   of_written : (timing control : Bool) → timing_there ≡ timing → control_there ≡ control
-      → Runs terms tries (written_by timing control) seen added (told, left) → Written_kinds
+      → Runs terms tries (written_by timing control) seen added (told, left) → WrittenKinds
   of_written true control is is' on =
       let (ended, writes, same) = timing_so_written.1 on in
       inl (record { are = timing_is map terms.profile offset is; ended = ended; writes = writes; told_is = same })

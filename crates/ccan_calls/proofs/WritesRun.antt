@@ -113,31 +113,31 @@ module _ (terms : Terms) (tries : ℕ) (seen added : ChipHistory) (told : Writte
 -- ---- writes
 
 module _ (terms : Terms) (tries : ℕ) (own : InterfaceSet) (seen added : ChipHistory) (told : Written) (left : InterfaceSet) where
-  abbrev pub Does_so : WriteProcess → Type 0
-  Does_so process = Runs terms tries process seen added (told, left)
+  abbrev pub DoesSo : WriteProcess → Type 0
+  DoesSo process = Runs terms tries process seen added (told, left)
 
   no_step : (also : Written) (kept : InterfaceSet)
-      → ((added ≡ []) × (told ≡ also) × (left ≡ kept)) ↔ Does_so (Ended (also, kept))
+      → ((added ≡ []) × (told ≡ also) × (left ≡ kept)) ↔ DoesSo (Ended (also, kept))
   no_step also kept = (
     λ h. (h.0, pair told also left kept h.1 h.2),
     λ h. (h.0, told_is (told, left) (also, kept) h.1, left_is (told, left) (also, kept) h.1),
   )
 
-  read_only : IsReadOnly own added told left ↔ Does_so (sets own)
+  read_only : IsReadOnly own added told left ↔ DoesSo (sets own)
   read_only =
       let none = no_step (Ok tt) own in (
         λ h. none.0 (h.done.quiet, h.done.told_is, h.left_is),
         λ h. let e = none.1 h in record { done = record { quiet = e.0; told_is = e.1 }; left_is = e.2 },
       )
 
-  other_ones : IsOthers own left added told ↔ Does_so (others own)
+  other_ones : IsOthers own left added told ↔ DoesSo (others own)
   other_ones =
       let none = no_step (Err OtherInterface) own in (
         λ h. none.0 (h.quiet, h.told_is, h.left_is),
         λ h. let e = none.1 h in record { quiet = e.0; left_is = e.2; told_is = e.1 },
       )
 
-  names_none : NamesNone own added told left ↔ Does_so (sets own)
+  names_none : NamesNone own added told left ↔ DoesSo (sets own)
   names_none =
       let none = no_step (Ok tt) own in (
         λ h. none.0 (h.quiet, h.told_is, h.left_is),
@@ -145,14 +145,14 @@ module _ (terms : Terms) (tries : ℕ) (own : InterfaceSet) (seen added : ChipHi
       )
 
   sets_own : (reg : Reg) (value : ℕ) → SetsOwn reg value own added told left
-      ↔ Does_so (sets (record own { registers = set_register reg value own.registers }))
+      ↔ DoesSo (sets (record own { registers = set_register reg value own.registers }))
   sets_own reg value =
       let none = no_step (Ok tt) (record own { registers = set_register reg value own.registers }) in (
         λ h. none.0 (h.done.quiet, h.done.told_is, h.left_is),
         λ h. let e = none.1 h in record { done = record { quiet = e.0; told_is = e.1 }; left_is = e.2 },
       )
 
-  kept : (process : Process Written) → (Runs terms tries process seen added told × (left ≡ own)) ↔ Does_so (keeping own process)
+  kept : (process : Process Written) → (Runs terms tries process seen added told × (left ≡ own)) ↔ DoesSo (keeping own process)
   kept process =
       let end = ends_so terms tries (λ (t : Written). (t, own)) process seen added (told, left) in (
         λ h. end.1 (told, h.0, pair told told left own refl h.1),
@@ -164,7 +164,7 @@ module _ (terms : Terms) (tries : ℕ) (own : InterfaceSet) (seen added : ChipHi
       )
 
   pub writes_controller : (change : ControllerChange)
-      → WritesController terms change tries own seen added told left ↔ Does_so (keeping own (change_controller change))
+      → WritesController terms change tries own seen added told left ↔ DoesSo (keeping own (change_controller change))
   writes_controller change =
       let both = kept (change_controller change) in
       let made = makes terms tries seen added told change in (
@@ -172,7 +172,7 @@ module _ (terms : Terms) (tries : ℕ) (own : InterfaceSet) (seen added : ChipHi
         λ h. let e = both.1 h in record { makes = made.1 e.0; left_is = e.1 },
       )
 
-  pub resets_so : ResetsBySoftware terms tries own seen added told left ↔ Does_so (keeping own (resets terms ResetDcan))
+  pub resets_so : ResetsBySoftware terms tries own seen added told left ↔ DoesSo (keeping own (resets terms ResetDcan))
   resets_so =
       let both = kept (resets terms ResetDcan) in
       let reset = resets_chip terms tries seen added told ResetDcan in (
@@ -182,7 +182,7 @@ module _ (terms : Terms) (tries : ℕ) (own : InterfaceSet) (seen added : ChipHi
 
   -- ---- requests
 
-  requests_so : (value : ℕ) → Requests terms tries value own seen added told left ↔ Does_so (requests terms value own)
+  requests_so : (value : ℕ) → Requests terms tries value own seen added told left ↔ DoesSo (requests terms value own)
   requests_so value =
       let process = transfer (requested terms.profile value) own in
       let end_so : LineAnswer × InterfaceSet → WriteEnd = λ end. (transfer_told end.0, end.1) in
@@ -211,7 +211,7 @@ module _ (terms : Terms) (tries : ℕ) (own : InterfaceSet) (seen added : ChipHi
   sent_so object (Err (Busy tried now)) = refl
   sent_so object (Err Spent) = refl
 
-  sends_so : (object : ℕ) → Sends terms tries object own seen added told left ↔ Does_so (sends object own)
+  sends_so : (object : ℕ) → Sends terms tries object own seen added told left ↔ DoesSo (sends object own)
   sends_so object =
       let end_so : Attempted → WriteEnd = λ end. (attempt_told end, sent_set object own end) in
       let one = one_act terms tries (Attempts object (Send own.registers.command own.registers.buffer)) end_so seen added
@@ -232,12 +232,12 @@ module _ (terms : Terms) (tries : ℕ) (own : InterfaceSet) (seen added : ChipHi
             },
       )
 
-  by_object : (object : ℕ) → RequestsObject terms tries object own seen added told left ↔ Does_so (requests_object terms object own)
+  by_object : (object : ℕ) → RequestsObject terms tries object own seen added told left ↔ DoesSo (requests_object terms object own)
   by_object object =
       chosen terms tries seen added (told, left) (is_sending own.registers.command) _ _ _ _ (sends_so object) (requests_so object)
 
   by_map : (map : Map) (value : ℕ) → RequestsBy map terms tries value own seen added told left
-      ↔ Does_so (requests_by map terms value own)
+      ↔ DoesSo (requests_by map terms value own)
   by_map Narrow value = requests_so value
   by_map Wide value = requests_so value
   by_map Dcan value =
@@ -247,7 +247,7 @@ module _ (terms : Terms) (tries : ℕ) (own : InterfaceSet) (seen added : ChipHi
   -- ---- registers
 
   pub rest_so : (map : Map) (r : Register) (value : ℕ) → WritesRest terms tries map r value own seen added told left
-      ↔ Does_so (writes_rest terms map r value own)
+      ↔ DoesSo (writes_rest terms map r value own)
   rest_so map (register.Request interface) value =
       chosen terms tries seen added (told, left) (is_own terms.port interface) _ _ _ _ (by_map map value) other_ones
   rest_so map (register.Buffer interface reg) value =
@@ -263,7 +263,7 @@ module _ (terms : Terms) (tries : ℕ) (own : InterfaceSet) (seen added : ChipHi
   rest_so map (register.Flags flag place) value = read_only
 
   pub register_write : (map : Map) (r : Register) (value : ℕ) → Writes terms tries map r value own seen added told left
-      ↔ Does_so (writes terms map r value own)
+      ↔ DoesSo (writes terms map r value own)
   register_write map r value =
       chosen terms tries seen added (told, left) (asks_for_reset map r value) _ _ _ _ resets_so
       (picked terms tries seen added (told, left) (change_by map r value) _ _ _ _ (rest_so map r value) writes_controller)
@@ -272,11 +272,11 @@ module _ (terms : Terms) (tries : ℕ) (own : InterfaceSet) (seen added : ChipHi
 
 module _ (terms : Terms) (tries : ℕ) (own : InterfaceSet) (seen added : ChipHistory) (told : Written) (left : InterfaceSet)
     (map : Map) where
-  abbrev Does_it : WriteProcess → Type 0
-  Does_it process = Does_so terms tries own seen added told left process
+  abbrev DoesIt : WriteProcess → Type 0
+  DoesIt process = DoesSo terms tries own seen added told left process
 
   timing_byte : (byte : Byte) (value : ℕ) → WritesTimingByte terms tries map byte value own seen added told left
-      ↔ Does_it (writes_timing_byte terms map byte value own)
+      ↔ DoesIt (writes_timing_byte terms map byte value own)
   timing_byte byte value =
       let each = λ (found : Controller) (s a : ChipHistory).
       register_write terms tries own s a told left map register.BitTiming (with_byte byte value found.timing.register) in (
@@ -305,7 +305,7 @@ module _ (terms : Terms) (tries : ℕ) (own : InterfaceSet) (seen added : ChipHi
             },
       )
 
-  in_init : ResetsInInit terms tries own seen added told left ↔ Does_it (resets_in_init terms own)
+  in_init : ResetsInInit terms tries own seen added told left ↔ DoesIt (resets_in_init terms own)
   in_init =
       let each = λ (found : Controller) (s a : ChipHistory).
       chosen terms tries s a (told, left) found.control.init (ResetsBySoftware terms tries own s a told left)
@@ -337,14 +337,14 @@ module _ (terms : Terms) (tries : ℕ) (own : InterfaceSet) (seen added : ChipHi
       )
 
   written : (r : Register) (value : ℕ) → Writes terms tries map r value own seen added told left
-      ↔ Does_it (writes terms map r value own)
+      ↔ DoesIt (writes terms map r value own)
   written r value = register_write terms tries own seen added told left map r value
 
-  read_only_so : IsReadOnly own added told left ↔ Does_it (sets own)
+  read_only_so : IsReadOnly own added told left ↔ DoesIt (sets own)
   read_only_so = read_only terms tries own seen added told left
 
   lower : (r : Register) (value : ℕ) → WritesLower terms tries map r value own seen added told left
-      ↔ Does_it (writes_lower terms map r value own)
+      ↔ DoesIt (writes_lower terms map r value own)
   lower register.ControlUpper value = read_only_so
   lower register.BitTiming value = timing_byte Lower value
   lower (register.Buffer interface reg) value =
@@ -359,7 +359,7 @@ module _ (terms : Terms) (tries : ℕ) (own : InterfaceSet) (seen added : ChipHi
   lower (register.Flags flag place) value = written (register.Flags flag place) value
 
   upper : (r : Register) (value : ℕ) → WritesUpper terms tries map r value own seen added told left
-      ↔ Does_it (writes_upper terms map r value own)
+      ↔ DoesIt (writes_upper terms map r value own)
   upper register.Control value =
       chosen terms tries seen added (told, left) (has_reset map value) _ _ _ _ in_init read_only_so
   upper register.ControlUpper value = written register.ControlUpper (with_byte Upper value 0)
@@ -377,7 +377,7 @@ module _ (terms : Terms) (tries : ℕ) (own : InterfaceSet) (seen added : ChipHi
   upper (register.Flags flag place) value = read_only_so
 
   pub byte_write : (byte : Byte) (r : Register) (value : ℕ) → WritesByteOf byte terms tries map r value own seen added told left
-      ↔ Does_it (writes_byte_of byte terms map r value own)
+      ↔ DoesIt (writes_byte_of byte terms map r value own)
   byte_write Lower r value = lower r value
   byte_write Upper r value = upper r value
 
@@ -446,19 +446,19 @@ module _ (terms : Terms) (tries : ℕ) (own : InterfaceSet) (seen added : ChipHi
 module _ (terms : Terms) (tries : ℕ) (map : Map) (offset value : ℕ) (own : InterfaceSet) (seen added : ChipHistory)
     (left : InterfaceSet) where
   -- what a write does to a register
-  abbrev Writes_so : Register → Written → Type 0
-  Writes_so r told = Writes terms tries map r value own seen added told left
+  abbrev WritesSo : Register → Written → Type 0
+  WritesSo r told = Writes terms tries map r value own seen added told left
 
-  abbrev Byte_so : Register → Written → Type 0
-  Byte_so r told = WritesByteOf (byte_in offset) terms tries map r value own seen added told left
+  abbrev ByteSo : Register → Written → Type 0
+  ByteSo r told = WritesByteOf (byte_in offset) terms tries map r value own seen added told left
 
   write_is : (told : Option Written) → WritesAt terms tries map offset value own seen added told left
-      ↔ Accesses map terms.profile offset own added left Writes_so told
+      ↔ Accesses map terms.profile offset own added left WritesSo told
   write_is None = (λ h. h, λ h. h)
   write_is (Some told) = (λ h. h, λ h. h)
 
   byte_is : (told : Option Written) → WritesByte terms tries map offset value own seen added told left
-      ↔ Accesses map terms.profile (start_of offset) own added left Byte_so told
+      ↔ Accesses map terms.profile (start_of offset) own added left ByteSo told
   byte_is None = (λ h. h, λ h. h)
   byte_is (Some told) = (λ h. h, λ h. h)
 
@@ -466,7 +466,7 @@ module _ (terms : Terms) (tries : ℕ) (map : Map) (offset value : ℕ) (own : I
       ↔ Runs terms tries (writes_at terms map offset value own) seen added (told, left)
   write_at told =
       let same = write_is told in
-      let all = accesses terms tries own seen added left map offset Writes_so (λ r. writes terms map r value own)
+      let all = accesses terms tries own seen added left map offset WritesSo (λ r. writes terms map r value own)
       (λ r t. register_write terms tries own seen added t left map r value) told in
       (λ h. all.0 (same.0 h), λ h. same.1 (all.1 h))
 
@@ -474,7 +474,7 @@ module _ (terms : Terms) (tries : ℕ) (map : Map) (offset value : ℕ) (own : I
       ↔ Runs terms tries (writes_byte terms map offset value own) seen added (told, left)
   write_byte told =
       let same = byte_is told in
-      let all = accesses terms tries own seen added left map (start_of offset) Byte_so
+      let all = accesses terms tries own seen added left map (start_of offset) ByteSo
       (λ r. writes_byte_of (byte_in offset) terms map r value own)
       (λ r t. byte_write terms tries own seen added t left map (byte_in offset) r value) told in
       (λ h. all.0 (same.0 h), λ h. same.1 (all.1 h))

@@ -3,6 +3,7 @@ use Rattle.std.specs.Prelude.{ℕ, ◌≡◌, Option, Some, Ok}
 use Rattle.ccan_endless.specs.Chip.{ChipHistory}
 use Rattle.ccan_endless.specs.Note.{Told}
 use Rattle.ccan_c.specs.declared.shown_counters.ShownCounters.{ShownCounters}
+use Rattle.ccan_c.specs.declared.shown_load.ShownLoad.{ShownLoad}
 use Rattle.ccan_c.specs.declared.shown_record.ShownRecord.{ShownRecord}
 use Rattle.ccan_c.specs.Note.{TellsOf}
 use Rattle.ccan_calls.specs.Process.{Ended, Process}
@@ -14,6 +15,7 @@ pub data Given : Type 0 where
   Number : (value : ℕ) → Given
   Shown : (shown : ShownRecord) → Given
   Counters : (shown : ShownCounters) → Given
+  Loading : (shown : ShownLoad) → Given
   -- a note that says this
   Noted : (seen : ChipHistory) → Given
 
@@ -28,6 +30,7 @@ pub data Place : Type 0 where
   NumberAt : (out : ℕ) → Place
   RecordAt : (out : ShownRecord) → Place
   CountersAt : (out : ShownCounters) → Place
+  LoadingAt : (out : ShownLoad) → Place
   NoteAt : (note : Option Told) → Place
 
 -- what was given stands there; if nothing was, anything may stand there
@@ -36,6 +39,7 @@ IsIn Nothing place = Unit {0}
 IsIn (Number value) (NumberAt out) = out ≡ value
 IsIn (Shown shown) (RecordAt out) = out ≡ shown
 IsIn (Counters shown) (CountersAt out) = out ≡ shown
+IsIn (Loading shown) (LoadingAt out) = out ≡ shown
 IsIn (Noted seen) (NoteAt note) = TellsOf note seen
 IsIn given place = ⊥
 

@@ -3,10 +3,11 @@ use Rattle.std.specs.Prelude.{ℕ, Option, Some, None}
 use Rattle.ccan_endless.specs.Note.{Told}
 use Rattle.ccan_c.specs.BusCall.{BusCall}
 use Rattle.ccan_c.specs.BusCall as bus
-use Rattle.ccan_calls.specs.Answer.{CountersAt, NoPlace, NoteAt, NumberAt, Place}
+use Rattle.ccan_calls.specs.Answer.{CountersAt, LoadingAt, NoPlace, NoteAt, NumberAt, Place}
 
 -- what C passes
 pub data BusAsk : Type 0 where
+  load : BusAsk
   status : BusAsk
   control : (sie eie : ℕ) → BusAsk
   init : BusAsk
@@ -26,8 +27,9 @@ pub data BusAsk : Type 0 where
   -- with the note as the call found it
   heed : (note : Option Told) → BusAsk
 
--- what was asked by a call; of loads and rounds nothing is said here
+-- what was asked by a call; of rounds nothing is said here
 abbrev pub asked_on : BusCall → Option BusAsk
+asked_on (bus.load result out) = Some load
 asked_on (bus.status result out) = Some status
 asked_on (bus.control sie eie result) = Some (control sie eie)
 asked_on (bus.init result) = Some init
@@ -49,6 +51,7 @@ asked_on call = None
 
 -- what stands in the place for the result after such a call, or in the note
 abbrev pub place_on : BusCall → Place
+place_on (bus.load result out) = LoadingAt out
 place_on (bus.status result out) = NumberAt out
 place_on (bus.recessive groups result out) = NumberAt out
 place_on (bus.interrupt result out) = NumberAt out

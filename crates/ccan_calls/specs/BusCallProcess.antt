@@ -6,6 +6,7 @@ use Rattle.ccan_confine.specs.declared.controller_change.ControllerChange.TheVar
 use Rattle.ccan_confine.specs.Counters.{counts_of, state_of}
 use Rattle.ccan_ram.specs.Terms.{Terms}
 use Rattle.ccan_bus.specs.Past.{BusPast, recovers}
+use Rattle.ccan_line.specs.declared.line_answer.LineAnswer.TheVariants as answer
 use Rattle.ccan_line.specs.Limits.{most_groups}
 use Rattle.ccan_endless.specs.declared.controller_changed.ControllerBusy.{ControllerBusy}
 use Rattle.ccan_endless.specs.declared.controller_changed.ControllerChanged.{ControllerChanged}
@@ -14,15 +15,17 @@ use Rattle.ccan_map.specs.declared.map.Map.TheVariants.{Narrow}
 use Rattle.ccan_registers.specs.ChipSteps.{made_or_busy}
 use Rattle.ccan_registers.specs.InterfaceSet.{zero_set}
 use Rattle.ccan_registers.specs.Register.{read_of, status_told}
-use Rattle.ccan_c.specs.Answer.{c_counters, state_number}
+use Rattle.ccan_c.specs.Answer.{c_counters, code_of, state_number}
 use Rattle.ccan_c.specs.Bus.{enabling, is_on, looping, starting, testing}
 use Rattle.ccan_c.specs.Codes.{busy, done, flag_range, groups_range, node_range, untold}
 use Rattle.ccan_c.specs.Host.{flag_numbered, number_of}
 use Rattle.ccan_c.specs.HostCall.{code_of_access}
+use Rattle.ccan_c.specs.Load.{c_load}
 use Rattle.ccan_c.specs.Settings.{is_from_one_to}
-use Rattle.ccan_calls.specs.Answer.{CallEnd, CallProcess, Counters, Nothing, Number, end_of, refuses, word_given}
-use Rattle.ccan_calls.specs.BusAsk.{BusAsk, status, control, init, loop_back, recessive, interrupt, flags, counters, read8, write8, read16, write16, read32, write32, line, tell, heed}
+use Rattle.ccan_calls.specs.Answer.{CallEnd, CallProcess, Counters, Loading, Nothing, Number, end_of, refuses, word_given}
+use Rattle.ccan_calls.specs.BusAsk.{BusAsk, load, status, control, init, loop_back, recessive, interrupt, flags, counters, read8, write8, read16, write16, read32, write32, line, tell, heed}
 use Rattle.ccan_calls.specs.BusRegisters.{bus_writes_at, bus_writes_byte, bus_writes_word}
+use Rattle.ccan_calls.specs.LoadProcess.{LoadEnd, loads}
 use Rattle.ccan_calls.specs.HostCallProcess.{heeded, note_end, noted, reads_off}
 use Rattle.ccan_calls.specs.Parts.{flag_shown, line_pulled, value_shown}
 use Rattle.ccan_calls.specs.Process.{ChangesController, Does, Ended, LooksAtController, Process, ending}
@@ -30,9 +33,13 @@ use Rattle.ccan_calls.specs.ReadProcess.{Word, reads_at, reads_byte}
 use Rattle.ccan_calls.specs.WordProcess.{reads_word}
 use Rattle.ccan_calls.specs.WriteProcess.{Written, change_controller, unless_refused}
 
--- such a call leaves what led to the bus as it was, except for recessive bits
+-- a call, and what has led to the bus after it
 abbrev pub BusProcess : Type 0
 BusProcess = CallProcess BusPast
+
+-- what came of a load, and what is loaded then
+abbrev pub load_end : LoadEnd → CallEnd BusPast
+load_end (loading, after) = end_of (code_of (answer.Load loading)) (Loading (c_load loading after.loaded)) after
 
 -- the Status register is read, as a C_CAN does it
 abbrev pub status_read : Process Word
@@ -75,6 +82,7 @@ writes_by process past = ending process (λ told. end_of (code_of_access told) N
 
 -- there are so many other nodes. No interface is the bus's, so what its registers hold makes no difference
 abbrev pub bus_process : Terms → Map → ℕ → BusAsk → BusPast → BusProcess
+bus_process terms map nodes load past = ending (loads terms.profile past) load_end
 bus_process terms map nodes status past =
     ending status_read (λ told. end_of (code_of_access (Some told)) (word_given (Some told)) past)
 bus_process terms map nodes (control sie eie) past = coded (change_controller (enabling (is_on sie) (is_on eie))) past

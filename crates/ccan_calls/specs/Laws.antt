@@ -2,6 +2,7 @@
 use Rattle.std.specs.Prelude.{ℕ, ◌≡◌, ◌↔◌, IfSome}
 use Rattle.ccan_ram.specs.declared.port.PortName.TheVariants.{Bus}
 use Rattle.ccan_ram.specs.Terms.{Terms}
+use Rattle.ccan_bus.specs.declared.choice.Choice.TheVariants.{AtOnce}
 use Rattle.ccan_bus.specs.Past.{BusPast}
 use Rattle.ccan_endless.specs.Chip.{ChipHistory}
 use Rattle.ccan_map.specs.declared.map.Map.{Map}
@@ -27,10 +28,10 @@ HostCallsAreProcesses =
     → HostCallMeans terms tries map call own seen added left
     ↔ ComesTo terms tries (code_got call) (place_of call) (host_process terms map (asked_by call) own) seen added left
 
--- so does a call on the bus's handle, if it is one of those of which a process is given
+-- so does a call on the bus's handle, except a round; the bus chooses at one moment, as that of a chip always does
 abbrev pub BusCallsAreProcesses : Type 0
 BusCallsAreProcesses =
     (terms : Terms) (tries nodes : ℕ) (map : Map) (call : BusCall) (past after : BusPast) (seen added : ChipHistory)
-    → terms.port ≡ Bus
+    → terms.port ≡ Bus → past.choice ≡ AtOnce
     → IfSome (asked_on call) (λ ask. BusCallMeans terms tries nodes map call past seen added after
     ↔ ComesTo terms tries (code_on call) (place_on call) (bus_process terms map nodes ask past) seen added after)

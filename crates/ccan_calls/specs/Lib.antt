@@ -9,6 +9,7 @@ pub mod Answer
 pub mod HostAsk
 pub mod HostCallProcess
 pub mod BusRegisters
+pub mod LoadProcess
 pub mod BusAsk
 pub mod BusCallProcess
 pub mod Laws

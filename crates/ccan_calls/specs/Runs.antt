@@ -6,11 +6,12 @@ use Rattle.ccan_ram.specs.declared.change.Refused.{Refused}
 use Rattle.ccan_ram.specs.Attempt.{Attempt, IsLook}
 use Rattle.ccan_ram.specs.Picture.{IsPicture}
 use Rattle.ccan_ram.specs.Terms.{Terms}
+use Rattle.ccan_ram.specs.Tries.{most_tries}
 use Rattle.ccan_endless.specs.declared.chip.ControllerStep.TheVariants.{Look}
 use Rattle.ccan_endless.specs.Chip.{ChipHistory}
 use Rattle.ccan_registers.specs.ChipSteps.{AtController, Changes, OnObjects, Then}
 use Rattle.ccan_registers.specs.Notes.{Heeds as HeedsNote}
-use Rattle.ccan_calls.specs.Process.{Act, Attempts, ChangesController, Does, Ended, Heeds, Looks, LooksAtController, Notes, Out, Pauses, Pictures, Process, attempted}
+use Rattle.ccan_calls.specs.Process.{Act, Attempts, ChangesController, Does, Ended, Heeds, InsistsOnChange, Looks, LooksAtController, Notes, Out, Pauses, Pictures, Process, Recalls, attempted}
 
 -- an act adds these events to what was seen, and this comes of it
 abbrev pub Acted : Terms → ℕ → (act : Act) → ChipHistory → ChipHistory → Out act → Type 0
@@ -21,6 +22,8 @@ Acted terms tries (Attempts object change) seen added out =
 Acted terms tries Pictures seen added out = OnObjects terms.port (λ s a. IsPicture terms out s a) seen added
 Acted terms tries LooksAtController seen added out = AtController terms.port Look out seen added
 Acted terms tries (ChangesController change) seen added out = Changes terms.port change tries seen added out
+Acted terms tries (InsistsOnChange change) seen added out = Changes terms.port change most_tries seen added out
+Acted terms tries Recalls seen added out = (added ≡ []) × (out ≡ seen)
 Acted terms tries Notes seen added out = (added ≡ []) × IfSome out (λ noted. noted ≡ seen)
 Acted terms tries (Heeds told) seen added out = HeedsNote terms.port told seen added
 Acted terms tries Pauses seen added out = OnObjects terms.port (λ s a. a ≡ []) seen added

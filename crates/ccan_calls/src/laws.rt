@@ -6,7 +6,7 @@ pub fn host_calls_are_processes()
     ensures { HostCallsAreProcesses }
 {}
 
-/// A call on the bus's handle, except a load and a round, is its process.
+/// A call on the bus's handle, except a round, is its process.
 pub fn bus_calls_are_processes()
     ensures { BusCallsAreProcesses }
 {}
