@@ -1,8 +1,9 @@
 //! The calls on the handles of a host and of the bus, in the library for C, as processes of steps.
 //!
 //! A process is an end, or an act and what comes next by what came of it. An act is a look at an object or an attempt to change
-//! it, a picture of all objects, a look at the controller or a change of it, or a note. Nothing here runs: the crate has
-//! definitions, and laws that tie them to the contracts of the calls.
+//! it, a picture of all objects, a look at the controller or a change of it; or the port makes no step, and tells or heeds a note,
+//! recalls what it has seen, or pauses. Nothing here runs: the crate has definitions, and laws that tie them to the contracts of
+//! the calls.
 //!
 //! ```text
 //! a call ─ host_calls_are_processes ─ host_process ─┐
