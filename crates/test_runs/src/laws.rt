@@ -1,6 +1,6 @@
 //! Each law, called once.
 use crate::ladder::Ladder;
-use ccan_outcomes::{place_laws, quiet_laws, same, seat_laws};
+use ccan_outcomes::{place_laws, quiet_laws, race_laws, same, seat_laws};
 use ccan_process::{
     begin_laws, begun_laws, line_process_laws, machine_laws, process_laws, scan_laws,
     uncontended_laws, undisturbed_laws, wait_laws,
@@ -11,6 +11,8 @@ use ccan_run::laws;
 fn laws_of_runs_hold() {
     ccan_script::laws::one_meaning();
     ccan_script::laws::what_was_read_has_a_meaning();
+    ccan_script::laws::one_race();
+    ccan_script::laws::a_script_is_a_race();
     laws::one_text();
     laws::what_was_printed_is_the_text();
     laws::no_line_is_busy();
@@ -55,6 +57,7 @@ fn laws_of_outcomes_hold() {
     begun_laws::beginnings_are_reached();
     begun_laws::races_can_begin_at_once();
     begun_laws::runs_behind_nothing();
+    race_laws::races_at_once();
     scan_laws::bus_lines_scan_well();
     scan_laws::start_can_scan();
     scan_laws::races_can_scan();

@@ -9,6 +9,7 @@ ghost use Rattle.ccan_outcomes.specs.Observed.{AreImages};
 ghost use Rattle.ccan_outcomes.specs.OutcomeWords.{AreOfLines, endings_in};
 
 use crate::expect::{holds, same};
+use crate::runs::read;
 use ccan_accept::Frame;
 use ccan_bus::RoundAnswer;
 use ccan_object::{ObjectNo, Record};
@@ -311,6 +312,25 @@ fn left(rt: &impl Abort, alloc: Global, words: &OutcomeWords, number: u64) -> u8
         Some(record) => first_byte(record),
         None => panic!(rt; "no object"),
     }
+}
+
+/// Whether the next lines of these ports may run before the race of two writes.
+fn may_run_before(rt: &impl Abort, alloc: Global, names: &[PortName]) -> bool {
+    let script = read(rt, alloc, TWO_WRITES);
+    match Vec::from_slice(alloc, names) {
+        Ok(before) => RaceScript::behind(script, before).is_some(),
+        Err(_) => panic!(rt; "no memory"),
+    }
+}
+
+#[test]
+fn lets_lines_of_hosts_run_before_a_race(rt: HostRuntime) {
+    // Each host has one line.
+    let both = [PortName::If2, PortName::If1];
+    let twice = [PortName::If1, PortName::If1];
+    holds(&rt, may_run_before(&rt, rt.alloc(), &both));
+    holds(&rt, !may_run_before(&rt, rt.alloc(), &twice));
+    holds(&rt, !may_run_before(&rt, rt.alloc(), &[PortName::Bus]));
 }
 
 #[test]

@@ -21,7 +21,7 @@ use crate::expect::{holds, same};
 use crate::shared_word::{SharedWord, WordAct};
 use ccan_every::{
     Entry, Fate, Found, Goes, Lack, Outcome, Places, Program, Situation, Table, every_schedule,
-    way_to,
+    laws, way_to,
 };
 use ccan_search::Untold;
 use std::alloc::{AllocError, Global};
@@ -129,6 +129,21 @@ fn whole_of(
         panic!(rt; "not all situations")
     };
     (found, fates)
+}
+
+/// The laws do nothing: they are called so that each is seen to hold of a device.
+#[test]
+fn laws_of_tables_hold(rt: HostRuntime) {
+    let Ok(tables) = counters(rt.alloc(), &[(0, 1), (1, 2)]) else {
+        panic!(&rt; "no memory")
+    };
+    let program = Program {
+        device: &SharedWord,
+        tables: tables.as_slice(),
+    };
+    laws::movers_are_told(&program);
+    laws::rounds_may_be_left_out(&program);
+    laws::stuck_stays(&program);
 }
 
 #[test]
