@@ -1,5 +1,5 @@
--- A call on the bus's handle is its process, if one is given of it.
-use Rattle.std.proofs.Common.{ℕ, ◌≡◌, ◌↔◌, inl, inr, ◌==◌, [], ◌++◌, Bool, Option, true, false, Some, Result, Ok, Err, IfSome, nat_le, refl, sym, ap, subst, ◌∙◌, arith}
+-- A call on the bus's handle is its process.
+use Rattle.std.proofs.Common.{ℕ, ◌≡◌, ◌↔◌, inl, inr, ◌==◌, [], ◌++◌, Bool, Option, true, false, Some, Result, Ok, Err, nat_le, refl, sym, ap, subst, ◌∙◌, arith}
 use Rattle.ccan_confine.specs.declared.controller.Controller.{Controller}
 use Rattle.ccan_confine.specs.declared.controller_change.ControllerChange.{ControllerChange}
 use Rattle.ccan_confine.specs.declared.controller_change.ControllerChange.TheVariants.{Recessive}
@@ -59,6 +59,7 @@ use Rattle.ccan_calls.proofs.Interrupts.{pulls_line, shows_flag, values}
 use Rattle.ccan_calls.proofs.LoadsRun.{loads_so}
 use Rattle.ccan_calls.proofs.Processes.{one_act, only_first}
 use Rattle.ccan_calls.proofs.ReadsRun.{read_at, read_byte}
+use Rattle.ccan_calls.proofs.RoundsAsked.{round_asked}
 use Rattle.ccan_calls.proofs.WordsRun.{read_word, write_word}
 use Rattle.ccan_calls.proofs.WritesRun.{makes, write_at, write_byte}
 
@@ -323,8 +324,8 @@ module _ (terms : Terms) (tries nodes : ℕ) (map : Map) (past after : BusPast) 
     (is_bus : terms.port ≡ Bus) (at_once : past.choice ≡ AtOnce) where
   abbrev IsProcess : BusCall → Type 0
   IsProcess call =
-      IfSome (asked_on call) (λ ask. BusCallMeans terms tries nodes map call past seen added after
-      ↔ ComesTo terms tries (code_on call) (place_on call) (bus_process terms map nodes ask past) seen added after)
+      BusCallMeans terms tries nodes map call past seen added after
+      ↔ ComesTo terms tries (code_on call) (place_on call) (bus_process terms map nodes (asked_on call) past) seen added after
 
   refused : (result : ℕ) (place : Place) (code : ℕ) → Rests code past after added result
       ↔ ComesTo terms tries result place (refuses code past) seen added after
@@ -405,7 +406,8 @@ module _ (terms : Terms) (tries nodes : ℕ) (map : Map) (past after : BusPast) 
   each (bus.counters node result out) =
       chosen terms tries result (CountersAt out) after seen added (nat_le node nodes) _ _ _ _
       (counts_so terms tries past after seen added node result out) (refused result (CountersAt out) node_range)
-  each (bus.round offers number result out) = tt
+  each (bus.round offers number result out) =
+      round_asked terms tries nodes past after at_once seen added result out offers number
   each (bus.read8 offset result out) =
       reads_any result out (reads_byte terms map offset) (λ own other. reads_byte_alike map own other terms is_bus offset)
       (λ own told. ReadsByte terms tries map offset own seen added told)

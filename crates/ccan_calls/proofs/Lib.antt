@@ -17,6 +17,14 @@ pub mod AnyHandle
 pub mod HostCallsRun
 pub mod BusReads
 pub mod BusWrites
+pub mod AtObjects
+pub mod Storing
+pub mod CompletesRun
 pub mod Starting
+pub mod Choosing
 pub mod LoadsRun
+pub mod Senders
+pub mod RoundsRun
+pub mod RoundsAsked
 pub mod BusCallsRun
+pub mod FramesRun

@@ -1,20 +1,17 @@
 -- A load of the bus is its process.
-use Rattle.std.proofs.Common.{ℕ, suc, ◌≡◌, ◌↔◌, inl, inr, Bool, true, false, List, [], ◌++◌, Option, Some, None, Result, Ok, Err, refl, sym, ap, subst, ◌∙◌, arith, if◌then◌else◌}
+use Rattle.std.proofs.Common.{ℕ, ◌≡◌, ◌↔◌, inl, inr, Bool, true, false, List, [], ◌++◌, Option, Some, None, Ok, Err, refl, sym, ap, subst, ◌∙◌, if◌then◌else◌}
 use Rattle.std.specs.Prelude.{MatchBool}
 use Rattle.std.proofs.lemmas.Bool.{false≢true}
 use Rattle.std.proofs.lemmas.List.{append-nil}
 use Rattle.std.proofs.lemmas.Option.{none-some, same_Some}
 use Rattle.ccan_object.specs.declared.record.Record.{Record}
-use Rattle.ccan_object.specs.Profile.{objects_in}
 use Rattle.ccan_confine.specs.declared.controller.Controller.{Controller}
 use Rattle.ccan_confine.specs.declared.controller_change.ControllerChange.TheVariants.{Join}
-use Rattle.ccan_ram.specs.declared.change.Refused.{Refused}
 use Rattle.ccan_ram.specs.declared.change.Refused.TheVariants.{Busy, Spent}
 use Rattle.ccan_ram.specs.declared.event.Event.{Event}
-use Rattle.ccan_ram.specs.declared.handler_registers.HandlerRegisters.{HandlerRegisters}
 use Rattle.ccan_ram.specs.declared.sending.Sending.TheVariants.{UntilSent}
 use Rattle.ccan_ram.specs.Terms.{Terms}
-use Rattle.ccan_handler.specs.Moment.{ChoosesAtOnce, Chosen, StopsAtOne, Starts}
+use Rattle.ccan_handler.specs.Moment.{Chosen}
 use Rattle.ccan_bus.specs.declared.answer.LoadAnswer.{LoadAnswer}
 use Rattle.ccan_bus.specs.declared.answer.LoadAnswer.TheVariants as load
 use Rattle.ccan_bus.specs.declared.choice.Choice.TheVariants.{AtOnce}
@@ -29,187 +26,11 @@ use Rattle.ccan_chip.specs.Round.{as_found, events_in, loops_back}
 use Rattle.ccan_bus.specs.Controller.{with_controller}
 use Rattle.ccan_confine.specs.Counters.{NodeEvent, faults_to_off}
 use Rattle.ccan_endless.specs.declared.chip.ControllerStep.TheVariants.{Look}
-use Rattle.ccan_calls.specs.LoadProcess.{Looked, arrives, loads, looks_again, LoadEnd, load_from, load_next, load_on, loaded_by, start_each, start_first}
-use Rattle.ccan_calls.specs.Process.{Does, Ended, InsistsOnChange, LooksAtController, Pauses, Pictures, Process, Recalls, ending}
+use Rattle.ccan_calls.specs.LoadProcess.{Looked, arrives, arrives_and, loads, looks_again, LoadEnd, load_from, load_next, load_on, loaded_by, start_first}
+use Rattle.ccan_calls.specs.Process.{Does, Ended, InsistsOnChange, LooksAtController, Pauses, Process, Recalls}
 use Rattle.ccan_calls.specs.Runs.{Runs}
-use Rattle.ccan_calls.proofs.Processes.{ending_twice, ends_so, follow, follows, one_act, only_first}
-use Rattle.ccan_calls.proofs.Starting.{ChoosesSo, ChosenIn, Shown, StopsIn, Stopped, of_starts, picture_and, to_starts, with_picture}
-
--- ---- the choice
-
-ending_same : {A : Type 0} (process : Process A) → ending process (λ x. x) ≡ process
-ending_same (Ended result) = refl
-ending_same (Does act next) = λ i. Does act (λ out. ending_same (next out) i)
-
-module _ (terms : Terms) (tries : ℕ) (seen added : ChipHistory) where
-  abbrev pub objects : ℕ
-  objects = objects_in terms.profile
-
-  without_picture : ending (picture_and objects) (λ so. so.1) ≡ start_first terms.profile
-  without_picture =
-      λ i. Does Pictures (λ shown. (ending_twice (start_each shown objects 1) (with_picture shown) (λ so. so.1)
-      ∙ ending_same (start_each shown objects 1)) i)
-
-  starts_first : (answer : LoadAnswer)
-      → ((shown : HandlerRegisters) × ChoosesSo terms tries objects seen added (shown, answer))
-      ↔ Runs terms tries (start_first terms.profile) seen added answer
-  starts_first answer =
-      let end = ends_so terms tries (λ (so : Shown). so.1) (picture_and objects) seen added answer in (
-        λ h.
-            let (shown, so) = h in
-            subst (λ p. Runs terms tries p seen added answer) without_picture
-            (end.1 ((shown, answer), to_starts terms tries objects seen added (shown, answer) so, refl)),
-        λ h.
-            let (so, on, is) = end.0 (subst (λ p. Runs terms tries p seen added answer) (sym without_picture) h) in (
-              so.0,
-              subst (λ a. ChoosesSo terms tries objects seen added (so.0, a)) (sym is)
-                  (of_starts terms tries objects seen added so on),
-            ),
-      )
-
--- ---- a choice by its answer
-
-module _ (terms : Terms) (tries : ℕ) (seen added : List Event) where
-  abbrev Chose : Chosen → Type 0
-  Chose chosen = ChoosesAtOnce terms UntilSent tries seen added chosen
-
-  -- what is chosen, if a load answers this
-  abbrev ChoiceOf : LoadAnswer → Type 0
-  ChoiceOf load.Nothing = Chose (Ok None)
-  ChoiceOf (load.Loaded object after) = Chose (Ok (Some (object, after)))
-  ChoiceOf (load.Held object) = ⊥
-  ChoiceOf (load.Busy object) = (told : ℕ) × (now : ℕ) × Chose (Err (record { at = object; why = Busy told now }))
-  ChoiceOf (load.Spent object) = Chose (Err (record { at = object; why = Spent }))
-
-  abbrev In : HandlerRegisters → LoadAnswer → Type 0
-  In shown answer = ChosenIn terms tries (objects_in terms.profile) shown answer seen added
-
-  module _ (shown : HandlerRegisters) (object : ℕ) where
-    abbrev One : List Event → List Event → Result (Option Record) Refused → Type 0
-    One s a outcome = StopsAtOne terms UntilSent shown tries object s a outcome
-
-    stops_in : (s a : List Event) (outcome : Result (Option Record) Refused) (answer : LoadAnswer) → (stop : One s a outcome)
-        → Stopped terms tries shown (suc stop.below) (stop.skipped ++ s) stop.last answer
-        → StopsIn terms tries (objects_in terms.profile) shown s a answer
-    stops_in s a outcome answer stop stops = record {
-      below = stop.below;
-      less = stop.held;
-      skipped = stop.skipped;
-      last = stop.last;
-      whole = stop.whole;
-      skips = stop.skips;
-      stops = stops;
-    }
-
-    stops_at : (s a : List Event) (outcome : Result (Option Record) Refused) (answer : LoadAnswer)
-        → (stop : StopsIn terms tries (objects_in terms.profile) shown s a answer) → object ≡ suc stop.below
-        → Starts terms UntilSent shown (suc stop.below) tries (stop.skipped ++ s) stop.last outcome → One s a outcome
-    stops_at s a outcome answer stop is starts = record {
-      below = stop.below;
-      is = omega (arith, is);
-      held = stop.less;
-      skipped = stop.skipped;
-      last = stop.last;
-      whole = stop.whole;
-      skips = stop.skips;
-      start = subst (λ k. Starts terms UntilSent shown k tries (stop.skipped ++ s) stop.last outcome) (sym is) starts;
-    }
-
-    next_is : (s a : List Event) (outcome : Result (Option Record) Refused) → (stop : One s a outcome) → object ≡ suc stop.below
-    next_is s a outcome stop = let is = stop.is in omega (arith, is)
-
-    starts_there : (s a : List Event) (outcome : Result (Option Record) Refused) → (stop : One s a outcome)
-        → Starts terms UntilSent shown (suc stop.below) tries (stop.skipped ++ s) stop.last outcome
-    starts_there s a outcome stop =
-        subst (λ k. Starts terms UntilSent shown k tries (stop.skipped ++ s) stop.last outcome) (next_is s a outcome stop)
-        stop.start
-
-  to_in : (answer : LoadAnswer) → ChoiceOf answer → (shown : HandlerRegisters) × In shown answer
-  to_in load.Nothing c =
-      (c.shown, record { looked = c.looked; tried = c.tried; whole = c.whole; picture = c.picture; among = c.choice })
-  to_in (load.Held object) c = absurd c
-  to_in (load.Loaded object after) c = (
-    c.shown,
-    record {
-      looked = c.looked;
-      tried = c.tried;
-      whole = c.whole;
-      picture = c.picture;
-      among = stops_in c.shown object (c.looked ++ seen) c.tried (Ok (Some after)) (load.Loaded object after) c.choice (
-        next_is c.shown object (c.looked ++ seen) c.tried (Ok (Some after)) c.choice,
-        starts_there c.shown object (c.looked ++ seen) c.tried (Ok (Some after)) c.choice,
-      );
-    },
-  )
-  to_in (load.Busy object) (told, now, c) = (
-    c.shown,
-    record {
-      looked = c.looked;
-      tried = c.tried;
-      whole = c.whole;
-      picture = c.picture;
-      among = stops_in c.shown object (c.looked ++ seen) c.tried (Err (Busy told now)) (load.Busy object) c.choice (
-        next_is c.shown object (c.looked ++ seen) c.tried (Err (Busy told now)) c.choice,
-        (told, now, starts_there c.shown object (c.looked ++ seen) c.tried (Err (Busy told now)) c.choice),
-      );
-    },
-  )
-  to_in (load.Spent object) c = (
-    c.shown,
-    record {
-      looked = c.looked;
-      tried = c.tried;
-      whole = c.whole;
-      picture = c.picture;
-      among = stops_in c.shown object (c.looked ++ seen) c.tried (Err Spent) (load.Spent object) c.choice (
-        next_is c.shown object (c.looked ++ seen) c.tried (Err Spent) c.choice,
-        starts_there c.shown object (c.looked ++ seen) c.tried (Err Spent) c.choice,
-      );
-    },
-  )
-
-  of_in : (answer : LoadAnswer) (shown : HandlerRegisters) → In shown answer → ChoiceOf answer
-  of_in load.Nothing shown c = record {
-    shown = shown;
-    looked = c.looked;
-    tried = c.tried;
-    whole = c.whole;
-    picture = c.picture;
-    choice = c.among;
-  }
-  of_in (load.Held object) shown c = absurd c.among
-  of_in (load.Loaded object after) shown c =
-      let (is, starts) = c.among.stops in record {
-        shown = shown;
-        looked = c.looked;
-        tried = c.tried;
-        whole = c.whole;
-        picture = c.picture;
-        choice = stops_at shown object (c.looked ++ seen) c.tried (Ok (Some after)) (load.Loaded object after) c.among is starts;
-      }
-  of_in (load.Busy object) shown c =
-      let (is, some) = c.among.stops in
-      let (told, now, starts) = some in (
-        told,
-        now,
-        record {
-          shown = shown;
-          looked = c.looked;
-          tried = c.tried;
-          whole = c.whole;
-          picture = c.picture;
-          choice = stops_at shown object (c.looked ++ seen) c.tried (Err (Busy told now)) (load.Busy object) c.among is starts;
-        },
-      )
-  of_in (load.Spent object) shown c =
-      let (is, starts) = c.among.stops in record {
-        shown = shown;
-        looked = c.looked;
-        tried = c.tried;
-        whole = c.whole;
-        picture = c.picture;
-        choice = stops_at shown object (c.looked ++ seen) c.tried (Err Spent) (load.Spent object) c.among is starts;
-      }
+use Rattle.ccan_calls.proofs.Choosing.{ChoiceOf, Chose, choice_so}
+use Rattle.ccan_calls.proofs.Processes.{after_none, ends_so, follow, follows, one_act, only_first}
 
 -- ---- a load
 
@@ -280,14 +101,14 @@ module _ (terms : Terms) (tries : ℕ) (past : BusPast) (at_once : past.choice �
 
   -- nothing is loaded, and the controller is on
   module _ (empty : past.loaded ≡ None) (on : is_on past 0 ≡ true) (seen added : List Event) where
-    chose : (chosen : Chosen) → Chooses past.choice terms tries seen added chosen → Chose terms tries seen added chosen
+    chose : (chosen : Chosen) → Chooses past.choice terms tries seen added chosen → Chose terms tries UntilSent seen added chosen
     chose chosen h = subst (λ c. Chooses c terms tries seen added chosen) at_once h
 
-    chooses : (chosen : Chosen) → Chose terms tries seen added chosen → Chooses past.choice terms tries seen added chosen
+    chooses : (chosen : Chosen) → Chose terms tries UntilSent seen added chosen → Chooses past.choice terms tries seen added chosen
     chooses chosen h = subst (λ c. Chooses c terms tries seen added chosen) (sym at_once) h
 
     to_on : (answer : LoadAnswer) (after : BusPast) → IsLoad seen added after answer
-        → ChoiceOf terms tries seen added answer × ◌≡◌ {A = LoadEnd} (answer, after) (loaded_by past answer)
+        → ChoiceOf terms tries UntilSent seen added answer × ◌≡◌ {A = LoadEnd} (answer, after) (loaded_by past answer)
     to_on load.Nothing after (inl h) = absurd (false≢true (sym h.off ∙ on))
     to_on load.Nothing after (inr h) = (chose (Ok None) h.choice.chooses, pair load.Nothing load.Nothing after past refl h.same)
     to_on (load.Held object) after h = absurd (some_loaded (object, h.started) h.held empty)
@@ -305,7 +126,7 @@ module _ (terms : Terms) (tries : ℕ) (past : BusPast) (at_once : past.choice �
       pair (load.Spent object) (load.Spent object) after past refl h.same,
     )
 
-    of_on : (answer : LoadAnswer) → ChoiceOf terms tries seen added answer → IsLoad seen added (loaded_by past answer).1 answer
+    of_on : (answer : LoadAnswer) → ChoiceOf terms tries UntilSent seen added answer → IsLoad seen added (loaded_by past answer).1 answer
     of_on load.Nothing c =
         inr (record { choice = record { empty = empty; on = on; chooses = chooses (Ok None) c }; same = refl })
     of_on (load.Held object) c = absurd c
@@ -343,27 +164,25 @@ module _ (terms : Terms) (tries : ℕ) (past : BusPast) (at_once : past.choice �
     load_is_on : (empty : past.loaded ≡ None) → is_on past 0 ≡ true
         → LoadsSo ↔ Runs terms tries (load_next terms.profile past true) seen added (answer, after)
     load_is_on empty on =
-        let end = ends_so terms tries (loaded_by past) (start_first terms.profile) seen added (answer, after) in (
+        let end = ends_so terms tries (loaded_by past) (start_first terms.profile UntilSent) seen added (answer, after) in (
           λ h.
               let (choice, same) = to_on empty on (ram_of seen) (ram_of added) answer after h.means in
-              let (shown, here) = to_in terms tries (ram_of seen) (ram_of added) answer choice in
               end.1 (
                 answer,
-                (starts_first terms tries seen added answer).0 (shown, record { none = h.none; means = here }),
+                (choice_so terms tries UntilSent seen added answer).0 (record { none = h.none; means = choice }),
                 same,
               ),
           λ h.
               let (chosen, runs, same) = end.0 h in
-              let (shown, here) = (starts_first terms tries seen added chosen).1 runs in
-              let choice = of_in terms tries (ram_of seen) (ram_of added) chosen shown here.means in
+              let choice = (choice_so terms tries UntilSent seen added chosen).1 runs in
               let is = answer_is (answer, after) (loaded_by past chosen) same
               ∙ same_answer empty on (ram_of seen) (ram_of added) chosen in
               record {
-                none = here.none;
+                none = choice.none;
                 means = subst (λ a. IsLoad (ram_of seen) (ram_of added) after a) (sym is)
                     (subst (λ p. IsLoad (ram_of seen) (ram_of added) p chosen)
                     (sym (past_is (answer, after) (loaded_by past chosen) same))
-                    (of_on empty on (ram_of seen) (ram_of added) chosen choice));
+                    (of_on empty on (ram_of seen) (ram_of added) chosen choice.means));
               },
         )
 
@@ -500,6 +319,70 @@ module _ (terms : Terms) (tries : ℕ) (seen added : ChipHistory) (first found :
         subst (λ d. ArrivesOnChip terms.port d found seen added) (sym is) came,
   )
 
+-- ---- and then does something
+
+module _ {A : Type 0} (terms : Terms) (tries : ℕ) (past : BusPast) (next : Controller → BusPast → Process A) (result : A) where
+  abbrev as_is : Controller → Controller → ChipHistory → BusPast
+  as_is first found history = as_found found (events_in history) (left_behind first past)
+
+  abbrev then_next : Looked → Process A
+  then_next looked = Does Recalls (λ history. next looked.1 (as_is looked.0 looked.1 history))
+
+  abbrev NextRuns : Controller → Controller → ChipHistory → ChipHistory → Type 0
+  NextRuns first found seen added = Runs terms tries (next found (as_is first found seen)) seen added result
+
+  module _ (seen added : ChipHistory) where
+    abbrev pub ArrivesAnd : Type 0
+    ArrivesAnd =
+        (first : Controller) × (found : Controller)
+        × Then (λ s a. ArrivesOnChip terms.port first found s a) (λ s a. NextRuns first found s a) seen added
+
+    -- what was seen is recalled without a step
+    recalled : (looked : Looked) → Runs terms tries (then_next looked) seen added result → NextRuns looked.0 looked.1 seen added
+    recalled looked (history, rest) =
+        after_none (λ s a. NextRuns looked.0 looked.1 s a) seen added rest.earlier rest.later rest.whole rest.begins.0
+        (subst (λ es. Runs terms tries (next looked.1 (as_is looked.0 looked.1 es)) (rest.earlier ++ seen) rest.later result)
+        (rest.begins.1 ∙ sym (ap (λ es. es ++ seen) rest.begins.0)) rest.ends)
+
+  pub arrives_and_so : (seen added : ChipHistory)
+      → ArrivesAnd seen added ↔ Runs terms tries (arrives_and past next) seen added result
+  arrives_and_so seen added = (
+    λ h.
+        let (first, found, steps) = h in
+        let looked : Looked = (first, found) in
+        follow terms tries then_next arrives seen added result (
+          looked,
+          record {
+            earlier = steps.earlier;
+            later = steps.later;
+            whole = steps.whole;
+            begins = (arrives_so terms tries seen steps.earlier first found).0 steps.begins;
+            ends = (
+              steps.earlier ++ seen,
+              record {
+                earlier = [];
+                later = steps.later;
+                whole = sym (append-nil steps.later);
+                begins = (refl, refl);
+                ends = steps.ends;
+              },
+            );
+          },
+        ),
+    λ h.
+        let (looked, steps) = follows terms tries then_next arrives seen added result h in (
+          looked.0,
+          looked.1,
+          record {
+            earlier = steps.earlier;
+            later = steps.later;
+            whole = steps.whole;
+            begins = (arrives_so terms tries seen steps.earlier looked.0 looked.1).1 steps.begins;
+            ends = recalled (steps.earlier ++ seen) steps.later looked steps.ends;
+          },
+        ),
+  )
+
 -- ---- and loads
 
 left_choice : (left : Bool) (past : BusPast) → (if left then unloaded past else past).choice ≡ past.choice
@@ -512,66 +395,45 @@ found_choice : (takes loops : Bool) (events : List NodeEvent) (past : BusPast)
 found_choice true loops events past = refl
 found_choice false loops events past = refl
 
+-- the bus chooses at one moment, however the controller was found
+pub chooses_so : (past : BusPast) → past.choice ≡ AtOnce → (first found : Controller) (history : ChipHistory)
+    → (as_found found (events_in history) (left_behind first past)).choice ≡ AtOnce
+chooses_so past at_once first found history =
+    found_choice (takes_part found) (loops_back found) (events_in history) (left_behind first past)
+    ∙ left_choice first.has_left past ∙ at_once
+
 module _ (terms : Terms) (tries : ℕ) (past : BusPast) (at_once : past.choice ≡ AtOnce) (seen added : ChipHistory) where
-  abbrev as_is : Looked → ChipHistory → BusPast
-  as_is looked history = as_found looked.1 (events_in history) (left_behind looked.0 past)
-
-  chooses_so : (looked : Looked) (history : ChipHistory) → (as_is looked history).choice ≡ AtOnce
-  chooses_so looked history =
-      found_choice (takes_part looked.1) (loops_back looked.1) (events_in history) (left_behind looked.0 past)
-      ∙ left_choice looked.0.has_left past ∙ at_once
-
-  abbrev then_load : Looked → Process LoadEnd
-  then_load looked = Does Recalls (λ history. load_on terms.profile (as_is looked history))
-
   pub loads_so : (answer : LoadAnswer) (after : BusPast)
       → ((found : Controller) × LoadsOnChip terms tries past seen added after found answer)
       ↔ Runs terms tries (loads terms.profile past) seen added (answer, after)
-  loads_so answer after = (
-    λ h.
-        let (found, l) = h in
-        let looked : Looked = (l.first, found) in
-        follow terms tries then_load arrives seen added (answer, after) (
-          looked,
-          record {
-            earlier = l.looked;
-            later = l.later;
-            whole = l.whole;
-            begins = (arrives_so terms tries seen l.looked l.first found).0 l.arrives;
-            ends = (
-              l.looked ++ seen,
+  loads_so answer after =
+      let all = arrives_and_so terms tries past (λ found here. load_on terms.profile here) (answer, after) seen added in
+      let load = λ (first found : Controller) (s a : ChipHistory).
+      load_is terms tries (as_found found (events_in s) (left_behind first past)) (chooses_so past at_once first found s) s a
+      answer after in (
+        λ h.
+            let (found, l) = h in
+            all.0 (
+              l.first,
+              found,
               record {
-                earlier = [];
+                earlier = l.looked;
                 later = l.later;
-                whole = sym (append-nil l.later);
-                begins = (refl, refl);
-                ends = (load_is terms tries (as_is looked (l.looked ++ seen)) (chooses_so looked (l.looked ++ seen))
-                    (l.looked ++ seen)
-                    l.later answer after).0 l.loads;
+                whole = l.whole;
+                begins = l.arrives;
+                ends = (load l.first found (l.looked ++ seen) l.later).0 l.loads;
               },
-            );
-          },
-        ),
-    λ h.
-        let (looked, steps) = follows terms tries then_load arrives seen added (answer, after) h in
-        let (history, rest) = steps.ends in
-        let (none, is) = rest.begins in
-        let whole : rest.later ≡ steps.later = sym (rest.whole ∙ ap (λ es. rest.later ++ es) none ∙ append-nil rest.later) in
-        let here = subst (λ es. Runs terms tries (load_on terms.profile (as_is looked es)) (steps.earlier ++ seen) steps.later
-        (answer, after)) is
-        (subst (λ es. Runs terms tries (load_on terms.profile (as_is looked history)) (steps.earlier ++ seen) es (answer, after))
-        whole (subst (λ es. Runs terms tries (load_on terms.profile (as_is looked history)) (es ++ (steps.earlier ++ seen))
-        rest.later
-        (answer, after)) none rest.ends)) in (
-          looked.1,
-          record {
-            looked = steps.earlier;
-            later = steps.later;
-            whole = steps.whole;
-            first = looked.0;
-            arrives = (arrives_so terms tries seen steps.earlier looked.0 looked.1).1 steps.begins;
-            loads = (load_is terms tries (as_is looked (steps.earlier ++ seen)) (chooses_so looked (steps.earlier ++ seen))
-                (steps.earlier ++ seen) steps.later answer after).1 here;
-          },
-        ),
-  )
+            ),
+        λ h.
+            let (first, found, steps) = all.1 h in (
+              found,
+              record {
+                looked = steps.earlier;
+                later = steps.later;
+                whole = steps.whole;
+                first = first;
+                arrives = steps.begins;
+                loads = (load first found (steps.earlier ++ seen) steps.later).1 steps.ends;
+              },
+            ),
+      )

@@ -13,6 +13,13 @@ use Rattle.ccan_calls.specs.Runs.{Acted, Runs}
 pub only_first : (added earlier later : ChipHistory) → added ≡ later ++ earlier → later ≡ [] → earlier ≡ added
 only_first added earlier later whole none = sym (whole ∙ ap (λ es. es ++ earlier) none)
 
+-- what comes after nothing is all
+pub after_none : (what : ChipHistory → ChipHistory → Type 0) (seen added earlier later : ChipHistory) → added ≡ later ++ earlier
+    → earlier ≡ [] → what (earlier ++ seen) later → what seen added
+after_none what seen added earlier later whole none so =
+    let same : later ≡ added = sym (whole ∙ ap (λ es. later ++ es) none ∙ append-nil later) in
+    subst (λ es. what seen es) same (subst (λ es. what (es ++ seen) later) none so)
+
 module _ {A : Type 0} (terms : Terms) (tries : ℕ) where
   -- one act, which is all
   pub one_act : (act : Act) (end : Out act → A) (seen added : ChipHistory) (result : A)
@@ -145,3 +152,12 @@ pub ending_follow : {A B C : Type 0} (process : Process A) (next : A → Process
     → ending (followed_by process next) other ≡ followed_by process (λ x. ending (next x) other)
 ending_follow (Ended result) next other = refl
 ending_follow (Does act on_from) next other = λ i. Does act (λ out. ending_follow (on_from out) next other i)
+
+pub follow_twice : {A B C : Type 0} (process : Process A) (one : A → Process B) (other : B → Process C)
+    → followed_by (followed_by process one) other ≡ followed_by process (λ x. followed_by (one x) other)
+follow_twice (Ended result) one other = refl
+follow_twice (Does act next) one other = λ i. Does act (λ out. follow_twice (next out) one other i)
+
+pub ending_same : {A : Type 0} (process : Process A) → ending process (λ x. x) ≡ process
+ending_same (Ended result) = refl
+ending_same (Does act next) = λ i. Does act (λ out. ending_same (next out) i)

@@ -1,16 +1,16 @@
 -- The choice of what is sent at one moment is its process.
 use Rattle.std.proofs.Common.{ℕ, zero, suc, ◌≡◌, inl, inr, ◌+◌, ◌<◌, Bool, true, false, List, [], ◌++◌, Some, Result, Ok, Err, refl, sym, ap, subst, ◌∙◌, append_assoc, arith, if◌then◌else◌}
 use Rattle.std.proofs.lemmas.Bool.{cases_lt}
-use Rattle.ccan_ram.specs.declared.change.Change.TheVariants.{Start}
 use Rattle.ccan_ram.specs.declared.change.Changed.{Changed}
 use Rattle.ccan_ram.specs.declared.change.Changed.TheVariants.{Done, NotNow}
 use Rattle.ccan_ram.specs.declared.change.Refused.{Refused}
 use Rattle.ccan_ram.specs.declared.change.Refused.TheVariants.{Busy, Spent}
 use Rattle.ccan_ram.specs.declared.event.Event.{Event}
 use Rattle.ccan_ram.specs.declared.handler_registers.HandlerRegisters.{HandlerRegisters}
-use Rattle.ccan_ram.specs.declared.sending.Sending.TheVariants.{UntilSent}
+use Rattle.ccan_ram.specs.declared.sending.Sending.{Sending}
 use Rattle.ccan_ram.specs.Attempt.{Attempt}
 use Rattle.ccan_ram.specs.Picture.{IsPicture}
+use Rattle.ccan_ram.specs.Sending.{start_by}
 use Rattle.ccan_ram.specs.Terms.{Terms}
 use Rattle.ccan_handler.specs.Moment.{Skips, Starts, was_ready}
 use Rattle.ccan_bus.specs.declared.answer.LoadAnswer.{LoadAnswer}
@@ -33,9 +33,9 @@ unless_started (load.Held object) next = Ended (load.Held object)
 unless_started (load.Busy object) next = Ended (load.Busy object)
 unless_started (load.Spent object) next = Ended (load.Spent object)
 
-module _ (shown : HandlerRegisters) where
+module _ (sending : Sending) (shown : HandlerRegisters) where
   abbrev one_start : ℕ → Process LoadAnswer
-  one_start object = start_at shown object (Ended load.Nothing)
+  one_start object = start_at sending shown object (Ended load.Nothing)
 
   ends_after : (object : ℕ) (one other last : Process LoadAnswer) → one ≡ followed_by other (λ a. unless_started a last)
       → (end : Attempted) → start_end object one end ≡ followed_by (start_end object other end) (λ a. unless_started a last)
@@ -46,17 +46,17 @@ module _ (shown : HandlerRegisters) where
 
   also_after : (object : ℕ) (one other last : Process LoadAnswer) → one ≡ followed_by other (λ a. unless_started a last)
       → (ready : Bool)
-      → (if ready then Does (Attempts object Start) (start_end object one) else one)
-      ≡ followed_by (if ready then Does (Attempts object Start) (start_end object other) else other) (λ a. unless_started a last)
+      → (if ready then Does (Attempts object (start_by sending)) (start_end object one) else one)
+      ≡ followed_by (if ready then Does (Attempts object (start_by sending)) (start_end object other) else other) (λ a. unless_started a last)
   also_after object one other last is true =
-      λ i. Does (Attempts object Start) (λ end. ends_after object one other last is end i)
+      λ i. Does (Attempts object (start_by sending)) (λ end. ends_after object one other last is end i)
   also_after object one other last is false = is
 
   last_start : (more object at : ℕ) → at ≡ object + more
-      → start_each shown (suc more) object ≡ followed_by (start_each shown more object) (λ a. unless_started a (one_start at))
+      → start_each sending shown (suc more) object ≡ followed_by (start_each sending shown more object) (λ a. unless_started a (one_start at))
   last_start zero object at is = let same : object ≡ at = omega (arith, is) in ap one_start same
   last_start (suc more) object at is =
-      also_after object (start_each shown (suc more) (suc object)) (start_each shown more (suc object)) (one_start at)
+      also_after object (start_each sending shown (suc more) (suc object)) (start_each sending shown more (suc object)) (one_start at)
       (last_start more (suc object) at (omega (arith, is))) (was_ready shown object)
 
 -- with the picture
@@ -66,36 +66,36 @@ Shown = HandlerRegisters × LoadAnswer
 abbrev pub with_picture : HandlerRegisters → LoadAnswer → Shown
 with_picture shown answer = (shown, answer)
 
-abbrev pub picture_and : ℕ → Process Shown
-picture_and n = Does Pictures (λ shown. ending (start_each shown n 1) (with_picture shown))
+abbrev pub picture_and : Sending → ℕ → Process Shown
+picture_and sending n = Does Pictures (λ shown. ending (start_each sending shown n 1) (with_picture shown))
 
-abbrev then_last : ℕ → Shown → Process Shown
-then_last n so = ending (unless_started so.1 (one_start so.0 (suc n))) (with_picture so.0)
+abbrev then_last : Sending → ℕ → Shown → Process Shown
+then_last sending n so = ending (unless_started so.1 (one_start sending so.0 (suc n))) (with_picture so.0)
 
-last_of : (n : ℕ) → picture_and (suc n) ≡ followed_by (picture_and n) (then_last n)
-last_of n = λ i. Does Pictures (λ shown. path shown i)
+last_of : (sending : Sending) (n : ℕ) → picture_and sending (suc n) ≡ followed_by (picture_and sending n) (then_last sending n)
+last_of sending n = λ i. Does Pictures (λ shown. path shown i)
   where
-    path : (shown : HandlerRegisters) → ending (start_each shown (suc n) 1) (with_picture shown)
-        ≡ followed_by (ending (start_each shown n 1) (with_picture shown)) (then_last n)
+    path : (shown : HandlerRegisters) → ending (start_each sending shown (suc n) 1) (with_picture shown)
+        ≡ followed_by (ending (start_each sending shown n 1) (with_picture shown)) (then_last sending n)
     path shown =
-        ap (λ (p : Process LoadAnswer). ending p (with_picture shown)) (last_start shown n 1 (suc n) (omega arith))
-        ∙ ending_follow (start_each shown n 1) (λ a. unless_started a (one_start shown (suc n))) (with_picture shown)
-        ∙ sym (follow_ending (start_each shown n 1) (with_picture shown) (then_last n))
+        ap (λ (p : Process LoadAnswer). ending p (with_picture shown)) (last_start sending shown n 1 (suc n) (omega arith))
+        ∙ ending_follow (start_each sending shown n 1) (λ a. unless_started a (one_start sending shown (suc n))) (with_picture shown)
+        ∙ sym (follow_ending (start_each sending shown n 1) (with_picture shown) (then_last sending n))
 
 -- ---- what it runs to
 
-module _ (terms : Terms) (tries : ℕ) where
+module _ (terms : Terms) (tries : ℕ) (sending : Sending) where
   -- an object was started, or its start was refused
   abbrev pub Stopped : HandlerRegisters → ℕ → List Event → List Event → LoadAnswer → Type 0
   Stopped shown object seen added load.Nothing = ⊥
   Stopped shown object seen added (load.Held other) = ⊥
   Stopped shown object seen added (load.Loaded other after) =
-      (other ≡ object) × Starts terms UntilSent shown object tries seen added (Ok (Some after))
+      (other ≡ object) × Starts terms sending shown object tries seen added (Ok (Some after))
   Stopped shown object seen added (load.Busy other) =
       (other ≡ object)
-      × ((told : ℕ) × (now : ℕ) × Starts terms UntilSent shown object tries seen added (Err (Busy told now)))
+      × ((told : ℕ) × (now : ℕ) × Starts terms sending shown object tries seen added (Err (Busy told now)))
   Stopped shown object seen added (load.Spent other) =
-      (other ≡ object) × Starts terms UntilSent shown object tries seen added (Err Spent)
+      (other ≡ object) × Starts terms sending shown object tries seen added (Err Spent)
 
   -- the first objects are passed over, and one stops the choice
   pub record StopsIn (n : ℕ) (shown : HandlerRegisters) (seen added : List Event) (answer : LoadAnswer) : Type 0 where
@@ -104,11 +104,11 @@ module _ (terms : Terms) (tries : ℕ) where
     pub skipped : List Event
     pub last : List Event
     pub whole : added ≡ last ++ skipped
-    pub skips : Skips terms UntilSent shown tries below seen skipped
+    pub skips : Skips terms sending shown tries below seen skipped
     pub stops : Stopped shown (suc below) (skipped ++ seen) last answer
 
   abbrev pub Among : ℕ → HandlerRegisters → List Event → List Event → LoadAnswer → Type 0
-  Among n shown seen added load.Nothing = Skips terms UntilSent shown tries n seen added
+  Among n shown seen added load.Nothing = Skips terms sending shown tries n seen added
   Among n shown seen added (load.Held object) = ⊥
   Among n shown seen added (load.Loaded object after) = StopsIn n shown seen added (load.Loaded object after)
   Among n shown seen added (load.Busy object) = StopsIn n shown seen added (load.Busy object)
@@ -126,7 +126,7 @@ module _ (terms : Terms) (tries : ℕ) where
   ChoosesSo n seen added so = OnObjects terms.port (λ s a. ChosenIn n so.0 so.1 s a) seen added
 
   abbrev Ran : ℕ → ChipHistory → ChipHistory → Shown → Type 0
-  Ran n seen added so = Runs terms tries (picture_and n) seen added so
+  Ran n seen added so = Runs terms tries (picture_and sending n) seen added so
 
   -- ---- to the process
 
@@ -134,7 +134,7 @@ module _ (terms : Terms) (tries : ℕ) where
   pub record Tried (shown : HandlerRegisters) (object : ℕ) (seen added : List Event) (answer : LoadAnswer) : Type 0 where
     pub outcome : Result Changed Refused
     pub ready : was_ready shown object ≡ true
-    pub attempt : Attempt terms object Start tries seen added outcome
+    pub attempt : Attempt terms object (start_by sending) tries seen added outcome
     pub end : start_end object (Ended load.Nothing) (attempted outcome) ≡ Ended answer
 
   tried_in : (shown : HandlerRegisters) (object : ℕ) (seen added : List Event) (answer : LoadAnswer)
@@ -164,29 +164,29 @@ module _ (terms : Terms) (tries : ℕ) where
   To n = (seen added : ChipHistory) (so : Shown) → ChoosesSo n seen added so → Ran n seen added so
 
   module _ (n : ℕ) (to : To n) (seen added : ChipHistory) (shown : HandlerRegisters) where
-    then_so : (answer : LoadAnswer) → Follows terms tries (then_last n) (picture_and n) seen added (shown, answer)
+    then_so : (answer : LoadAnswer) → Follows terms tries (then_last sending n) (picture_and sending n) seen added (shown, answer)
         → Ran (suc n) seen added (shown, answer)
     then_so answer h =
-        subst (λ p. Runs terms tries p seen added (shown, answer)) (sym (last_of n))
-        (follow terms tries (then_last n) (picture_and n) seen added (shown, answer) h)
+        subst (λ p. Runs terms tries p seen added (shown, answer)) (sym (last_of sending n))
+        (follow terms tries (then_last sending n) (picture_and sending n) seen added (shown, answer) h)
 
     abbrev last_by : Bool → Process Shown
     last_by ready =
-        ending (if ready then Does (Attempts (suc n) Start) (start_end (suc n) (Ended load.Nothing)) else Ended load.Nothing)
+        ending (if ready then Does (Attempts (suc n) (start_by sending)) (start_end (suc n) (Ended load.Nothing)) else Ended load.Nothing)
         (with_picture shown)
 
     -- the last object was ready, and there is an attempt
     attempt_last : (answer : LoadAnswer) → steps_of terms.port added ≡ [] → (looked earlier last : List Event)
         → ram_of added ≡ last ++ (earlier ++ looked) → IsPicture terms shown (ram_of seen) looked
-        → Skips terms UntilSent shown tries n (looked ++ ram_of seen) earlier
+        → Skips terms sending shown tries n (looked ++ ram_of seen) earlier
         → Tried shown (suc n) (earlier ++ (looked ++ ram_of seen)) last answer → Ran (suc n) seen added (shown, answer)
     attempt_last answer none looked earlier last whole picture skips tried =
         let p = parted added last (earlier ++ looked) whole in
         let (quiet, before) = no_steps_in terms.port added p.last p.begun none p.whole in
         let there : ram_of (p.begun ++ seen) ≡ earlier ++ (looked ++ ram_of seen) =
         ram_of-append p.begun seen ∙ ap (λ es. es ++ ram_of seen) p.begun_is ∙ append_assoc earlier looked (ram_of seen) in
-        let attempt = subst (λ es. Attempt terms (suc n) Start tries es (ram_of p.last) tried.outcome) (sym there)
-        (subst (λ es. Attempt terms (suc n) Start tries (earlier ++ (looked ++ ram_of seen)) es tried.outcome) (sym p.last_is)
+        let attempt = subst (λ es. Attempt terms (suc n) (start_by sending) tries es (ram_of p.last) tried.outcome) (sym there)
+        (subst (λ es. Attempt terms (suc n) (start_by sending) tries (earlier ++ (looked ++ ram_of seen)) es tried.outcome) (sym p.last_is)
         tried.attempt) in
         then_so answer (
           (shown, load.Nothing),
@@ -214,7 +214,7 @@ module _ (terms : Terms) (tries : ℕ) where
 
     -- nothing comes after the others
     no_more : (middle answer : LoadAnswer) → ChoosesSo n seen added (shown, middle)
-        → Runs terms tries (then_last n (shown, middle)) (added ++ seen) [] (shown, answer)
+        → Runs terms tries (then_last sending n (shown, middle)) (added ++ seen) [] (shown, answer)
         → Ran (suc n) seen added (shown, answer)
     no_more middle answer on rest = then_so answer (
       (shown, middle),
@@ -267,7 +267,7 @@ module _ (terms : Terms) (tries : ℕ) where
           let here : stop.below ≡ n = omega (arith, less, above) in
           attempt_last answer none looked stop.skipped stop.last
           (whole ∙ ap (λ es. es ++ looked) stop.whole ∙ append_assoc stop.last stop.skipped looked) picture
-          (subst (λ k. Skips terms UntilSent shown tries k (looked ++ ram_of seen) stop.skipped) here stop.skips)
+          (subst (λ k. Skips terms sending shown tries k (looked ++ ram_of seen) stop.skipped) here stop.skips)
           (tried_in shown (suc n) (stop.skipped ++ (looked ++ ram_of seen)) stop.last answer
           (subst (λ k. Stopped shown (suc k) (stop.skipped ++ (looked ++ ram_of seen)) stop.last answer) here stop.stops))
     ]
@@ -360,7 +360,7 @@ module _ (terms : Terms) (tries : ℕ) where
     pub among : Among (suc n) shown seen added answer
 
   module _ (n : ℕ) (shown : HandlerRegisters) (seen skipped last : List Event) (ready : was_ready shown (suc n) ≡ true)
-      (skips : Skips terms UntilSent shown tries n seen skipped) where
+      (skips : Skips terms sending shown tries n seen skipped) where
     stops_here : (answer : LoadAnswer) → Stopped shown (suc n) (skipped ++ seen) last answer
         → StopsIn (suc n) shown seen (last ++ skipped) answer
     stops_here answer stops = record {
@@ -373,7 +373,7 @@ module _ (terms : Terms) (tries : ℕ) where
       stops = stops;
     }
 
-    ends_as : (outcome : Result Changed Refused) → Attempt terms (suc n) Start tries (skipped ++ seen) last outcome
+    ends_as : (outcome : Result Changed Refused) → Attempt terms (suc n) (start_by sending) tries (skipped ++ seen) last outcome
         → EndsAs n shown seen (last ++ skipped) (attempted outcome)
     ends_as (Ok (Done before after number)) attempt = record {
       answer = load.Loaded (suc n) after;
@@ -423,7 +423,7 @@ module _ (terms : Terms) (tries : ℕ) where
 
     abbrev last_of_found : Bool → Process Shown
     last_of_found ready =
-        ending (if ready then Does (Attempts (suc n) Start) (start_end (suc n) (Ended load.Nothing)) else Ended load.Nothing)
+        ending (if ready then Does (Attempts (suc n) (start_by sending)) (start_end (suc n) (Ended load.Nothing)) else Ended load.Nothing)
         (with_picture found)
 
     by_ready : (on : ChoosesSo n seen earlier (found, load.Nothing)) (ready : Bool) → was_ready found (suc n) ≡ ready
@@ -435,7 +435,7 @@ module _ (terms : Terms) (tries : ℕ) where
         let c = on.means in
         let there : ram_of (earlier ++ seen) ≡ c.tried ++ (c.looked ++ ram_of seen) =
         ram_of-append earlier seen ∙ ap (λ es. es ++ ram_of seen) c.whole ∙ append_assoc c.tried c.looked (ram_of seen) in
-        let attempt = subst (λ es. Attempt terms (suc n) Start tries es (ram_of steps.earlier) outcome) there tried.means in
+        let attempt = subst (λ es. Attempt terms (suc n) (start_by sending) tries es (ram_of steps.earlier) outcome) there tried.means in
         let came = ends_as n found (c.looked ++ ram_of seen) c.tried (ram_of steps.earlier) ready c.among outcome attempt in
         let (none, is) = subst (λ (q : Process LoadAnswer). Runs terms tries (ending q (with_picture found))
         (steps.earlier ++ (earlier ++ seen)) steps.later so)
@@ -455,7 +455,7 @@ module _ (terms : Terms) (tries : ℕ) where
         }))
 
     by_middle : (middle : LoadAnswer) → ChoosesSo n seen earlier (found, middle)
-        → Runs terms tries (then_last n (found, middle)) (earlier ++ seen) later so → ChoosesSo (suc n) seen added so
+        → Runs terms tries (then_last sending n (found, middle)) (earlier ++ seen) later so → ChoosesSo (suc n) seen added so
     by_middle load.Nothing on ends = by_ready on (was_ready found (suc n)) refl ends
     by_middle (load.Held object) on ends = absurd on.means.among
     by_middle (load.Loaded object after) on (none, is) =
@@ -479,7 +479,7 @@ module _ (terms : Terms) (tries : ℕ) where
   pub of_starts : (n : ℕ) → Of n
   of_starts zero seen added so on = of_none seen added so on
   of_starts (suc n) seen added so on =
-      let (middle, steps) = follows terms tries (then_last n) (picture_and n) seen added so
-      (subst (λ p. Runs terms tries p seen added so) (last_of n) on) in
+      let (middle, steps) = follows terms tries (then_last sending n) (picture_and sending n) seen added so
+      (subst (λ p. Runs terms tries p seen added so) (last_of sending n) on) in
       by_middle n seen added so middle.0 steps.earlier steps.later steps.whole middle.1
       (of_starts n seen steps.earlier middle steps.begins) steps.ends

@@ -3,7 +3,10 @@ use Rattle.std.specs.Prelude.{ℕ, ◌≡◌, Option, Some, Ok}
 use Rattle.ccan_endless.specs.Chip.{ChipHistory}
 use Rattle.ccan_endless.specs.Note.{Told}
 use Rattle.ccan_c.specs.declared.shown_counters.ShownCounters.{ShownCounters}
+use Rattle.ccan_c.specs.declared.shown_finished.ShownFinished.{ShownFinished}
 use Rattle.ccan_c.specs.declared.shown_load.ShownLoad.{ShownLoad}
+use Rattle.ccan_c.specs.declared.shown_member.ShownMember.{ShownMember}
+use Rattle.ccan_c.specs.declared.shown_outcome.ShownOutcome.{ShownOutcome}
 use Rattle.ccan_c.specs.declared.shown_record.ShownRecord.{ShownRecord}
 use Rattle.ccan_c.specs.Note.{TellsOf}
 use Rattle.ccan_calls.specs.Process.{Ended, Process}
@@ -16,6 +19,9 @@ pub data Given : Type 0 where
   Shown : (shown : ShownRecord) → Given
   Counters : (shown : ShownCounters) → Given
   Loading : (shown : ShownLoad) → Given
+  Outcome : (shown : ShownOutcome) → Given
+  Member : (shown : ShownMember) → Given
+  Finished : (shown : ShownFinished) → Given
   -- a note that says this
   Noted : (seen : ChipHistory) → Given
 
@@ -31,6 +37,9 @@ pub data Place : Type 0 where
   RecordAt : (out : ShownRecord) → Place
   CountersAt : (out : ShownCounters) → Place
   LoadingAt : (out : ShownLoad) → Place
+  OutcomeAt : (out : ShownOutcome) → Place
+  MemberAt : (out : ShownMember) → Place
+  FinishedAt : (out : ShownFinished) → Place
   NoteAt : (note : Option Told) → Place
 
 -- what was given stands there; if nothing was, anything may stand there
@@ -40,6 +49,9 @@ IsIn (Number value) (NumberAt out) = out ≡ value
 IsIn (Shown shown) (RecordAt out) = out ≡ shown
 IsIn (Counters shown) (CountersAt out) = out ≡ shown
 IsIn (Loading shown) (LoadingAt out) = out ≡ shown
+IsIn (Outcome shown) (OutcomeAt out) = out ≡ shown
+IsIn (Member shown) (MemberAt out) = out ≡ shown
+IsIn (Finished shown) (FinishedAt out) = out ≡ shown
 IsIn (Noted seen) (NoteAt note) = TellsOf note seen
 IsIn given place = ⊥
 

@@ -1,13 +1,17 @@
 -- Calls on the bus's handle as processes. Source: this project's own, after what the calls stand for.
-use Rattle.std.specs.Prelude.{ℕ, ◌==◌, Bool, true, false, Option, Some, Result, Ok, Err, nat_le, if◌then◌else◌}
+use Rattle.std.specs.Prelude.{ℕ, ◌==◌, Bool, true, false, List, length, map, Option, Some, Result, Ok, Err, nat_le, if◌then◌else◌}
+use Rattle.std.specs.List.{list_all}
 use Rattle.std.specs.Option.{option_map_or}
+use Rattle.ccan_object.specs.declared.profile.Profile.{Profile}
+use Rattle.ccan_accept.specs.declared.frame.Frame.{Frame}
 use Rattle.ccan_confine.specs.declared.controller.Controller.{Controller}
 use Rattle.ccan_confine.specs.declared.controller_change.ControllerChange.TheVariants.{Recessive}
 use Rattle.ccan_confine.specs.Counters.{counts_of, state_of}
 use Rattle.ccan_ram.specs.Terms.{Terms}
+use Rattle.ccan_bus.specs.declared.round_line.Fault.{Fault}
 use Rattle.ccan_bus.specs.Past.{BusPast, recovers}
 use Rattle.ccan_line.specs.declared.line_answer.LineAnswer.TheVariants as answer
-use Rattle.ccan_line.specs.Limits.{most_groups}
+use Rattle.ccan_line.specs.Limits.{most_frames, most_groups}
 use Rattle.ccan_endless.specs.declared.controller_changed.ControllerBusy.{ControllerBusy}
 use Rattle.ccan_endless.specs.declared.controller_changed.ControllerChanged.{ControllerChanged}
 use Rattle.ccan_map.specs.declared.map.Map.{Map}
@@ -15,21 +19,25 @@ use Rattle.ccan_map.specs.declared.map.Map.TheVariants.{Narrow}
 use Rattle.ccan_registers.specs.ChipSteps.{made_or_busy}
 use Rattle.ccan_registers.specs.InterfaceSet.{zero_set}
 use Rattle.ccan_registers.specs.Register.{read_of, status_told}
+use Rattle.ccan_c.specs.declared.offer.Offer.{Offer}
 use Rattle.ccan_c.specs.Answer.{c_counters, code_of, state_number}
 use Rattle.ccan_c.specs.Bus.{enabling, is_on, looping, starting, testing}
-use Rattle.ccan_c.specs.Codes.{busy, done, flag_range, groups_range, node_range, untold}
+use Rattle.ccan_c.specs.Codes.{busy, done, fault_range, flag_range, frame_range, frames_range, groups_range, node_range, senders, untold}
 use Rattle.ccan_c.specs.Host.{flag_numbered, number_of}
 use Rattle.ccan_c.specs.HostCall.{code_of_access}
 use Rattle.ccan_c.specs.Load.{c_load}
+use Rattle.ccan_c.specs.Outcome.{c_outcome, code_of_round}
+use Rattle.ccan_c.specs.Round.{fault_numbered, is_frame, sending_of}
 use Rattle.ccan_c.specs.Settings.{is_from_one_to}
-use Rattle.ccan_calls.specs.Answer.{CallEnd, CallProcess, Counters, Loading, Nothing, Number, end_of, refuses, word_given}
-use Rattle.ccan_calls.specs.BusAsk.{BusAsk, load, status, control, init, loop_back, recessive, interrupt, flags, counters, read8, write8, read16, write16, read32, write32, line, tell, heed}
+use Rattle.ccan_calls.specs.Answer.{CallEnd, CallProcess, Counters, Loading, Nothing, Number, Outcome, end_of, refuses, word_given}
+use Rattle.ccan_calls.specs.BusAsk.{BusAsk, load, status, control, init, loop_back, recessive, interrupt, flags, counters, round, read8, write8, read16, write16, read32, write32, line, tell, heed}
 use Rattle.ccan_calls.specs.BusRegisters.{bus_writes_at, bus_writes_byte, bus_writes_word}
 use Rattle.ccan_calls.specs.LoadProcess.{LoadEnd, loads}
 use Rattle.ccan_calls.specs.HostCallProcess.{heeded, note_end, noted, reads_off}
 use Rattle.ccan_calls.specs.Parts.{flag_shown, line_pulled, value_shown}
-use Rattle.ccan_calls.specs.Process.{ChangesController, Does, Ended, LooksAtController, Process, ending}
+use Rattle.ccan_calls.specs.Process.{ChangesController, Does, Ended, LooksAtController, Offers, Process, ending}
 use Rattle.ccan_calls.specs.ReadProcess.{Word, reads_at, reads_byte}
+use Rattle.ccan_calls.specs.RoundProcess.{RoundTold, are_senders, rounds}
 use Rattle.ccan_calls.specs.WordProcess.{reads_word}
 use Rattle.ccan_calls.specs.WriteProcess.{Written, change_controller, unless_refused}
 
@@ -80,6 +88,27 @@ counts node past =
 abbrev pub writes_by : Process (Option Written) → BusPast → BusProcess
 writes_by process past = ending process (λ told. end_of (code_of_access told) Nothing past)
 
+-- what came of a round, and the bus after it
+abbrev pub round_end : RoundTold → CallEnd BusPast
+round_end (told, after) = end_of (code_of_round told) (Outcome (c_outcome told)) after
+
+-- a round of these frames, if each sender is one of the other nodes and sends once
+abbrev pub offered_round : Profile → ℕ → List (ℕ × Frame) → Fault → BusPast → BusProcess
+offered_round profile nodes sends fault past =
+    if are_senders nodes sends
+    then Does (Offers sends fault) (λ line. ending (rounds profile line past) round_end)
+    else refuses senders past
+
+-- what C passed is in its range, or is refused
+abbrev pub asked_round : Profile → ℕ → List Offer → ℕ → BusPast → BusProcess
+asked_round profile nodes offers number past =
+    if nat_le (length offers) most_frames
+    then (if list_all is_frame offers
+    then option_map_or (λ fault. offered_round profile nodes (map sending_of offers) fault past) (fault_numbered number)
+    (refuses fault_range past)
+    else refuses frame_range past)
+    else refuses frames_range past
+
 -- there are so many other nodes. No interface is the bus's, so what its registers hold makes no difference
 abbrev pub bus_process : Terms → Map → ℕ → BusAsk → BusPast → BusProcess
 bus_process terms map nodes load past = ending (loads terms.profile past) load_end
@@ -96,6 +125,7 @@ bus_process terms map nodes (flags number) past =
     option_map_or (λ flag. ending (flag_shown flag) (λ word. end_of done (Number word) past)) (flag_numbered number)
     (refuses flag_range past)
 bus_process terms map nodes (counters node) past = if nat_le node nodes then counts node past else refuses node_range past
+bus_process terms map nodes (round offers number) past = asked_round terms.profile nodes offers number past
 bus_process terms map nodes (read8 offset) past = reads_off (reads_byte terms map offset zero_set) past
 bus_process terms map nodes (write8 offset value) past = writes_by (bus_writes_byte terms map offset value) past
 bus_process terms map nodes (read16 offset) past = reads_off (reads_at terms map offset zero_set) past

@@ -1,5 +1,5 @@
 -- Calls are their processes. Source: this project's own.
-use Rattle.std.specs.Prelude.{ℕ, ◌≡◌, ◌↔◌, IfSome}
+use Rattle.std.specs.Prelude.{ℕ, ◌≡◌, ◌↔◌}
 use Rattle.ccan_ram.specs.declared.port.PortName.TheVariants.{Bus}
 use Rattle.ccan_ram.specs.Terms.{Terms}
 use Rattle.ccan_bus.specs.declared.choice.Choice.TheVariants.{AtOnce}
@@ -8,10 +8,13 @@ use Rattle.ccan_endless.specs.Chip.{ChipHistory}
 use Rattle.ccan_map.specs.declared.map.Map.{Map}
 use Rattle.ccan_registers.specs.declared.interface_set.InterfaceSet.{InterfaceSet}
 use Rattle.ccan_c.specs.BusCall.{BusCall, BusCallMeans, code_got as code_on}
+use Rattle.ccan_c.specs.FrameCall.{BusState, FrameCall, FrameCallMeans, frame_code}
 use Rattle.ccan_c.specs.HostCall.{HostCall, HostCallMeans, code_got}
 use Rattle.ccan_calls.specs.Answer.{Answer, CallProcess, IsAnswered, Place}
 use Rattle.ccan_calls.specs.BusAsk.{asked_on, place_on}
 use Rattle.ccan_calls.specs.BusCallProcess.{bus_process}
+use Rattle.ccan_calls.specs.FrameAsk.{asked_of, place_after}
+use Rattle.ccan_calls.specs.FrameProcess.{frame_process}
 use Rattle.ccan_calls.specs.HostAsk.{asked_by, place_of}
 use Rattle.ccan_calls.specs.HostCallProcess.{host_process}
 use Rattle.ccan_calls.specs.Runs.{Runs}
@@ -28,10 +31,17 @@ HostCallsAreProcesses =
     → HostCallMeans terms tries map call own seen added left
     ↔ ComesTo terms tries (code_got call) (place_of call) (host_process terms map (asked_by call) own) seen added left
 
--- so does a call on the bus's handle, except a round; the bus chooses at one moment, as that of a chip always does
+-- so does a call on the bus's handle; the bus chooses at one moment, as that of a chip always does
 abbrev pub BusCallsAreProcesses : Type 0
 BusCallsAreProcesses =
     (terms : Terms) (tries nodes : ℕ) (map : Map) (call : BusCall) (past after : BusPast) (seen added : ChipHistory)
     → terms.port ≡ Bus → past.choice ≡ AtOnce
-    → IfSome (asked_on call) (λ ask. BusCallMeans terms tries nodes map call past seen added after
-    ↔ ComesTo terms tries (code_on call) (place_on call) (bus_process terms map nodes ask past) seen added after)
+    → BusCallMeans terms tries nodes map call past seen added after
+    ↔ ComesTo terms tries (code_on call) (place_on call) (bus_process terms map nodes (asked_on call) past) seen added after
+
+-- and so does a call by which a chip takes part in a frame on a bus of several, or powers down in between
+abbrev pub FrameCallsAreProcesses : Type 0
+FrameCallsAreProcesses =
+    (terms : Terms) (tries : ℕ) (call : FrameCall) (old new : BusState) (seen added : ChipHistory)
+    → FrameCallMeans terms tries call old seen added new
+    ↔ ComesTo terms tries (frame_code call) (place_after call) (frame_process terms (asked_of call) old) seen added new

@@ -10,6 +10,10 @@ pub mod HostAsk
 pub mod HostCallProcess
 pub mod BusRegisters
 pub mod LoadProcess
+pub mod StoreProcess
+pub mod RoundProcess
 pub mod BusAsk
 pub mod BusCallProcess
+pub mod FrameAsk
+pub mod FrameProcess
 pub mod Laws

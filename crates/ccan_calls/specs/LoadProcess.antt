@@ -6,8 +6,10 @@ use Rattle.ccan_object.specs.declared.record.Record.{Record}
 use Rattle.ccan_object.specs.Profile.{objects_in}
 use Rattle.ccan_confine.specs.declared.controller.Controller.{Controller}
 use Rattle.ccan_confine.specs.declared.controller_change.ControllerChange.TheVariants.{Join}
-use Rattle.ccan_ram.specs.declared.change.Change.TheVariants.{Start}
 use Rattle.ccan_ram.specs.declared.handler_registers.HandlerRegisters.{HandlerRegisters}
+use Rattle.ccan_ram.specs.declared.sending.Sending.{Sending}
+use Rattle.ccan_ram.specs.declared.sending.Sending.TheVariants.{UntilSent}
+use Rattle.ccan_ram.specs.Sending.{start_by}
 use Rattle.ccan_handler.specs.Moment.{was_ready}
 use Rattle.ccan_bus.specs.declared.answer.LoadAnswer.{LoadAnswer}
 use Rattle.ccan_bus.specs.declared.answer.LoadAnswer.TheVariants as load
@@ -24,17 +26,17 @@ start_end object next GaveUp = Ended (load.Busy object)
 start_end object next WasSpent = Ended (load.Spent object)
 
 -- so is one that was not ready in the picture
-abbrev pub start_at : HandlerRegisters → ℕ → Process LoadAnswer → Process LoadAnswer
-start_at shown object next =
-    if was_ready shown object then Does (Attempts object Start) (start_end object next) else next
+abbrev pub start_at : Sending → HandlerRegisters → ℕ → Process LoadAnswer → Process LoadAnswer
+start_at sending shown object next =
+    if was_ready shown object then Does (Attempts object (start_by sending)) (start_end object next) else next
 
 -- this many objects from this one on
-abbrev pub start_each : HandlerRegisters → ℕ → ℕ → Process LoadAnswer
-start_each shown zero object = Ended load.Nothing
-start_each shown (suc more) object = start_at shown object (start_each shown more (suc object))
+abbrev pub start_each : Sending → HandlerRegisters → ℕ → ℕ → Process LoadAnswer
+start_each sending shown zero object = Ended load.Nothing
+start_each sending shown (suc more) object = start_at sending shown object (start_each sending shown more (suc object))
 
-abbrev pub start_first : Profile → Process LoadAnswer
-start_first profile = Does Pictures (λ shown. start_each shown (objects_in profile) 1)
+abbrev pub start_first : Profile → Sending → Process LoadAnswer
+start_first profile sending = Does Pictures (λ shown. start_each sending shown (objects_in profile) 1)
 
 -- ---- a load
 
@@ -52,7 +54,7 @@ rests_with answer past = Does Pauses (λ paused. Ended (answer, past))
 
 -- nothing is loaded yet; by whether the controller is on
 abbrev pub load_next : Profile → BusPast → Bool → Process LoadEnd
-load_next profile past true = ending (start_first profile) (loaded_by past)
+load_next profile past true = ending (start_first profile UntilSent) (loaded_by past)
 load_next profile past false = rests_with load.Nothing past
 
 abbrev pub load_from : Profile → BusPast → Option (ℕ × Record) → Process LoadEnd
@@ -75,8 +77,11 @@ arrives =
     Does LooksAtController (λ first. if comes_back first then Does (InsistsOnChange Join) (λ joined. looks_again first)
     else Ended (first, first))
 
--- and then it loads, as the bus is with the controller that was found
-abbrev pub loads : Profile → BusPast → Process LoadEnd
-loads profile past =
+-- and then it does this, with the controller that was found last, and the bus as it is with that
+abbrev pub arrives_and : {A : Type 0} → BusPast → (Controller → BusPast → Process A) → Process A
+arrives_and past next =
     followed_by arrives (λ looked. Does Recalls (λ history.
-    load_on profile (as_found looked.1 (events_in history) (left_behind looked.0 past))))
+    next looked.1 (as_found looked.1 (events_in history) (left_behind looked.0 past))))
+
+abbrev pub loads : Profile → BusPast → Process LoadEnd
+loads profile past = arrives_and past (λ found here. load_on profile here)

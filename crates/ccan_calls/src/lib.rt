@@ -2,13 +2,13 @@
 //!
 //! A process is an end, or an act and what comes next by what came of it. An act is a look at an object or an attempt to change
 //! it, a picture of all objects, a look at the controller or a change of it; or the port makes no step, and tells or heeds a note,
-//! recalls what it has seen, or pauses. Nothing here runs: the crate has definitions, and laws that tie them to the contracts of
-//! the calls.
+//! recalls what it has seen, decides a round, or pauses. Nothing here runs: the crate has definitions, and laws that tie them to
+//! the contracts of the calls.
 //!
 //! ```text
-//! a call ─ host_calls_are_processes ─ host_process ─┐
-//!                                                   ├─ a Process of Acts ─ Runs: the events that it adds, and its result
-//! a call ─ bus_calls_are_processes  ─ bus_process  ─┘
+//! a call ─ host_calls_are_processes ── host_process ──┐
+//! a call ─ bus_calls_are_processes ─── bus_process ───┼─ a Process of Acts ─ Runs: the events that it adds, and its result
+//! a call ─ frame_calls_are_processes ─ frame_process ─┘
 //! ```
 #![tactic(auto)]
 

@@ -418,4 +418,5 @@ fn sizes(rt: HostRuntime) {
 fn calls_are_processes(_rt: HostRuntime) {
     laws::host_calls_are_processes();
     laws::bus_calls_are_processes();
+    laws::frame_calls_are_processes();
 }
