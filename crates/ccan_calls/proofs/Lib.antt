@@ -28,3 +28,5 @@ pub mod RoundsRun
 pub mod RoundsAsked
 pub mod BusCallsRun
 pub mod FramesRun
+pub mod OwnSteps
+pub mod Stepwise

@@ -15,14 +15,14 @@ pub record Parted (added : ChipHistory) (later first : List Event) : Type 0 wher
   pub last_is : ram_of last ≡ later
   pub begun_is : ram_of begun ≡ first
 
-same_rest : {A : Type 0} (x y : A) (xs ys : List A) → x ∷ xs ≡ y ∷ ys → xs ≡ ys
+pub same_rest : {A : Type 0} (x y : A) (xs ys : List A) → x ∷ xs ≡ y ∷ ys → xs ≡ ys
 same_rest {A} x y xs ys is = ap rest is
   where
     rest : List A → List A
     rest [] = xs
     rest (z ∷ zs) = zs
 
-same_first : {A : Type 0} (x y : A) (xs ys : List A) → x ∷ xs ≡ y ∷ ys → x ≡ y
+pub same_first : {A : Type 0} (x y : A) (xs ys : List A) → x ∷ xs ≡ y ∷ ys → x ≡ y
 same_first {A} x y xs ys is = ap first is
   where
     first : List A → A
@@ -52,7 +52,7 @@ parted (OfRam e ∷ added) (x ∷ later) first is =
       begun_is = h.begun_is;
     }
 
-nothing_of : {A : Type 0} (xs ys : List A) → xs ++ ys ≡ [] → (xs ≡ []) × (ys ≡ [])
+pub nothing_of : {A : Type 0} (xs ys : List A) → xs ++ ys ≡ [] → (xs ≡ []) × (ys ≡ [])
 nothing_of [] ys is = (refl, is)
 nothing_of (x ∷ xs) ys is = let n = ap length is in absurd (omega (arith, n))
 

@@ -1,5 +1,5 @@
 -- Calls are their processes. Source: this project's own.
-use Rattle.std.specs.Prelude.{ℕ, ◌≡◌, ◌↔◌}
+use Rattle.std.specs.Prelude.{ℕ, ◌≡◌, ◌↔◌, ◌++◌}
 use Rattle.ccan_ram.specs.declared.port.PortName.TheVariants.{Bus}
 use Rattle.ccan_ram.specs.Terms.{Terms}
 use Rattle.ccan_bus.specs.declared.choice.Choice.TheVariants.{AtOnce}
@@ -10,14 +10,16 @@ use Rattle.ccan_registers.specs.declared.interface_set.InterfaceSet.{InterfaceSe
 use Rattle.ccan_c.specs.BusCall.{BusCall, BusCallMeans, code_got as code_on}
 use Rattle.ccan_c.specs.FrameCall.{BusState, FrameCall, FrameCallMeans, frame_code}
 use Rattle.ccan_c.specs.HostCall.{HostCall, HostCallMeans, code_got}
-use Rattle.ccan_calls.specs.Answer.{Answer, CallProcess, IsAnswered, Place}
+use Rattle.ccan_calls.specs.Answer.{Answer, CallEnd, CallProcess, IsAnswered, Place}
 use Rattle.ccan_calls.specs.BusAsk.{asked_on, place_on}
 use Rattle.ccan_calls.specs.BusCallProcess.{bus_process}
 use Rattle.ccan_calls.specs.FrameAsk.{asked_of, place_after}
 use Rattle.ccan_calls.specs.FrameProcess.{frame_process}
 use Rattle.ccan_calls.specs.HostAsk.{asked_by, place_of}
 use Rattle.ccan_calls.specs.HostCallProcess.{host_process}
+use Rattle.ccan_calls.specs.Process.{Ended}
 use Rattle.ccan_calls.specs.Runs.{Runs}
+use Rattle.ccan_calls.specs.Stage.{Stage, StandsAt}
 
 -- a process adds these events and leaves this, and the call got its answer: this code, and this in the place for the result
 abbrev pub ComesTo : {State : Type 0} → Terms → ℕ → ℕ → Place → CallProcess State → ChipHistory → ChipHistory → State → Type 0
@@ -45,3 +47,17 @@ FrameCallsAreProcesses =
     (terms : Terms) (tries : ℕ) (call : FrameCall) (old new : BusState) (seen added : ChipHistory)
     → FrameCallMeans terms tries call old seen added new
     ↔ ComesTo terms tries (frame_code call) (place_after call) (frame_process terms (asked_of call) old) seen added new
+
+-- among other ports, a port comes step by step to the end of a call in exactly the ways in which the call's process runs as a whole
+abbrev pub StepsAreTheWhole : Type 0 → Type 0
+StepsAreTheWhole State =
+    (terms : Terms) (tries : ℕ) (process : CallProcess State) (begun added : ChipHistory) (end : CallEnd State)
+    → Runs terms tries process begun added end
+    ↔ StandsAt terms tries process begun (added ++ begun) (record { left = Ended end; seen = added ++ begun })
+
+-- and at each moment of such a run it stands somewhere
+abbrev pub StandsThroughout : Type 0 → Type 0
+StandsThroughout State =
+    (terms : Terms) (tries : ℕ) (process : CallProcess State) (begun part later : ChipHistory) (end : CallEnd State)
+    → Runs terms tries process begun (later ++ part) end
+    → (stage : Stage (CallEnd State)) × StandsAt terms tries process begun (part ++ begun) stage

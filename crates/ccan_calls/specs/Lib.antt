@@ -16,4 +16,5 @@ pub mod BusAsk
 pub mod BusCallProcess
 pub mod FrameAsk
 pub mod FrameProcess
+pub mod Stage
 pub mod Laws

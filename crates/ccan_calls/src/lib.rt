@@ -10,6 +10,8 @@
 //! a call ─ bus_calls_are_processes ─── bus_process ───┼─ a Process of Acts ─ Runs: the events that it adds, and its result
 //! a call ─ frame_calls_are_processes ─ frame_process ─┘
 //! ```
+//!
+//! Where a port may be within a process while other ports act, `StandsAt` says.
 #![tactic(auto)]
 
 pub mod laws;
