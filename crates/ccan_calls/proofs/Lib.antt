@@ -24,6 +24,7 @@ pub mod Starting
 pub mod Choosing
 pub mod LoadsRun
 pub mod Senders
+pub mod OneLine
 pub mod RoundsRun
 pub mod RoundsAsked
 pub mod BusCallsRun

@@ -1,10 +1,14 @@
 -- Calls are their processes. Source: this project's own.
-use Rattle.std.specs.Prelude.{ℕ, ◌≡◌, ◌↔◌, ◌++◌}
+use Rattle.std.specs.Prelude.{ℕ, ◌≡◌, ◌≤◌, ◌↔◌, true, List, ◌++◌}
+use Rattle.ccan_accept.specs.declared.frame.Frame.{Frame}
 use Rattle.ccan_ram.specs.declared.port.PortName.TheVariants.{Bus}
 use Rattle.ccan_ram.specs.Terms.{Terms}
 use Rattle.ccan_bus.specs.declared.choice.Choice.TheVariants.{AtOnce}
+use Rattle.ccan_bus.specs.declared.round_line.Fault.{Fault}
+use Rattle.ccan_bus.specs.declared.round_line.RoundLine.{RoundLine}
 use Rattle.ccan_bus.specs.Past.{BusPast}
 use Rattle.ccan_endless.specs.Chip.{ChipHistory}
+use Rattle.ccan_line.specs.Limits.{most_nodes}
 use Rattle.ccan_map.specs.declared.map.Map.{Map}
 use Rattle.ccan_registers.specs.declared.interface_set.InterfaceSet.{InterfaceSet}
 use Rattle.ccan_c.specs.BusCall.{BusCall, BusCallMeans, code_got as code_on}
@@ -18,7 +22,8 @@ use Rattle.ccan_calls.specs.FrameProcess.{frame_process}
 use Rattle.ccan_calls.specs.HostAsk.{asked_by, place_of}
 use Rattle.ccan_calls.specs.HostCallProcess.{host_process}
 use Rattle.ccan_calls.specs.Process.{Ended}
-use Rattle.ccan_calls.specs.Runs.{Runs}
+use Rattle.ccan_calls.specs.RoundProcess.{are_senders}
+use Rattle.ccan_calls.specs.Runs.{IsLineOf, Runs}
 use Rattle.ccan_calls.specs.Stage.{Stage, StandsAt}
 
 -- a process adds these events and leaves this, and the call got its answer: this code, and this in the place for the result
@@ -61,3 +66,9 @@ StandsThroughout State =
     (terms : Terms) (tries : ℕ) (process : CallProcess State) (begun part later : ChipHistory) (end : CallEnd State)
     → Runs terms tries process begun (later ++ part) end
     → (stage : Stage (CallEnd State)) × StandsAt terms tries process begun (part ++ begun) stage
+
+-- what other nodes offer for a round is exactly one line, if each is one of at most eight nodes and sends once
+abbrev pub OffersAreOneLine : Type 0
+OffersAreOneLine =
+    (nodes : ℕ) (sends : List (ℕ × Frame)) (fault : Fault) → nodes ≤ most_nodes → are_senders nodes sends ≡ true
+    → (line : RoundLine) × IsLineOf sends fault line × ((other : RoundLine) → IsLineOf sends fault other → other ≡ line)

@@ -3,7 +3,7 @@ ghost use Rattle.ccan_bus.specs.Past.{BusPast};
 ghost use Rattle.ccan_registers.specs.declared.interface_set.InterfaceSet.{InterfaceSet};
 ghost use Rattle.ccan_c.specs.FrameCall.{BusState};
 ghost use Rattle.ccan_calls.specs.Laws.{BusCallsAreProcesses, FrameCallsAreProcesses, HostCallsAreProcesses};
-ghost use Rattle.ccan_calls.specs.Laws.{StandsThroughout, StepsAreTheWhole};
+ghost use Rattle.ccan_calls.specs.Laws.{OffersAreOneLine, StandsThroughout, StepsAreTheWhole};
 
 /// A call on the handle of a host is its process.
 pub fn host_calls_are_processes()
@@ -32,4 +32,9 @@ pub fn ports_stand_throughout()
     ensures host { StandsThroughout InterfaceSet }
     ensures bus { StandsThroughout BusPast }
     ensures frame { StandsThroughout BusState }
+{}
+
+/// What other nodes offer for a round is exactly one line.
+pub fn offers_are_one_line()
+    ensures { OffersAreOneLine }
 {}
