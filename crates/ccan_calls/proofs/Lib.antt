@@ -31,3 +31,4 @@ pub mod BusCallsRun
 pub mod FramesRun
 pub mod OwnSteps
 pub mod Stepwise
+pub mod ActSteps

@@ -14,6 +14,7 @@ use Rattle.ccan_registers.specs.declared.interface_set.InterfaceSet.{InterfaceSe
 use Rattle.ccan_c.specs.BusCall.{BusCall, BusCallMeans, code_got as code_on}
 use Rattle.ccan_c.specs.FrameCall.{BusState, FrameCall, FrameCallMeans, frame_code}
 use Rattle.ccan_c.specs.HostCall.{HostCall, HostCallMeans, code_got}
+use Rattle.ccan_calls.specs.ActSteps.{HasSteps}
 use Rattle.ccan_calls.specs.Answer.{Answer, CallEnd, CallProcess, IsAnswered, Place}
 use Rattle.ccan_calls.specs.BusAsk.{asked_on, place_on}
 use Rattle.ccan_calls.specs.BusCallProcess.{bus_process}
@@ -21,9 +22,9 @@ use Rattle.ccan_calls.specs.FrameAsk.{asked_of, place_after}
 use Rattle.ccan_calls.specs.FrameProcess.{frame_process}
 use Rattle.ccan_calls.specs.HostAsk.{asked_by, place_of}
 use Rattle.ccan_calls.specs.HostCallProcess.{host_process}
-use Rattle.ccan_calls.specs.Process.{Ended}
+use Rattle.ccan_calls.specs.Process.{Act, Ended, Out}
 use Rattle.ccan_calls.specs.RoundProcess.{are_senders}
-use Rattle.ccan_calls.specs.Runs.{IsLineOf, Runs}
+use Rattle.ccan_calls.specs.Runs.{Acted, IsLineOf, Runs}
 use Rattle.ccan_calls.specs.Stage.{Stage, StandsAt}
 
 -- a process adds these events and leaves this, and the call got its answer: this code, and this in the place for the result
@@ -72,3 +73,9 @@ abbrev pub OffersAreOneLine : Type 0
 OffersAreOneLine =
     (nodes : ℕ) (sends : List (ℕ × Frame)) (fault : Fault) → nodes ≤ most_nodes → are_senders nodes sends ≡ true
     → (line : RoundLine) × IsLineOf sends fault line × ((other : RoundLine) → IsLineOf sends fault other → other ≡ line)
+
+-- what a port itself does in an act is what the outcome of the act says
+abbrev pub ActsHaveTheirSteps : Type 0
+ActsHaveTheirSteps =
+    (terms : Terms) (tries : ℕ) (act : Act) (seen added : ChipHistory) (out : Out act)
+    → Acted terms tries act seen added out → HasSteps terms tries act out added

@@ -17,4 +17,5 @@ pub mod BusCallProcess
 pub mod FrameAsk
 pub mod FrameProcess
 pub mod Stage
+pub mod ActSteps
 pub mod Laws

@@ -2,8 +2,8 @@
 ghost use Rattle.ccan_bus.specs.Past.{BusPast};
 ghost use Rattle.ccan_registers.specs.declared.interface_set.InterfaceSet.{InterfaceSet};
 ghost use Rattle.ccan_c.specs.FrameCall.{BusState};
-ghost use Rattle.ccan_calls.specs.Laws.{BusCallsAreProcesses, FrameCallsAreProcesses, HostCallsAreProcesses};
-ghost use Rattle.ccan_calls.specs.Laws.{OffersAreOneLine, StandsThroughout, StepsAreTheWhole};
+ghost use Rattle.ccan_calls.specs.Laws.{ActsHaveTheirSteps, BusCallsAreProcesses, FrameCallsAreProcesses};
+ghost use Rattle.ccan_calls.specs.Laws.{HostCallsAreProcesses, OffersAreOneLine, StandsThroughout, StepsAreTheWhole};
 
 /// A call on the handle of a host is its process.
 pub fn host_calls_are_processes()
@@ -37,4 +37,9 @@ pub fn ports_stand_throughout()
 /// What other nodes offer for a round is exactly one line.
 pub fn offers_are_one_line()
     ensures { OffersAreOneLine }
+{}
+
+/// What a port itself does in an act is what the outcome of the act says.
+pub fn acts_have_their_steps()
+    ensures { ActsHaveTheirSteps }
 {}
