@@ -1,5 +1,5 @@
 -- Calls are their processes. Source: this project's own.
-use Rattle.std.specs.Prelude.{ℕ, ◌≡◌, ◌≤◌, ◌↔◌, true, List, ◌++◌}
+use Rattle.std.specs.Prelude.{ℕ, ◌≡◌, ◌≤◌, ◌↔◌, true, List, ◌++◌, map}
 use Rattle.ccan_accept.specs.declared.frame.Frame.{Frame}
 use Rattle.ccan_ram.specs.declared.port.PortName.TheVariants.{Bus}
 use Rattle.ccan_ram.specs.Terms.{Terms}
@@ -12,20 +12,22 @@ use Rattle.ccan_line.specs.Limits.{most_nodes}
 use Rattle.ccan_map.specs.declared.map.Map.{Map}
 use Rattle.ccan_registers.specs.declared.interface_set.InterfaceSet.{InterfaceSet}
 use Rattle.ccan_c.specs.BusCall.{BusCall, BusCallMeans, code_got as code_on}
-use Rattle.ccan_c.specs.FrameCall.{BusState, FrameCall, FrameCallMeans, frame_code}
+use Rattle.ccan_c.specs.FrameCall.{BusState, CallOnBus, CallOnBusMeans, FrameCall, FrameCallMeans, frame_code}
 use Rattle.ccan_c.specs.HostCall.{HostCall, HostCallMeans, code_got}
+use Rattle.ccan_c.specs.Step.{CallsMean, Place as HandlePlace}
 use Rattle.ccan_calls.specs.ActSteps.{HasSteps}
-use Rattle.ccan_calls.specs.Answer.{Answer, CallEnd, CallProcess, IsAnswered, Place}
+use Rattle.ccan_calls.specs.Answer.{Answer, CallProcess, IsAnswered, Place}
 use Rattle.ccan_calls.specs.BusAsk.{asked_on, place_on}
 use Rattle.ccan_calls.specs.BusCallProcess.{bus_process}
 use Rattle.ccan_calls.specs.FrameAsk.{asked_of, place_after}
 use Rattle.ccan_calls.specs.FrameProcess.{frame_process}
 use Rattle.ccan_calls.specs.HostAsk.{asked_by, place_of}
 use Rattle.ccan_calls.specs.HostCallProcess.{host_process}
-use Rattle.ccan_calls.specs.Process.{Act, Ended, Out}
+use Rattle.ccan_calls.specs.Process.{Act, Ended, Out, Process}
 use Rattle.ccan_calls.specs.RoundProcess.{are_senders}
 use Rattle.ccan_calls.specs.Runs.{Acted, IsLineOf, Runs}
 use Rattle.ccan_calls.specs.Stage.{Stage, StandsAt}
+use Rattle.ccan_calls.specs.ThreadProcess.{ThreadComes, asked, code_of_call, on_bus_process, place_of_call, thread_process}
 
 -- a process adds these events and leaves this, and the call got its answer: this code, and this in the place for the result
 abbrev pub ComesTo : {State : Type 0} → Terms → ℕ → ℕ → Place → CallProcess State → ChipHistory → ChipHistory → State → Type 0
@@ -54,19 +56,19 @@ FrameCallsAreProcesses =
     → FrameCallMeans terms tries call old seen added new
     ↔ ComesTo terms tries (frame_code call) (place_after call) (frame_process terms (asked_of call) old) seen added new
 
--- among other ports, a port comes step by step to the end of a call in exactly the ways in which the call's process runs as a whole
+-- among other ports, a port comes step by step to the end of a process in exactly the ways in which the process runs as a whole
 abbrev pub StepsAreTheWhole : Type 0 → Type 0
-StepsAreTheWhole State =
-    (terms : Terms) (tries : ℕ) (process : CallProcess State) (begun added : ChipHistory) (end : CallEnd State)
+StepsAreTheWhole End =
+    (terms : Terms) (tries : ℕ) (process : Process End) (begun added : ChipHistory) (end : End)
     → Runs terms tries process begun added end
     ↔ StandsAt terms tries process begun (added ++ begun) (record { left = Ended end; seen = added ++ begun })
 
 -- and at each moment of such a run it stands somewhere
 abbrev pub StandsThroughout : Type 0 → Type 0
-StandsThroughout State =
-    (terms : Terms) (tries : ℕ) (process : CallProcess State) (begun part later : ChipHistory) (end : CallEnd State)
+StandsThroughout End =
+    (terms : Terms) (tries : ℕ) (process : Process End) (begun part later : ChipHistory) (end : End)
     → Runs terms tries process begun (later ++ part) end
-    → (stage : Stage (CallEnd State)) × StandsAt terms tries process begun (part ++ begun) stage
+    → (stage : Stage End) × StandsAt terms tries process begun (part ++ begun) stage
 
 -- what other nodes offer for a round is exactly one line, if each is one of at most eight nodes and sends once
 abbrev pub OffersAreOneLine : Type 0
@@ -79,3 +81,20 @@ abbrev pub ActsHaveTheirSteps : Type 0
 ActsHaveTheirSteps =
     (terms : Terms) (tries : ℕ) (act : Act) (seen added : ChipHistory) (out : Out act)
     → Acted terms tries act seen added out → HasSteps terms tries act out added
+
+-- the calls of a thread on the handle of a host, one after another, stand for exactly what their one process runs to
+abbrev pub HostThreadsAreProcesses : Type 0
+HostThreadsAreProcesses =
+    (terms : Terms) (tries : ℕ) (layout : Map) (calls : List HostCall) (old new : HandlePlace InterfaceSet)
+    → CallsMean (HostCallMeans terms tries layout) calls old new
+    ↔ ThreadComes terms tries code_got place_of calls
+    (thread_process (host_process terms layout) (map asked_by calls) old.state) old new
+
+-- so do those on the bus's handle
+abbrev pub BusThreadsAreProcesses : Type 0
+BusThreadsAreProcesses =
+    (terms : Terms) (tries nodes : ℕ) (layout : Map) (calls : List CallOnBus) (old new : HandlePlace BusState)
+    → terms.port ≡ Bus → old.state.past.choice ≡ AtOnce
+    → CallsMean (CallOnBusMeans terms tries nodes layout) calls old new
+    ↔ ThreadComes terms tries code_of_call place_of_call calls
+    (thread_process (on_bus_process terms layout nodes) (map asked calls) old.state) old new

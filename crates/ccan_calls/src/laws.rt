@@ -2,8 +2,11 @@
 ghost use Rattle.ccan_bus.specs.Past.{BusPast};
 ghost use Rattle.ccan_registers.specs.declared.interface_set.InterfaceSet.{InterfaceSet};
 ghost use Rattle.ccan_c.specs.FrameCall.{BusState};
+ghost use Rattle.ccan_calls.specs.Answer.{CallEnd};
 ghost use Rattle.ccan_calls.specs.Laws.{ActsHaveTheirSteps, BusCallsAreProcesses, FrameCallsAreProcesses};
-ghost use Rattle.ccan_calls.specs.Laws.{HostCallsAreProcesses, OffersAreOneLine, StandsThroughout, StepsAreTheWhole};
+ghost use Rattle.ccan_calls.specs.Laws.{BusThreadsAreProcesses, HostCallsAreProcesses, HostThreadsAreProcesses};
+ghost use Rattle.ccan_calls.specs.Laws.{OffersAreOneLine, StandsThroughout, StepsAreTheWhole};
+ghost use Rattle.ccan_calls.specs.ThreadProcess.{ThreadEnd};
 
 /// A call on the handle of a host is its process.
 pub fn host_calls_are_processes()
@@ -20,18 +23,29 @@ pub fn frame_calls_are_processes()
     ensures { FrameCallsAreProcesses }
 {}
 
-/// Among other ports, a port comes step by step to the end of a call exactly as the call's process runs as a whole.
-pub fn steps_are_the_whole()
-    ensures host { StepsAreTheWhole InterfaceSet }
-    ensures bus { StepsAreTheWhole BusPast }
-    ensures frame { StepsAreTheWhole BusState }
+/// The calls of a thread on a handle, one after another, are one process.
+pub fn threads_are_processes()
+    ensures host { HostThreadsAreProcesses }
+    ensures bus { BusThreadsAreProcesses }
 {}
 
-/// At each moment of a call the port stands somewhere in the call's process.
+/// Among other ports, a port comes step by step to the end of a call, or of a thread's calls, exactly as their process runs as a
+/// whole.
+pub fn steps_are_the_whole()
+    ensures host { StepsAreTheWhole (CallEnd InterfaceSet) }
+    ensures bus { StepsAreTheWhole (CallEnd BusPast) }
+    ensures frame { StepsAreTheWhole (CallEnd BusState) }
+    ensures host_thread { StepsAreTheWhole (ThreadEnd InterfaceSet) }
+    ensures bus_thread { StepsAreTheWhole (ThreadEnd BusState) }
+{}
+
+/// At each moment of these the port stands somewhere in the process.
 pub fn ports_stand_throughout()
-    ensures host { StandsThroughout InterfaceSet }
-    ensures bus { StandsThroughout BusPast }
-    ensures frame { StandsThroughout BusState }
+    ensures host { StandsThroughout (CallEnd InterfaceSet) }
+    ensures bus { StandsThroughout (CallEnd BusPast) }
+    ensures frame { StandsThroughout (CallEnd BusState) }
+    ensures host_thread { StandsThroughout (ThreadEnd InterfaceSet) }
+    ensures bus_thread { StandsThroughout (ThreadEnd BusState) }
 {}
 
 /// What other nodes offer for a round is exactly one line.

@@ -11,7 +11,8 @@
 //! a call ─ frame_calls_are_processes ─ frame_process ─┘
 //! ```
 //!
-//! Where a port may be within a process while other ports act, `StandsAt` says.
+//! The calls of a thread, one after another, are a `thread_process`. Where a port may be within a process while other ports act,
+//! `StandsAt` says.
 #![tactic(auto)]
 
 pub mod laws;

@@ -6,4 +6,6 @@ returns c = record {
   host = λ terms tries process begun part later end on. stands_somewhere terms tries process begun part later end on;
   bus = λ terms tries process begun part later end on. stands_somewhere terms tries process begun part later end on;
   frame = λ terms tries process begun part later end on. stands_somewhere terms tries process begun part later end on;
+  host_thread = λ terms tries process begun part later end on. stands_somewhere terms tries process begun part later end on;
+  bus_thread = λ terms tries process begun part later end on. stands_somewhere terms tries process begun part later end on;
 }

@@ -6,4 +6,6 @@ returns c = record {
   host = λ terms tries process begun added end. steps_are_all terms tries process begun added end;
   bus = λ terms tries process begun added end. steps_are_all terms tries process begun added end;
   frame = λ terms tries process begun added end. steps_are_all terms tries process begun added end;
+  host_thread = λ terms tries process begun added end. steps_are_all terms tries process begun added end;
+  bus_thread = λ terms tries process begun added end. steps_are_all terms tries process begun added end;
 }
