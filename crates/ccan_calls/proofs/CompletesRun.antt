@@ -201,7 +201,8 @@ module _ (terms : Terms) (tries : ℕ) where
           (λ h es. Attempt terms object (finish_by sending) tries h es (Ok (Done before finished number)))
           (λ h es. Scanning finished h es) s a) seen added → LoopRuns
       looped before finished number on =
-          let steps = (both_so terms.port (λ s a. Attempt terms object (finish_by sending) tries s a (Ok (Done before finished number)))
+          let steps = (both_so terms.port
+          (λ s a. Attempt terms object (finish_by sending) tries s a (Ok (Done before finished number)))
           (λ s a. Scanning finished s a) seen added).0 on in (
             attempted (Ok (Done before finished number)),
             record {

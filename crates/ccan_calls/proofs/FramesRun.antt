@@ -52,7 +52,7 @@ use Rattle.ccan_calls.specs.Laws.{ComesTo, FrameCallsAreProcesses}
 use Rattle.ccan_calls.specs.LoadProcess.{Looked, arrives, start_first}
 use Rattle.ccan_calls.specs.Parts.{flag_shown}
 use Rattle.ccan_calls.specs.Process.{ChangesController, Does, Ended, InsistsOnChange, LooksAtController, Pauses, Process, ending, followed_by}
-use Rattle.ccan_calls.specs.RoundProcess.{completes, notes}
+use Rattle.ccan_calls.specs.RoundProcess.{completes, makes_event}
 use Rattle.ccan_calls.specs.Runs.{Runs}
 use Rattle.ccan_calls.proofs.Choosing.{ChoiceOf, Chose, choice_so}
 use Rattle.ccan_calls.proofs.Comes.{chosen, ends_with, picked, rests}
@@ -60,7 +60,7 @@ use Rattle.ccan_calls.proofs.CompletesRun.{completes_so}
 use Rattle.ccan_calls.proofs.Interrupts.{shows_flag}
 use Rattle.ccan_calls.proofs.LoadsRun.{arrives_so}
 use Rattle.ccan_calls.proofs.Processes.{ends_so, follow, follows, one_act}
-use Rattle.ccan_calls.proofs.RoundsRun.{notes_so}
+use Rattle.ccan_calls.proofs.RoundsRun.{event_so}
 
 -- ---- the load at the start of a frame
 
@@ -244,8 +244,8 @@ module _ (terms : Terms) (tries : ℕ) (on : Wire) (place : ℕ) (flaw : Option 
   abbrev won : Option Frame
   won = frame_won (start_of on)
 
-  abbrev then_notes : Controller → Option (BusEvent × StatusEvent) → RoundEnd → Process EndedPart
-  then_notes found own end = ending (notes own) (part_told found own end)
+  abbrev then_event : Controller → Option (BusEvent × StatusEvent) → RoundEnd → Process EndedPart
+  then_event found own end = ending (makes_event own) (part_told found own end)
 
   to_ends : (end : EndedPart) → EndsTo end → Runs terms tries (ends_frame terms.profile on place flaw old) seen added end
   to_ends end h =
@@ -257,8 +257,8 @@ module _ (terms : Terms) (tries : ℕ) (on : Wire) (place : ℕ) (flaw : Option 
           later = h.last ++ h.steps;
           whole = h.whole ∙ sym (append_assoc h.last h.steps h.looked);
           begins = h.looks;
-          ends = subst (λ own. Runs terms tries (ends_as terms.profile end.found own kept won) history (h.last ++ h.steps) end) h.own
-              (follow terms tries (then_notes end.found end.own) (completes terms.profile (sent_as kept) (due end.own kept won))
+          ends = subst (λ own. Runs terms tries (ends_as terms.profile end.found own kept won) history (h.last ++ h.steps) end)
+              h.own (follow terms tries (then_event end.found end.own) (completes terms.profile (sent_as kept) (due end.own kept won))
               history (h.last ++ h.steps) end (
                 end.end,
                 record {
@@ -266,10 +266,10 @@ module _ (terms : Terms) (tries : ℕ) (on : Wire) (place : ℕ) (flaw : Option 
                   later = h.last;
                   whole = refl;
                   begins = (completes_so terms tries (sent_as kept) history h.steps end.end (due end.own kept won)).0 h.completes;
-                  ends = (ends_so terms tries (part_told end.found end.own end.end) (notes end.own) (h.steps ++ history) h.last
-                      end).1 (
+                  ends = (ends_so terms tries (part_told end.found end.own end.end) (makes_event end.own) (h.steps ++ history)
+                      h.last end).1 (
                         end.noted,
-                        (notes_so terms tries (h.steps ++ history) h.last end.own end.noted).0 h.notes,
+                        (event_so terms tries (h.steps ++ history) h.last end.own end.noted).0 h.notes,
                         refl,
                       );
                 },
@@ -282,10 +282,10 @@ module _ (terms : Terms) (tries : ℕ) (on : Wire) (place : ℕ) (flaw : Option 
       let kept = still_loaded found old.loaded in
       let own = own_on on place flaw old found in
       let history = steps.earlier ++ seen in
-      let (last, parts) = follows terms tries (then_notes found own) (completes terms.profile (sent_as kept) (due own kept won))
+      let (last, parts) = follows terms tries (then_event found own) (completes terms.profile (sent_as kept) (due own kept won))
       history steps.later end steps.ends in
       let (noted, noting, is) =
-      (ends_so terms tries (part_told found own last) (notes own) (parts.earlier ++ history) parts.later end).0 parts.ends in
+      (ends_so terms tries (part_told found own last) (makes_event own) (parts.earlier ++ history) parts.later end).0 parts.ends in
       subst EndsTo (sym is) (record {
         looked = steps.earlier;
         steps = parts.earlier;
@@ -294,7 +294,7 @@ module _ (terms : Terms) (tries : ℕ) (on : Wire) (place : ℕ) (flaw : Option 
         looks = steps.begins;
         own = refl;
         completes = (completes_so terms tries (sent_as kept) history parts.earlier last (due own kept won)).1 parts.begins;
-        notes = (notes_so terms tries (parts.earlier ++ history) parts.later own noted).1 noting;
+        notes = (event_so terms tries (parts.earlier ++ history) parts.later own noted).1 noting;
       })
 
 -- ---- power down

@@ -126,7 +126,8 @@ module _ (terms : Terms) (tries : ℕ) (past : BusPast) (at_once : past.choice �
       pair (load.Spent object) (load.Spent object) after past refl h.same,
     )
 
-    of_on : (answer : LoadAnswer) → ChoiceOf terms tries UntilSent seen added answer → IsLoad seen added (loaded_by past answer).1 answer
+    of_on : (answer : LoadAnswer) → ChoiceOf terms tries UntilSent seen added answer
+        → IsLoad seen added (loaded_by past answer).1 answer
     of_on load.Nothing c =
         inr (record { choice = record { empty = empty; on = on; chooses = chooses (Ok None) c }; same = refl })
     of_on (load.Held object) c = absurd c

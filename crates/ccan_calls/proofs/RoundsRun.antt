@@ -31,7 +31,7 @@ use Rattle.ccan_registers.specs.ChipSteps.{OnObjects, Then}
 use Rattle.ccan_registers.specs.Rounds.{NotesEvent, RoundOnChip}
 use Rattle.ccan_calls.specs.LoadProcess.{LoadEnd, load_on}
 use Rattle.ccan_calls.specs.Process.{Decided, InsistsOnChange, LetsOthersAct, Pauses, Process, ending, followed_by}
-use Rattle.ccan_calls.specs.RoundProcess.{Noted, Played, RoundTold, completes, not_played, notes, played, plays, plays_on, round_told, rounds}
+use Rattle.ccan_calls.specs.RoundProcess.{EventEnd, Played, RoundTold, completes, not_played, makes_event, played, plays, plays_on, round_told, rounds}
 use Rattle.ccan_calls.specs.Runs.{Runs}
 use Rattle.ccan_calls.proofs.AtObjects.{Both, both_so}
 use Rattle.ccan_calls.proofs.CompletesRun.{completes_so}
@@ -170,11 +170,10 @@ module _ (terms : Terms) (tries : ℕ) (line : RoundLine) where
     of_contend : (end : Played) → FollowsRuns load end seen added None → Contended end
     of_contend end (decided, steps) =
         let (none, so) = steps.begins in
-        let on = after_none
-        (λ s a. Runs terms tries (ending (completes terms.profile UntilSent decided.decision) (played load decided)) s a end) seen added
-        steps.earlier steps.later steps.whole none steps.ends in
-        let (last, runs, is) =
-        (ends_so terms tries (played load decided) (completes terms.profile UntilSent decided.decision) seen added end).0 on in
+        let completing = completes terms.profile UntilSent decided.decision in
+        let on = after_none (λ s a. Runs terms tries (ending completing (played load decided)) s a end) seen added steps.earlier
+        steps.later steps.whole none steps.ends in
+        let (last, runs, is) = (ends_so terms tries (played load decided) completing seen added end).0 on in
         let completed = (completes_so terms tries UntilSent seen added last decided.decision).1 runs in
         subst Contended (sym is)
         (refl, so.own, record { none = completed.none; means = (so.decides, completed.means) })
@@ -274,20 +273,20 @@ module _ (terms : Terms) (tries : ℕ) (line : RoundLine) where
 -- ---- the event at the controller
 
 module _ (terms : Terms) (tries : ℕ) (seen added : ChipHistory) where
-  pub notes_so : (own : Option OwnEvent) (noted : Noted)
-      → NotesEvent terms.port most_tries own noted seen added ↔ Runs terms tries (notes own) seen added noted
-  notes_so None noted =
+  pub event_so : (own : Option OwnEvent) (noted : EventEnd)
+      → NotesEvent terms.port most_tries own noted seen added ↔ Runs terms tries (makes_event own) seen added noted
+  event_so None noted =
       let one = one_act terms tries LetsOthersAct (λ acted. None) seen added noted in (
         λ h. one.1 (tt, h.1, h.0),
         λ h. let (acted, still, is) = one.0 h in (is, still),
       )
-  notes_so (Some own) noted =
+  event_so (Some own) noted =
       let one = one_act terms tries (InsistsOnChange (FrameEvent own.0 own.1)) (λ outcome. Some outcome) seen added noted in (
         λ h. one.1 (to_outcome noted h),
         λ h. let (outcome, on, is) = one.0 h in subst (λ n. NotesEvent terms.port most_tries (Some own) n seen added) (sym is) on,
       )
     where
-      to_outcome : (noted : Noted) → NotesEvent terms.port most_tries (Some own) noted seen added
+      to_outcome : (noted : EventEnd) → NotesEvent terms.port most_tries (Some own) noted seen added
           → (outcome : Result ControllerChanged ControllerBusy)
           × NotesEvent terms.port most_tries (Some own) (Some outcome) seen added × (noted ≡ Some outcome)
       to_outcome None h = absurd h
@@ -302,7 +301,7 @@ module _ (terms : Terms) (tries : ℕ) (line : RoundLine) (past : BusPast) (at_o
 
   abbrev then_plays : Controller → BusPast → Process RoundTold
   then_plays found here =
-      followed_by (plays terms.profile line here) (λ end. ending (notes end.own) (round_told found end))
+      followed_by (plays terms.profile line here) (λ end. ending (makes_event end.own) (round_told found end))
 
   abbrev played_as : ChipReport → BusPast → Played
   played_as told after = record { report = told.report; own = told.own; after = after }
@@ -312,8 +311,8 @@ module _ (terms : Terms) (tries : ℕ) (line : RoundLine) (past : BusPast) (at_o
     Arrived = ArrivesAnd terms tries past then_plays end seen added
 
     -- what is noted comes after what was played
-    abbrev NotesAfter : Controller → Played → ChipHistory → ChipHistory → Type 0
-    NotesAfter found done s a = Runs terms tries (ending (notes done.own) (round_told found done)) s a end
+    abbrev EventAfter : Controller → Played → ChipHistory → ChipHistory → Type 0
+    EventAfter found done s a = Runs terms tries (ending (makes_event done.own) (round_told found done)) s a end
 
     to_arrival : RoundOnChip terms line tries past seen added end.1 end.0 → Arrived
     to_arrival h =
@@ -328,7 +327,7 @@ module _ (terms : Terms) (tries : ℕ) (line : RoundLine) (past : BusPast) (at_o
             later = h.last ++ h.steps;
             whole = h.whole ∙ sym (append_assoc h.last h.steps h.looked);
             begins = h.arrives;
-            ends = follow terms tries (λ d. ending (notes d.own) (round_told found d)) (plays terms.profile line here) history
+            ends = follow terms tries (λ d. ending (makes_event d.own) (round_told found d)) (plays terms.profile line here) history
                 (h.last ++ h.steps) end (
                   done,
                   record {
@@ -337,9 +336,9 @@ module _ (terms : Terms) (tries : ℕ) (line : RoundLine) (past : BusPast) (at_o
                     whole = refl;
                     begins = (plays_so terms tries line here (chooses_so past at_once h.first found history) history h.steps
                         done).0 (h.runs, h.own);
-                    ends = (ends_so terms tries (round_told found done) (notes done.own) (h.steps ++ history) h.last end).1 (
+                    ends = (ends_so terms tries (round_told found done) (makes_event done.own) (h.steps ++ history) h.last end).1 (
                       end.0.noted,
-                      (notes_so terms tries (h.steps ++ history) h.last end.0.own end.0.noted).0 h.notes,
+                      (event_so terms tries (h.steps ++ history) h.last end.0.own end.0.noted).0 h.notes,
                       refl,
                     );
                   },
@@ -354,10 +353,11 @@ module _ (terms : Terms) (tries : ℕ) (line : RoundLine) (past : BusPast) (at_o
   of_arrival end (first, found, steps) =
       let history = steps.earlier ++ seen in
       let here = as_is first found history in
-      let (done, parts) = follows terms tries (λ d. ending (notes d.own) (round_told found d)) (plays terms.profile line here)
+      let (done, parts) = follows terms tries (λ d. ending (makes_event d.own) (round_told found d)) (plays terms.profile line here)
       history steps.later end steps.ends in
       let (noted, noting, is) =
-      (ends_so terms tries (round_told found done) (notes done.own) (parts.earlier ++ history) parts.later end).0 parts.ends in
+      (ends_so terms tries (round_told found done) (makes_event done.own) (parts.earlier ++ history) parts.later end).0
+      parts.ends in
       let (runs, own) = (plays_so terms tries line here (chooses_so past at_once first found history) history parts.earlier done).1
       parts.begins in
       subst Rounded (sym is) (record {
@@ -369,7 +369,7 @@ module _ (terms : Terms) (tries : ℕ) (line : RoundLine) (past : BusPast) (at_o
         arrives = steps.begins;
         runs = runs;
         own = own;
-        notes = (notes_so terms tries (parts.earlier ++ history) parts.later done.own noted).1 noting;
+        notes = (event_so terms tries (parts.earlier ++ history) parts.later done.own noted).1 noting;
       })
 
   pub rounds_so : (end : RoundTold) → Rounded end ↔ Runs terms tries (rounds terms.profile line past) seen added end

@@ -33,6 +33,11 @@ unless_started (load.Held object) next = Ended (load.Held object)
 unless_started (load.Busy object) next = Ended (load.Busy object)
 unless_started (load.Spent object) next = Ended (load.Spent object)
 
+-- an object after a picture, by whether it was ready there
+abbrev start_if : Bool → Sending → ℕ → Process LoadAnswer → Process LoadAnswer
+start_if ready sending object next =
+    if ready then Does (Attempts object (start_by sending)) (start_end object next) else next
+
 module _ (sending : Sending) (shown : HandlerRegisters) where
   abbrev one_start : ℕ → Process LoadAnswer
   one_start object = start_at sending shown object (Ended load.Nothing)
@@ -46,18 +51,18 @@ module _ (sending : Sending) (shown : HandlerRegisters) where
 
   also_after : (object : ℕ) (one other last : Process LoadAnswer) → one ≡ followed_by other (λ a. unless_started a last)
       → (ready : Bool)
-      → (if ready then Does (Attempts object (start_by sending)) (start_end object one) else one)
-      ≡ followed_by (if ready then Does (Attempts object (start_by sending)) (start_end object other) else other) (λ a. unless_started a last)
+      → start_if ready sending object one ≡ followed_by (start_if ready sending object other) (λ a. unless_started a last)
   also_after object one other last is true =
       λ i. Does (Attempts object (start_by sending)) (λ end. ends_after object one other last is end i)
   also_after object one other last is false = is
 
   last_start : (more object at : ℕ) → at ≡ object + more
-      → start_each sending shown (suc more) object ≡ followed_by (start_each sending shown more object) (λ a. unless_started a (one_start at))
+      → start_each sending shown (suc more) object
+      ≡ followed_by (start_each sending shown more object) (λ a. unless_started a (one_start at))
   last_start zero object at is = let same : object ≡ at = omega (arith, is) in ap one_start same
   last_start (suc more) object at is =
-      also_after object (start_each sending shown (suc more) (suc object)) (start_each sending shown more (suc object)) (one_start at)
-      (last_start more (suc object) at (omega (arith, is))) (was_ready shown object)
+      also_after object (start_each sending shown (suc more) (suc object)) (start_each sending shown more (suc object))
+      (one_start at) (last_start more (suc object) at (omega (arith, is))) (was_ready shown object)
 
 -- with the picture
 abbrev pub Shown : Type 0
@@ -79,7 +84,8 @@ last_of sending n = λ i. Does Pictures (λ shown. path shown i)
         ≡ followed_by (ending (start_each sending shown n 1) (with_picture shown)) (then_last sending n)
     path shown =
         ap (λ (p : Process LoadAnswer). ending p (with_picture shown)) (last_start sending shown n 1 (suc n) (omega arith))
-        ∙ ending_follow (start_each sending shown n 1) (λ a. unless_started a (one_start sending shown (suc n))) (with_picture shown)
+        ∙ ending_follow (start_each sending shown n 1) (λ a. unless_started a (one_start sending shown (suc n)))
+        (with_picture shown)
         ∙ sym (follow_ending (start_each sending shown n 1) (with_picture shown) (then_last sending n))
 
 -- ---- what it runs to
@@ -172,8 +178,7 @@ module _ (terms : Terms) (tries : ℕ) (sending : Sending) where
 
     abbrev last_by : Bool → Process Shown
     last_by ready =
-        ending (if ready then Does (Attempts (suc n) (start_by sending)) (start_end (suc n) (Ended load.Nothing)) else Ended load.Nothing)
-        (with_picture shown)
+        ending (start_if ready sending (suc n) (Ended load.Nothing)) (with_picture shown)
 
     -- the last object was ready, and there is an attempt
     attempt_last : (answer : LoadAnswer) → steps_of terms.port added ≡ [] → (looked earlier last : List Event)
@@ -186,8 +191,8 @@ module _ (terms : Terms) (tries : ℕ) (sending : Sending) where
         let there : ram_of (p.begun ++ seen) ≡ earlier ++ (looked ++ ram_of seen) =
         ram_of-append p.begun seen ∙ ap (λ es. es ++ ram_of seen) p.begun_is ∙ append_assoc earlier looked (ram_of seen) in
         let attempt = subst (λ es. Attempt terms (suc n) (start_by sending) tries es (ram_of p.last) tried.outcome) (sym there)
-        (subst (λ es. Attempt terms (suc n) (start_by sending) tries (earlier ++ (looked ++ ram_of seen)) es tried.outcome) (sym p.last_is)
-        tried.attempt) in
+        (subst (λ es. Attempt terms (suc n) (start_by sending) tries (earlier ++ (looked ++ ram_of seen)) es tried.outcome)
+        (sym p.last_is) tried.attempt) in
         then_so answer (
           (shown, load.Nothing),
           record {
@@ -423,8 +428,7 @@ module _ (terms : Terms) (tries : ℕ) (sending : Sending) where
 
     abbrev last_of_found : Bool → Process Shown
     last_of_found ready =
-        ending (if ready then Does (Attempts (suc n) (start_by sending)) (start_end (suc n) (Ended load.Nothing)) else Ended load.Nothing)
-        (with_picture found)
+        ending (start_if ready sending (suc n) (Ended load.Nothing)) (with_picture found)
 
     by_ready : (on : ChoosesSo n seen earlier (found, load.Nothing)) (ready : Bool) → was_ready found (suc n) ≡ ready
         → Runs terms tries (last_of_found ready) (earlier ++ seen) later so → ChoosesSo (suc n) seen added so
@@ -435,7 +439,8 @@ module _ (terms : Terms) (tries : ℕ) (sending : Sending) where
         let c = on.means in
         let there : ram_of (earlier ++ seen) ≡ c.tried ++ (c.looked ++ ram_of seen) =
         ram_of-append earlier seen ∙ ap (λ es. es ++ ram_of seen) c.whole ∙ append_assoc c.tried c.looked (ram_of seen) in
-        let attempt = subst (λ es. Attempt terms (suc n) (start_by sending) tries es (ram_of steps.earlier) outcome) there tried.means in
+        let attempt = subst (λ es. Attempt terms (suc n) (start_by sending) tries es (ram_of steps.earlier) outcome) there
+        tried.means in
         let came = ends_as n found (c.looked ++ ram_of seen) c.tried (ram_of steps.earlier) ready c.among outcome attempt in
         let (none, is) = subst (λ (q : Process LoadAnswer). Runs terms tries (ending q (with_picture found))
         (steps.earlier ++ (earlier ++ seen)) steps.later so)

@@ -43,7 +43,7 @@ use Rattle.ccan_calls.specs.FrameAsk.{FrameAsk, begin, stay, finish, retry, powe
 use Rattle.ccan_calls.specs.LoadProcess.{arrives, start_first}
 use Rattle.ccan_calls.specs.Parts.{flag_shown}
 use Rattle.ccan_calls.specs.Process.{ChangesController, Does, Ended, InsistsOnChange, LooksAtController, Pauses, Process, ending, followed_by}
-use Rattle.ccan_calls.specs.RoundProcess.{Noted, completes, notes}
+use Rattle.ccan_calls.specs.RoundProcess.{EventEnd, completes, makes_event}
 
 -- a call, and what the handle keeps after it
 abbrev pub FrameProcess : Type 0
@@ -106,13 +106,14 @@ stay_end old found =
 abbrev pub own_on : Wire → ℕ → Option Flaw → StationState → Controller → Option (BusEvent × StatusEvent)
 own_on on place flaw station found = event_of on place (with_flaw (still_under_way found station.under_way) flaw)
 
-abbrev pub part_told : Controller → Option (BusEvent × StatusEvent) → RoundEnd → Noted → EndedPart
+abbrev pub part_told : Controller → Option (BusEvent × StatusEvent) → RoundEnd → EventEnd → EndedPart
 part_told found own end noted = record { found = found; own = own; end = end; noted = noted }
 
 -- the objects have their part, and then the controller has its event
 abbrev pub ends_as : Profile → Controller → Option (BusEvent × StatusEvent) → Option Loaded → Option Frame → Process EndedPart
 ends_as profile found own loaded won =
-    followed_by (completes profile (sent_as loaded) (due own loaded won)) (λ end. ending (notes own) (part_told found own end))
+    followed_by (completes profile (sent_as loaded) (due own loaded won))
+    (λ end. ending (makes_event own) (part_told found own end))
 
 abbrev pub ends_frame : Profile → Wire → ℕ → Option Flaw → StationState → Process EndedPart
 ends_frame profile on place flaw station =

@@ -128,24 +128,24 @@ plays profile line past =
 -- ---- a round
 
 -- how the event of a round was made at the controller, if there was one
-abbrev pub Noted : Type 0
-Noted = Option (Result ControllerChanged ControllerBusy)
+abbrev pub EventEnd : Type 0
+EventEnd = Option (Result ControllerChanged ControllerBusy)
 
 -- as one change of the controller, with as many tries as a change may have
-abbrev pub notes : Option (BusEvent × StatusEvent) → Process Noted
-notes None = Does LetsOthersAct (λ acted. Ended None)
-notes (Some own) = Does (InsistsOnChange (FrameEvent own.0 own.1)) (λ outcome. Ended (Some outcome))
+abbrev pub makes_event : Option (BusEvent × StatusEvent) → Process EventEnd
+makes_event None = Does LetsOthersAct (λ acted. Ended None)
+makes_event (Some own) = Does (InsistsOnChange (FrameEvent own.0 own.1)) (λ outcome. Ended (Some outcome))
 
 abbrev pub RoundTold : Type 0
 RoundTold = ChipReport × BusPast
 
-abbrev pub round_told : Controller → Played → Noted → RoundTold
+abbrev pub round_told : Controller → Played → EventEnd → RoundTold
 round_told found end noted = (record { found = found; report = end.report; own = end.own; noted = noted }, end.after)
 
 abbrev pub rounds : Profile → RoundLine → BusPast → Process RoundTold
 rounds profile line past =
     arrives_and past (λ found here.
-    followed_by (plays profile line here) (λ end. ending (notes end.own) (round_told found end)))
+    followed_by (plays profile line here) (λ end. ending (makes_event end.own) (round_told found end)))
 
 -- ---- who may send
 

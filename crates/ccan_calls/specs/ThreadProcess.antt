@@ -60,7 +60,8 @@ abbrev pub answered_first : {State : Type 0} → Answer → ThreadEnd State → 
 answered_first answer (answers, left) = (answer ∷ answers, left)
 
 -- each call finds what the one before it left
-abbrev pub thread_process : {Ask State : Type 0} → (Ask → State → CallProcess State) → List Ask → State → Process (ThreadEnd State)
+abbrev pub thread_process : {Ask State : Type 0} → (Ask → State → CallProcess State) → List Ask → State
+    → Process (ThreadEnd State)
 thread_process process [] state = Ended ([], state)
 thread_process process (ask ∷ asks) state =
     followed_by (process ask state) (λ end. ending (thread_process process asks end.1) (answered_first end.0))
