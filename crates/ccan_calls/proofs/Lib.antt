@@ -29,6 +29,7 @@ pub mod RoundsRun
 pub mod RoundsAsked
 pub mod BusCallsRun
 pub mod FramesRun
+pub mod ChipsRun
 pub mod ThreadsRun
 pub mod OwnSteps
 pub mod Stepwise

@@ -1,6 +1,10 @@
 -- Calls are their processes. Source: this project's own.
-use Rattle.std.specs.Prelude.{ℕ, ◌≡◌, ◌≤◌, ◌↔◌, true, List, ◌++◌, map}
+use Rattle.std.specs.Prelude.{ℕ, ◌≡◌, ◌≤◌, ◌↔◌, true, List, ◌++◌, length, map, take}
+use Rattle.ccan_object.specs.declared.record.Record.{Record}
+use Rattle.ccan_object.specs.Profile.{objects_in}
 use Rattle.ccan_accept.specs.declared.frame.Frame.{Frame}
+use Rattle.ccan_confine.specs.declared.controller.Controller.{Controller}
+use Rattle.ccan_confine.specs.declared.controller_change.ControllerChange.{ControllerChange}
 use Rattle.ccan_ram.specs.declared.port.PortName.TheVariants.{Bus}
 use Rattle.ccan_ram.specs.Terms.{Terms}
 use Rattle.ccan_bus.specs.declared.choice.Choice.TheVariants.{AtOnce}
@@ -11,6 +15,8 @@ use Rattle.ccan_endless.specs.Chip.{ChipHistory}
 use Rattle.ccan_line.specs.Limits.{most_nodes}
 use Rattle.ccan_map.specs.declared.map.Map.{Map}
 use Rattle.ccan_registers.specs.declared.interface_set.InterfaceSet.{InterfaceSet}
+use Rattle.ccan_registers.specs.Resetting.{ResetsChip}
+use Rattle.ccan_saved.specs.Looks.{LooksAtAll}
 use Rattle.ccan_c.specs.BusCall.{BusCall, BusCallMeans, code_got as code_on}
 use Rattle.ccan_c.specs.FrameCall.{BusState, CallOnBus, CallOnBusMeans, FrameCall, FrameCallMeans, frame_code}
 use Rattle.ccan_c.specs.HostCall.{HostCall, HostCallMeans, code_got}
@@ -19,6 +25,7 @@ use Rattle.ccan_calls.specs.ActSteps.{HasSteps}
 use Rattle.ccan_calls.specs.Answer.{Answer, CallProcess, IsAnswered, Place}
 use Rattle.ccan_calls.specs.BusAsk.{asked_on, place_on}
 use Rattle.ccan_calls.specs.BusCallProcess.{bus_process}
+use Rattle.ccan_calls.specs.ChipProcess.{looks_at_all}
 use Rattle.ccan_calls.specs.FrameAsk.{asked_of, place_after}
 use Rattle.ccan_calls.specs.FrameProcess.{frame_process}
 use Rattle.ccan_calls.specs.HostAsk.{asked_by, place_of}
@@ -27,6 +34,7 @@ use Rattle.ccan_calls.specs.Process.{Act, Ended, Out, Process}
 use Rattle.ccan_calls.specs.RoundProcess.{are_senders}
 use Rattle.ccan_calls.specs.Runs.{Acted, IsLineOf, Runs}
 use Rattle.ccan_calls.specs.Stage.{Stage, StandsAt}
+use Rattle.ccan_calls.specs.WriteProcess.{Written, resets}
 use Rattle.ccan_calls.specs.ThreadProcess.{ThreadComes, asked, code_of_call, on_bus_process, place_of_call, thread_process}
 
 -- a process adds these events and leaves this, and the call got its answer: this code, and this in the place for the result
@@ -98,3 +106,17 @@ BusThreadsAreProcesses =
     → CallsMean (CallOnBusMeans terms tries nodes layout) calls old new
     ↔ ThreadComes terms tries code_of_call place_of_call calls
     (thread_process (on_bus_process terms layout nodes) (map asked calls) old.state) old new
+
+-- what the bus's port does when a chip is reset, between two meetings of its ports, is exactly what a process runs to
+abbrev pub ResetsAreProcesses : Type 0
+ResetsAreProcesses =
+    (terms : Terms) (tries : ℕ) (reset : ControllerChange) (seen added : ChipHistory) (told : Written)
+    → ResetsChip terms reset tries seen added told ↔ Runs terms tries (resets terms reset) seen added told
+
+-- and so is what it does when a chip is saved
+abbrev pub SavesAreProcesses : Type 0
+SavesAreProcesses =
+    (terms : Terms) (tries : ℕ) (found : Controller) (records : List Record) (seen added : ChipHistory)
+    → objects_in terms.profile ≤ length records
+    → LooksAtAll terms found records seen added
+    ↔ Runs terms tries (looks_at_all terms.profile) seen added (found, take (objects_in terms.profile) records)

@@ -16,6 +16,7 @@ pub mod BusAsk
 pub mod BusCallProcess
 pub mod FrameAsk
 pub mod FrameProcess
+pub mod ChipProcess
 pub mod ThreadProcess
 pub mod Stage
 pub mod ActSteps

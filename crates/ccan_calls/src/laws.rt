@@ -5,7 +5,8 @@ ghost use Rattle.ccan_c.specs.FrameCall.{BusState};
 ghost use Rattle.ccan_calls.specs.Answer.{CallEnd};
 ghost use Rattle.ccan_calls.specs.Laws.{ActsHaveTheirSteps, BusCallsAreProcesses, FrameCallsAreProcesses};
 ghost use Rattle.ccan_calls.specs.Laws.{BusThreadsAreProcesses, HostCallsAreProcesses, HostThreadsAreProcesses};
-ghost use Rattle.ccan_calls.specs.Laws.{OffersAreOneLine, StandsThroughout, StepsAreTheWhole};
+ghost use Rattle.ccan_calls.specs.Laws.{OffersAreOneLine, ResetsAreProcesses, SavesAreProcesses};
+ghost use Rattle.ccan_calls.specs.Laws.{StandsThroughout, StepsAreTheWhole};
 ghost use Rattle.ccan_calls.specs.ThreadProcess.{ThreadEnd};
 
 /// A call on the handle of a host is its process.
@@ -21,6 +22,12 @@ pub fn bus_calls_are_processes()
 /// A call by which a chip takes part in a frame on a bus of several, or powers down in between, is its process.
 pub fn frame_calls_are_processes()
     ensures { FrameCallsAreProcesses }
+{}
+
+/// What the bus's port does when a chip is reset or saved, between meetings of its ports, is a process.
+pub fn resets_and_saves_are_processes()
+    ensures resets { ResetsAreProcesses }
+    ensures saves { SavesAreProcesses }
 {}
 
 /// The calls of a thread on a handle, one after another, are one process.

@@ -11,10 +11,10 @@
 //! a call ─ frame_calls_are_processes ─ frame_process ─┘
 //! ```
 //!
-//! Calls that take a whole chip are no processes here: `ccan_open`, `ccan_open_reset`, `ccan_end`, `ccan_meet`, `ccan_save`,
-//! `ccan_restore` and `ccan_reset`. These make no step at a chip: `ccan_version`, `ccan_is_open`, `ccan_forget`, `ccan_decide`,
-//! `ccan_decide_again`, `ccan_node_begin`, `ccan_node_finish`, `ccan_node_recessive`, `ccan_frame_bits` and `ccan_bit_time`. Each
-//! other call of the header is a process.
+//! So is what the bus's port does in `ccan_reset` and in `ccan_save`. The other calls that take a whole chip are no processes
+//! here: `ccan_open`, `ccan_open_reset`, `ccan_end`, `ccan_meet` and `ccan_restore`. These make no step at a chip: `ccan_version`,
+//! `ccan_is_open`, `ccan_forget`, `ccan_decide`, `ccan_decide_again`, `ccan_node_begin`, `ccan_node_finish`,
+//! `ccan_node_recessive`, `ccan_frame_bits` and `ccan_bit_time`. Each other call of the header is a process.
 //!
 //! The calls of a thread, one after another, are a `thread_process`. Where a port may be within a process while other ports act,
 //! `StandsAt` says.

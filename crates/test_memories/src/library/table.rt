@@ -419,6 +419,7 @@ fn calls_are_processes(_rt: HostRuntime) {
     laws::host_calls_are_processes();
     laws::bus_calls_are_processes();
     laws::frame_calls_are_processes();
+    laws::resets_and_saves_are_processes();
     laws::threads_are_processes();
     laws::offers_are_one_line();
     laws::steps_are_the_whole();
