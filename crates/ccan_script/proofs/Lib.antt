@@ -18,6 +18,6 @@ pub mod Scripts
 pub mod OneBusLine
 pub mod OneMeaning
 pub mod ReadMeaning
-pub mod Hosts
+pub mod Befores
 pub mod Races
 pub mod RaceMeaning

@@ -41,7 +41,7 @@ same_port_number port.If2 port.If2 h = refl
 same_port_number port.Bus port.Bus h = refl
 same_port_number p q h = absurd (omega arith)
 
-same_order_place : (p q : OrderPlace) → number_in_order p ≡ number_in_order q → p ≡ q
+pub same_order_place : (p q : OrderPlace) → number_in_order p ≡ number_in_order q → p ≡ q
 same_order_place (names p) (names q) h = ap names (same_list_place p q cc)
 same_order_place (share n) (share m) h = ap share (same_port_number n m cc)
 same_order_place p q h = cc

@@ -42,7 +42,7 @@ nat_less a b Less is h = grind (arith, nat_tests)
 nat_less a b Equal is h = cc
 nat_less a b Greater is h = cc
 
-share_before : (m n : PortName) → Precedes (number_in_order (share m)) (number_in_order (share n)) → port_index m < port_index n
+pub share_before : (m n : PortName) → Precedes (number_in_order (share m)) (number_in_order (share n)) → port_index m < port_index n
 share_before m n h = nat_less (port_index m) (port_index n) (nat_cmp (port_index m) (port_index n)) refl h
 
 module _ (lines : PortName → ℕ) where

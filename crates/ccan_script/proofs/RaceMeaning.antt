@@ -13,34 +13,26 @@ use Rattle.serde_json.specs.Data.{Data, Members, array, boolean, member, no_memb
 use Rattle.serde_json.specs.Find.{get, get_member}
 use Rattle.ccan_ram.specs.declared.port.PortName.{PortName}
 use Rattle.ccan_line.specs.Script.{ScriptFields}
-use Rattle.ccan_script.specs.declared.host_name.HostName.TheVariants.{If1, If2}
 use Rattle.ccan_script.specs.declared.list_name.ListName.TheVariants as list_name
 use Rattle.ccan_script.specs.declared.script_error.ScriptError.{ScriptError}
 use Rattle.ccan_script.specs.declared.script_error.ScriptError.TheVariants as error
-use Rattle.ccan_script.specs.Before.{BeforePlace, before_fault, names, number_in_before, share, share_fault}
-use Rattle.ccan_script.specs.HostName.{host_port}
+use Rattle.ccan_script.specs.Before.{before_fault, share_fault}
 use Rattle.ccan_script.specs.Json.{has_only, is_among, lines_in, names_in}
 use Rattle.ccan_script.specs.Laws.{HasOneRace, ScriptIsARace, none_before}
-use Rattle.ccan_script.specs.Order.{named_ports}
+use Rattle.ccan_script.specs.Order.{OrderPlace, named_ports, names, share}
 use Rattle.ccan_script.specs.Places.{IsFaultless, IsFirst, Precedes}
 use Rattle.ccan_script.specs.Race.{MeansRace, RaceFields, RacePlace, before, number_in_race, race_fault, race_members, script}
 use Rattle.ccan_script.specs.Script.{Means, Place, fault_among, fault_at, known_members, lines_of_port, number_of}
 use Rattle.ccan_script.specs.Script.{members}
 use Rattle.ccan_script.proofs.ListFaults.{no_list}
-use Rattle.ccan_script.proofs.OneMeaning.{no_first, one_first, one_script, same_list_place, same_place}
+use Rattle.ccan_script.proofs.OneMeaning.{no_first, one_first, one_script, same_order_place, same_place}
 use Rattle.ccan_script.proofs.Races.{bad_script}
 
 -- ---- one meaning
 
-same_before_place : (p q : BeforePlace) → number_in_before p ≡ number_in_before q → p ≡ q
-same_before_place (names p) (names q) h = ap names (same_list_place p q cc)
-same_before_place (share If1) (share If1) h = refl
-same_before_place (share If2) (share If2) h = refl
-same_before_place p q h = cc
-
 same_race_place : (p q : RacePlace) → number_in_race p ≡ number_in_race q → p ≡ q
 same_race_place (script p) (script q) h = ap script (same_place p q cc)
-same_race_place (before p) (before q) h = ap before (same_before_place p q cc)
+same_race_place (before p) (before q) h = ap before (same_order_place p q cc)
 same_race_place p q h = cc
 
 same_race : (a b : RaceFields) → a.script ≡ b.script → a.before ≡ b.before → a ≡ b
@@ -88,10 +80,10 @@ module _ (word : List ℕ) (known : List (List ℕ)) where
 
 -- ---- without the member
 
-no_hosts_fault : (lines : PortName → ℕ) (q : BeforePlace) → before_fault lines None q ≡ None
+no_names_fault : (lines : PortName → ℕ) (q : OrderPlace) → before_fault lines None q ≡ None
 unfolding share_fault lines_in
-no_hosts_fault lines (names p) = no_list list_name.Before _ _ p
-no_hosts_fault lines (share host) = rw (few (lines (host_port host))) refl
+no_names_fault lines (names p) = no_list list_name.Before _ _ p
+no_names_fault lines (share name) = rw (few (lines name)) refl
   where
     few : (n : ℕ) → nat_le 0 n ≡ true
     few n = grind (arith, nat_tests)
@@ -106,9 +98,9 @@ module _ (d : Data) (none : get (codes "before") d ≡ None) where
   same_fault members = ap (λ b. cond b None (Some (error.Shape list_name.Top 0))) (only_alike (codes "before") known_members d none)
   same_fault p = refl
 
-  no_before_fault : (q : BeforePlace) → race_fault d (before q) ≡ None
+  no_before_fault : (q : OrderPlace) → race_fault d (before q) ≡ None
   no_before_fault q =
-      subst (λ (o : Option Data). before_fault (lines_of_port d) o q ≡ None) (sym none) (no_hosts_fault (lines_of_port d) q)
+      subst (λ (o : Option Data). before_fault (lines_of_port d) o q ≡ None) (sym none) (no_names_fault (lines_of_port d) q)
 
   to_race : (r : Result ScriptFields ScriptError) → Means d r → MeansRace d (none_before r)
   to_race (Ok s) h = (faultless, record { script_says = h.1; before_is = sym (ap named_ports none ∙ no_ports) })

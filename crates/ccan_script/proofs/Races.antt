@@ -1,4 +1,4 @@
--- A script for a race from its script and the hosts that run before it.
+-- A script for a race from its script and the lines that run before it.
 use Rattle.std.proofs.Common.{◌≡◌, ℕ, List, Option, Some, None, Result, Ok, Err, Bool, true, false, cond, codes, nat_le}
 use Rattle.std.proofs.Common.{subst, inl, inr}
 use Rattle.std.specs.Prelude.{IsUtf8}
@@ -13,15 +13,13 @@ use Rattle.ccan_ram.specs.declared.port.PortName.TheVariants as port
 use Rattle.ccan_line.specs.Order.{times}
 use Rattle.ccan_line.specs.Port.{count_of}
 use Rattle.ccan_line.specs.Script.{ScriptFields}
-use Rattle.ccan_script.specs.declared.host_name.HostName.{HostName}
 use Rattle.ccan_script.specs.declared.race_script.RaceScript.{RaceScript}
 use Rattle.ccan_script.specs.declared.script_error.ScriptError.{ScriptError}
 use Rattle.ccan_script.specs.declared.script_error.ScriptError.TheVariants.{NotJson, Shape, Range, TooMany, Order, Before, Memory}
-use Rattle.ccan_script.specs.Before.{before_fault, names, number_in_before, share, share_fault}
+use Rattle.ccan_script.specs.Before.{before_fault, share_fault}
 use Rattle.ccan_script.specs.BusLine.{BusSays}
 use Rattle.ccan_script.specs.HostLine.{HostSays}
-use Rattle.ccan_script.specs.HostName.{host_port}
-use Rattle.ccan_script.specs.Order.{named_ports}
+use Rattle.ccan_script.specs.Order.{named_ports, names, number_in_order, share}
 use Rattle.ccan_script.specs.Places.{IsFaultless, IsFirst, Precedes}
 use Rattle.ccan_script.specs.Race.{MeansRace, RacePlace, ReadsRace, ReadsRaceValue, RefusesRace, before}
 use Rattle.ccan_script.specs.Race.{number_in_race, race_fault, race_members, script}
@@ -59,19 +57,19 @@ module _ (d : Data) where
 
     module _ (script_ok : IsFaultless number_of (fault_among race_members d)) where
       -- a fault of its member
-      pub bad_before : (e : ScriptError) → IsFirst number_in_before (before_fault (count_of s) (get (codes "before") d)) e
+      pub bad_before : (e : ScriptError) → IsFirst number_in_order (before_fault (count_of s) (get (codes "before") d)) e
           → MeansRace d (Err e)
       bad_before e at = record { place = before h.place; is = h.is; first = go }
         where
-          h : IsFirst number_in_before (before_fault (lines_of_port d) (get (codes "before") d)) e
-          h = subst (λ (lines : PortName → ℕ). IsFirst number_in_before (before_fault lines (get (codes "before") d)) e)
+          h : IsFirst number_in_order (before_fault (lines_of_port d) (get (codes "before") d)) e
+          h = subst (λ (lines : PortName → ℕ). IsFirst number_in_order (before_fault lines (get (codes "before") d)) e)
               same_counts at
 
           go : (q : RacePlace) → Precedes (number_in_race q) (number_in_race (before h.place)) → race_fault d q ≡ None
           go (script q) earlier = script_ok q
           go (before q) earlier = h.first q earlier
 
-      pub no_race_fault : IsFaultless number_in_before (before_fault (count_of s) (get (codes "before") d))
+      pub no_race_fault : IsFaultless number_in_order (before_fault (count_of s) (get (codes "before") d))
           → IsFaultless number_in_race (race_fault d)
       no_race_fault h (script q) = script_ok q
       no_race_fault h (before q) =
@@ -83,9 +81,9 @@ before_or : (b : Bool) (n : PortName) → cond b None (Some (Before n)) ≡ Some
 before_or true n h = cc
 before_or false n h = cc
 
-share_is_json : (lines : PortName → ℕ) (o : Option Data) (n : HostName) → share_fault lines o n ≡ Some NotJson → ⊥
+share_is_json : (lines : PortName → ℕ) (o : Option Data) (n : PortName) → share_fault lines o n ≡ Some NotJson → ⊥
 unfolding share_fault
-share_is_json lines o n h = before_or (nat_le (times (host_port n) (named_ports o)) (lines (host_port n))) (host_port n) h
+share_is_json lines o n h = before_or (nat_le (times n (named_ports o)) (lines n)) n h
 
 race_is_json : (d : Data) (p : RacePlace) → race_fault d p ≡ Some NotJson → ⊥
 race_is_json d (script p) h = is_json race_members d p h

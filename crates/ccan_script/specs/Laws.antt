@@ -26,7 +26,7 @@ WhatWasReadHasAMeaning =
 abbrev pub HasOneRace : Type 0
 HasOneRace = (d : Data) (r s : Result RaceFields ScriptError) → MeansRace d r → MeansRace d s → r ≡ s
 
--- what a script is as one for a race: no host runs before
+-- what a script is as one for a race: no line runs before
 abbrev pub none_before : Result ScriptFields ScriptError → Result RaceFields ScriptError
 none_before (Ok script) = Ok record { script = script; before = [] }
 none_before (Err e) = Err e

@@ -14,7 +14,6 @@ pub mod Round
 pub mod BusOp
 pub mod BusLine
 pub mod OrderName
-pub mod HostName
 pub mod Lines
 pub mod Places
 pub mod ListPlace

@@ -12,12 +12,12 @@ pub fn what_was_read_has_a_meaning()
     ensures { WhatWasReadHasAMeaning }
 {}
 
-/// A JSON value means at most one thing as a script for a race: one script with hosts before it, or one fault.
+/// A JSON value means at most one thing as a script for a race: one script with lines before it, or one fault.
 pub fn one_race()
     ensures { HasOneRace }
 {}
 
-/// A JSON value without the member `before` is the same as a script and as a script for a race: a script with no hosts before
+/// A JSON value without the member `before` is the same as a script and as a script for a race: a script with no lines before
 /// it, or the same fault.
 pub fn a_script_is_a_race()
     ensures { ScriptIsARace }

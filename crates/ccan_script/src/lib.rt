@@ -7,7 +7,7 @@
 //!                |
 //!                +--> the first fault in the order of the checks, with the list and the line where it is
 //!
-//!   bytes --> JSON value --> RaceScript { script, before }, for a race, with lines of hosts that run alone before it
+//!   bytes --> JSON value --> RaceScript { script, before }, for a race, with lines that run alone before it
 //!
 //!   LineAnswer --> one printed line        Record --> the final line of an object
 //! ```
@@ -25,7 +25,6 @@ pub mod flag_name;
 pub mod frame_data;
 pub mod frame_line;
 pub mod host_line;
-pub mod host_name;
 pub mod host_op;
 pub mod json;
 pub mod laws;
@@ -54,7 +53,6 @@ pub use ccan_line::{
     MAX_FRAMES, MAX_GROUPS, MAX_LINES, MAX_NAMES, MAX_NODES, MAX_PROFILE, MAX_QUOTA, MAX_TRIES,
     MAX_TURNS, RegisterSet, Script,
 };
-pub use host_name::HostName;
 pub use line_context::LineContext;
 pub use line_fault::LineFault;
 pub use list_name::ListName;

@@ -13,7 +13,7 @@ pub enum ListName {
     Bus,
     /// The order in which the ports run.
     Order,
-    /// The lines of hosts that run before a race.
+    /// The ports of which lines run before a race.
     Before,
 }
 

@@ -1,6 +1,6 @@
-//! Scripts for a race: a script, and the hosts of which lines run alone before the race begins.
+//! Scripts for a race: a script, and the ports of which lines run alone before the race begins.
 
-ghost use Rattle.std.specs.Prelude.{◌≡◌, Some, None, IfOk, codes, map, nat_le, if◌then◌else◌};
+ghost use Rattle.std.specs.Prelude.{◌≡◌, Some, None, IfOk, codes, nat_le, if◌then◌else◌};
 ghost use Rattle.std.specs.Result.{result_err};
 ghost use Rattle.serde_json.specs.Find.{get};
 ghost use Rattle.serde_json.specs.View.{view};
@@ -8,10 +8,8 @@ ghost use Rattle.ccan_line.specs.Order.{times};
 ghost use Rattle.ccan_line.specs.Port.{count_of};
 ghost use Rattle.ccan_line.specs.Script.{fields_of};
 ghost use Rattle.ccan_script.specs.Before.{ChecksShares};
-ghost use Rattle.ccan_script.specs.HostName.{host_port};
 ghost use Rattle.ccan_script.specs.Race.{NamesFew, ReadsBefore, ReadsRace, ReadsRaceValue};
 
-use crate::host_name::HostName;
 use crate::line_context::LineContext;
 use crate::list_name::ListName;
 use crate::list_reader::lines_of;
@@ -22,41 +20,35 @@ use crate::script_error::ScriptError;
 use ccan_line::{MAX_NAMES, Script};
 use ccan_ram::PortName;
 use serde_json::Value;
-use std::alloc::{AllocError, Global};
+use std::alloc::Global;
 
 /// The members that a script for a race may have.
 const RACE_MEMBERS: [&str; 9] = [
     "profile", "quota", "tries", "nodes", "if1", "if2", "bus", "order", "before",
 ];
 
-/// The ports of hosts.
-fn ports_of(alloc: Global, hosts: &[HostName]) -> Result<Vec<PortName>, AllocError>
-    ensures { IfOk result (λ ports. ports.items ≡ map host_port hosts.now) }
+/// Checks that a port is named at most as often as it has lines.
+fn check_share(before: &[PortName], port: PortName, lines: usize) -> Result<(), ScriptError>
+    ensures { result_err result ≡ (if nat_le (times port before.now) lines then None
+        else Some (ScriptError.Before port)) }
 {
-    hosts.iter().map(|host| host.port()).collect(alloc)
-}
-
-/// Checks that a host is named at most as often as it has lines.
-fn check_share(before: &[PortName], host: HostName, lines: usize) -> Result<(), ScriptError>
-    ensures { result_err result ≡ (if nat_le (times (host_port host) before.now) lines then None
-        else Some (ScriptError.Before (host_port host))) }
-{
-    if times(before, host.port()) <= lines {
+    if times(before, port) <= lines {
         Ok(())
     } else {
-        Err(ScriptError::Before { port: host.port() })
+        Err(ScriptError::Before { port })
     }
 }
 
-/// Checks how often each host is named.
+/// Checks how often each port is named.
 fn check_shares(before: &[PortName], script: &Script) -> Result<(), ScriptError>
     ensures { ChecksShares (count_of (fields_of script.now)) before.now result }
 {
-    check_share(before, HostName::If1, script.if1.len())?;
-    check_share(before, HostName::If2, script.if2.len())
+    check_share(before, PortName::If1, script.if1.len())?;
+    check_share(before, PortName::If2, script.if2.len())?;
+    check_share(before, PortName::Bus, script.bus.len())
 }
 
-/// The hosts of which lines run before a race, none if there is no such member.
+/// The ports of which lines run before a race, none if there is no such member.
 fn read_before(alloc: Global, value: &Value, script: &Script) -> Result<Vec<PortName>, ScriptError>
     ensures reads { ReadsBefore (count_of (fields_of script.now))
         (get (codes "before") (view value.now)) result }
@@ -67,8 +59,7 @@ fn read_before(alloc: Global, value: &Value, script: &Script) -> Result<Vec<Port
         nodes: script.nodes,
     };
     let member = value.get("before");
-    let hosts: Vec<HostName> = lines_of(alloc, ListName::Before, MAX_NAMES, member, context)?;
-    let before = ports_of(alloc, &hosts)?;
+    let before = lines_of(alloc, ListName::Before, MAX_NAMES, member, context)?;
     check_shares(&before, script)?;
     Ok(before)
 }

@@ -12,12 +12,12 @@ use std::alloc::Global;
 pub struct RaceScript {
     /// The script. Its order is none of the race.
     pub script: Script,
-    /// The hosts of which lines run alone, in this order, before the race begins: each name is that of the host's next line. A
-    /// host is named no more often than it has lines.
+    /// The ports of which lines run alone, in this order, before the race begins: each name is that of the port's next line. A
+    /// port is named no more often than it has lines.
     pub before: Vec<PortName>,
     pub ghost if1_before: { times If1 before.items ≤ length script.if1.items },
     pub ghost if2_before: { times If2 before.items ≤ length script.if2.items },
-    pub ghost bus_before: { times Bus before.items ≡ 0 },
+    pub ghost bus_before: { times Bus before.items ≤ length script.bus.items },
 }
 
 impl RaceScript {
@@ -25,8 +25,8 @@ impl RaceScript {
     ghost use Rattle.ccan_line.specs.Script.{fields_of};
     ghost use Rattle.ccan_script.specs.Race.{NamesFew, fields_of_race};
 
-    /// The race of a script behind the next lines of these hosts, which run one after the other, or `None` if the list names the
-    /// bus, or a host more often than it has lines.
+    /// The race of a script behind the next lines of these ports, which run one after the other, or `None` if the list names a
+    /// port more often than it has lines.
     pub fn behind(script: Script, before: Vec<PortName>) -> Option<RaceScript>
         ensures is { IfSome result (λ race. fields_of_race race
             ≡ record { script = fields_of script; before = before.items }) }
@@ -38,7 +38,7 @@ impl RaceScript {
         if times(&before, PortName::If2) > script.if2.len() {
             return None;
         }
-        if times(&before, PortName::Bus) > 0 {
+        if times(&before, PortName::Bus) > script.bus.len() {
             return None;
         }
         Some(RaceScript { script, before })

@@ -21,7 +21,7 @@ pub enum ScriptError {
     /// The order names a port more or less often than it has lines.
     #[error("ccan: script: order, {port}")]
     Order { port: PortName },
-    /// The lines that run before a race are more of a host than it has.
+    /// The lines that run before a race are more of a port than it has.
     #[error("ccan: script: before, {port}")]
     Before { port: PortName },
     /// Memory ran out.
