@@ -1,9 +1,11 @@
 //! How the line of a script ends.
 ghost use Rattle.std.specs.Prelude.{◌≡◌};
-ghost use Rattle.ccan_process.specs.LineEnd.{told_answer, told_end, told_round, unframed};
+ghost use Rattle.std.specs.Prelude.{option_and_then};
+ghost use Rattle.ccan_process.specs.LineEnd.{reported, told_answer, told_end, told_round, unframed};
+ghost use Rattle.ccan_process.specs.LineEnd.{winning_frame};
 
 use ccan_accept::Frame;
-use ccan_bus::RoundAnswer;
+use ccan_bus::{Decision, RoundAnswer, RoundReport};
 use ccan_line::LineAnswer;
 use ccan_object::Record;
 
@@ -38,6 +40,14 @@ fn told_answer(answer: LineAnswer) -> LineAnswer
     LineAnswer::Round(told_round(round))
 }
 
+/// The frame that won the bus, by what was decided, if a round came to a decision.
+fn winning_frame(decided: Option<Decision>) -> Option<Frame>
+    ensures { result ≡ option_and_then winning_frame decided }
+{
+    let (_, frame) = decided?.winner()?;
+    Some(frame)
+}
+
 /// How a line ends: what it answers, and what was on the bus.
 #[derive(Clone, Copy, PartialEq, Eq, Hash, Debug)]
 pub struct LineEnd {
@@ -56,6 +66,16 @@ impl LineEnd {
         LineEnd {
             answer,
             frame: None,
+        }
+    }
+
+    /// The end of a round that its steps report.
+    pub fn reported(round: &RoundReport) -> LineEnd
+        ensures { result ≡ reported round.now.decision round.now.end.answer }
+    {
+        LineEnd {
+            answer: LineAnswer::Round(round.end.answer),
+            frame: winning_frame(round.decision),
         }
     }
 
