@@ -58,6 +58,13 @@ TOLD = [
      ['-:1:8: if1: an object is not a list']),
     ('{"if1":[],"order":["if1","if3"]}',
      ['-:1:26: order[1]: "if3" is no port: if1, if2 or bus']),
+    # tells lines before a race
+    ('{"before":["if1","if3"]}',
+     ['-:1:18: before[1]: "if3" is no port: if1, if2 or bus']),
+    ('{"before":["bus","if2"]}',
+     ['-:1:11: before: names if2 1 times, and if2 has 0 lines', '-:1:11: before: names bus 1 times, and bus has 0 lines']),
+    ('{"bus":[{"op":"status"}],"before":["bus"]}',
+     ['-:1:35: warning: before: only ccan-lab reads this member; ccan refuses the script']),
     ('{"if1":[{"op":"interrupt"}],"order":["bus"]}',
      ['-:1:37: order: names if1 0 times, and if1 has 1 lines', '-:1:37: order: names bus 1 times, and bus has 0 lines']),
     # tells each fault

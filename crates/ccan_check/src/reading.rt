@@ -40,7 +40,7 @@ impl Reading {
         }
     }
 
-    /// The hosts of which lines run before a race, if it may have them and has them.
+    /// The ports of which lines run before a race, if it may have them and has them.
     pub(crate) fn before(self, top: Spot<'_>) -> Option<Spot<'_>> {
         match self {
             Reading::Script => None,

@@ -11,7 +11,7 @@ use crate::warning::warn_of_transfer;
 use ccan_ram::PortName;
 use ccan_script::bus_op::bus_op;
 use ccan_script::host_op::host_op;
-use ccan_script::{BusLine, HostLine, HostName, LineContext, ScriptLine};
+use ccan_script::{BusLine, HostLine, LineContext, ScriptLine};
 use std::alloc::{AllocError, Global};
 
 /// A line of a script, about which something can be said.
@@ -132,28 +132,6 @@ impl ToldLine for PortName {
         _context: LineContext,
     ) -> Result<Remark, AllocError> {
         remark_on(alloc, path, line, "is no port: if1, if2 or bus")
-    }
-
-    fn warn(
-        &self,
-        _alloc: Global,
-        _path: &str,
-        _line: Spot<'_>,
-        _context: LineContext,
-        _warnings: &mut Vec<Remark>,
-    ) -> Result<(), AllocError> {
-        Ok(())
-    }
-}
-
-impl ToldLine for HostName {
-    fn remark(
-        alloc: Global,
-        path: &str,
-        line: Spot<'_>,
-        _context: LineContext,
-    ) -> Result<Remark, AllocError> {
-        remark_on(alloc, path, line, "is no host: if1 or if2")
     }
 
     fn warn(

@@ -13,9 +13,8 @@ use ccan_ram::PortName;
 use ccan_script::bus_op::{BusOp, bus_op};
 use ccan_script::number::number_member;
 use ccan_script::{
-    BusLine, DEFAULT_NODES, DEFAULT_PROFILE, DEFAULT_QUOTA, DEFAULT_TRIES, HostLine, HostName,
-    LineContext, ListName, MAX_LINES, MAX_NAMES, MAX_NODES, MAX_PROFILE, MAX_QUOTA, MAX_TRIES,
-    ScriptError,
+    BusLine, DEFAULT_NODES, DEFAULT_PROFILE, DEFAULT_QUOTA, DEFAULT_TRIES, HostLine, LineContext,
+    ListName, MAX_LINES, MAX_NAMES, MAX_NODES, MAX_PROFILE, MAX_QUOTA, MAX_TRIES, ScriptError,
 };
 use serde_json::Value;
 use std::alloc::{AllocError, Global};
@@ -262,12 +261,12 @@ fn has_sends(top: Spot<'_>) -> bool {
     }
 }
 
-/// Adds a fault if a host is named more often than it has lines.
+/// Adds a fault if a port is named more often than it has lines.
 fn add_share(
     alloc: Global,
     top: Spot<'_>,
     before: Spot<'_>,
-    host: HostName,
+    port: PortName,
     name: &str,
     report: &mut Report,
 ) -> Result<(), AllocError> {
@@ -277,7 +276,7 @@ fn add_share(
     let lines = lines_in(top, name);
     let times = times_in(names, name);
     if times > lines {
-        let error = ScriptError::Before { port: host.port() };
+        let error = ScriptError::Before { port };
         let text = format!(in alloc;
             "before: names {name} {times} times, and {name} has {lines} lines"
         )?;
@@ -292,7 +291,7 @@ fn add_share(
     Ok(())
 }
 
-/// Adds the faults of the hosts of which lines run before a race.
+/// Adds the faults of the ports of which lines run before a race.
 fn add_before(
     alloc: Global,
     top: Spot<'_>,
@@ -306,7 +305,7 @@ fn add_before(
         return Ok(());
     };
     let earlier = report.faults.len();
-    add_list::<HostName>(
+    add_list::<PortName>(
         alloc,
         ListName::Before,
         MAX_NAMES,
@@ -317,8 +316,9 @@ fn add_before(
     if report.faults.len() != earlier {
         return Ok(());
     }
-    add_share(alloc, top, before, HostName::If1, "if1", report)?;
-    add_share(alloc, top, before, HostName::If2, "if2", report)
+    add_share(alloc, top, before, PortName::If1, "if1", report)?;
+    add_share(alloc, top, before, PortName::If2, "if2", report)?;
+    add_share(alloc, top, before, PortName::Bus, "bus", report)
 }
 
 /// Adds a warning if two ports that depend on each other run one after the other, since no order is given, and no line is to run

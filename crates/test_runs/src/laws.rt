@@ -37,6 +37,7 @@ fn laws_of_outcomes_hold() {
     process_laws::steps_are_the_whole();
     line_process_laws::host_lines_are_processes();
     line_process_laws::bus_lines_are_processes();
+    line_process_laws::bus_line_ends_are_processes();
     line_process_laws::ports_are_processes();
     same::equal_records_are_the_same();
     same::equal_ends_are_the_same();

@@ -10,9 +10,10 @@ ghost use Rattle.ccan_outcomes.specs.OutcomeWords.{AreOfLines, endings_in};
 
 use crate::expect::{holds, same};
 use crate::runs::read;
+use arrayvec::ArrayVec;
 use ccan_accept::Frame;
-use ccan_bus::RoundAnswer;
-use ccan_object::{ObjectNo, Record};
+use ccan_bus::{Bus, Fault, RoundAnswer, RoundLine};
+use ccan_object::{ObjectNo, Profile, Record};
 use ccan_outcomes::all_ports::AllPorts;
 use ccan_outcomes::{
     AnswerGraph, ByLine, Ending, Histories, HistoryKind, HistoryStep, LineEnds, Observed,
@@ -20,7 +21,7 @@ use ccan_outcomes::{
     words_of_graph,
 };
 use ccan_process::LineEnd;
-use ccan_ram::PortName;
+use ccan_ram::{Array, PortName, Tries};
 use ccan_script::{LineAnswer, RaceScript, read_race};
 use ccan_search::Untold;
 use std::alloc::Global;
@@ -44,6 +45,15 @@ const ONE_BEHIND_THE_OTHER: &str = r#"{
     "before":["if1"],
     "if1":[{"op":"transfer","request":"0001","set":{"cmask":"0082","dataa1":"1111"}}],
     "if2":[{"op":"transfer","request":"0001","set":{"cmask":"0082","dataa1":"2222"}}]
+}"#;
+
+/// A host sets up object 1, and a frame comes, before the host reads it.
+const READ_BEHIND_A_FRAME: &str = r#"{
+    "nodes":1,
+    "before":["if1","bus"],
+    "if1":[{"op":"transfer","request":"0001","set":{"cmask":"00B0","arb2":"848C","ctrl":"0088"}},
+           {"op":"transfer","request":"0001","set":{"cmask":"0073"}}],
+    "bus":[{"op":"round","send":[{"node":1,"id":291,"dlc":2,"data":"2222"}]}]
 }"#;
 
 /// One host writes object 1, and the other reads it twice.
@@ -324,8 +334,8 @@ fn may_run_before(rt: &impl Abort, alloc: Global, names: &[PortName]) -> bool {
 }
 
 #[test]
-fn lets_lines_of_hosts_run_before_a_race(rt: HostRuntime) {
-    // Each host has one line.
+fn lets_lines_run_before_a_race(rt: HostRuntime) {
+    // Each host has one line, and the bus none.
     let both = [PortName::If2, PortName::If1];
     let twice = [PortName::If1, PortName::If1];
     holds(&rt, may_run_before(&rt, rt.alloc(), &both));
@@ -339,6 +349,15 @@ fn begins_behind_what_runs_before_a_race(rt: HostRuntime) {
     let outcomes = words(&rt, rt.alloc(), ONE_BEHIND_THE_OTHER);
     same(&rt, outcomes.count(), 1);
     same(&rt, left(&rt, rt.alloc(), &outcomes, 0), 0x22);
+}
+
+#[test]
+fn begins_behind_a_frame_that_came_before_a_race(rt: HostRuntime) {
+    // The frame is there, so there is one thing to read.
+    let outcomes = words_with(&rt, rt.alloc(), READ_BEHIND_A_FRAME, true);
+    same(&rt, outcomes.count(), 1);
+    same(&rt, left(&rt, rt.alloc(), &outcomes, 0), 0x22);
+    holds(&rt, sent(&rt, rt.alloc(), &outcomes, 0) == Some(0x22));
 }
 
 #[test]
@@ -494,6 +513,34 @@ fn told(rt: &impl Abort, alloc: Global, text: &str) -> u64 {
 fn finds_histories_along_the_graph(rt: HostRuntime) {
     // A look and a write of each host.
     same(&rt, told(&rt, rt.alloc(), TWO_WRITES), 2);
+}
+
+/// How a round ends in which node 1 sends this frame, and no object takes it.
+fn round_end(rt: &impl Abort, frame: Frame) -> LineEnd {
+    let mut sends = ArrayVec::new();
+    sends.push((1, frame));
+    let Some(line) = RoundLine::new(1, sends, Fault::Quiet) else {
+        panic!(rt; "no round")
+    };
+    let Some(tries) = Tries::new(1) else {
+        panic!(rt; "no try")
+    };
+    let mut ram = Array::new(Profile::One, 1);
+    let report = Bus::new(Profile::One, 1).report_round(&mut ram, &line, tries);
+    LineEnd::reported(&report)
+}
+
+#[test]
+fn reports_the_frame_of_a_round(rt: HostRuntime) {
+    let Ok(sent) = Frame::new(0x123, false, false, 0, [0; 8]) else {
+        panic!(&rt; "no frame")
+    };
+    let end = round_end(&rt, sent);
+    holds(
+        &rt,
+        end.answer == LineAnswer::Round(RoundAnswer::Received(None)),
+    );
+    holds(&rt, end.frame == Some(sent));
 }
 
 /// The first data byte of the frame that won the bus in the round of this outcome, if there was one and it is reported.
