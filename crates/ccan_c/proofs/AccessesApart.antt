@@ -46,7 +46,7 @@ use Rattle.ccan_endless.specs.declared.chip.ControllerStep.TheVariants.{Look}
 use Rattle.ccan_endless.specs.Chip.{ChipHistory, ram_of}
 use Rattle.ccan_line.specs.declared.line_answer.LineAnswer.{LineAnswer}
 use Rattle.ccan_line.proofs.LinesApart.{host_apart}
-use Rattle.ccan_line.proofs.RoundsApart.{loads_apart}
+use Rattle.ccan_line.proofs.LoadsApart.{loads_apart}
 use Rattle.ccan_line.proofs.ScansApart.{apart, scans_apart}
 use Rattle.ccan_map.specs.declared.map.Map.{Map}
 use Rattle.ccan_map.specs.declared.map.Map.TheVariants.{Dcan, Narrow, Wide}

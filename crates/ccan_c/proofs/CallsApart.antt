@@ -27,7 +27,7 @@ use Rattle.ccan_endless.specs.declared.controller_changed.ControllerChanged.{Con
 use Rattle.ccan_endless.specs.Chip.{ChipHistory}
 use Rattle.ccan_line.specs.Limits.{most_frames, most_groups, most_turns}
 use Rattle.ccan_line.proofs.ChoicesApart.{at_once_apart}
-use Rattle.ccan_line.proofs.RoundsApart.{loads_apart}
+use Rattle.ccan_line.proofs.LoadsApart.{loads_apart}
 use Rattle.ccan_line.proofs.ScansApart.{watches_apart}
 use Rattle.ccan_map.specs.declared.map.Map.{Map}
 use Rattle.ccan_registers.specs.declared.interface_set.InterfaceSet.{InterfaceSet}

@@ -3,8 +3,8 @@ use Rattle.std.proofs.Common.{ℕ, zero, suc, ◌≡◌, ◌<◌, ◌||◌, Bool
 use Rattle.std.specs.List.{list_any}
 use Rattle.ccan_accept.specs.Frame.{FrameFields}
 use Rattle.ccan_ram.specs.declared.port.PortName.{PortName}
+use Rattle.ccan_line.specs.declared.line_end.LineEnd.{LineEnd}
 use Rattle.ccan_script.specs.Print.{line_text}
-use Rattle.ccan_process.specs.declared.line_end.LineEnd.{LineEnd}
 use Rattle.ccan_lab.specs.Rows.{begins_so, end_lines, frame_in, frame_line, frame_lines, has_line, told_frame}
 
 or_false : (b : Bool) → (b || false) ≡ b

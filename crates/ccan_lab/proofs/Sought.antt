@@ -12,12 +12,12 @@ use Rattle.ccan_language.specs.Signs.{has_sign, has_signs, first_with as first_w
 use Rattle.ccan_language.proofs.Borne.{position_map}
 use Rattle.ccan_language.proofs.Grown.{first_in, later_in}
 use Rattle.ccan_language.proofs.Listed.{its_words}
-use Rattle.ccan_process.specs.declared.line_end.LineEnd.{LineEnd}
 use Rattle.ccan_line.specs.declared.line_answer.LineAnswer.TheVariants as answer
 use Rattle.ccan_object.specs.declared.record.Record.{Record}
 use Rattle.ccan_ram.specs.declared.port.PortName.{PortName}
 use Rattle.ccan_ram.specs.declared.port.PortName.TheVariants.{If1, If2, Bus}
-use Rattle.ccan_process.specs.LineEnd.{unframed}
+use Rattle.ccan_line.specs.declared.line_end.LineEnd.{LineEnd}
+use Rattle.ccan_line.specs.LineEnd.{unframed}
 use Rattle.ccan_outcomes.specs.declared.answers.Answers.{Answers}
 use Rattle.ccan_outcomes.specs.declared.ending.Ending.{Ending}
 use Rattle.ccan_outcomes.specs.declared.words.OutcomeWords.{OutcomeWords}

@@ -9,10 +9,10 @@ use Rattle.ccan_line.specs.Script.{ScriptFields}
 use Rattle.ccan_ram.specs.declared.port.PortName.{PortName}
 use Rattle.ccan_ram.specs.declared.port.PortName.TheVariants.{If1, If2, Bus}
 use Rattle.ccan_ram.specs.Port.{port_text}
+use Rattle.ccan_line.specs.declared.line_end.LineEnd.{LineEnd}
+use Rattle.ccan_line.specs.LineEnd.{answers_of, as_told, told_answer, told_round}
 use Rattle.ccan_run.specs.declared.outcome.Outcome.{Outcome}
 use Rattle.ccan_script.specs.Print.{answer_text, line_text, round_text}
-use Rattle.ccan_process.specs.declared.line_end.LineEnd.{LineEnd}
-use Rattle.ccan_process.specs.LineEnd.{answers_of, as_told, told_answer, told_round}
 use Rattle.ccan_outcomes.specs.declared.ending.Ending.{Ending}
 use Rattle.ccan_outcomes.specs.Behind.{told_ends}
 use Rattle.ccan_outcomes.specs.Ending.{Reports, Shows}

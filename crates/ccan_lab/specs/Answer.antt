@@ -5,7 +5,7 @@ use Rattle.std.specs.List.{flat_map, list_any}
 use Rattle.ccan_line.specs.Script.{ScriptFields}
 use Rattle.ccan_words.specs.OneWordEach.{same_object}
 use Rattle.ccan_run.specs.declared.outcome.Outcome.{Outcome}
-use Rattle.ccan_process.specs.Begun.{RunsBehind}
+use Rattle.ccan_machine.specs.Begun.{RunsBehind}
 use Rattle.ccan_outcomes.specs.declared.ending.Ending.{Ending}
 use Rattle.ccan_outcomes.specs.Ending.{AreOutcomes, Shows}
 use Rattle.ccan_lab.specs.Beginnings.{can_begin}

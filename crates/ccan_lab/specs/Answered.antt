@@ -3,7 +3,7 @@ use Rattle.std.specs.Prelude.{ℕ, ◌≡◌, ◌+◌, ◌⊎◌, Bool, true, fa
 use Rattle.ccan_script.specs.Race.{RaceFields, RefusesRace, ShowsRace}
 use Rattle.ccan_script.specs.Reader.{RefusesText}
 use Rattle.ccan_line.specs.Script.{ScriptFields}
-use Rattle.ccan_process.specs.WaitLaws.{looking_once}
+use Rattle.ccan_machine.specs.WaitLaws.{looking_once}
 use Rattle.ccan_run.specs.declared.run_error.RunError.TheVariants as input
 use Rattle.ccan_outcomes.specs.contracts.all_ports.AllPortsPartialEq.TheImpl.{ghosts as ports_are}
 use Rattle.ccan_outcomes.specs.contracts.ending.EndingPartialEq.TheImpl.{ghosts as ending_is}

@@ -1,9 +1,9 @@
 -- The lines that the outcomes of a script have in each place, port by port and object by object. Source: this project's own.
 use Rattle.std.specs.Prelude.{ℕ, ◌≡◌, ◌+◌, ◌-◌, ◌++◌, List, Some, length, map, slice_get}
 use Rattle.std.specs.List.{Contains}
-use Rattle.ccan_process.specs.declared.line_end.LineEnd.{LineEnd}
 use Rattle.ccan_object.specs.declared.record.Record.{Record}
 use Rattle.ccan_ram.specs.declared.port.PortName.{PortName}
+use Rattle.ccan_line.specs.declared.line_end.LineEnd.{LineEnd}
 use Rattle.ccan_outcomes.specs.declared.ending.Ending.{Ending}
 use Rattle.ccan_outcomes.specs.OutcomeWords.{EndsSo}
 use Rattle.ccan_lab.specs.Rows.{final_rows, line_at, row_text}

@@ -4,7 +4,7 @@ use Rattle.ccan_language.specs.declared.letter.Letter.{Letter}
 use Rattle.ccan_line.specs.declared.line_answer.LineAnswer.TheVariants as answer
 use Rattle.ccan_ram.specs.declared.port.PortName.{PortName}
 use Rattle.ccan_ram.specs.declared.port.PortName.TheVariants.{If1, If2, Bus}
-use Rattle.ccan_process.specs.LineEnd.{unframed}
+use Rattle.ccan_line.specs.LineEnd.{unframed}
 use Rattle.ccan_outcomes.specs.declared.words.OutcomeWords.{OutcomeWords}
 use Rattle.ccan_lab.specs.Rows.{end_lines, final_rows, has_line}
 

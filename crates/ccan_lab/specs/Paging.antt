@@ -6,7 +6,7 @@ use Rattle.std.specs.Str.{bytes_eq}
 use Rattle.ccan_ram.specs.declared.port.PortName.{PortName}
 use Rattle.ccan_line.specs.Script.{ScriptFields}
 use Rattle.ccan_explain.specs.declared.step.Step as told
-use Rattle.ccan_process.specs.WaitLaws.{looking_once}
+use Rattle.ccan_machine.specs.WaitLaws.{looking_once}
 use Rattle.ccan_outcomes.specs.declared.ending.Ending.{Ending}
 use Rattle.ccan_outcomes.specs.declared.history_step.HistoryStep.{HistoryStep}
 use Rattle.ccan_outcomes.specs.Ending.{AreAllEnds, AreOfRuns, AreOutcomes}

@@ -8,9 +8,9 @@ use Rattle.ccan_object.specs.Profile.{objects_in}
 use Rattle.ccan_accept.specs.Frame.{FrameFields}
 use Rattle.ccan_ram.specs.declared.port.PortName.{PortName}
 use Rattle.ccan_ram.specs.declared.port.PortName.TheVariants.{If1, If2, Bus}
+use Rattle.ccan_line.specs.declared.line_end.LineEnd.{LineEnd}
 use Rattle.ccan_script.specs.Print.{final_line, line_text}
 use Rattle.ccan_explain.specs.FrameText.{frame_text}
-use Rattle.ccan_process.specs.declared.line_end.LineEnd.{LineEnd}
 use Rattle.ccan_outcomes.specs.declared.ending.Ending.{Ending}
 
 -- ---- how a line ended, as it is printed

@@ -2,10 +2,10 @@
 use Rattle.std.specs.Prelude.{◌≡◌, ◌++◌, ◌∷◌, Bool, true, None, if◌then◌else◌}
 use Rattle.ccan_line.specs.Script.{ScriptFields}
 use Rattle.ccan_ram.specs.declared.port.PortName.{PortName}
+use Rattle.ccan_line.specs.declared.line_end.LineEnd.{LineEnd}
+use Rattle.ccan_line.specs.LineEnd.{told_end}
 use Rattle.ccan_run.specs.declared.outcome.Outcome.{Outcome}
 use Rattle.ccan_script.specs.Print.{line_text}
-use Rattle.ccan_process.specs.declared.line_end.LineEnd.{LineEnd}
-use Rattle.ccan_process.specs.LineEnd.{told_end}
 use Rattle.ccan_outcomes.specs.declared.ending.Ending.{Ending}
 use Rattle.ccan_outcomes.specs.Ending.{Reports, Shows, told_ending}
 use Rattle.ccan_lab.specs.Rows.{end_lines, frame_lines, frame_row, lines_of, row_text, rows_of}

@@ -2,7 +2,7 @@
 ghost use Rattle.std.specs.Prelude.{◌≡◌, ◌<◌, ◌≤◌, ◌-◌, ◌^◌, [], IfOk, IfSome, get_or, length, map, string_bytes};
 ghost use Rattle.std.specs.List.{enumerate_from, list_any, range_with_len};
 ghost use Rattle.ccan_line.specs.declared.line_answer.LineAnswer.TheVariants.{Init};
-ghost use Rattle.ccan_process.specs.LineEnd.{unframed};
+ghost use Rattle.ccan_line.specs.LineEnd.{unframed};
 ghost use Rattle.ccan_outcomes.specs.OutcomeWords.{AreOfLines, endings_in};
 ghost use Rattle.ccan_lab.specs.Answer.{first_with};
 ghost use Rattle.ccan_lab.specs.LineSigns.{lines_of_letter, port_at};
@@ -11,9 +11,9 @@ ghost use Rattle.ccan_lab.specs.Sorted.{texts_of};
 
 use crate::rows::{MAX_OBJECTS, begins_so, final_row, first_records, told_frame};
 use ccan_language::{Letter, Signs};
+use ccan_line::LineEnd;
 use ccan_object::{ObjectNo, Record};
 use ccan_outcomes::OutcomeWords;
-use ccan_process::LineEnd;
 use ccan_ram::PortName;
 use ccan_script::{LineAnswer, print_line};
 use std::alloc::{AllocError, Global};

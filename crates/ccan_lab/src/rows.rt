@@ -9,9 +9,9 @@ ghost use Rattle.ccan_lab.specs.Rows.{line_at, row_text, rows_of, told_frame};
 
 use ccan_accept::Frame;
 use ccan_explain::push_frame;
+use ccan_line::LineEnd;
 use ccan_object::{ObjectNo, Record};
 use ccan_outcomes::Ending;
-use ccan_process::LineEnd;
 use ccan_ram::PortName;
 use ccan_script::{PrintedLine, print_final, print_line};
 use std::alloc::{AllocError, Global};

@@ -14,6 +14,7 @@ use Rattle.ccan_line.specs.Script.{ScriptFields}
 use Rattle.ccan_line.specs.Host.{HostLineMeans}
 use Rattle.ccan_line.specs.BusPort.{BusLineMeans}
 use Rattle.ccan_line.specs.Turn.{PortLine, of_if1, of_if2, of_bus, Three, PortLineMeans, terms_of}
+use Rattle.ccan_line.proofs.InTurn.{ChoosesInTurn}
 use Rattle.ccan_line.proofs.LinesApart.{host_apart, bus_apart}
 
 -- ---- events
@@ -66,27 +67,27 @@ module _ (contends : ℕ → ℕ → Bool) (memory : Memory) (script : ScriptFie
 
   pub port_line_apart : (line : PortLine) (three : Three) (seen added : List Event) (reply : PortName × LineAnswer)
       (left : Three)
-      → NobodyElse reply.0 added
+      → ChoosesInTurn three.bus → NobodyElse reply.0 added
       → PortLineMeans (shared.terms_of contends memory) script.tries line three seen added reply left
       → PortLineMeans (terms_of script) script.tries line three seen added reply left
-  port_line_apart (of_if1 line) three seen added reply left alone (after, port, means, is) =
+  port_line_apart (of_if1 line) three seen added reply left in_turn alone (after, port, means, is) =
       let mine = subst (λ (p : PortName). NobodyElse p added) port alone in
       let one = host_apart (shared.terms_of contends memory If1) script.tries some seen added
       mine line three.first reply.1 after means in
       let single = subst (λ (t : Terms). HostLineMeans t script.tries line three.first seen added reply.1 after)
       (single_is If1) one in
       (after, port, single, is)
-  port_line_apart (of_if2 line) three seen added reply left alone (after, port, means, is) =
+  port_line_apart (of_if2 line) three seen added reply left in_turn alone (after, port, means, is) =
       let mine = subst (λ (p : PortName). NobodyElse p added) port alone in
       let one = host_apart (shared.terms_of contends memory If2) script.tries some seen added
       mine line three.second reply.1 after means in
       let single = subst (λ (t : Terms). HostLineMeans t script.tries line three.second seen added reply.1 after)
       (single_is If2) one in
       (after, port, single, is)
-  port_line_apart (of_bus line) three seen added reply left alone (after, port, means, is) =
+  port_line_apart (of_bus line) three seen added reply left in_turn alone (after, port, means, is) =
       let mine = subst (λ (p : PortName). NobodyElse p added) port alone in
       let one = bus_apart (shared.terms_of contends memory Bus) script.tries some seen added
-      mine line three.bus reply.1 after means in
+      mine line three.bus reply.1 after in_turn means in
       let single = subst (λ (t : Terms). BusLineMeans t script.tries line three.bus seen added reply.1 after)
       (single_is Bus) one in
       (after, port, single, is)

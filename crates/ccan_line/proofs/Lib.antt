@@ -1,6 +1,16 @@
 pub mod Rows
 pub mod ScansApart
 pub mod ChoicesApart
-pub mod RoundsApart
+pub mod LoadsApart
+pub mod Parts
+pub mod LooksRun
+pub mod HostLinesRun
+pub mod ScansRun
+pub mod LoadsRun
+pub mod RoundsRun
+pub mod Pending
+pub mod BusLinesRun
+pub mod InTurn
+pub mod PortsRun
 pub mod LinesApart
 pub mod Apart

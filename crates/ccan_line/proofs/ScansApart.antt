@@ -12,7 +12,7 @@ use Rattle.ccan_ram.specs.Terms.{Terms}
 use Rattle.ccan_ram.specs.Laws.{as_one_thread}
 use Rattle.ccan_ram.proofs.Histories.{undisturbed_parts}
 use Rattle.ccan_ram.proofs.Undisturbed.{looks_undisturbed, attempts_undisturbed}
-use Rattle.ccan_handler.specs.Watch.{Looks, in_turn, NoneShows, FirstShows, Watches, Interrupts, ReadsFlags}
+use Rattle.ccan_handler.specs.Watch.{Looks, NoneShows, FirstShows, Watches}
 use Rattle.ccan_handler.specs.Scan.{IsTried, IsPassed, PassesOver, StopsAt, Scan, ScanEnd, Nowhere, MadeAt, RefusedAt}
 
 -- nobody else acts in either part
@@ -56,17 +56,6 @@ module _ (terms : Terms) where
         → Watches (as_one_thread terms) object flag turns added shown
     watches_apart object flag turns true (count, less, h) = (count, less, first_apart (λ before. object) flag count h)
     watches_apart object flag turns false h = none_apart (λ before. object) flag turns h
-
-    pub interrupts_apart : (pending : Bool) (value : ℕ) → Interrupts terms pending added value
-        → Interrupts (as_one_thread terms) pending added value
-    interrupts_apart true value h = h
-    interrupts_apart false value (inl (is, h)) = inl (is, none_apart _ _ _ h)
-    interrupts_apart false value (inr (count, less, is, h)) = inr (count, less, is, first_apart _ _ count h)
-
-    pub words_apart : (flag : Flag) (word : ℕ) → ReadsFlags terms flag added word
-        → ReadsFlags (as_one_thread terms) flag added word
-    words_apart flag word h =
-        record { shown = h.shown; looks = looks_apart in_turn h.shown added alone h.looks; counted = h.counted; is = h.is }
 
 -- ---- scans
 

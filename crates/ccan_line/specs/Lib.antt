@@ -11,3 +11,6 @@ pub mod BusPort
 pub mod Gate
 pub mod Port
 pub mod Turn
+pub mod LineEnd
+pub mod LineProcess
+pub mod LineProcessLaws

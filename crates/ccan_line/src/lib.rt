@@ -11,7 +11,8 @@
 //! ```
 //!
 //! What a line stands for is said once, for hosts and for the bus, over any access: which events it adds, what it answers,
-//! and how it leaves what the next line of its port finds ([`Side`], [`run_lines`]). There is neither text nor thread here:
+//! and how it leaves what the next line of its port finds ([`Side`], [`run_lines`]). Each line is also a process of
+//! `ccan_process`, and a port the processes of its lines ([`line_process_laws`]). There is neither text nor thread here:
 //! `ccan_script` reads lines from JSON and prints answers, `ccan_run` runs the lines of three ports in an order or at once.
 #![tactic(auto)]
 
@@ -22,6 +23,8 @@ pub mod host;
 pub mod host_line;
 pub mod limits;
 pub mod line_answer;
+pub mod line_end;
+pub mod line_process_laws;
 pub mod port;
 pub mod register_set;
 pub mod script;
@@ -36,6 +39,7 @@ pub use limits::{
     MAX_LINES, MAX_NAMES, MAX_NODES, MAX_PROFILE, MAX_QUOTA, MAX_TRIES, MAX_TURNS,
 };
 pub use line_answer::LineAnswer;
+pub use line_end::LineEnd;
 pub use port::run_port;
 pub use register_set::RegisterSet;
 pub use script::Script;

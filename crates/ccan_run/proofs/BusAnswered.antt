@@ -20,6 +20,7 @@ use Rattle.ccan_ram.specs.History.{changes_by, events_of}
 use Rattle.ccan_ram.specs.Terms.{Terms}
 use Rattle.ccan_ram.specs.Attempt.{Attempt}
 use Rattle.ccan_handler.specs.Watch.{Interrupts, ReadsFlags}
+use Rattle.ccan_handler.specs.Moment.{Chosen}
 use Rattle.ccan_handler.specs.Scan.{Scan, Nowhere, MadeAt, RefusedAt}
 use Rattle.ccan_handler.proofs.Own.{bounds_law}
 use Rattle.ccan_bus.specs.declared.answer.LoadAnswer.{LoadAnswer}
@@ -30,7 +31,7 @@ use Rattle.ccan_bus.specs.declared.round_line.RoundLine.{RoundLine}
 use Rattle.ccan_bus.specs.Past.{BusPast, hears_itself, is_on, opened}
 use Rattle.ccan_bus.specs.Contenders.{IsWonBy, contenders, own_frame}
 use Rattle.ccan_bus.specs.declared.choice.Choice.{Choice}
-use Rattle.ccan_bus.specs.declared.choice.Choice.TheVariants.{InTurn, AtOnce}
+use Rattle.ccan_bus.specs.declared.choice.Choice.TheVariants.{InTurn}
 use Rattle.ccan_bus.specs.Choice.{Chooses}
 use Rattle.ccan_bus.specs.Load.{Loads}
 use Rattle.ccan_bus.specs.LoopBack.{AtFinish, AtScan, LoopsBack}
@@ -44,8 +45,9 @@ use Rattle.ccan_line.specs.Lines.{LinesMean}
 use Rattle.ccan_line.specs.BusPort.{BusLineMeans}
 use Rattle.ccan_run.specs.Answered.{HasStep, NamesPending, WordWasShown, WasChanged, WasSent, WasStored, RoundShownBy}
 use Rattle.ccan_run.specs.Answered.{BusShownBy, IsBusReplyTo, IsBusPart, BusInOrder, BusMakes, RoundMakes, IsAtMost, changes_in}
+use Rattle.ccan_line.proofs.InTurn.{ChoosesInTurn, line_keeps}
 use Rattle.ccan_run.proofs.HostChanges.{changes_by-attempt, changes_by-interrupt, changes_by-flags}
-use Rattle.ccan_run.proofs.BusChanges.{changes_in-none, changes_in-one, changes_in-append, changes_by-choice}
+use Rattle.ccan_run.proofs.BusChanges.{changes_in-none, changes_in-one, changes_in-append, changes_by-choice, made_by}
 use Rattle.ccan_run.proofs.StepsShown.{in_newest, in_earlier, done_at, interrupt_shown, word_shown}
 
 -- ---- what stands in a part of the history stands in it
@@ -149,16 +151,24 @@ module _ (terms : Terms) (bus : terms.port ≡ Bus) (tries : ℕ) where
       (newest_changed h.last t.tried t.looked t.whole object change after
       (made object change (t.looked ++ (h.passed ++ seen)) t.tried before after number t.attempt))
 
-  chosen : (choice : Choice) (object : ℕ) (seen added : List Event) (started : Record)
-      → Chooses choice terms tries seen added (Ok (Some (object, started))) → WasChanged object Start started added
-  chosen InTurn object seen added started (before, number, h) = scanned object 1 Start seen added before started number h
-  chosen AtOnce object seen added started h =
-      let s = h.choice in
-      newest_changed added h.tried h.looked h.whole object Start started
-      (newest_changed h.tried s.last s.skipped s.whole object Start started
-      (made object Start (s.skipped ++ (h.looked ++ seen)) s.last s.start.1 started s.start.2 s.start.3))
+  -- what a bus that chooses object after object has chosen
+  chooses : (past : BusPast) (seen added : List Event) (answer : Chosen) → ChoosesInTurn past
+      → Chooses past.choice terms tries seen added answer → Chooses InTurn terms tries seen added answer
+  chooses past seen added answer in_turn h =
+      subst (λ (choice : Choice). Chooses choice terms tries seen added answer) in_turn h
+
+  chosen : (past : BusPast) (object : ℕ) (seen added : List Event) (started : Record) → ChoosesInTurn past
+      → Chooses past.choice terms tries seen added (Ok (Some (object, started))) → WasChanged object Start started added
+  chosen past object seen added started in_turn h =
+      let (before, number, scan) = chooses past seen added (Ok (Some (object, started))) in_turn h in
+      scanned object 1 Start seen added before started number scan
 
   -- ---- changes
+
+  counted : (past : BusPast) (seen added : List Event) (answer : Chosen) → ChoosesInTurn past
+      → Chooses past.choice terms tries seen added answer → changes_by terms.port added ≡ made_by answer
+  counted past seen added answer in_turn h =
+      changes_by-choice terms tries seen added answer (chooses past seen added answer in_turn h)
 
   none : (added : List Event) → changes_by terms.port added ≡ 0 → changes_in Bus added ≡ []
   none added is = changes_in-none Bus added (subst (λ (port : PortName). changes_by port added ≡ 0) bus is)
@@ -187,57 +197,62 @@ module _ (terms : Terms) (bus : terms.port ≡ Bus) (tries : ℕ) where
 
   -- ---- loads and rounds
 
-  loads : (seen added : List Event) (past after : BusPast) (loading : LoadAnswer)
+  loads : (seen added : List Event) (past after : BusPast) (loading : LoadAnswer) → ChoosesInTurn past
       → Loads terms tries seen added past after loading
       → BusShownBy terms.profile line.Load (answer.Load loading) seen added
-  loads seen added past after (load.Loaded object started) h = chosen past.choice object seen added started h.choice.chooses
-  loads seen added past after (load.Held object) h = tt
-  loads seen added past after load.Nothing h = tt
-  loads seen added past after (load.Busy object) h = tt
-  loads seen added past after (load.Spent object) h = tt
+  loads seen added past after (load.Loaded object started) in_turn h =
+      chosen past object seen added started in_turn h.choice.chooses
+  loads seen added past after (load.Held object) in_turn h = tt
+  loads seen added past after load.Nothing in_turn h = tt
+  loads seen added past after (load.Busy object) in_turn h = tt
+  loads seen added past after (load.Spent object) in_turn h = tt
 
-  load_makes : (seen added : List Event) (past after : BusPast) (loading : LoadAnswer)
+  load_makes : (seen added : List Event) (past after : BusPast) (loading : LoadAnswer) → ChoosesInTurn past
       → Loads terms tries seen added past after loading
       → BusMakes (answer.Load loading) (changes_in Bus added)
-  load_makes seen added past after (load.Loaded object started) h =
-      one object Start started added (changes_by-choice terms past.choice tries seen added _ h.choice.chooses)
-      (chosen past.choice object seen added started h.choice.chooses)
-  load_makes seen added past after (load.Held object) h = ap (changes_in Bus) h.quiet
-  load_makes seen added past after load.Nothing (inl h) = ap (changes_in Bus) h.quiet
-  load_makes seen added past after load.Nothing (inr h) =
-      none added (changes_by-choice terms past.choice tries seen added _ h.choice.chooses)
-  load_makes seen added past after (load.Busy object) (told, now, h) =
-      none added (changes_by-choice terms past.choice tries seen added _ h.choice.chooses)
-  load_makes seen added past after (load.Spent object) h =
-      none added (changes_by-choice terms past.choice tries seen added _ h.choice.chooses)
+  load_makes seen added past after (load.Loaded object started) in_turn h =
+      one object Start started added (counted past seen added (Ok (Some (object, started))) in_turn h.choice.chooses)
+      (chosen past object seen added started in_turn h.choice.chooses)
+  load_makes seen added past after (load.Held object) in_turn h = ap (changes_in Bus) h.quiet
+  load_makes seen added past after load.Nothing in_turn (inl h) = ap (changes_in Bus) h.quiet
+  load_makes seen added past after load.Nothing in_turn (inr h) =
+      none added (counted past seen added (Ok None) in_turn h.choice.chooses)
+  load_makes seen added past after (load.Busy object) in_turn (told, now, h) =
+      none added (counted past seen added (Err (record { at = object; why = refused.Busy told now })) in_turn h.choice.chooses)
+  load_makes seen added past after (load.Spent object) in_turn h =
+      none added (counted past seen added (Err (record { at = object; why = refused.Spent })) in_turn h.choice.chooses)
 
-  load_starts : (seen added : List Event) (past after : BusPast) (loading : LoadAnswer)
+  load_starts : (seen added : List Event) (past after : BusPast) (loading : LoadAnswer) → ChoosesInTurn past
       → Loads terms tries seen added past after loading
       → IsAtMost Start (changes_in Bus added)
-  load_starts seen added past after (load.Loaded object started) h =
-      inr (object, load_makes seen added past after (load.Loaded object started) h)
-  load_starts seen added past after (load.Held object) h = inl (load_makes seen added past after (load.Held object) h)
-  load_starts seen added past after load.Nothing h = inl (load_makes seen added past after load.Nothing h)
-  load_starts seen added past after (load.Busy object) h = inl (load_makes seen added past after (load.Busy object) h)
-  load_starts seen added past after (load.Spent object) h = inl (load_makes seen added past after (load.Spent object) h)
+  load_starts seen added past after (load.Loaded object started) in_turn h =
+      inr (object, load_makes seen added past after (load.Loaded object started) in_turn h)
+  load_starts seen added past after (load.Held object) in_turn h =
+      inl (load_makes seen added past after (load.Held object) in_turn h)
+  load_starts seen added past after load.Nothing in_turn h =
+      inl (load_makes seen added past after load.Nothing in_turn h)
+  load_starts seen added past after (load.Busy object) in_turn h =
+      inl (load_makes seen added past after (load.Busy object) in_turn h)
+  load_starts seen added past after (load.Spent object) in_turn h =
+      inl (load_makes seen added past after (load.Spent object) in_turn h)
 
-  load_carries : (seen added : List Event) (past after : BusPast) (loading : LoadAnswer)
+  load_carries : (seen added : List Event) (past after : BusPast) (loading : LoadAnswer) → ChoosesInTurn past
       → Loads terms tries seen added past after loading
       → Carries past seen → Carries after (added ++ seen)
-  load_carries seen added past after (load.Loaded object started) h carries loaded is =
+  load_carries seen added past after (load.Loaded object started) in_turn h carries loaded is =
       let same : (object, started) ≡ loaded = let e = sym (ap (λ (p : BusPast). p.loaded) h.now_loaded) ∙ is in cc in
       subst (λ (l : ℕ × Record). WasChanged l.0 Start l.1 (added ++ seen)) same
       (newest_changed (added ++ seen) added seen refl object Start started
-      (chosen past.choice object seen added started h.choice.chooses))
-  load_carries seen added past after (load.Held object) h carries loaded is =
+      (chosen past object seen added started in_turn h.choice.chooses))
+  load_carries seen added past after (load.Held object) in_turn h carries loaded is =
       carries_same past after seen added (ap (λ (p : BusPast). p.loaded) h.same) carries loaded is
-  load_carries seen added past after load.Nothing (inl h) carries loaded is =
+  load_carries seen added past after load.Nothing in_turn (inl h) carries loaded is =
       carries_same past after seen added (ap (λ (p : BusPast). p.loaded) h.same) carries loaded is
-  load_carries seen added past after load.Nothing (inr h) carries loaded is =
+  load_carries seen added past after load.Nothing in_turn (inr h) carries loaded is =
       carries_same past after seen added (ap (λ (p : BusPast). p.loaded) h.same) carries loaded is
-  load_carries seen added past after (load.Busy object) (told, now, h) carries loaded is =
+  load_carries seen added past after (load.Busy object) in_turn (told, now, h) carries loaded is =
       carries_same past after seen added (ap (λ (p : BusPast). p.loaded) h.same) carries loaded is
-  load_carries seen added past after (load.Spent object) h carries loaded is =
+  load_carries seen added past after (load.Spent object) in_turn h carries loaded is =
       carries_same past after seen added (ap (λ (p : BusPast). p.loaded) h.same) carries loaded is
 
   -- what is finished was loaded, and so started
@@ -390,11 +405,11 @@ module _ (terms : Terms) (bus : terms.port ≡ Bus) (tries : ℕ) where
   continues (load.Busy object) sends seen added past after ended carries h = rw h.told (tt, inl (ap (changes_in Bus) h.quiet))
   continues (load.Spent object) sends seen added past after ended carries h = rw h.told (tt, inl (ap (changes_in Bus) h.quiet))
 
-  rounds : (sends : RoundLine) (seen added : List Event) (past after : BusPast) (ended : RoundAnswer) → Carries past seen
-      → Round terms sends tries seen added past after ended
+  rounds : (sends : RoundLine) (seen added : List Event) (past after : BusPast) (ended : RoundAnswer) → ChoosesInTurn past
+      → Carries past seen → Round terms sends tries seen added past after ended
       → IsBusPart terms.profile (line.Round sends) (answer.Round ended) seen added
-  rounds sends seen added past after ended carries h =
-      let loaded = load_carries seen h.first past h.between h.loading h.loads carries in
+  rounds sends seen added past after ended in_turn carries h =
+      let loaded = load_carries seen h.first past h.between h.loading in_turn h.loads carries in
       let follows = continues h.loading sends (h.first ++ seen) h.last h.between after ended loaded h.continues in
       record {
         shown = newest_shows added h.last h.first h.whole sends.send.items seen ended follows.0;
@@ -402,7 +417,7 @@ module _ (terms : Terms) (bus : terms.port ≡ Bus) (tries : ℕ) where
           changes_in Bus h.last,
           changes_in Bus h.first,
           ap (changes_in Bus) h.whole ∙ changes_in-append Bus h.last h.first,
-          load_starts seen h.first past h.between h.loading h.loads,
+          load_starts seen h.first past h.between h.loading in_turn h.loads,
           follows.1,
         );
       }
@@ -422,7 +437,7 @@ module _ (terms : Terms) (bus : terms.port ≡ Bus) (tries : ℕ) where
   idle_same (load.Busy object) sends seen added past after h = h.same
   idle_same (load.Spent object) sends seen added past after h = h.same
 
-  module _ (sends : RoundLine) (seen added : List Event) (past after : BusPast) where
+  module _ (sends : RoundLine) (seen added : List Event) (past after : BusPast) (in_turn : ChoosesInTurn past) where
     abbrev Keeps : RoundAnswer → Type 0
     Keeps ended = Round terms sends tries seen added past after ended → Carries past seen → Carries after (added ++ seen)
 
@@ -434,7 +449,7 @@ module _ (terms : Terms) (bus : terms.port ≡ Bus) (tries : ℕ) where
     round_carries round.Idle h carries =
         let same = idle_same h.loading sends (h.first ++ seen) h.last h.between after h.continues in
         let there = carries_same h.between after (h.first ++ seen) h.last (ap (λ (p : BusPast). p.loaded) same)
-        (load_carries seen h.first past h.between h.loading h.loads carries) in
+        (load_carries seen h.first past h.between h.loading in_turn h.loads carries) in
         let all : h.last ++ (h.first ++ seen) ≡ added ++ seen =
         sym (append_assoc h.last h.first seen) ∙ ap (λ (es : List Event). es ++ seen) (sym h.whole) in
         subst (λ (es : List Event). Carries after es) all there
@@ -471,49 +486,53 @@ module _ (terms : Terms) (bus : terms.port ≡ Bus) (tries : ℕ) where
       }
 
   bus_line : (line : BusLine) (past : BusPast) (seen added : List Event) (reply : LineAnswer) (after : BusPast)
-      → Carries past seen → BusLineMeans terms tries line past seen added reply after
+      → ChoosesInTurn past → Carries past seen → BusLineMeans terms tries line past seen added reply after
       → IsBusPart terms.profile line reply seen added
-  bus_line line.Load past seen added reply after carries (loading, is, h) =
-      rw is (record { shown = loads seen added past after loading h; changes = load_makes seen added past after loading h })
-  bus_line (line.Round sends) past seen added reply after carries (ended, is, h) =
-      rw is (rounds sends seen added past after ended carries h)
-  bus_line line.Status past seen added reply after carries (word, is, quiet, h) =
+  bus_line line.Load past seen added reply after in_turn carries (loading, is, h) =
+      rw is (record {
+        shown = loads seen added past after loading in_turn h;
+        changes = load_makes seen added past after loading in_turn h;
+      })
+  bus_line (line.Round sends) past seen added reply after in_turn carries (ended, is, h) =
+      rw is (rounds sends seen added past after ended in_turn carries h)
+  bus_line line.Status past seen added reply after in_turn carries (word, is, quiet, h) =
       rw is (record { shown = tt; changes = ap (changes_in Bus) quiet })
-  bus_line (line.Control sie eie) past seen added reply after carries h =
+  bus_line (line.Control sie eie) past seen added reply after in_turn carries h =
       rw h.answer_is (record { shown = tt; changes = ap (changes_in Bus) h.quiet })
-  bus_line line.Interrupt past seen added reply after carries h =
+  bus_line line.Interrupt past seen added reply after in_turn carries h =
       rw h.answer_is (interrupts h.pending h.value seen added h.reads)
-  bus_line (line.Flags flag) past seen added reply after carries h = rw h.answer_is (flags flag h.word seen added h.reads)
-  bus_line (line.Counters node) past seen added reply after carries h =
+  bus_line (line.Flags flag) past seen added reply after in_turn carries h = rw h.answer_is (flags flag h.word seen added h.reads)
+  bus_line (line.Counters node) past seen added reply after in_turn carries h =
       rw h.answer_is (record { shown = tt; changes = ap (changes_in Bus) h.quiet })
-  bus_line line.Init past seen added reply after carries h =
+  bus_line line.Init past seen added reply after in_turn carries h =
       rw h.answer_is (record { shown = tt; changes = ap (changes_in Bus) h.quiet })
-  bus_line (line.Recessive groups) past seen added reply after carries h =
+  bus_line (line.Recessive groups) past seen added reply after in_turn carries h =
       rw h.answer_is (record { shown = tt; changes = ap (changes_in Bus) h.quiet })
-  bus_line (line.LoopBack on) past seen added reply after carries h =
+  bus_line (line.LoopBack on) past seen added reply after in_turn carries h =
       rw h.answer_is (record { shown = tt; changes = ap (changes_in Bus) h.quiet })
 
   line_carries : (line : BusLine) (past : BusPast) (seen added : List Event) (reply : LineAnswer) (after : BusPast)
-      → BusLineMeans terms tries line past seen added reply after → Carries past seen → Carries after (added ++ seen)
-  line_carries line.Load past seen added reply after (loading, is, h) carries =
-      load_carries seen added past after loading h carries
-  line_carries (line.Round sends) past seen added reply after (ended, is, h) carries =
-      round_carries sends seen added past after ended h carries
-  line_carries line.Status past seen added reply after (word, is, quiet, h) carries =
+      → ChoosesInTurn past → BusLineMeans terms tries line past seen added reply after → Carries past seen
+      → Carries after (added ++ seen)
+  line_carries line.Load past seen added reply after in_turn (loading, is, h) carries =
+      load_carries seen added past after loading in_turn h carries
+  line_carries (line.Round sends) past seen added reply after in_turn (ended, is, h) carries =
+      round_carries sends seen added past after in_turn ended h carries
+  line_carries line.Status past seen added reply after in_turn (word, is, quiet, h) carries =
       carries_same past after seen added (ap (λ (p : BusPast). p.loaded) h.read) carries
-  line_carries (line.Control sie eie) past seen added reply after h carries =
+  line_carries (line.Control sie eie) past seen added reply after in_turn h carries =
       carries_same past after seen added (ap (λ (p : BusPast). p.loaded) h.past_is) carries
-  line_carries line.Interrupt past seen added reply after h carries =
+  line_carries line.Interrupt past seen added reply after in_turn h carries =
       carries_same past after seen added (ap (λ (p : BusPast). p.loaded) h.past_is) carries
-  line_carries (line.Flags flag) past seen added reply after h carries =
+  line_carries (line.Flags flag) past seen added reply after in_turn h carries =
       carries_same past after seen added (ap (λ (p : BusPast). p.loaded) h.past_is) carries
-  line_carries (line.Counters node) past seen added reply after h carries =
+  line_carries (line.Counters node) past seen added reply after in_turn h carries =
       carries_same past after seen added (ap (λ (p : BusPast). p.loaded) h.past_is) carries
-  line_carries line.Init past seen added reply after h carries =
+  line_carries line.Init past seen added reply after in_turn h carries =
       carries_same past after seen added (ap (λ (p : BusPast). p.loaded) h.past_is) carries
-  line_carries (line.Recessive groups) past seen added reply after h carries =
+  line_carries (line.Recessive groups) past seen added reply after in_turn h carries =
       carries_same past after seen added (ap (λ (p : BusPast). p.loaded) h.past_is) carries
-  line_carries (line.LoopBack on) past seen added reply after h carries =
+  line_carries (line.LoopBack on) past seen added reply after in_turn h carries =
       carries_same past after seen added (ap (λ (p : BusPast). p.loaded) h.past_is) carries
 
   -- ---- what a line is answered
@@ -533,21 +552,23 @@ module _ (terms : Terms) (bus : terms.port ≡ Bus) (tries : ℕ) where
 
   -- the lines of the bus, whatever comes after them
   bus_lines : (lines : List BusLine) (past : BusPast) (seen added : List Event) (answers : List LineAnswer) (left : BusPast)
-      → Carries past seen → LinesMean (BusLineMeans terms tries) lines past seen added answers left → (more : List Event)
+      → ChoosesInTurn past → Carries past seen → LinesMean (BusLineMeans terms tries) lines past seen added answers left
+      → (more : List Event)
       → events_of Bus more ≡ [] → BusInOrder terms.profile lines answers seen (more ++ added)
-  bus_lines [] past seen added answers left carries (none, empty, same) more foreign =
+  bus_lines [] past seen added answers left in_turn carries (none, empty, same) more foreign =
       let last : events_of Bus (more ++ added) ≡ [] = rw none (ap (events_of Bus) (append-nil more) ∙ foreign) in
       subst (λ (l : List LineAnswer). BusInOrder terms.profile [] l seen (more ++ added)) (sym empty) last
-  bus_lines (line ∷ lines) past seen added answers left carries
+  bus_lines (line ∷ lines) past seen added answers left in_turn carries
       (later, first, reply, replies, between, whole, all, means, rest) more foreign =
-      let kept = line_carries line past seen first reply between means carries in
+      let kept = line_carries line past seen first reply between in_turn means carries in
+      let still = line_keeps terms tries line past between seen first reply in_turn means in
       let there : BusInOrder terms.profile (line ∷ lines) (reply ∷ replies) seen (more ++ added) = (
         more ++ later,
         first,
         ap (λ (es : List Event). more ++ es) whole ∙ sym (append_assoc more later first),
         replies_to line past seen first reply between means,
-        bus_line line past seen first reply between carries means,
-        bus_lines lines between (first ++ seen) later replies left kept rest more foreign,
+        bus_line line past seen first reply between in_turn carries means,
+        bus_lines lines between (first ++ seen) later replies left still kept rest more foreign,
       ) in
       subst (λ (l : List LineAnswer). BusInOrder terms.profile (line ∷ lines) l seen (more ++ added)) (sym all) there
 
@@ -556,4 +577,4 @@ module _ (terms : Terms) (bus : terms.port ≡ Bus) (tries : ℕ) where
       → LinesMean (BusLineMeans terms tries) lines (opened nodes) [] added answers left → (more : List Event)
       → events_of Bus more ≡ [] → BusInOrder terms.profile lines answers [] (more ++ added)
   opened_lines lines nodes added answers left means more foreign =
-      bus_lines lines (opened nodes) [] added answers left (carries_nothing (opened nodes) [] refl) means more foreign
+      bus_lines lines (opened nodes) [] added answers left refl (carries_nothing (opened nodes) [] refl) means more foreign

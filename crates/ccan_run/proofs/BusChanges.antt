@@ -1,34 +1,25 @@
 -- What a port changes in a part of the history, by how many changes it makes there, and how many the calls of the bus make.
-use Rattle.std.proofs.Common.{◌≡◌, ◌+◌, ◌&&◌, ℕ, zero, suc, Bool, true, false, List, [], ◌∷◌, ◌++◌, inl, inr, Some, None, Ok, Err}
+use Rattle.std.proofs.Common.{◌≡◌, ◌+◌, ◌&&◌, ℕ, Bool, true, false, List, [], ◌∷◌, ◌++◌, inl, inr, Some, None, Ok, Err}
 use Rattle.std.proofs.Common.{ap, arith, cond, length, refl, subst, sym}
 use Rattle.std.specs.Prelude.{Contains}
 use Rattle.std.proofs.lemmas.List.Elements.{Contains-append_cases, Contains-append_left, Contains-append_right}
 use Rattle.std.proofs.lemmas.List.Elements.{Contains-push, Contains-push_cases}
 use Rattle.ccan_object.specs.declared.record.Record.{Record}
-use Rattle.ccan_object.specs.Profile.{objects_in}
 use Rattle.ccan_ram.specs.declared.port.PortName.{PortName}
 use Rattle.ccan_ram.specs.declared.change.Change.{Change}
 use Rattle.ccan_ram.specs.declared.change.Change.TheVariants.{Start}
-use Rattle.ccan_ram.specs.declared.change.Changed.TheVariants.{Done, NotNow}
 use Rattle.ccan_ram.specs.declared.event.Event.{Event}
 use Rattle.ccan_ram.specs.declared.event.Operation.{Operation}
 use Rattle.ccan_ram.specs.declared.event.Operation.TheVariants.{Look, Make}
-use Rattle.ccan_ram.specs.declared.handler_registers.HandlerRegisters.{HandlerRegisters}
 use Rattle.ccan_ram.specs.Port.{same_port}
 use Rattle.ccan_ram.specs.History.{changes_by, is_making}
-use Rattle.ccan_ram.specs.declared.sending.Sending.TheVariants.{UntilSent}
 use Rattle.ccan_ram.specs.Terms.{Terms}
-use Rattle.ccan_ram.specs.Picture.{pictured, Turn, LostTurns}
-use Rattle.ccan_ram.proofs.Histories.{changes_by-append, changes_by-foreign}
-use Rattle.ccan_ram.proofs.Pictures.{pictured_changes}
 use Rattle.ccan_handler.specs.Scan.{Nowhere, MadeAt, RefusedAt}
-use Rattle.ccan_handler.specs.Moment.{Chosen, Starts, Skips}
+use Rattle.ccan_handler.specs.Moment.{Chosen}
 use Rattle.ccan_handler.proofs.Own.{its_own, bounds_law}
-use Rattle.ccan_bus.specs.declared.choice.Choice.{Choice}
-use Rattle.ccan_bus.specs.declared.choice.Choice.TheVariants.{InTurn, AtOnce}
+use Rattle.ccan_bus.specs.declared.choice.Choice.TheVariants.{InTurn}
 use Rattle.ccan_bus.specs.Choice.{Chooses}
 use Rattle.ccan_run.specs.Answered.{HasStep, changes_in, with_change}
-use Rattle.ccan_run.proofs.HostChanges.{changes_by-attempt}
 
 -- ---- the list of changes, and its length
 
@@ -112,121 +103,17 @@ changes_in-one port object change before left events one step =
     single (changes_in port events) (object, change) (omega (arith, counted port events, one))
     (among port object change before left events step)
 
--- ---- how many changes a choice makes
+-- ---- how many changes a choice makes, object after object
 
 abbrev pub made_by : Chosen → ℕ
 made_by (Ok None) = 0
 made_by (Ok (Some chosen)) = 1
 made_by (Err why) = 0
 
-module _ (terms : Terms) where
-  turn : (seen added : List Event) → Turn terms seen added → changes_by terms.port added ≡ 0
-  turn seen added t =
-      let port = terms.port in
-      let n = objects_in terms.profile in
-      omega (
-        arith,
-        ap (changes_by port) t.whole,
-        changes_by-append port t.after (pictured port n (t.before ++ seen) ++ t.before),
-        pictured_changes port port n (t.before ++ seen) t.before,
-        changes_by-foreign port t.before t.foreign_before.not_own,
-        changes_by-foreign port t.after t.foreign_after.not_own,
-      )
-
-  turns : (n : ℕ) (seen added : List Event) → LostTurns terms n seen added → changes_by terms.port added ≡ 0
-  turns zero seen added none = ap (changes_by terms.port) none
-  turns (suc n) seen added (last, earlier, whole, lost, rest) =
-      omega (
-        arith,
-        ap (changes_by terms.port) whole,
-        changes_by-append terms.port last earlier,
-        turn (earlier ++ seen) last lost.turn,
-        turns n seen earlier rest,
-      )
-
-  module _ (shown : HandlerRegisters) (tries : ℕ) where
-    skip : (object : ℕ) (seen added : List Event) → Starts terms UntilSent shown object tries seen added (Ok None)
-        → changes_by terms.port added ≡ 0
-    skip object seen added (inl (unready, none)) = ap (changes_by terms.port) none
-    skip object seen added (inr (ready, now, attempt)) =
-        changes_by-attempt terms object Start tries seen added (Ok (NotNow now)) attempt
-
-    skips : (n : ℕ) (seen added : List Event) → Skips terms UntilSent shown tries n seen added → changes_by terms.port added ≡ 0
-    skips zero seen added none = ap (changes_by terms.port) none
-    skips (suc n) seen added (last, earlier, whole, first, rest) =
-        omega (
-          arith,
-          ap (changes_by terms.port) whole,
-          changes_by-append terms.port last earlier,
-          skip (suc n) (earlier ++ seen) last first,
-          skips n seen earlier rest,
-        )
-
-  in_three : (added tried looked last skipped : List Event) (n : ℕ) → added ≡ tried ++ looked → tried ≡ last ++ skipped
-      → changes_by terms.port looked ≡ 0 → changes_by terms.port skipped ≡ 0 → changes_by terms.port last ≡ n
-      → changes_by terms.port added ≡ n
-  in_three added tried looked last skipped n whole parts none none' some =
-      omega (
-        arith,
-        ap (changes_by terms.port) whole,
-        changes_by-append terms.port tried looked,
-        ap (changes_by terms.port) parts,
-        changes_by-append terms.port last skipped,
-        none,
-        none',
-        some,
-      )
-
-  pub changes_by-choice : (choice : Choice) (tries : ℕ) (seen added : List Event) (answer : Chosen)
-      → Chooses choice terms tries seen added answer → changes_by terms.port added ≡ made_by answer
-  changes_by-choice InTurn tries seen added (Ok None) h = (bounds_law terms Start tries 1 seen added Nowhere h).1
-  changes_by-choice InTurn tries seen added (Ok (Some chosen)) (before, number, h) =
-      (bounds_law terms Start tries 1 seen added (MadeAt chosen.0 before chosen.1 number) h).1
-  changes_by-choice InTurn tries seen added (Err refused) h =
-      (bounds_law terms Start tries 1 seen added (RefusedAt refused.at refused.why) h).1
-  changes_by-choice AtOnce tries seen added (Ok None) h =
-      let p = h.picture in
-      let looked : changes_by terms.port h.looked ≡ 0 =
-      omega (
-        arith,
-        ap (changes_by terms.port) p.whole,
-        changes_by-append terms.port p.last p.lost,
-        turns p.times seen p.lost p.lose,
-        turn (p.lost ++ seen) p.last p.turn,
-      ) in
-      omega (
-        arith,
-        ap (changes_by terms.port) h.whole,
-        changes_by-append terms.port h.tried h.looked,
-        looked,
-        skips h.shown tries (objects_in terms.profile) (h.looked ++ seen) h.tried h.choice,
-      )
-  changes_by-choice AtOnce tries seen added (Ok (Some (object, after))) h =
-      let p = h.picture in
-      let s = h.choice in
-      let looked : changes_by terms.port h.looked ≡ 0 =
-      omega (
-        arith,
-        ap (changes_by terms.port) p.whole,
-        changes_by-append terms.port p.last p.lost,
-        turns p.times seen p.lost p.lose,
-        turn (p.lost ++ seen) p.last p.turn,
-      ) in
-      in_three added h.tried h.looked s.last s.skipped 1 h.whole s.whole looked
-      (skips h.shown tries s.below (h.looked ++ seen) s.skipped s.skips)
-      (changes_by-attempt terms object Start tries (s.skipped ++ (h.looked ++ seen)) s.last
-      (Ok (Done s.start.1 after s.start.2)) s.start.3)
-  changes_by-choice AtOnce tries seen added (Err refused) h =
-      let p = h.picture in
-      let s = h.choice in
-      let looked : changes_by terms.port h.looked ≡ 0 =
-      omega (
-        arith,
-        ap (changes_by terms.port) p.whole,
-        changes_by-append terms.port p.last p.lost,
-        turns p.times seen p.lost p.lose,
-        turn (p.lost ++ seen) p.last p.turn,
-      ) in
-      in_three added h.tried h.looked s.last s.skipped 0 h.whole s.whole looked
-      (skips h.shown tries s.below (h.looked ++ seen) s.skipped s.skips)
-      (changes_by-attempt terms refused.at Start tries (s.skipped ++ (h.looked ++ seen)) s.last (Err refused.why) s.start.1)
+pub changes_by-choice : (terms : Terms) (tries : ℕ) (seen added : List Event) (answer : Chosen)
+    → Chooses InTurn terms tries seen added answer → changes_by terms.port added ≡ made_by answer
+changes_by-choice terms tries seen added (Ok None) h = (bounds_law terms Start tries 1 seen added Nowhere h).1
+changes_by-choice terms tries seen added (Ok (Some chosen)) (before, number, h) =
+    (bounds_law terms Start tries 1 seen added (MadeAt chosen.0 before chosen.1 number) h).1
+changes_by-choice terms tries seen added (Err refused) h =
+    (bounds_law terms Start tries 1 seen added (RefusedAt refused.at refused.why) h).1

@@ -6,15 +6,6 @@ pub mod Turns
 pub mod TurnsSoFar
 pub mod Printed
 pub mod NeverBusy
-pub mod Determined
-pub mod LooksOnce
-pub mod ScansOnce
-pub mod ChoicesOnce
-pub mod LoadsOnce
-pub mod WinsOnce
-pub mod DecidesOnce
-pub mod CompletesOnce
-pub mod RoundsOnce
 pub mod OneText
 pub mod CommandLine
 pub mod CommandWords

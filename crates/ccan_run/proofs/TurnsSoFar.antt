@@ -18,6 +18,7 @@ use Rattle.ccan_run.specs.Ordered.{lines_of, RunsTo}
 use Rattle.ccan_run.specs.Ports.{rest, HaveLedTo, TakesTurn}
 use Rattle.ccan_run.specs.Trio.{seen_by}
 use Rattle.ccan_line.proofs.Apart.{both_empty, no_others, none_of_all, port_line_apart, same_or_not}
+use Rattle.ccan_line.proofs.InTurn.{port_lines_keep}
 use Rattle.ccan_line.proofs.Rows.{LinesMean-push}
 
 -- a history has just the events that its ports know to be theirs
@@ -120,11 +121,13 @@ module _ (script : ScriptFields) where
       ran_more =
           let means = PortLineMeans (terms_of script) script.tries in
           let each = turn.each s.three s.led in
+          let earlier = s.ran (λ name. (of_any name).1) in
+          let in_turn = port_lines_keep (terms_of script) script.tries s.done (opening script.nodes) s.three [] front answers refl
+          earlier in
           let single = port_line_apart contends memory script same some turn.line s.three turn.start added (port, reply) left
-          (λ other apart. (of_another other apart).0) each.4 in
+          in_turn (λ other apart. (of_another other apart).0) each.4 in
           let here = subst (λ (es : List Event). means turn.line s.three es added (port, reply) left)
           (start_is_front ∙ sym (append-nil front)) single in
-          let earlier = s.ran (λ name. (of_any name).1) in
           let all : after port ≡ added ++ front = each.2 ∙ ap (λ es. added ++ es) start_is_front in
           rw all
           (LinesMean-push means s.done turn.line (opening script.nodes) s.three left [] front added answers

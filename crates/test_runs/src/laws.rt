@@ -1,10 +1,11 @@
 //! Each law, called once.
 use crate::ladder::Ladder;
-use ccan_outcomes::{place_laws, quiet_laws, race_laws, same, seat_laws};
-use ccan_process::{
-    begin_laws, begun_laws, line_process_laws, machine_laws, process_laws, scan_laws,
-    uncontended_laws, undisturbed_laws, wait_laws,
+use ccan_line::line_process_laws;
+use ccan_machine::{
+    begin_laws, begun_laws, machine_laws, process_laws, scan_laws, uncontended_laws,
+    undisturbed_laws, wait_laws,
 };
+use ccan_outcomes::{place_laws, quiet_laws, race_laws, same, seat_laws};
 use ccan_run::laws;
 
 #[test]

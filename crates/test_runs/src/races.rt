@@ -13,6 +13,7 @@ use crate::runs::read;
 use arrayvec::ArrayVec;
 use ccan_accept::Frame;
 use ccan_bus::{Bus, Fault, RoundAnswer, RoundLine};
+use ccan_line::LineEnd;
 use ccan_object::{ObjectNo, Profile, Record};
 use ccan_outcomes::all_ports::AllPorts;
 use ccan_outcomes::{
@@ -20,7 +21,6 @@ use ccan_outcomes::{
     OutcomeWords, all_outcomes, answer_graph, history_of, line_ends_of, searched_history,
     words_of_graph,
 };
-use ccan_process::LineEnd;
 use ccan_ram::{Array, PortName, Tries};
 use ccan_script::{LineAnswer, RaceScript, read_race};
 use ccan_search::Untold;

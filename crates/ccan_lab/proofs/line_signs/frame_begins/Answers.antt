@@ -1,6 +1,6 @@
 use Rattle.std.proofs.Common.{rules, ◌≡◌, ◌<◌, ◌∙◌, ap, get_or, length, string_bytes}
 use Rattle.ccan_line.specs.declared.line_answer.LineAnswer.TheVariants.{Init}
-use Rattle.ccan_process.specs.LineEnd.{unframed}
+use Rattle.ccan_line.specs.LineEnd.{unframed}
 use Rattle.ccan_lab.specs.Rows.{begins_so}
 use Rattle.ccan_lab.proofs.FrameLines.{frame_named}
 use Rattle.ccan_lab.proofs.line_signs.frame_begins.Goals as goal

@@ -1,8 +1,8 @@
 use Rattle.std.proofs.Common.{rules, ◌≡◌, ◌∙◌, ◌||◌, Bool, true, false, Option, Some, ap, get_or, sym}
 use Rattle.ccan_line.specs.declared.line_answer.LineAnswer.TheVariants.{Init}
 use Rattle.ccan_ram.specs.declared.port.PortName.{PortName}
+use Rattle.ccan_line.specs.LineEnd.{unframed}
 use Rattle.ccan_script.specs.Print.{line_text}
-use Rattle.ccan_process.specs.LineEnd.{unframed}
 use Rattle.ccan_lab.specs.LineSigns.{lines_told, port_at}
 use Rattle.ccan_lab.specs.Rows.{begins_so, has_line, told_frame}
 use Rattle.ccan_lab.proofs.FrameLines.{either_begins}
