@@ -33,4 +33,5 @@ pub mod ChipsRun
 pub mod ThreadsRun
 pub mod OwnSteps
 pub mod Stepwise
+pub mod ThreadsStand
 pub mod ActSteps

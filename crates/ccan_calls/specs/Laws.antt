@@ -11,7 +11,7 @@ use Rattle.ccan_bus.specs.declared.choice.Choice.TheVariants.{AtOnce}
 use Rattle.ccan_bus.specs.declared.round_line.Fault.{Fault}
 use Rattle.ccan_bus.specs.declared.round_line.RoundLine.{RoundLine}
 use Rattle.ccan_bus.specs.Past.{BusPast}
-use Rattle.ccan_endless.specs.Chip.{ChipHistory}
+use Rattle.ccan_endless.specs.Chip.{ChipHistory, GoesFrom}
 use Rattle.ccan_line.specs.Limits.{most_nodes}
 use Rattle.ccan_map.specs.declared.map.Map.{Map}
 use Rattle.ccan_registers.specs.declared.interface_set.InterfaceSet.{InterfaceSet}
@@ -20,7 +20,7 @@ use Rattle.ccan_saved.specs.Looks.{LooksAtAll}
 use Rattle.ccan_c.specs.BusCall.{BusCall, BusCallMeans, code_got as code_on}
 use Rattle.ccan_c.specs.FrameCall.{BusState, CallOnBus, CallOnBusMeans, FrameCall, FrameCallMeans, frame_code}
 use Rattle.ccan_c.specs.HostCall.{HostCall, HostCallMeans, code_got}
-use Rattle.ccan_c.specs.Step.{CallsMean, Place as HandlePlace}
+use Rattle.ccan_c.specs.Step.{CallsMean, Place as HandlePlace, own_of}
 use Rattle.ccan_calls.specs.ActSteps.{HasSteps}
 use Rattle.ccan_calls.specs.Answer.{Answer, CallProcess, IsAnswered, Place}
 use Rattle.ccan_calls.specs.BusAsk.{asked_on, place_on}
@@ -35,7 +35,7 @@ use Rattle.ccan_calls.specs.RoundProcess.{are_senders}
 use Rattle.ccan_calls.specs.Runs.{Acted, IsLineOf, Runs}
 use Rattle.ccan_calls.specs.Stage.{Stage, StandsAt}
 use Rattle.ccan_calls.specs.WriteProcess.{Written, resets}
-use Rattle.ccan_calls.specs.ThreadProcess.{ThreadComes, asked, code_of_call, on_bus_process, place_of_call, thread_process}
+use Rattle.ccan_calls.specs.ThreadProcess.{ThreadComes, ThreadEnd, asked, code_of_call, on_bus_process, place_of_call, thread_process}
 
 -- a process adds these events and leaves this, and the call got its answer: this code, and this in the place for the result
 abbrev pub ComesTo : {State : Type 0} → Terms → ℕ → ℕ → Place → CallProcess State → ChipHistory → ChipHistory → State → Type 0
@@ -120,3 +120,25 @@ SavesAreProcesses =
     → objects_in terms.profile ≤ length records
     → LooksAtAll terms found records seen added
     ↔ Runs terms tries (looks_at_all terms.profile) seen added (found, take (objects_in terms.profile) records)
+
+-- A history holds all that a port had seen after these calls, and no other event of the port, as the one history of a chip's
+-- threads does. Then at each moment of it, from the first call on, the port stands somewhere in the process of its calls.
+abbrev pub StandsInHistory : {State : Type 0} → Terms → ℕ → Process (ThreadEnd State) → HandlePlace State → HandlePlace State
+    → Type 0
+StandsInHistory {State} terms tries process old new =
+    (part later : ChipHistory) → GoesFrom (later ++ (part ++ old.seen)) new.seen
+    → own_of terms.port (later ++ (part ++ old.seen)) ≡ own_of terms.port new.seen
+    → (stage : Stage (ThreadEnd State)) × StandsAt terms tries process old.seen (part ++ old.seen) stage
+
+abbrev pub HostThreadsStand : Type 0
+HostThreadsStand =
+    (terms : Terms) (tries : ℕ) (layout : Map) (calls : List HostCall) (old new : HandlePlace InterfaceSet)
+    → CallsMean (HostCallMeans terms tries layout) calls old new
+    → StandsInHistory terms tries (thread_process (host_process terms layout) (map asked_by calls) old.state) old new
+
+abbrev pub BusThreadsStand : Type 0
+BusThreadsStand =
+    (terms : Terms) (tries nodes : ℕ) (layout : Map) (calls : List CallOnBus) (old new : HandlePlace BusState)
+    → terms.port ≡ Bus → old.state.past.choice ≡ AtOnce
+    → CallsMean (CallOnBusMeans terms tries nodes layout) calls old new
+    → StandsInHistory terms tries (thread_process (on_bus_process terms layout nodes) (map asked calls) old.state) old new

@@ -4,7 +4,8 @@ ghost use Rattle.ccan_registers.specs.declared.interface_set.InterfaceSet.{Inter
 ghost use Rattle.ccan_c.specs.FrameCall.{BusState};
 ghost use Rattle.ccan_calls.specs.Answer.{CallEnd};
 ghost use Rattle.ccan_calls.specs.Laws.{ActsHaveTheirSteps, BusCallsAreProcesses, FrameCallsAreProcesses};
-ghost use Rattle.ccan_calls.specs.Laws.{BusThreadsAreProcesses, HostCallsAreProcesses, HostThreadsAreProcesses};
+ghost use Rattle.ccan_calls.specs.Laws.{BusThreadsAreProcesses, BusThreadsStand, HostCallsAreProcesses};
+ghost use Rattle.ccan_calls.specs.Laws.{HostThreadsAreProcesses, HostThreadsStand};
 ghost use Rattle.ccan_calls.specs.Laws.{OffersAreOneLine, ResetsAreProcesses, SavesAreProcesses};
 ghost use Rattle.ccan_calls.specs.Laws.{StandsThroughout, StepsAreTheWhole};
 ghost use Rattle.ccan_calls.specs.ThreadProcess.{ThreadEnd};
@@ -53,6 +54,12 @@ pub fn ports_stand_throughout()
     ensures frame { StandsThroughout (CallEnd BusState) }
     ensures host_thread { StandsThroughout (ThreadEnd InterfaceSet) }
     ensures bus_thread { StandsThroughout (ThreadEnd BusState) }
+{}
+
+/// In a history that holds all that the calls of a thread did, the port stands somewhere in their process at each moment.
+pub fn threads_stand_throughout()
+    ensures host { HostThreadsStand }
+    ensures bus { BusThreadsStand }
 {}
 
 /// What other nodes offer for a round is exactly one line.

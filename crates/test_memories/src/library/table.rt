@@ -424,5 +424,6 @@ fn calls_are_processes(_rt: HostRuntime) {
     laws::offers_are_one_line();
     laws::steps_are_the_whole();
     laws::ports_stand_throughout();
+    laws::threads_stand_throughout();
     laws::acts_have_their_steps();
 }
