@@ -44,7 +44,7 @@ in_part x (y ∷ one) other (inr has) = elim (in_part x one other has) [
   | inr second ↦ inr second
 ]
 
-cons_not_nil : {A : Type 0} (x : A) (xs : List A) → x ∷ xs ≡ [] → ⊥
+pub cons_not_nil : {A : Type 0} (x : A) (xs : List A) → x ∷ xs ≡ [] → ⊥
 cons_not_nil x xs is = let n = ap length is in absurd (omega (arith, n))
 
 -- events of one kind are equal only if what they hold is, and those of two kinds are not

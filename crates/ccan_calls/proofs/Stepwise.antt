@@ -1,17 +1,41 @@
 -- Step by step a port comes to the end of a process in exactly the ways in which it runs it as a whole.
-use Rattle.std.proofs.Common.{ℕ, ◌≡◌, ◌↔◌, ◌⊎◌, inl, inr, Bool, true, false, [], ◌∷◌, ◌++◌, refl, sym, ap, subst, ◌∙◌, append_assoc}
+use Rattle.std.proofs.Common.{ℕ, ◌≡◌, ◌↔◌, ◌⊎◌, inl, inr, Bool, true, false, [], ◌∷◌, ◌++◌, refl, sym, ap, subst, ◌∙◌, append_assoc, if◌then◌else◌}
 use Rattle.std.proofs.lemmas.List.{append-nil, append_cancel_right}
+use Rattle.ccan_ram.specs.declared.port.PortName.{PortName}
 use Rattle.ccan_ram.specs.Port.{same_port}
 use Rattle.ccan_ram.specs.Terms.{Terms}
 use Rattle.ccan_endless.specs.declared.chip.ChipEvent.{ChipEvent}
 use Rattle.ccan_endless.specs.Chip.{ChipHistory}
-use Rattle.ccan_c.specs.Step.{port_of_event}
+use Rattle.ccan_c.specs.Step.{own_of, port_of_event}
 use Rattle.ccan_calls.specs.Process.{Act, Does, Ended, Out, Process}
 use Rattle.ccan_calls.specs.Runs.{Acted, Runs}
-use Rattle.ccan_calls.specs.Stage.{Began, ByEnd, ByEvent, IsEventOf, Stage, StandsAt}
+use Rattle.ccan_calls.specs.Stage.{AfterEnd, Began, ByEnd, ByEvent, HasDone, IsEventOf, Stage, StandsAt}
 use Rattle.ccan_calls.proofs.Finding.{Has, has_second}
-use Rattle.ccan_calls.proofs.OwnSteps.{steps_of_act}
+use Rattle.ccan_calls.proofs.OwnSteps.{cons_not_nil, steps_of_act}
 use Rattle.ccan_calls.proofs.Parting.{nothing_of, same_first, same_rest}
+
+-- ---- events of others
+
+abbrev counted : Bool → PortName → ChipEvent → ChipHistory → ChipHistory
+counted own port event rest = if own then event ∷ own_of port rest else own_of port rest
+
+other_first : (own : Bool) (port : PortName) (event : ChipEvent) (rest : ChipHistory) → counted own port event rest ≡ []
+    → (own ≡ false) × (own_of port rest ≡ [])
+other_first true port event rest none = absurd (cons_not_nil event (own_of port rest) none)
+other_first false port event rest none = (refl, none)
+
+no_own_first : (port : PortName) (event : ChipEvent) (rest : ChipHistory) → own_of port (event ∷ rest) ≡ []
+    → (same_port (port_of_event event) port ≡ false) × (own_of port rest ≡ [])
+no_own_first port event rest none = other_first (same_port (port_of_event event) port) port event rest none
+
+no_own_second : (port : PortName) (later rest : ChipHistory) → own_of port (later ++ rest) ≡ [] → own_of port rest ≡ []
+no_own_second port [] rest none = none
+no_own_second port (event ∷ later) rest none =
+    no_own_second port later rest (no_own_first port event (later ++ rest) none).1
+
+own_of_other : (port : PortName) (event : ChipEvent) (rest : ChipHistory) → same_port (port_of_event event) port ≡ false
+    → own_of port (event ∷ rest) ≡ own_of port rest
+own_of_other port event rest other = ap (λ own. counted own port event rest) other
 
 -- ---- two splits of one list
 
@@ -85,9 +109,24 @@ module _ {A : Type 0} (terms : Terms) (tries : ℕ) (process : Process A) (begun
       (sym (append_assoc steps.later steps.earlier seen) ∙ ap (λ es. es ++ seen) (sym steps.whole))
       (goes_on (next out) (steps.earlier ++ seen) steps.later result here steps.ends)
 
-  to_steps : (added : ChipHistory) (result : A) → Runs terms tries process begun added result
+  to_end : (added : ChipHistory) (result : A) → Runs terms tries process begun added result
       → Stands (added ++ begun) (stage_of (Ended result) (added ++ begun))
-  to_steps added result on = goes_on process begun added result Began on
+  to_end added result on = goes_on process begun added result Began on
+
+  -- and then others go on
+  others_on : (result : A) (seen more : ChipHistory) → own_of terms.port more ≡ [] → Stands seen (stage_of (Ended result) seen)
+      → Stands (more ++ seen) (stage_of (Ended result) seen)
+  others_on result seen [] none stands = stands
+  others_on result seen (event ∷ more) none stands =
+      let (other, rest) = no_own_first terms.port event more none in
+      AfterEnd result seen more event other (others_on result seen more rest stands)
+
+  to_steps : (seen history : ChipHistory) (result : A) → HasDone terms tries process begun seen history result
+      → Stands history (stage_of (Ended result) seen)
+  to_steps seen history result h =
+      subst (λ es. Stands es (stage_of (Ended result) seen)) (sym h.whole)
+      (others_on result seen h.more h.others
+      (subst (λ es. Stands es (stage_of (Ended result) es)) (sym h.is_seen) (to_end h.added result h.ran)))
 
   -- ---- and back
 
@@ -120,17 +159,55 @@ module _ {A : Type 0} (terms : Terms) (tries : ℕ) (process : Process A) (begun
       comes (part ++ seen) (stage_of (Does act next) seen) stands
   comes history stage (ByEnd act next seen part out stands acted) =
       act_comes act next seen part out (comes (part ++ seen) (stage_of (Does act next) seen) stands) acted
+  comes history stage (AfterEnd end seen part event other stands) =
+      comes (part ++ seen) (stage_of (Ended end) seen) stands
 
-  of_steps : (added : ChipHistory) (result : A) → Stands (added ++ begun) (stage_of (Ended result) (added ++ begun))
-      → Runs terms tries process begun added result
-  of_steps added result stands =
-      let c = comes (added ++ begun) (stage_of (Ended result) (added ++ begun)) stands in
-      subst (λ es. Runs terms tries process begun es result) (sym (append_cancel_right added c.done begun c.is))
-      (c.onward [] result (refl, refl))
+  -- what came after the end of the process, if it has ended
+  record IsOver (seen history : ChipHistory) : Type 0 where
+    pub more : ChipHistory
+    pub whole : history ≡ more ++ seen
+    pub others : own_of terms.port more ≡ []
 
-  pub steps_are_all : (added : ChipHistory) (result : A) → Runs terms tries process begun added result
-      ↔ Stands (added ++ begun) (stage_of (Ended result) (added ++ begun))
-  steps_are_all added result = (to_steps added result, of_steps added result)
+  abbrev Over : Process A → ChipHistory → ChipHistory → Type 0
+  Over (Ended result) seen history = IsOver seen history
+  Over (Does act next) seen history = Unit {0}
+
+  just_over : (left : Process A) (seen : ChipHistory) → Over left seen seen
+  just_over (Ended result) seen = record { more = []; whole = refl; others = refl }
+  just_over (Does act next) seen = tt
+
+  one_more : (seen history : ChipHistory) (event : ChipEvent) → same_port (port_of_event event) terms.port ≡ false
+      → IsOver seen history → IsOver seen (event ∷ history)
+  one_more seen history event other over = record {
+    more = event ∷ over.more;
+    whole = ap (λ (es : ChipHistory). event ∷ es) over.whole;
+    others = own_of_other terms.port event over.more other ∙ over.others;
+  }
+
+  over_at : (history : ChipHistory) (stage : Stage A) → Stands history stage → Over stage.left stage.seen history
+  over_at history stage Began = just_over process begun
+  over_at history stage (ByEvent act next seen part event stands is begins) = tt
+  over_at history stage (ByEnd act next seen part out stands acted) = just_over (next out) (part ++ seen)
+  over_at history stage (AfterEnd end seen part event other stands) =
+      one_more seen (part ++ seen) event other (over_at (part ++ seen) (stage_of (Ended end) seen) stands)
+
+  of_steps : (seen history : ChipHistory) (result : A) → Stands history (stage_of (Ended result) seen)
+      → HasDone terms tries process begun seen history result
+  of_steps seen history result stands =
+      let c = comes history (stage_of (Ended result) seen) stands in
+      let over = over_at history (stage_of (Ended result) seen) stands in
+      record {
+        added = c.done;
+        is_seen = c.is;
+        ran = c.onward [] result (refl, refl);
+        more = over.more;
+        whole = over.whole;
+        others = over.others;
+      }
+
+  pub steps_are_all : (seen history : ChipHistory) (result : A) → HasDone terms tries process begun seen history result
+      ↔ Stands history (stage_of (Ended result) seen)
+  steps_are_all seen history result = (to_steps seen history result, of_steps seen history result)
 
   -- ---- at each moment
 
@@ -158,6 +235,19 @@ module _ {A : Type 0} (terms : Terms) (tries : ℕ) (process : Process A) (begun
             )
       ]
 
-  pub stands_somewhere : (part later : ChipHistory) (result : A) → Runs terms tries process begun (later ++ part) result
-      → StandsSomewhere (part ++ begun)
-  stands_somewhere part later result on = at_moment process begun (later ++ part) part later result refl Began on
+  pub stands_somewhere : (part later seen : ChipHistory) (result : A)
+      → HasDone terms tries process begun seen (later ++ (part ++ begun)) result → StandsSomewhere (part ++ begun)
+  stands_somewhere part later seen result h =
+      let split : later ++ part ≡ h.more ++ h.added = append_cancel_right (later ++ part) (h.more ++ h.added) begun
+      (append_assoc later part begun ∙ h.whole ∙ ap (λ es. h.more ++ es) h.is_seen ∙ sym (append_assoc h.more h.added begun)) in
+      elim (two_splits later part h.more h.added split) [
+        | inl within ↦ at_moment process begun h.added part within.0 result within.1 Began h.ran
+        | inr beyond ↦
+            let (rest, is, more_is) = beyond in
+            let none = no_own_second terms.port later rest (ap (own_of terms.port) (sym more_is) ∙ h.others) in (
+              stage_of (Ended result) (h.added ++ begun),
+              subst (λ es. Stands es (stage_of (Ended result) (h.added ++ begun)))
+                  (sym (append_assoc rest h.added begun) ∙ ap (λ es. es ++ begun) (sym is))
+                  (others_on result (h.added ++ begun) rest none (to_end h.added result h.ran)),
+            )
+      ]

@@ -33,7 +33,7 @@ use Rattle.ccan_calls.specs.HostCallProcess.{host_process}
 use Rattle.ccan_calls.specs.Process.{Act, Ended, Out, Process}
 use Rattle.ccan_calls.specs.RoundProcess.{are_senders}
 use Rattle.ccan_calls.specs.Runs.{Acted, IsLineOf, Runs}
-use Rattle.ccan_calls.specs.Stage.{Stage, StandsAt}
+use Rattle.ccan_calls.specs.Stage.{HasDone, Stage, StandsAt}
 use Rattle.ccan_calls.specs.WriteProcess.{Written, resets}
 use Rattle.ccan_calls.specs.ThreadProcess.{ThreadComes, ThreadEnd, asked, code_of_call, on_bus_process, place_of_call, thread_process}
 
@@ -67,15 +67,15 @@ FrameCallsAreProcesses =
 -- among other ports, a port comes step by step to the end of a process in exactly the ways in which the process runs as a whole
 abbrev pub StepsAreTheWhole : Type 0 → Type 0
 StepsAreTheWhole End =
-    (terms : Terms) (tries : ℕ) (process : Process End) (begun added : ChipHistory) (end : End)
-    → Runs terms tries process begun added end
-    ↔ StandsAt terms tries process begun (added ++ begun) (record { left = Ended end; seen = added ++ begun })
+    (terms : Terms) (tries : ℕ) (process : Process End) (begun seen history : ChipHistory) (end : End)
+    → HasDone terms tries process begun seen history end
+    ↔ StandsAt terms tries process begun history (record { left = Ended end; seen = seen })
 
--- and at each moment of such a run it stands somewhere
+-- and at each moment of such a history, from the beginning of the process on, it stands somewhere
 abbrev pub StandsThroughout : Type 0 → Type 0
 StandsThroughout End =
-    (terms : Terms) (tries : ℕ) (process : Process End) (begun part later : ChipHistory) (end : End)
-    → Runs terms tries process begun (later ++ part) end
+    (terms : Terms) (tries : ℕ) (process : Process End) (begun part later seen : ChipHistory) (end : End)
+    → HasDone terms tries process begun seen (later ++ (part ++ begun)) end
     → (stage : Stage End) × StandsAt terms tries process begun (part ++ begun) stage
 
 -- what other nodes offer for a round is exactly one line, if each is one of at most eight nodes and sends once

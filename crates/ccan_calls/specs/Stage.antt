@@ -1,6 +1,6 @@
 -- Where a port may be within a process, after a history in which other ports act too. Source: this project's own, over what acts
 -- add to the history of a chip.
-use Rattle.std.specs.Prelude.{ℕ, ◌≡◌, ◌⊎◌, false, ◌∷◌, ◌++◌}
+use Rattle.std.specs.Prelude.{ℕ, ◌≡◌, ◌⊎◌, false, [], ◌∷◌, ◌++◌}
 use Rattle.ccan_object.specs.declared.record.Record.{Record}
 use Rattle.ccan_confine.specs.declared.controller.Controller.{Controller}
 use Rattle.ccan_ram.specs.declared.port.PortName.{PortName}
@@ -12,9 +12,9 @@ use Rattle.ccan_endless.specs.declared.chip.ChipEvent.TheVariants.{OfController,
 use Rattle.ccan_endless.specs.declared.chip.ControllerStep.{ControllerStep}
 use Rattle.ccan_endless.specs.declared.chip.ControllerStep.TheVariants as step
 use Rattle.ccan_endless.specs.Chip.{ChipHistory, step_at}
-use Rattle.ccan_c.specs.Step.{port_of_event}
-use Rattle.ccan_calls.specs.Process.{Act, Attempts, ChangesController, Decides, Does, Heeds, InsistsOnChange, LetsOthersAct, Looks, LooksAtController, Notes, Offers, Out, Pauses, Pictures, Process, Recalls}
-use Rattle.ccan_calls.specs.Runs.{Acted}
+use Rattle.ccan_c.specs.Step.{own_of, port_of_event}
+use Rattle.ccan_calls.specs.Process.{Act, Attempts, ChangesController, Decides, Does, Ended, Heeds, InsistsOnChange, LetsOthersAct, Looks, LooksAtController, Notes, Offers, Out, Pauses, Pictures, Process, Recalls}
+use Rattle.ccan_calls.specs.Runs.{Acted, Runs}
 
 -- ---- steps of an act
 
@@ -61,7 +61,7 @@ pub record Stage (A : Type 0) : Type 0 where
   pub seen : ChipHistory
 
 -- where a port may be after a history: it begins with its process; the act that it is in goes on by an event, a step of that act or
--- another port's; and the act ends, by what came of it
+-- another port's; the act ends, by what came of it; and after the end of the process other ports go on
 pub data StandsAt {A : Type 0} (terms : Terms) (tries : ℕ) (process : Process A) (begun : ChipHistory)
     : ChipHistory → Stage A → Type 0 where
   Began : StandsAt terms tries process begun begun (record { left = process; seen = begun })
@@ -73,3 +73,16 @@ pub data StandsAt {A : Type 0} (terms : Terms) (tries : ℕ) (process : Process 
       → StandsAt terms tries process begun (part ++ seen) (record { left = Does act next; seen = seen })
       → Acted terms tries act seen part out
       → StandsAt terms tries process begun (part ++ seen) (record { left = next out; seen = part ++ seen })
+  AfterEnd : (end : A) → (seen part : ChipHistory) → (event : ChipEvent) → same_port (port_of_event event) terms.port ≡ false
+      → StandsAt terms tries process begun (part ++ seen) (record { left = Ended end; seen = seen })
+      → StandsAt terms tries process begun (event ∷ (part ++ seen)) (record { left = Ended end; seen = seen })
+
+-- the port has done its whole process, after which this had been seen; and then came only events of other ports
+pub record HasDone {A : Type 0} (terms : Terms) (tries : ℕ) (process : Process A) (begun seen history : ChipHistory) (end : A)
+    : Type 0 where
+  pub added : ChipHistory
+  pub is_seen : seen ≡ added ++ begun
+  pub ran : Runs terms tries process begun added end
+  pub more : ChipHistory
+  pub whole : history ≡ more ++ seen
+  pub others : own_of terms.port more ≡ []
