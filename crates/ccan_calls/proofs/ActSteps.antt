@@ -21,6 +21,7 @@ use Rattle.ccan_ram.specs.Tries.{most_tries}
 use Rattle.ccan_ram.proofs.Histories.{events_of-EndsIn, events_of-append}
 use Rattle.ccan_handler.specs.Laws.{LooksInTurn}
 use Rattle.ccan_handler.proofs.Own.{its_own}
+use Rattle.ccan_process.specs.Act.{attempted}
 use Rattle.ccan_endless.specs.declared.chip.ChipEvent.TheVariants.{OfController}
 use Rattle.ccan_endless.specs.declared.chip.ControllerEvent.{ControllerEvent}
 use Rattle.ccan_endless.specs.declared.chip.ControllerStep.{ControllerStep}
@@ -31,7 +32,7 @@ use Rattle.ccan_endless.specs.Chip.{ChipHistory, ram_of, step_at, steps_of}
 use Rattle.ccan_registers.specs.ChipSteps.{AtController, Changes}
 use Rattle.ccan_calls.specs.ActSteps.{AreLooks, AreTries, AreTurns, ArePictured, ChangeSteps, HasSteps}
 use Rattle.ccan_calls.specs.Laws.{ActsHaveTheirSteps}
-use Rattle.ccan_calls.specs.Process.{Act, Attempts, ChangesController, Decides, Heeds, InsistsOnChange, LetsOthersAct, Looks, LooksAtController, Notes, Offers, Out, Pauses, Pictures, Recalls, attempted}
+use Rattle.ccan_calls.specs.Process.{Act, Attempts, ChangesController, Decides, Heeds, InsistsOnChange, LetsOthersAct, Looks, LooksAtController, Notes, Offers, Out, Pauses, Pictures, Recalls}
 use Rattle.ccan_calls.specs.Runs.{Acted}
 
 module _ (terms : Terms) where

@@ -10,6 +10,7 @@ use Rattle.ccan_ram.specs.Terms.{Terms}
 use Rattle.ccan_bus.specs.declared.answer.LoadAnswer.{LoadAnswer}
 use Rattle.ccan_bus.specs.declared.choice.Choice.TheVariants.{AtOnce}
 use Rattle.ccan_bus.specs.Past.{BusPast}
+use Rattle.ccan_process.specs.Process.{Ended}
 use Rattle.ccan_line.specs.declared.line_answer.LineAnswer.TheVariants as answer
 use Rattle.ccan_line.specs.Limits.{most_groups}
 use Rattle.ccan_endless.specs.declared.chip.ControllerStep.TheVariants.{Look}
@@ -46,7 +47,7 @@ use Rattle.ccan_calls.specs.HostCallProcess.{reads_off}
 use Rattle.ccan_calls.specs.LoadProcess.{LoadEnd, loads}
 use Rattle.ccan_calls.specs.Laws.{BusCallsAreProcesses, ComesTo}
 use Rattle.ccan_calls.specs.Parts.{flag_shown, line_pulled, value_shown}
-use Rattle.ccan_calls.specs.Process.{ChangesController, Ended, LooksAtController, Process, ending}
+use Rattle.ccan_calls.specs.Process.{ChangesController, LooksAtController, Process, ending}
 use Rattle.ccan_calls.specs.ReadProcess.{Word, reads_at, reads_byte}
 use Rattle.ccan_calls.specs.Runs.{Runs}
 use Rattle.ccan_calls.specs.WordProcess.{OffEnd, reads_word, writes_word}

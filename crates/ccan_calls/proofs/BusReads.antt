@@ -8,11 +8,12 @@ use Rattle.ccan_map.specs.declared.interface.Interface.TheVariants.{One, Two}
 use Rattle.ccan_map.specs.declared.map.Map.{Map}
 use Rattle.ccan_map.specs.declared.register.Register.{Register}
 use Rattle.ccan_map.specs.declared.register.Register.TheVariants as register
+use Rattle.ccan_process.specs.Process.{Ended, followed_by}
 use Rattle.ccan_registers.specs.declared.interface_set.InterfaceSet.{InterfaceSet}
 use Rattle.ccan_registers.specs.Bytes.{byte_in, byte_told, start_of}
 use Rattle.ccan_registers.specs.Register.{is_refused, joined}
 use Rattle.ccan_calls.specs.Offsets.{are_halves, flag_word_at, register_at}
-use Rattle.ccan_calls.specs.Process.{Ended, Process, ending, followed_by}
+use Rattle.ccan_calls.specs.Process.{Process, ending}
 use Rattle.ccan_calls.specs.ReadProcess.{Word, reads, reads_at, reads_byte}
 use Rattle.ccan_calls.specs.WordProcess.{control_word_shown, reads_flags, reads_halves, reads_word, shows_word, timing_word}
 

@@ -7,6 +7,7 @@ use Rattle.ccan_confine.specs.RegisterWords.{control_in}
 use Rattle.ccan_ram.specs.declared.port.PortName.{PortName}
 use Rattle.ccan_ram.specs.declared.port.PortName.TheVariants.{Bus}
 use Rattle.ccan_ram.specs.Terms.{Terms}
+use Rattle.ccan_process.specs.Process.{Does, Ended, followed_by}
 use Rattle.ccan_endless.specs.Chip.{ChipHistory}
 use Rattle.ccan_map.specs.declared.interface.Interface.{Interface}
 use Rattle.ccan_map.specs.declared.interface.Interface.TheVariants.{One, Two}
@@ -26,7 +27,7 @@ use Rattle.ccan_registers.specs.InterfaceSet.{zero_set}
 use Rattle.ccan_registers.specs.Register.{both_written, change_by, is_own, is_refused}
 use Rattle.ccan_calls.specs.BusRegisters.{bus_access_at, bus_resets_in_init, bus_writes, bus_writes_at, bus_writes_byte, bus_writes_byte_of, bus_writes_control_word, bus_writes_halves, bus_writes_lower, bus_writes_timing, bus_writes_upper, bus_writes_word, refuses_interface}
 use Rattle.ccan_calls.specs.Offsets.{are_halves, register_at}
-use Rattle.ccan_calls.specs.Process.{Does, Ended, LooksAtController, Process, ending, followed_by}
+use Rattle.ccan_calls.specs.Process.{LooksAtController, Process, ending}
 use Rattle.ccan_calls.specs.Runs.{Runs}
 use Rattle.ccan_calls.specs.WordProcess.{OffEnd, some_written, writes_control_word, writes_halves, writes_word}
 use Rattle.ccan_calls.specs.WriteProcess.{WriteEnd, WriteProcess, Written, access_at, change_controller, keeping, others, requests_by, resets, resets_in_init, sets, writes, writes_at, writes_byte, writes_byte_of, writes_lower, writes_rest, writes_timing_byte, writes_upper}

@@ -8,11 +8,13 @@ use Rattle.ccan_ram.specs.declared.change.Changed.TheVariants.{Done, NotNow}
 use Rattle.ccan_ram.specs.declared.change.Refused.{Refused}
 use Rattle.ccan_ram.specs.declared.change.Refused.TheVariants.{Busy, Spent}
 use Rattle.ccan_ram.specs.Terms.{Terms}
+use Rattle.ccan_process.specs.Act.{attempted}
+use Rattle.ccan_process.specs.Process.{Does, Ended, followed_by}
 use Rattle.ccan_endless.specs.Chip.{ChipHistory}
 use Rattle.ccan_registers.specs.AllObjects.{ChangesObject, ChangesObjects, HaveChanged}
 use Rattle.ccan_registers.specs.ChipSteps.{Then}
 use Rattle.ccan_registers.specs.Dcan.{change_told}
-use Rattle.ccan_calls.specs.Process.{Attempts, Does, Ended, Process, attempted, followed_by}
+use Rattle.ccan_calls.specs.Process.{Attempts, Process}
 use Rattle.ccan_calls.specs.Runs.{Runs}
 use Rattle.ccan_calls.specs.WriteProcess.{Written, attempt_told, change_all, change_each, change_one, unless_refused}
 use Rattle.ccan_calls.proofs.Processes.{Follows, follow, follows, one_act, only_first}

@@ -11,10 +11,11 @@ use Rattle.ccan_ram.specs.Terms.{Terms}
 use Rattle.ccan_handler.specs.Moment.{ChoosesAtOnce, Chosen, StopsAtOne, Starts}
 use Rattle.ccan_bus.specs.declared.answer.LoadAnswer.{LoadAnswer}
 use Rattle.ccan_bus.specs.declared.answer.LoadAnswer.TheVariants as load
+use Rattle.ccan_process.specs.Process.{Does}
 use Rattle.ccan_endless.specs.Chip.{ChipHistory, ram_of}
 use Rattle.ccan_registers.specs.ChipSteps.{OnObjects}
 use Rattle.ccan_calls.specs.LoadProcess.{start_each, start_first}
-use Rattle.ccan_calls.specs.Process.{Does, Pictures, ending}
+use Rattle.ccan_calls.specs.Process.{Pictures, ending}
 use Rattle.ccan_calls.specs.Runs.{Runs}
 use Rattle.ccan_calls.proofs.Processes.{ending_same, ending_twice, ends_so}
 use Rattle.ccan_calls.proofs.Starting.{ChoosesSo, ChosenIn, Shown, StopsIn, Stopped, of_starts, picture_and, to_starts, with_picture}

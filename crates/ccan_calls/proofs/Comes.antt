@@ -3,11 +3,12 @@ use Rattle.std.proofs.Common.{ℕ, ◌≡◌, ◌↔◌, Bool, true, false, Opti
 use Rattle.std.specs.Prelude.{MatchBool, MatchOption}
 use Rattle.std.specs.Option.{option_map_or}
 use Rattle.ccan_ram.specs.Terms.{Terms}
+use Rattle.ccan_process.specs.Process.{Ended}
 use Rattle.ccan_endless.specs.Chip.{ChipHistory}
 use Rattle.ccan_c.specs.Step.{Rests}
 use Rattle.ccan_calls.specs.Answer.{Answer, CallEnd, CallProcess, IsAnswered, IsIn, Nothing, Place, end_of, refuses}
 use Rattle.ccan_calls.specs.Laws.{ComesTo}
-use Rattle.ccan_calls.specs.Process.{Ended, Process, ending}
+use Rattle.ccan_calls.specs.Process.{Process, ending}
 use Rattle.ccan_calls.specs.Runs.{Runs}
 use Rattle.ccan_calls.proofs.Processes.{ends_so}
 

@@ -25,9 +25,11 @@ use Rattle.ccan_bus.specs.declared.decision.Decision.TheVariants as decision
 use Rattle.ccan_bus.specs.declared.memory_step.MemoryStep.TheVariants as step
 use Rattle.ccan_bus.specs.declared.round_end.RoundEnd.{RoundEnd}
 use Rattle.ccan_bus.specs.Complete.{Completes, Finishes, Scanned, Stops, TakesBack, end_of_finish, end_of_loop, end_of_receipt, ended, refused_at}
+use Rattle.ccan_process.specs.Act.{attempted}
+use Rattle.ccan_process.specs.Process.{Does, Ended}
 use Rattle.ccan_endless.specs.Chip.{ChipHistory}
 use Rattle.ccan_registers.specs.ChipSteps.{OnObjects, Then}
-use Rattle.ccan_calls.specs.Process.{Attempts, Does, Ended, Pauses, attempted, ending}
+use Rattle.ccan_calls.specs.Process.{Attempts, Pauses, ending}
 use Rattle.ccan_calls.specs.RoundProcess.{completes, finish_end, loop_end, no_step, receipt_end, receives_own}
 use Rattle.ccan_calls.specs.Runs.{Runs}
 use Rattle.ccan_calls.specs.StoreProcess.{Filtered, store_first}

@@ -19,6 +19,7 @@ use Rattle.ccan_bus.specs.declared.answer.LoadAnswer.{LoadAnswer}
 use Rattle.ccan_bus.specs.declared.answer.LoadAnswer.TheVariants as load
 use Rattle.ccan_bus.specs.Complete.{Completes}
 use Rattle.ccan_bus.specs.declared.round_end.RoundEnd.{RoundEnd}
+use Rattle.ccan_process.specs.Process.{Does, Ended, followed_by}
 use Rattle.ccan_wire.specs.declared.flaw.Flaw.{Flaw}
 use Rattle.ccan_wire.specs.declared.member.Member.{Member}
 use Rattle.ccan_wire.specs.declared.wire.Wire.{Wire}
@@ -51,7 +52,7 @@ use Rattle.ccan_calls.specs.FrameProcess.{FrameLoad, FrameStart, Power, ends_as,
 use Rattle.ccan_calls.specs.Laws.{ComesTo, FrameCallsAreProcesses}
 use Rattle.ccan_calls.specs.LoadProcess.{Looked, arrives, start_first}
 use Rattle.ccan_calls.specs.Parts.{flag_shown}
-use Rattle.ccan_calls.specs.Process.{ChangesController, Does, Ended, InsistsOnChange, LooksAtController, Pauses, Process, ending, followed_by}
+use Rattle.ccan_calls.specs.Process.{ChangesController, InsistsOnChange, LooksAtController, Pauses, Process, ending}
 use Rattle.ccan_calls.specs.RoundProcess.{completes, makes_event}
 use Rattle.ccan_calls.specs.Runs.{Runs}
 use Rattle.ccan_calls.proofs.Choosing.{ChoiceOf, Chose, choice_so}

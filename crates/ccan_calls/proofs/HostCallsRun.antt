@@ -6,6 +6,7 @@ use Rattle.ccan_object.specs.Interface.{set_register, shown}
 use Rattle.ccan_object.specs.Number.{requested}
 use Rattle.ccan_ram.specs.declared.flag.Flag.{Flag}
 use Rattle.ccan_ram.specs.Terms.{Terms}
+use Rattle.ccan_process.specs.Process.{Ended}
 use Rattle.ccan_line.specs.declared.line_answer.LineAnswer.{LineAnswer}
 use Rattle.ccan_line.specs.Limits.{most_turns}
 use Rattle.ccan_endless.specs.Chip.{ChipHistory}
@@ -30,7 +31,7 @@ use Rattle.ccan_calls.specs.HostAsk.{asked_by, place_of}
 use Rattle.ccan_calls.specs.HostCallProcess.{HostProcess, host_process, waits, writes_off}
 use Rattle.ccan_calls.specs.Laws.{ComesTo, HostCallsAreProcesses}
 use Rattle.ccan_calls.specs.Parts.{flag_shown, interrupt_value, line_pulled, look, transfer, until_shown}
-use Rattle.ccan_calls.specs.Process.{Ended, Process, ending}
+use Rattle.ccan_calls.specs.Process.{Process, ending}
 use Rattle.ccan_calls.specs.ReadProcess.{reads_at, reads_byte}
 use Rattle.ccan_calls.specs.Runs.{Runs}
 use Rattle.ccan_calls.specs.WordProcess.{reads_word, writes_word}

@@ -18,6 +18,7 @@ use Rattle.ccan_bus.specs.declared.choice.Choice.TheVariants.{AtOnce}
 use Rattle.ccan_bus.specs.Choice.{Chooses}
 use Rattle.ccan_bus.specs.Load.{Loads}
 use Rattle.ccan_bus.specs.Past.{BusPast, is_on}
+use Rattle.ccan_process.specs.Process.{Does, Ended}
 use Rattle.ccan_endless.specs.Chip.{ChipHistory, ram_of}
 use Rattle.ccan_registers.specs.ChipSteps.{AtController, OnObjects, Then}
 use Rattle.ccan_registers.specs.Rounds.{ArrivesOnChip, JoinsOnChip, LoadsOnChip}
@@ -27,7 +28,7 @@ use Rattle.ccan_bus.specs.Controller.{with_controller}
 use Rattle.ccan_confine.specs.Counters.{NodeEvent, faults_to_off}
 use Rattle.ccan_endless.specs.declared.chip.ControllerStep.TheVariants.{Look}
 use Rattle.ccan_calls.specs.LoadProcess.{Looked, arrives, arrives_and, loads, looks_again, LoadEnd, load_from, load_next, load_on, loaded_by, start_first}
-use Rattle.ccan_calls.specs.Process.{Does, Ended, InsistsOnChange, LooksAtController, Pauses, Process, Recalls}
+use Rattle.ccan_calls.specs.Process.{InsistsOnChange, LooksAtController, Pauses, Process, Recalls}
 use Rattle.ccan_calls.specs.Runs.{Runs}
 use Rattle.ccan_calls.proofs.Choosing.{ChoiceOf, Chose, choice_so}
 use Rattle.ccan_calls.proofs.Processes.{after_none, ends_so, follow, follows, one_act, only_first}

@@ -4,9 +4,10 @@ use Rattle.std.specs.Prelude.{MatchBool, MatchOption}
 use Rattle.std.specs.Option.{option_map_or}
 use Rattle.std.proofs.lemmas.List.{append-nil}
 use Rattle.ccan_ram.specs.Terms.{Terms}
+use Rattle.ccan_process.specs.Process.{Does, Ended, followed_by}
 use Rattle.ccan_endless.specs.Chip.{ChipHistory}
 use Rattle.ccan_registers.specs.ChipSteps.{Then}
-use Rattle.ccan_calls.specs.Process.{Act, Does, Ended, Out, Process, ending, followed_by}
+use Rattle.ccan_calls.specs.Process.{Act, Out, Process, ending}
 use Rattle.ccan_calls.specs.Runs.{Acted, Runs}
 
 -- what was added is the earlier part of it, if there is no later one

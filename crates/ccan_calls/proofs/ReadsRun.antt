@@ -8,6 +8,7 @@ use Rattle.ccan_object.specs.Interface.{shown}
 use Rattle.ccan_confine.specs.declared.controller.Controller.{Controller}
 use Rattle.ccan_confine.specs.RegisterWords.{error_counter_word}
 use Rattle.ccan_ram.specs.Terms.{Terms}
+use Rattle.ccan_process.specs.Process.{Ended}
 use Rattle.ccan_endless.specs.Chip.{ChipHistory}
 use Rattle.ccan_map.specs.declared.map.Map.{Map}
 use Rattle.ccan_map.specs.declared.register.Register.{Register}
@@ -19,7 +20,7 @@ use Rattle.ccan_registers.specs.Bytes.{ReadsByte, byte_in, byte_told, start_of}
 use Rattle.ccan_registers.specs.Dcan.{control_shown, upper_shown}
 use Rattle.ccan_registers.specs.Register.{IsOthers, IsQuiet, Reads, ReadsAt, Shows, is_own, read_of, status_told, test_shown}
 use Rattle.ccan_calls.specs.Parts.{flag_shown, value_shown}
-use Rattle.ccan_calls.specs.Process.{ChangesController, Ended, LooksAtController, ending}
+use Rattle.ccan_calls.specs.Process.{ChangesController, LooksAtController, ending}
 use Rattle.ccan_calls.specs.Offsets.{register_at}
 use Rattle.ccan_calls.specs.ReadProcess.{Word, reads, reads_at, reads_byte, shows}
 use Rattle.ccan_calls.specs.Runs.{Runs}

@@ -11,6 +11,7 @@ use Rattle.ccan_bus.specs.declared.round_line.Fault.{Fault}
 use Rattle.ccan_bus.specs.declared.round_line.RoundLine.{RoundLine}
 use Rattle.ccan_bus.specs.Past.{BusPast}
 use Rattle.ccan_bus.specs.RoundLine.{AreSenders}
+use Rattle.ccan_process.specs.Process.{Does}
 use Rattle.ccan_chip.specs.declared.chip_report.ChipReport.{ChipReport}
 use Rattle.ccan_line.specs.Limits.{most_frames}
 use Rattle.ccan_endless.specs.Chip.{ChipHistory}
@@ -25,7 +26,7 @@ use Rattle.ccan_c.specs.Step.{Rests}
 use Rattle.ccan_calls.specs.Answer.{CallProcess, OutcomeAt, refuses}
 use Rattle.ccan_calls.specs.BusCallProcess.{asked_round, round_end}
 use Rattle.ccan_calls.specs.Laws.{ComesTo}
-use Rattle.ccan_calls.specs.Process.{Does, Offers, ending}
+use Rattle.ccan_calls.specs.Process.{Offers, ending}
 use Rattle.ccan_calls.specs.RoundProcess.{RoundTold, are_senders, rounds}
 use Rattle.ccan_calls.specs.Runs.{Runs}
 use Rattle.ccan_calls.proofs.Comes.{chosen, ends_with, picked, rests}

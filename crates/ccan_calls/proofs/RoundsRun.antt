@@ -21,6 +21,7 @@ use Rattle.ccan_bus.specs.Load.{Loads}
 use Rattle.ccan_bus.specs.Past.{BusPast, levels_at}
 use Rattle.ccan_bus.specs.Round.{refusal_of_round}
 use Rattle.ccan_bus.specs.RoundReport.{RunsOn, RunsSteps}
+use Rattle.ccan_process.specs.Process.{followed_by}
 use Rattle.ccan_chip.specs.declared.chip_report.ChipReport.{ChipReport}
 use Rattle.ccan_chip.specs.Arrival.{left_behind}
 use Rattle.ccan_chip.specs.Round.{as_found, events_in}
@@ -30,7 +31,7 @@ use Rattle.ccan_endless.specs.Chip.{ChipHistory}
 use Rattle.ccan_registers.specs.ChipSteps.{OnObjects, Then}
 use Rattle.ccan_registers.specs.Rounds.{NotesEvent, RoundOnChip}
 use Rattle.ccan_calls.specs.LoadProcess.{LoadEnd, load_on}
-use Rattle.ccan_calls.specs.Process.{Decided, InsistsOnChange, LetsOthersAct, Pauses, Process, ending, followed_by}
+use Rattle.ccan_calls.specs.Process.{Decided, InsistsOnChange, LetsOthersAct, Pauses, Process, ending}
 use Rattle.ccan_calls.specs.RoundProcess.{EventEnd, Played, RoundTold, completes, not_played, makes_event, played, plays, plays_on, round_told, rounds}
 use Rattle.ccan_calls.specs.Runs.{Runs}
 use Rattle.ccan_calls.proofs.AtObjects.{Both, both_so}

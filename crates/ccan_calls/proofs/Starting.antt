@@ -15,11 +15,13 @@ use Rattle.ccan_ram.specs.Terms.{Terms}
 use Rattle.ccan_handler.specs.Moment.{Skips, Starts, was_ready}
 use Rattle.ccan_bus.specs.declared.answer.LoadAnswer.{LoadAnswer}
 use Rattle.ccan_bus.specs.declared.answer.LoadAnswer.TheVariants as load
+use Rattle.ccan_process.specs.Act.{Attempted, GaveUp, Made, Unfit, WasSpent, attempted}
+use Rattle.ccan_process.specs.Process.{Does, Ended, followed_by}
 use Rattle.ccan_endless.specs.Chip.{ChipHistory, ram_of, steps_of}
 use Rattle.ccan_registers.specs.ChipSteps.{OnObjects}
 use Rattle.ccan_registers.proofs.Histories.{ram_of-append}
 use Rattle.ccan_calls.specs.LoadProcess.{start_at, start_each, start_end}
-use Rattle.ccan_calls.specs.Process.{Attempted, Attempts, Does, Ended, GaveUp, Made, Pictures, Process, Unfit, WasSpent, attempted, ending, followed_by}
+use Rattle.ccan_calls.specs.Process.{Attempts, Pictures, Process, ending}
 use Rattle.ccan_calls.specs.Runs.{Runs}
 use Rattle.ccan_calls.proofs.Parting.{no_steps_in, no_steps_of, parted}
 use Rattle.ccan_calls.proofs.Processes.{Follows, ending_follow, follow, follow_ending, follows, one_act, only_first}

@@ -4,10 +4,11 @@ use Rattle.std.proofs.lemmas.List.{append-nil, append_cancel_right}
 use Rattle.ccan_ram.specs.declared.port.PortName.{PortName}
 use Rattle.ccan_ram.specs.Port.{same_port}
 use Rattle.ccan_ram.specs.Terms.{Terms}
+use Rattle.ccan_process.specs.Process.{Does, Ended}
 use Rattle.ccan_endless.specs.declared.chip.ChipEvent.{ChipEvent}
 use Rattle.ccan_endless.specs.Chip.{ChipHistory}
 use Rattle.ccan_c.specs.Step.{own_of, port_of_event}
-use Rattle.ccan_calls.specs.Process.{Act, Does, Ended, Out, Process}
+use Rattle.ccan_calls.specs.Process.{Act, Out, Process}
 use Rattle.ccan_calls.specs.Runs.{Acted, Runs}
 use Rattle.ccan_calls.specs.Stage.{AfterEnd, Began, ByEnd, ByEvent, HasDone, IsEventOf, Stage, StandsAt}
 use Rattle.ccan_calls.proofs.Finding.{Has, has_second}

@@ -19,9 +19,11 @@ use Rattle.ccan_ram.specs.Terms.{Terms}
 use Rattle.ccan_handler.specs.declared.scan.ScanRefused.{ScanRefused}
 use Rattle.ccan_handler.specs.declared.scan.Stored.{Stored}
 use Rattle.ccan_handler.specs.Scan.{IsPassed, IsTried, PassesOver, Scans, StopsAt}
+use Rattle.ccan_process.specs.Act.{attempted}
+use Rattle.ccan_process.specs.Process.{Does, Ended, followed_by}
 use Rattle.ccan_endless.specs.Chip.{ChipHistory}
 use Rattle.ccan_registers.specs.ChipSteps.{OnObjects, Then}
-use Rattle.ccan_calls.specs.Process.{Attempts, Does, Ended, Process, attempted, followed_by}
+use Rattle.ccan_calls.specs.Process.{Attempts, Process}
 use Rattle.ccan_calls.specs.Runs.{Runs}
 use Rattle.ccan_calls.specs.StoreProcess.{Filtered, GaveUpAt, NoneAccepts, SpentAt, StoredAt, store_each, store_end, store_first, unless_stored, visits}
 use Rattle.ccan_calls.proofs.AtObjects.{Both, both_so, said}

@@ -15,6 +15,8 @@ use Rattle.ccan_ram.specs.declared.event.Event.{Event}
 use Rattle.ccan_ram.specs.Attempt.{Attempt, IsLook}
 use Rattle.ccan_ram.specs.Change.{fits}
 use Rattle.ccan_ram.specs.Terms.{Terms}
+use Rattle.ccan_process.specs.Act.{Attempted, GaveUp, Made, Unfit, WasSpent, attempted}
+use Rattle.ccan_process.specs.Process.{Does, Ended}
 use Rattle.ccan_line.specs.declared.line_answer.LineAnswer.{LineAnswer}
 use Rattle.ccan_line.specs.declared.line_answer.LineAnswer.TheVariants as answer
 use Rattle.ccan_line.specs.Transfer.{change_of, Ends, Answers}
@@ -23,7 +25,7 @@ use Rattle.ccan_registers.specs.declared.interface_set.InterfaceSet.{InterfaceSe
 use Rattle.ccan_registers.specs.ChipSteps.{OnObjects}
 use Rattle.ccan_registers.specs.InterfaceSet.{Transferred}
 use Rattle.ccan_calls.specs.Parts.{moved_to, transfer, transfer_end}
-use Rattle.ccan_calls.specs.Process.{Attempted, Attempts, Does, Ended, GaveUp, Looks, Made, Unfit, WasSpent, attempted}
+use Rattle.ccan_calls.specs.Process.{Attempts, Looks}
 use Rattle.ccan_calls.specs.Runs.{Runs}
 use Rattle.ccan_calls.proofs.Processes.{one_act}
 

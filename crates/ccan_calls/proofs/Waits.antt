@@ -7,11 +7,12 @@ use Rattle.ccan_ram.specs.Attempt.{IsLook}
 use Rattle.ccan_ram.specs.Flags.{flag_of}
 use Rattle.ccan_ram.specs.Terms.{Terms}
 use Rattle.ccan_handler.specs.Watch.{Watches}
+use Rattle.ccan_process.specs.Process.{Ended}
 use Rattle.ccan_endless.specs.Chip.{ChipHistory, ram_of, steps_of}
 use Rattle.ccan_registers.specs.Objects.{ShowsObject, WaitsFor}
 use Rattle.ccan_registers.proofs.Histories.{ram_of-append}
 use Rattle.ccan_calls.specs.Parts.{until_shown}
-use Rattle.ccan_calls.specs.Process.{Ended, Process}
+use Rattle.ccan_calls.specs.Process.{Process}
 use Rattle.ccan_calls.specs.Runs.{Runs}
 use Rattle.ccan_calls.proofs.FirstLook.{begins, hides_first, shows_first, watches_none}
 use Rattle.ccan_calls.proofs.Parting.{parted, no_steps_in, no_steps_of}

@@ -8,6 +8,7 @@ use Rattle.ccan_confine.specs.declared.controller_change.ControllerChange.TheVar
 use Rattle.ccan_confine.specs.RegisterWords.{control_in}
 use Rattle.ccan_ram.specs.declared.flag.Flag.{Flag}
 use Rattle.ccan_ram.specs.Terms.{Terms}
+use Rattle.ccan_process.specs.Process.{Ended}
 use Rattle.ccan_endless.specs.Chip.{ChipHistory}
 use Rattle.ccan_map.specs.declared.flag_part.FlagPart.{FlagPart}
 use Rattle.ccan_map.specs.declared.map.Map.{Map}
@@ -20,7 +21,7 @@ use Rattle.ccan_registers.specs.Objects.{ShowsFlags}
 use Rattle.ccan_registers.specs.Register.{AreFlags, ReadsApart, ReadsAt, ReadsControl, ReadsFlags, ReadsHalves, ReadsTiming, ReadsWord, WritesApart, WritesAt, WritesControl, WritesControlWord, WritesController, WritesHalves, WritesTiming, WritesWord, both_written, is_refused, joined}
 use Rattle.ccan_calls.specs.Offsets.{FlagWord, are_halves, flag_word_at}
 use Rattle.ccan_calls.specs.Parts.{flag_shown}
-use Rattle.ccan_calls.specs.Process.{Ended, LooksAtController, Process, ending}
+use Rattle.ccan_calls.specs.Process.{LooksAtController, Process, ending}
 use Rattle.ccan_calls.specs.ReadProcess.{Word, reads_at, shows}
 use Rattle.ccan_calls.specs.Runs.{Runs}
 use Rattle.ccan_calls.specs.WordProcess.{OffEnd, control_word_shown, flag_word_shown, reads_flags, reads_halves, reads_other_word, reads_word, shows_word, some_written, timing_word, writes_control_word, writes_halves, writes_word}

@@ -15,6 +15,8 @@ use Rattle.ccan_ram.specs.declared.change.Changed.TheVariants.{Done, NotNow}
 use Rattle.ccan_ram.specs.declared.change.Refused.{Refused}
 use Rattle.ccan_ram.specs.declared.change.Refused.TheVariants.{Busy, Spent}
 use Rattle.ccan_ram.specs.Terms.{Terms}
+use Rattle.ccan_process.specs.Act.{Attempted, attempted}
+use Rattle.ccan_process.specs.Process.{Ended}
 use Rattle.ccan_line.specs.declared.line_answer.LineAnswer.{LineAnswer}
 use Rattle.ccan_endless.specs.declared.controller_changed.ControllerBusy.{ControllerBusy}
 use Rattle.ccan_endless.specs.declared.controller_changed.ControllerChanged.{ControllerChanged}
@@ -33,7 +35,7 @@ use Rattle.ccan_registers.specs.Dcan.{NamesNone, Sends, asks_for_reset, is_objec
 use Rattle.ccan_registers.specs.Register.{HasNone, IsAt, IsOthers, IsReadOnly, Requests, RequestsBy, RequestsObject, ResetsBySoftware, SetsOwn, Writes, WritesAt, WritesController, WritesRest, change_by, is_own, transfer_told}
 use Rattle.ccan_registers.specs.Resetting.{ResetsChip}
 use Rattle.ccan_calls.specs.Parts.{transfer}
-use Rattle.ccan_calls.specs.Process.{Attempted, Attempts, ChangesController, Ended, Process, attempted, ending}
+use Rattle.ccan_calls.specs.Process.{Attempts, ChangesController, Process, ending}
 use Rattle.ccan_calls.specs.Offsets.{register_at}
 use Rattle.ccan_calls.specs.Runs.{Runs}
 use Rattle.ccan_calls.specs.WriteProcess.{WriteEnd, WriteProcess, Written, access_at, attempt_told, change_all, change_controller, keeping, others, requests, requests_by, requests_object, resets, resets_in_init, sends, sent_set, sets, unless_refused, writes, writes_at, writes_byte, writes_byte_of, writes_lower, writes_rest, writes_timing_byte, writes_upper}

@@ -10,12 +10,13 @@ use Rattle.ccan_ram.specs.Attempt.{change_at, look_at}
 use Rattle.ccan_ram.specs.History.{events_of}
 use Rattle.ccan_ram.specs.Terms.{Terms}
 use Rattle.ccan_handler.specs.Laws.{LooksInTurn}
+use Rattle.ccan_process.specs.Act.{Attempted, GaveUp, Made, Unfit, WasSpent}
 use Rattle.ccan_endless.specs.declared.chip.ControllerEvent.{ControllerEvent}
 use Rattle.ccan_endless.specs.declared.chip.ControllerStep.TheVariants as step
 use Rattle.ccan_endless.specs.declared.controller_changed.ControllerBusy.{ControllerBusy}
 use Rattle.ccan_endless.specs.declared.controller_changed.ControllerChanged.{ControllerChanged}
 use Rattle.ccan_endless.specs.Chip.{ChipHistory, ram_of, step_at, steps_of}
-use Rattle.ccan_calls.specs.Process.{Act, Attempted, Attempts, ChangesController, GaveUp, InsistsOnChange, Looks, LooksAtController, Made, Out, Pictures, Unfit, WasSpent}
+use Rattle.ccan_calls.specs.Process.{Act, Attempts, ChangesController, InsistsOnChange, Looks, LooksAtController, Out, Pictures}
 
 -- the newest first, here and below: this many looks at an object
 abbrev pub AreLooks : PortName → ℕ → ℕ → List Event → Type 0

@@ -1,5 +1,6 @@
 -- What C gets from a call: a code, and what the call gives. Source: this project's own.
 use Rattle.std.specs.Prelude.{ℕ, ◌≡◌, Option, Some, Ok}
+use Rattle.ccan_process.specs.Process.{Ended}
 use Rattle.ccan_endless.specs.Chip.{ChipHistory}
 use Rattle.ccan_endless.specs.Note.{Told}
 use Rattle.ccan_c.specs.declared.shown_counters.ShownCounters.{ShownCounters}
@@ -9,7 +10,7 @@ use Rattle.ccan_c.specs.declared.shown_member.ShownMember.{ShownMember}
 use Rattle.ccan_c.specs.declared.shown_outcome.ShownOutcome.{ShownOutcome}
 use Rattle.ccan_c.specs.declared.shown_record.ShownRecord.{ShownRecord}
 use Rattle.ccan_c.specs.Note.{TellsOf}
-use Rattle.ccan_calls.specs.Process.{Ended, Process}
+use Rattle.ccan_calls.specs.Process.{Process}
 use Rattle.ccan_calls.specs.ReadProcess.{Word}
 
 -- what a call gives, if it gives something

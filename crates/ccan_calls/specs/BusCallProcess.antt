@@ -10,6 +10,7 @@ use Rattle.ccan_confine.specs.Counters.{counts_of, state_of}
 use Rattle.ccan_ram.specs.Terms.{Terms}
 use Rattle.ccan_bus.specs.declared.round_line.Fault.{Fault}
 use Rattle.ccan_bus.specs.Past.{BusPast, recovers}
+use Rattle.ccan_process.specs.Process.{Does, Ended}
 use Rattle.ccan_line.specs.declared.line_answer.LineAnswer.TheVariants as answer
 use Rattle.ccan_line.specs.Limits.{most_frames, most_groups}
 use Rattle.ccan_endless.specs.declared.controller_changed.ControllerBusy.{ControllerBusy}
@@ -35,7 +36,7 @@ use Rattle.ccan_calls.specs.BusRegisters.{bus_writes_at, bus_writes_byte, bus_wr
 use Rattle.ccan_calls.specs.LoadProcess.{LoadEnd, loads}
 use Rattle.ccan_calls.specs.HostCallProcess.{heeded, note_end, noted, reads_off}
 use Rattle.ccan_calls.specs.Parts.{flag_shown, line_pulled, value_shown}
-use Rattle.ccan_calls.specs.Process.{ChangesController, Does, Ended, LooksAtController, Offers, Process, ending}
+use Rattle.ccan_calls.specs.Process.{ChangesController, LooksAtController, Offers, Process, ending}
 use Rattle.ccan_calls.specs.ReadProcess.{Word, reads_at, reads_byte}
 use Rattle.ccan_calls.specs.RoundProcess.{RoundTold, are_senders, rounds}
 use Rattle.ccan_calls.specs.WordProcess.{reads_word}

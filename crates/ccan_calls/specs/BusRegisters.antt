@@ -8,6 +8,7 @@ use Rattle.ccan_ram.specs.Terms.{Terms}
 use Rattle.ccan_map.specs.declared.map.Map.{Map}
 use Rattle.ccan_map.specs.declared.register.Register.{Register}
 use Rattle.ccan_map.specs.declared.register.Register.TheVariants as register
+use Rattle.ccan_process.specs.Process.{Does, Ended, followed_by}
 use Rattle.ccan_registers.specs.declared.access_error.AccessError.TheVariants as why
 use Rattle.ccan_registers.specs.declared.byte.Byte.{Byte}
 use Rattle.ccan_registers.specs.declared.byte.Byte.TheVariants.{Lower, Upper}
@@ -15,7 +16,7 @@ use Rattle.ccan_registers.specs.Bytes.{byte_in, has_reset, start_of, with_byte}
 use Rattle.ccan_registers.specs.Dcan.{asks_for_reset}
 use Rattle.ccan_registers.specs.Register.{both_written, change_by, is_refused}
 use Rattle.ccan_calls.specs.Offsets.{are_halves, register_at}
-use Rattle.ccan_calls.specs.Process.{Does, Ended, LooksAtController, Process, ending, followed_by}
+use Rattle.ccan_calls.specs.Process.{LooksAtController, Process, ending}
 use Rattle.ccan_calls.specs.WriteProcess.{Written, change_controller, resets}
 
 -- a write of a register that is no register of the controller: those of interfaces are others'

@@ -5,7 +5,8 @@ use Rattle.ccan_object.specs.declared.profile.Profile.{Profile}
 use Rattle.ccan_object.specs.declared.record.Record.{Record}
 use Rattle.ccan_object.specs.Profile.{objects_in}
 use Rattle.ccan_confine.specs.declared.controller.Controller.{Controller}
-use Rattle.ccan_calls.specs.Process.{Does, Ended, Looks, LooksAtController, Process, ending}
+use Rattle.ccan_process.specs.Process.{Does, Ended}
+use Rattle.ccan_calls.specs.Process.{Looks, LooksAtController, Process, ending}
 
 abbrev pub record_first : Record → List Record → List Record
 record_first shown records = shown ∷ records

@@ -16,6 +16,7 @@ use Rattle.ccan_ram.specs.Terms.{Terms}
 use Rattle.ccan_bus.specs.declared.answer.LoadAnswer.{LoadAnswer}
 use Rattle.ccan_bus.specs.declared.answer.LoadAnswer.TheVariants as load
 use Rattle.ccan_bus.specs.declared.round_end.RoundEnd.{RoundEnd}
+use Rattle.ccan_process.specs.Process.{Does, Ended, followed_by}
 use Rattle.ccan_chip.specs.Arrival.{unloaded}
 use Rattle.ccan_line.specs.declared.line_answer.LineAnswer.TheVariants as answer
 use Rattle.ccan_wire.specs.declared.flaw.Flaw.{Flaw}
@@ -42,7 +43,7 @@ use Rattle.ccan_calls.specs.BusCallProcess.{controller_shown}
 use Rattle.ccan_calls.specs.FrameAsk.{FrameAsk, begin, stay, finish, retry, power_down}
 use Rattle.ccan_calls.specs.LoadProcess.{arrives, start_first}
 use Rattle.ccan_calls.specs.Parts.{flag_shown}
-use Rattle.ccan_calls.specs.Process.{ChangesController, Does, Ended, InsistsOnChange, LooksAtController, Pauses, Process, ending, followed_by}
+use Rattle.ccan_calls.specs.Process.{ChangesController, InsistsOnChange, LooksAtController, Pauses, Process, ending}
 use Rattle.ccan_calls.specs.RoundProcess.{EventEnd, completes, makes_event}
 
 -- a call, and what the handle keeps after it

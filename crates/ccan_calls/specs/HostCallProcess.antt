@@ -5,6 +5,7 @@ use Rattle.ccan_object.specs.Interface.{set_register, shown}
 use Rattle.ccan_object.specs.Number.{requested}
 use Rattle.ccan_ram.specs.declared.flag.Flag.{Flag}
 use Rattle.ccan_ram.specs.Terms.{Terms}
+use Rattle.ccan_process.specs.Process.{Does, Ended}
 use Rattle.ccan_line.specs.Limits.{most_turns}
 use Rattle.ccan_endless.specs.Chip.{ChipHistory}
 use Rattle.ccan_map.specs.declared.map.Map.{Map}
@@ -19,7 +20,7 @@ use Rattle.ccan_c.specs.Settings.{is_from_one_to}
 use Rattle.ccan_calls.specs.Answer.{CallEnd, CallProcess, Noted, Nothing, Number, Shown, end_of, refuses, word_given}
 use Rattle.ccan_calls.specs.HostAsk.{HostAsk, set, get, request, flags, interrupt, peek, until, read8, write8, read16, write16, read32, write32, line, clear, tell, heed}
 use Rattle.ccan_calls.specs.Parts.{flag_shown, interrupt_value, line_pulled, look, transfer, until_shown}
-use Rattle.ccan_calls.specs.Process.{Does, Ended, Heeds, Notes, Process, ending}
+use Rattle.ccan_calls.specs.Process.{Heeds, Notes, Process, ending}
 use Rattle.ccan_calls.specs.ReadProcess.{Word, reads_at, reads_byte}
 use Rattle.ccan_calls.specs.WordProcess.{reads_word, writes_word}
 use Rattle.ccan_calls.specs.WriteProcess.{Written, change_all, writes_at, writes_byte}

@@ -11,6 +11,7 @@ use Rattle.ccan_bus.specs.declared.choice.Choice.TheVariants.{AtOnce}
 use Rattle.ccan_bus.specs.declared.round_line.Fault.{Fault}
 use Rattle.ccan_bus.specs.declared.round_line.RoundLine.{RoundLine}
 use Rattle.ccan_bus.specs.Past.{BusPast}
+use Rattle.ccan_process.specs.Process.{Ended}
 use Rattle.ccan_endless.specs.Chip.{ChipHistory, GoesFrom}
 use Rattle.ccan_line.specs.Limits.{most_nodes}
 use Rattle.ccan_map.specs.declared.map.Map.{Map}
@@ -30,7 +31,7 @@ use Rattle.ccan_calls.specs.FrameAsk.{asked_of, place_after}
 use Rattle.ccan_calls.specs.FrameProcess.{frame_process}
 use Rattle.ccan_calls.specs.HostAsk.{asked_by, place_of}
 use Rattle.ccan_calls.specs.HostCallProcess.{host_process}
-use Rattle.ccan_calls.specs.Process.{Act, Ended, Out, Process}
+use Rattle.ccan_calls.specs.Process.{Act, Out, Process}
 use Rattle.ccan_calls.specs.RoundProcess.{are_senders}
 use Rattle.ccan_calls.specs.Runs.{Acted, IsLineOf, Runs}
 use Rattle.ccan_calls.specs.Stage.{HasDone, Stage, StandsAt}

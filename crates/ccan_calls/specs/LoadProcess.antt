@@ -14,9 +14,11 @@ use Rattle.ccan_handler.specs.Moment.{was_ready}
 use Rattle.ccan_bus.specs.declared.answer.LoadAnswer.{LoadAnswer}
 use Rattle.ccan_bus.specs.declared.answer.LoadAnswer.TheVariants as load
 use Rattle.ccan_bus.specs.Past.{BusPast, is_on}
+use Rattle.ccan_process.specs.Act.{Attempted, GaveUp, Made, Unfit, WasSpent}
+use Rattle.ccan_process.specs.Process.{Does, Ended, followed_by}
 use Rattle.ccan_chip.specs.Arrival.{comes_back, left_behind}
 use Rattle.ccan_chip.specs.Round.{as_found, events_in}
-use Rattle.ccan_calls.specs.Process.{Attempted, Attempts, Does, Ended, GaveUp, InsistsOnChange, LooksAtController, Made, Pauses, Pictures, Process, Recalls, Unfit, WasSpent, ending, followed_by}
+use Rattle.ccan_calls.specs.Process.{Attempts, InsistsOnChange, LooksAtController, Pauses, Pictures, Process, Recalls, ending}
 
 -- an object that is no longer ready is passed over
 abbrev pub start_end : ℕ → Process LoadAnswer → Attempted → Process LoadAnswer

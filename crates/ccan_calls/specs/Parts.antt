@@ -8,11 +8,13 @@ use Rattle.ccan_confine.specs.Controller.{shows_interrupt}
 use Rattle.ccan_ram.specs.declared.flag.Flag.{Flag}
 use Rattle.ccan_ram.specs.Flags.{flag_of}
 use Rattle.ccan_ram.specs.HandlerRegisters.{register_of}
+use Rattle.ccan_process.specs.Act.{Attempted, GaveUp, Made, Unfit, WasSpent}
+use Rattle.ccan_process.specs.Process.{Does, Ended}
 use Rattle.ccan_line.specs.declared.line_answer.LineAnswer.{LineAnswer}
 use Rattle.ccan_line.specs.declared.line_answer.LineAnswer.TheVariants as answer
 use Rattle.ccan_line.specs.Transfer.{change_of}
 use Rattle.ccan_registers.specs.declared.interface_set.InterfaceSet.{InterfaceSet}
-use Rattle.ccan_calls.specs.Process.{Attempted, Attempts, Does, Ended, GaveUp, Looks, LooksAtController, Made, Pauses, Pictures, Process, Unfit, WasSpent, ending}
+use Rattle.ccan_calls.specs.Process.{Attempts, Looks, LooksAtController, Pauses, Pictures, Process, ending}
 
 -- ---- looks and pictures
 

@@ -13,6 +13,7 @@ use Rattle.ccan_map.specs.declared.map.Map.{Map}
 use Rattle.ccan_map.specs.declared.register.Register.{Register}
 use Rattle.ccan_map.specs.declared.register.Register.TheVariants as register
 use Rattle.ccan_map.specs.FlagPart.{index_of}
+use Rattle.ccan_process.specs.Process.{Does, Ended}
 use Rattle.ccan_registers.specs.declared.access_error.AccessError.{AccessError}
 use Rattle.ccan_registers.specs.declared.access_error.AccessError.TheVariants.{OtherInterface}
 use Rattle.ccan_registers.specs.declared.interface_set.InterfaceSet.{InterfaceSet}
@@ -20,7 +21,7 @@ use Rattle.ccan_registers.specs.Bytes.{byte_in, byte_told, start_of}
 use Rattle.ccan_registers.specs.Dcan.{control_shown, upper_shown}
 use Rattle.ccan_registers.specs.Register.{is_own, read_of, status_told, test_shown}
 use Rattle.ccan_calls.specs.Parts.{flag_shown, value_shown}
-use Rattle.ccan_calls.specs.Process.{ChangesController, Does, Ended, LooksAtController, Process, ending}
+use Rattle.ccan_calls.specs.Process.{ChangesController, LooksAtController, Process, ending}
 use Rattle.ccan_calls.specs.Offsets.{register_at}
 
 -- what a read answers: a word, or why there is none

@@ -27,12 +27,14 @@ use Rattle.ccan_bus.specs.Past.{BusPast}
 use Rattle.ccan_bus.specs.Round.{refusal_of_round}
 use Rattle.ccan_bus.specs.RoundLine.{sends_of}
 use Rattle.ccan_bus.specs.RoundReport.{refused_start}
+use Rattle.ccan_process.specs.Act.{Attempted, GaveUp, Made, Unfit, WasSpent}
+use Rattle.ccan_process.specs.Process.{Does, Ended, followed_by}
 use Rattle.ccan_chip.specs.declared.chip_report.ChipReport.{ChipReport}
 use Rattle.ccan_endless.specs.declared.controller_changed.ControllerBusy.{ControllerBusy}
 use Rattle.ccan_endless.specs.declared.controller_changed.ControllerChanged.{ControllerChanged}
 use Rattle.ccan_c.specs.Settings.{is_from_one_to}
 use Rattle.ccan_calls.specs.LoadProcess.{LoadEnd, arrives_and, load_on}
-use Rattle.ccan_calls.specs.Process.{Attempted, Attempts, Decided, Decides, Does, Ended, GaveUp, InsistsOnChange, LetsOthersAct, Made, Pauses, Process, Unfit, WasSpent, ending, followed_by}
+use Rattle.ccan_calls.specs.Process.{Attempts, Decided, Decides, InsistsOnChange, LetsOthersAct, Pauses, Process, ending}
 use Rattle.ccan_calls.specs.StoreProcess.{Filtered, GaveUpAt, NoneAccepts, SpentAt, StoredAt, store_first}
 
 -- ---- the steps at objects that a decision calls for

@@ -13,12 +13,14 @@ use Rattle.ccan_bus.specs.declared.round_line.RoundLine.{RoundLine}
 use Rattle.ccan_bus.specs.Controller.{WasTo}
 use Rattle.ccan_bus.specs.Decide as decide
 use Rattle.ccan_bus.specs.Past.{BusPast, hears_itself}
+use Rattle.ccan_process.specs.Act.{attempted}
+use Rattle.ccan_process.specs.Process.{Does, Ended}
 use Rattle.ccan_endless.specs.declared.chip.ControllerStep.TheVariants.{Look}
 use Rattle.ccan_endless.specs.Chip.{ChipHistory}
 use Rattle.ccan_registers.specs.ChipSteps.{AtController, Changes, OnObjects, Then}
 use Rattle.ccan_registers.specs.Notes.{Heeds as HeedsNote}
 use Rattle.ccan_registers.specs.Rounds.{IsStill}
-use Rattle.ccan_calls.specs.Process.{Act, Attempts, ChangesController, Decided, Decides, Does, Ended, Heeds, InsistsOnChange, LetsOthersAct, Looks, LooksAtController, Notes, Offers, Out, Pauses, Pictures, Process, Recalls, attempted}
+use Rattle.ccan_calls.specs.Process.{Act, Attempts, ChangesController, Decided, Decides, Heeds, InsistsOnChange, LetsOthersAct, Looks, LooksAtController, Notes, Offers, Out, Pauses, Pictures, Process, Recalls}
 
 -- the line of a round: these frames, and this fault
 pub record IsLineOf (sends : List (ℕ × Frame)) (fault : Fault) (line : RoundLine) : Type 0 where

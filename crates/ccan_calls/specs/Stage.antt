@@ -7,13 +7,14 @@ use Rattle.ccan_ram.specs.declared.port.PortName.{PortName}
 use Rattle.ccan_ram.specs.Attempt.{change_at, look_at}
 use Rattle.ccan_ram.specs.Port.{same_port}
 use Rattle.ccan_ram.specs.Terms.{Terms}
+use Rattle.ccan_process.specs.Process.{Does, Ended}
 use Rattle.ccan_endless.specs.declared.chip.ChipEvent.{ChipEvent}
 use Rattle.ccan_endless.specs.declared.chip.ChipEvent.TheVariants.{OfController, OfRam}
 use Rattle.ccan_endless.specs.declared.chip.ControllerStep.{ControllerStep}
 use Rattle.ccan_endless.specs.declared.chip.ControllerStep.TheVariants as step
 use Rattle.ccan_endless.specs.Chip.{ChipHistory, step_at}
 use Rattle.ccan_c.specs.Step.{own_of, port_of_event}
-use Rattle.ccan_calls.specs.Process.{Act, Attempts, ChangesController, Decides, Does, Ended, Heeds, InsistsOnChange, LetsOthersAct, Looks, LooksAtController, Notes, Offers, Out, Pauses, Pictures, Process, Recalls}
+use Rattle.ccan_calls.specs.Process.{Act, Attempts, ChangesController, Decides, Heeds, InsistsOnChange, LetsOthersAct, Looks, LooksAtController, Notes, Offers, Out, Pauses, Pictures, Process, Recalls}
 use Rattle.ccan_calls.specs.Runs.{Acted, Runs}
 
 -- ---- steps of an act

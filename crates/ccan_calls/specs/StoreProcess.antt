@@ -7,7 +7,9 @@ use Rattle.ccan_object.specs.Profile.{objects_in}
 use Rattle.ccan_accept.specs.declared.frame.Frame.{Frame}
 use Rattle.ccan_accept.specs.Accept.{accepts}
 use Rattle.ccan_ram.specs.declared.change.Change.TheVariants.{Store}
-use Rattle.ccan_calls.specs.Process.{Attempted, Attempts, Does, Ended, GaveUp, Looks, Made, Process, Unfit, WasSpent, followed_by}
+use Rattle.ccan_process.specs.Act.{Attempted, GaveUp, Made, Unfit, WasSpent}
+use Rattle.ccan_process.specs.Process.{Does, Ended, followed_by}
+use Rattle.ccan_calls.specs.Process.{Attempts, Looks, Process}
 
 -- how it ends: no object accepts the frame; or the store at one was made, given up, or refused since no change was left
 pub data Filtered : Type 0 where

@@ -1,6 +1,7 @@
 -- The calls on a handle, one after another, as one process. Source: this project's own.
 use Rattle.std.specs.Prelude.{ℕ, ◌≡◌, List, [], ◌∷◌, ◌++◌, if◌then◌else◌}
 use Rattle.ccan_ram.specs.Terms.{Terms}
+use Rattle.ccan_process.specs.Process.{Ended, followed_by}
 use Rattle.ccan_endless.specs.Chip.{ChipHistory}
 use Rattle.ccan_map.specs.declared.map.Map.{Map}
 use Rattle.ccan_bus.specs.Past.{BusPast}
@@ -13,7 +14,7 @@ use Rattle.ccan_calls.specs.BusAsk.{BusAsk, asked_on, load, place_on, round}
 use Rattle.ccan_calls.specs.BusCallProcess.{bus_process}
 use Rattle.ccan_calls.specs.FrameAsk.{FrameAsk, asked_of, place_after}
 use Rattle.ccan_calls.specs.FrameProcess.{frame_process}
-use Rattle.ccan_calls.specs.Process.{Ended, Process, ending, followed_by}
+use Rattle.ccan_calls.specs.Process.{Process, ending}
 use Rattle.ccan_calls.specs.Runs.{Runs}
 
 -- ---- any call on the bus's handle

@@ -10,12 +10,13 @@ use Rattle.ccan_ram.specs.Terms.{Terms}
 use Rattle.ccan_map.specs.declared.map.Map.{Map}
 use Rattle.ccan_map.specs.declared.register.Register.TheVariants.{BitTiming, Control, ControlUpper, Extension}
 use Rattle.ccan_map.specs.FlagPart.{index_of}
+use Rattle.ccan_process.specs.Process.{Ended, followed_by}
 use Rattle.ccan_registers.specs.declared.interface_set.InterfaceSet.{InterfaceSet}
 use Rattle.ccan_registers.specs.Dcan.{asks_for_reset, control_shown, upper_shown}
 use Rattle.ccan_registers.specs.Register.{both_written, is_refused, joined}
 use Rattle.ccan_calls.specs.Offsets.{FlagWord, are_halves, flag_word_at}
 use Rattle.ccan_calls.specs.Parts.{flag_shown}
-use Rattle.ccan_calls.specs.Process.{Ended, Process, ending, followed_by}
+use Rattle.ccan_calls.specs.Process.{Process, ending}
 use Rattle.ccan_calls.specs.ReadProcess.{Word, reads_at, shows}
 use Rattle.ccan_calls.specs.WriteProcess.{WriteProcess, Written, change_controller, keeping, resets, writes_at}
 

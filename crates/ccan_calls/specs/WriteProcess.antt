@@ -14,6 +14,8 @@ use Rattle.ccan_map.specs.declared.map.Map.{Map}
 use Rattle.ccan_map.specs.declared.map.Map.TheVariants.{Dcan, Narrow, Wide}
 use Rattle.ccan_map.specs.declared.register.Register.{Register}
 use Rattle.ccan_map.specs.declared.register.Register.TheVariants as register
+use Rattle.ccan_process.specs.Act.{Attempted, GaveUp, Made, Unfit, WasSpent}
+use Rattle.ccan_process.specs.Process.{Does, Ended}
 use Rattle.ccan_registers.specs.declared.access_error.AccessError.{AccessError}
 use Rattle.ccan_registers.specs.declared.access_error.AccessError.TheVariants as why
 use Rattle.ccan_registers.specs.declared.byte.Byte.{Byte}
@@ -24,7 +26,7 @@ use Rattle.ccan_registers.specs.ChipSteps.{made_or_busy}
 use Rattle.ccan_registers.specs.Dcan.{asks_for_reset, is_object_of, is_sending, number_in}
 use Rattle.ccan_registers.specs.Register.{change_by, is_own, transfer_told}
 use Rattle.ccan_calls.specs.Parts.{transfer}
-use Rattle.ccan_calls.specs.Process.{Attempted, Attempts, ChangesController, Does, Ended, GaveUp, LooksAtController, Made, Process, Unfit, WasSpent, ending}
+use Rattle.ccan_calls.specs.Process.{Attempts, ChangesController, LooksAtController, Process, ending}
 use Rattle.ccan_calls.specs.Offsets.{register_at}
 
 -- whether something was done, or why not
