@@ -26,6 +26,16 @@ fn laws_of_runs_hold() {
 }
 
 #[test]
+fn laws_of_processes_hold() {
+    ccan_process::laws::processes_run_once::<u64>();
+    ccan_process::laws::runs_are_apart::<u64>();
+    line_process_laws::host_lines_are_processes();
+    line_process_laws::bus_lines_are_processes();
+    line_process_laws::bus_line_ends_are_processes();
+    line_process_laws::ports_are_processes();
+}
+
+#[test]
 fn laws_of_outcomes_hold() {
     seat_laws::hosts_begin_as_processes();
     seat_laws::host_steps_are_acts();
@@ -36,10 +46,6 @@ fn laws_of_outcomes_hold() {
     seat_laws::own_are_found();
     place_laws::stages_tell_places();
     process_laws::steps_are_the_whole();
-    line_process_laws::host_lines_are_processes();
-    line_process_laws::bus_lines_are_processes();
-    line_process_laws::bus_line_ends_are_processes();
-    line_process_laws::ports_are_processes();
     same::equal_records_are_the_same();
     same::equal_ends_are_the_same();
     machine_laws::all_outcomes_are_reached();
