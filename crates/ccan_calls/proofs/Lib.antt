@@ -35,3 +35,10 @@ pub mod OwnSteps
 pub mod Stepwise
 pub mod ThreadsStand
 pub mod ActSteps
+pub mod ChipMemories
+pub mod Placed
+pub mod ActsPlaced
+pub mod Asking
+pub mod ThreadsPlaced
+pub mod ListWalk
+pub mod InTheList

@@ -25,7 +25,7 @@ other_first : (own : Bool) (port : PortName) (event : ChipEvent) (rest : ChipHis
 other_first true port event rest none = absurd (cons_not_nil event (own_of port rest) none)
 other_first false port event rest none = (refl, none)
 
-no_own_first : (port : PortName) (event : ChipEvent) (rest : ChipHistory) → own_of port (event ∷ rest) ≡ []
+pub no_own_first : (port : PortName) (event : ChipEvent) (rest : ChipHistory) → own_of port (event ∷ rest) ≡ []
     → (same_port (port_of_event event) port ≡ false) × (own_of port rest ≡ [])
 no_own_first port event rest none = other_first (same_port (port_of_event event) port) port event rest none
 

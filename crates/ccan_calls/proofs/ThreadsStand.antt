@@ -28,7 +28,7 @@ own_of-append port (event ∷ more) seen =
     own_more (same_port (port_of_event event) port) event (own_of port (more ++ seen)) (own_of port more) (own_of port seen)
     (own_of-append port more seen)
 
-others_only : (port : PortName) (history seen more : ChipHistory) → history ≡ more ++ seen → own_of port history ≡ own_of port seen
+pub others_only : (port : PortName) (history seen more : ChipHistory) → history ≡ more ++ seen → own_of port history ≡ own_of port seen
     → own_of port more ≡ []
 others_only port history seen more whole own =
     none_before (own_of port more) (own_of port seen)

@@ -8,6 +8,7 @@ pub mod WordProcess
 pub mod Answer
 pub mod HostAsk
 pub mod HostCallProcess
+pub mod InTheList
 pub mod BusRegisters
 pub mod LoadProcess
 pub mod StoreProcess
@@ -17,6 +18,7 @@ pub mod BusCallProcess
 pub mod FrameAsk
 pub mod FrameProcess
 pub mod ChipProcess
+pub mod DeviceSteps
 pub mod ThreadProcess
 pub mod Stage
 pub mod ActSteps

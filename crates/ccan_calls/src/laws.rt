@@ -3,6 +3,7 @@ ghost use Rattle.ccan_bus.specs.Past.{BusPast};
 ghost use Rattle.ccan_registers.specs.declared.interface_set.InterfaceSet.{InterfaceSet};
 ghost use Rattle.ccan_c.specs.FrameCall.{BusState};
 ghost use Rattle.ccan_calls.specs.Answer.{CallEnd};
+ghost use Rattle.ccan_calls.specs.InTheList.{ThreadsStandInTheList};
 ghost use Rattle.ccan_calls.specs.Laws.{ActsHaveTheirSteps, BusCallsAreProcesses, FrameCallsAreProcesses};
 ghost use Rattle.ccan_calls.specs.Laws.{BusThreadsAreProcesses, BusThreadsStand, HostCallsAreProcesses};
 ghost use Rattle.ccan_calls.specs.Laws.{HostThreadsAreProcesses, HostThreadsStand};
@@ -71,3 +72,14 @@ pub fn offers_are_one_line()
 pub fn acts_have_their_steps()
     ensures { ActsHaveTheirSteps }
 {}
+
+/// Whatever three threads do with a chip from its opening, by `ccan_open` or `ccan_open_reset`, to a `ccan_end` that answers 0,
+/// each on a handle of its own, with `ccan_meet` in between and without: the calls of each are one process, which asks a chip of
+/// one thread for steps. Whatever tables the threads go by, where they have come to stands in the list of all schedules of these
+/// tables on such a chip, with the records that C gets. Where no step was refused, it stands in the list of a chip that refuses
+/// none.
+pub fn threads_stand_in_the_list()
+    ensures { ThreadsStandInTheList }
+{
+    ccan_c::laws::calls_fit_one_history();
+}

@@ -1,0 +1,75 @@
+-- Three threads on a chip of the library for C stand in the list of all schedules of their tables.
+use Rattle.std.proofs.Common.{ℕ, ◌≡◌, List, ◌++◌, map, refl, sym, ap, subst, ◌∙◌}
+use Rattle.ccan_object.specs.declared.profile.Profile.{Profile}
+use Rattle.ccan_ram.specs.declared.port.PortName.{PortName}
+use Rattle.ccan_ram.specs.declared.port.PortName.TheVariants.{Bus, If1, If2}
+use Rattle.ccan_ram.specs.History.{IsLegal}
+use Rattle.ccan_ram.specs.SharedRam.{terms_of}
+use Rattle.ccan_ram.specs.Terms.{Terms}
+use Rattle.ccan_endless.specs.Chip.{ChipHistory, GoesFrom, ram_of}
+use Rattle.ccan_endless.specs.Layout.{same_object}
+use Rattle.ccan_c.specs.declared.shown_final.ShownFinal.{ShownFinal}
+use Rattle.ccan_c.specs.HostCall.{HostCall, code_got}
+use Rattle.ccan_c.specs.Opening.{Set}
+use Rattle.ccan_c.specs.Threads.{FitOneHistory, Part, Places, opened_with, opening, opening_bus}
+use Rattle.ccan_calls.specs.HostAsk.{asked_by, place_of}
+use Rattle.ccan_calls.specs.HostCallProcess.{host_process}
+use Rattle.ccan_calls.specs.InTheList.{IsInTheList, OnlyMeet, StandsInTheList, calls_of_bus, calls_of_if1, calls_of_if2, chip_after}
+use Rattle.ccan_calls.specs.ThreadProcess.{asked, code_of_call, on_bus_process, place_of_call}
+use Rattle.ccan_calls.proofs.ListWalk.{all_come}
+use Rattle.ccan_calls.proofs.Placed.{IsLegalHere, Placed}
+use Rattle.ccan_calls.proofs.ThreadsPlaced.{HaveAsked, bus_through, if1_through, if2_through, in_history}
+
+module _ (profile : Profile) (set : Set) (parts : List Part) (out : ShownFinal)
+    (h : FitOneHistory profile (opened_with set) parts out) (only : OnlyMeet parts) where
+  abbrev its : PortName → Terms
+  its port = terms_of same_object h.memory port
+
+  abbrev base : ChipHistory
+  base = set.opening.begun
+
+  legal_here : (port : PortName) → IsLegalHere (its port) h.history
+  legal_here port = record {
+    ram = subst (λ p. IsLegal p (ram_of h.history)) (sym h.memory_is.profile_is) h.legal;
+    controller = h.steps_legal;
+  }
+
+  pub stands : StandsInTheList profile set parts out
+  stands =
+      let (first, placed1) = in_history (its If1) set.tries (host_process (its If1) set.map) asked_by code_got place_of base
+      set.opening.own (calls_of_if1 parts) h.first.if1 h.last.if1 h.history (legal_here If1) h.if1.begins h.if1.own
+      (if1_through its set parts h.first h.last only h.means refl) (ap (λ (p : Places). p.if1.seen) h.begins)
+      (ap (λ (p : Places). p.if1.state) h.begins) in
+      let (second, placed2) = in_history (its If2) set.tries (host_process (its If2) set.map) asked_by code_got place_of base
+      set.opening.own (calls_of_if2 parts) h.first.if2 h.last.if2 h.history (legal_here If2) h.if2.begins h.if2.own
+      (if2_through its set parts h.first h.last only h.means refl) (ap (λ (p : Places). p.if2.seen) h.begins)
+      (ap (λ (p : Places). p.if2.state) h.begins) in
+      let (third, placed3) = in_history (its Bus) set.tries (on_bus_process (its Bus) set.map set.nodes) asked code_of_call
+      place_of_call base (opening_bus set.nodes) (calls_of_bus parts) h.first.bus h.last.bus h.history (legal_here Bus)
+      h.bus.begins h.bus.own
+      (bus_through its set parts h.first h.last only h.means refl (ap (λ (p : Places). p.bus.state.past.choice) h.begins))
+      (ap (λ (p : Places). p.bus.seen) h.begins) (ap (λ (p : Places). p.bus.state) h.begins) in
+      record {
+        steps = record { if1 = first.steps; if2 = second.steps; bus = third.steps };
+        of_calls = record {
+          memory = h.memory;
+          memory_is = h.memory_is;
+          if1_asks = record { answers = first.answers; left = h.last.if1.state; answered = first.answered; asks = first.asks };
+          if2_asks = record {
+            answers = second.answers;
+            left = h.last.if2.state;
+            answered = second.answered;
+            asks = second.asks;
+          };
+          bus_asks = record { answers = third.answers; left = h.last.bus.state; answered = third.answered; asks = third.asks };
+        };
+        last = chip_after profile h.history;
+        shows = record { objects = h.shows.objects; records = h.shows.records };
+        in_list = subst
+            (λ p. IsInTheList (chip_after p base) (chip_after p h.history)
+            (record { if1 = first.steps; if2 = second.steps; bus = third.steps }))
+            h.memory_is.profile_is
+            (λ refuses eq if1 if2 bus place1 place2 place_bus on1 on2 on3 by1 by2 by3.
+            all_come h.memory base refuses eq if1 if2 bus h.history first.steps second.steps third.steps place1 place2 place_bus
+            placed1 placed2 placed3 on1 on2 on3 by1 by2 by3);
+      }
