@@ -1,7 +1,6 @@
 -- What comes of each act is the answer of its step, placed in the history.
-use Rattle.std.proofs.Common.{ℕ, zero, suc, ◌≡◌, inl, inr, ◌+◌, ◌<◌, ◌≤◌, Bool, true, false, ◌&&◌, nat_le, List, [], ◌∷◌, ◌++◌, Contains, Option, Some, Result, Ok, Err, reverse, refl, sym, ap, subst, ◌∙◌, append_assoc, arith, if◌then◌else◌}
+use Rattle.std.proofs.Common.{ℕ, suc, ◌≡◌, inr, ◌≤◌, Bool, true, ◌&&◌, nat_le, List, [], ◌∷◌, ◌++◌, Contains, Result, Ok, Err, reverse, refl, sym, ap, subst, ◌∙◌, append_assoc, arith, if◌then◌else◌}
 use Rattle.std.proofs.lemmas.Bool.{le-leb}
-use Rattle.ccan_object.specs.declared.record.Record.{Record}
 use Rattle.ccan_object.specs.Profile.{objects_in}
 use Rattle.ccan_confine.specs.declared.controller.Controller.{Controller}
 use Rattle.ccan_confine.specs.declared.controller_change.ControllerChange.{ControllerChange}
@@ -25,17 +24,15 @@ use Rattle.ccan_ram.specs.Terms.{Terms}
 use Rattle.ccan_ram.specs.Tries.{most_tries}
 use Rattle.ccan_ram.proofs.Histories.{events_of-append}
 use Rattle.ccan_handler.proofs.Own.{its_own}
-use Rattle.ccan_process.specs.Act.{Attempted, GaveUp, Made, Unfit, WasSpent, attempted}
-use Rattle.ccan_endless.specs.declared.chip.ChipEvent.TheVariants.{OfController, OfRam}
-use Rattle.ccan_endless.specs.declared.chip.ControllerEvent.{ControllerEvent}
+use Rattle.ccan_process.specs.Act.{Attempted, attempted}
+use Rattle.ccan_endless.specs.declared.chip.ChipEvent.TheVariants.{OfController}
 use Rattle.ccan_endless.specs.declared.chip.ControllerStep.TheVariants as step
 use Rattle.ccan_endless.specs.declared.controller_changed.ControllerBusy.{ControllerBusy}
 use Rattle.ccan_endless.specs.declared.controller_changed.ControllerChanged.{ControllerChanged}
-use Rattle.ccan_endless.specs.Chip.{ChipHistory, controller_at, ram_of, step_at, steps_of}
-use Rattle.ccan_registers.specs.ChipSteps.{AtController, Changes, OnObjects}
+use Rattle.ccan_endless.specs.Chip.{ChipHistory, ram_of, step_at, steps_of}
+use Rattle.ccan_registers.specs.ChipSteps.{AtController, Changes}
 use Rattle.ccan_registers.proofs.Histories.{ram_of-append}
 use Rattle.ccan_device.specs.declared.answer.ChipAnswer.TheVariants as answer
-use Rattle.ccan_device.specs.declared.memory.ChipMemory.{ChipMemory}
 use Rattle.ccan_device.specs.declared.operation.ChipOperation.TheVariants as operation
 use Rattle.ccan_device.specs.ChipSteps.{can_make, has_fault_code, pictured as as_answer, step_to}
 use Rattle.ccan_calls.specs.ActSteps.{AreTries, AreTurns}
@@ -45,7 +42,7 @@ use Rattle.ccan_calls.specs.Runs.{Acted}
 use Rattle.ccan_calls.proofs.ActSteps.{acts_have_steps}
 use Rattle.ccan_calls.proofs.ChipMemories.{records_back}
 use Rattle.ccan_calls.proofs.Parting.{no_steps_in, parted, same_rest}
-use Rattle.ccan_calls.proofs.Placed.{AllLooks, IsLegalHere, IsStepTo, Makes, Passes, Placed, Stays, at_end, change_placed, changes, chip, legal_older, looked, looks_both, looks_pass, lost_of, nothing_passes, quiet_passes, refused_of, shown_there, tries_look, turns_look, unfit_there}
+use Rattle.ccan_calls.proofs.Placed.{AllLooks, IsLegalHere, Makes, Passes, Placed, Stays, at_end, change_placed, changes, chip, looked, looks_both, looks_pass, lost_of, nothing_passes, quiet_passes, refused_of, shown_there, tries_look, turns_look, unfit_there}
 
 -- a change that may be made has a code that a fault can have
 fault_can : (noted : StatusEvent) → HasFaultCode noted → has_fault_code noted ≡ true

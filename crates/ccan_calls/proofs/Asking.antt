@@ -2,9 +2,9 @@
 use Rattle.std.proofs.Common.{◌≡◌, List, [], ◌∷◌, ◌++◌, refl, sym, ap, subst, ◌∙◌, append_assoc}
 use Rattle.std.proofs.lemmas.List.{append-nil}
 use Rattle.ccan_process.specs.Process.{Does, Ended, followed_by}
-use Rattle.ccan_calls.specs.Answer.{Answer, CallEnd, CallProcess, IsAnswered, Place}
-use Rattle.ccan_calls.specs.DeviceSteps.{AsksFor, CanComeOf, DeviceStep, device_steps}
-use Rattle.ccan_calls.specs.Process.{Act, Out, Process, ending}
+use Rattle.ccan_calls.specs.Answer.{Answer, CallProcess, Place}
+use Rattle.ccan_calls.specs.DeviceSteps.{AsksFor, DeviceStep, device_steps}
+use Rattle.ccan_calls.specs.Process.{Process, ending}
 use Rattle.ccan_calls.specs.ThreadProcess.{AreAnswered, ThreadEnd, answered_first, thread_process}
 
 abbrev Steps : Type 0

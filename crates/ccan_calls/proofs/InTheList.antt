@@ -1,24 +1,24 @@
 -- Three threads on a chip of the library for C stand in the list of all schedules of their tables.
-use Rattle.std.proofs.Common.{ℕ, ◌≡◌, List, ◌++◌, map, refl, sym, ap, subst, ◌∙◌}
+use Rattle.std.proofs.Common.{List, refl, sym, ap, subst}
 use Rattle.ccan_object.specs.declared.profile.Profile.{Profile}
 use Rattle.ccan_ram.specs.declared.port.PortName.{PortName}
 use Rattle.ccan_ram.specs.declared.port.PortName.TheVariants.{Bus, If1, If2}
 use Rattle.ccan_ram.specs.History.{IsLegal}
 use Rattle.ccan_ram.specs.SharedRam.{terms_of}
 use Rattle.ccan_ram.specs.Terms.{Terms}
-use Rattle.ccan_endless.specs.Chip.{ChipHistory, GoesFrom, ram_of}
+use Rattle.ccan_endless.specs.Chip.{ChipHistory, ram_of}
 use Rattle.ccan_endless.specs.Layout.{same_object}
 use Rattle.ccan_c.specs.declared.shown_final.ShownFinal.{ShownFinal}
-use Rattle.ccan_c.specs.HostCall.{HostCall, code_got}
+use Rattle.ccan_c.specs.HostCall.{code_got}
 use Rattle.ccan_c.specs.Opening.{Set}
-use Rattle.ccan_c.specs.Threads.{FitOneHistory, Part, Places, opened_with, opening, opening_bus}
+use Rattle.ccan_c.specs.Threads.{FitOneHistory, Part, Places, opened_with, opening_bus}
 use Rattle.ccan_calls.specs.HostAsk.{asked_by, place_of}
 use Rattle.ccan_calls.specs.HostCallProcess.{host_process}
 use Rattle.ccan_calls.specs.InTheList.{IsInTheList, OnlyMeet, StandsInTheList, calls_of_bus, calls_of_if1, calls_of_if2, chip_after}
 use Rattle.ccan_calls.specs.ThreadProcess.{asked, code_of_call, on_bus_process, place_of_call}
 use Rattle.ccan_calls.proofs.ListWalk.{all_come}
-use Rattle.ccan_calls.proofs.Placed.{IsLegalHere, Placed}
-use Rattle.ccan_calls.proofs.ThreadsPlaced.{HaveAsked, bus_through, if1_through, if2_through, in_history}
+use Rattle.ccan_calls.proofs.Placed.{IsLegalHere}
+use Rattle.ccan_calls.proofs.ThreadsPlaced.{bus_through, if1_through, if2_through, in_history}
 
 module _ (profile : Profile) (set : Set) (parts : List Part) (out : ShownFinal)
     (h : FitOneHistory profile (opened_with set) parts out) (only : OnlyMeet parts) where

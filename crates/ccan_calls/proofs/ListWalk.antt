@@ -1,8 +1,10 @@
 -- Steps of three threads that are placed in one history are moves of their tables, one after another.
-use Rattle.std.proofs.Common.{ℕ, zero, suc, ◌≡◌, ◌⊎◌, inl, inr, ◌<◌, Bool, true, false, List, [], ◌∷◌, ◌++◌, Contains, length, Option, Some, None, slice_get, slice_set, refl, sym, ap, subst, ◌∙◌, arith}
+use Rattle.std.proofs.Common.{ℕ, zero, suc, ◌≡◌, ◌⊎◌, inl, inr, Bool, true, false, List, [], ◌∷◌, ◌++◌, Contains, length, Some, slice_get, slice_set, refl, sym, ap, subst, if◌then◌else◌, ◌∙◌, arith}
 use Rattle.std.specs.Global.{Vec}
 use Rattle.std.proofs.lemmas.Bool.{true≢false}
 use Rattle.std.proofs.lemmas.List.{append_cancel_right}
+use Rattle.ccan_confine.specs.declared.controller_change.ControllerChange.{ControllerChange}
+use Rattle.ccan_confine.specs.declared.controller_change.ControllerChange.TheVariants.{Join}
 use Rattle.ccan_ram.specs.declared.port.PortName.{PortName}
 use Rattle.ccan_ram.specs.declared.port.PortName.TheVariants.{Bus, If1, If2}
 use Rattle.ccan_ram.specs.Port.{same_port}
@@ -12,7 +14,6 @@ use Rattle.ccan_endless.specs.declared.chip.ChipEvent.{ChipEvent}
 use Rattle.ccan_endless.specs.Chip.{ChipHistory}
 use Rattle.ccan_endless.specs.Layout.{same_object}
 use Rattle.ccan_c.specs.Step.{port_of_event}
-use Rattle.ccan_every.specs.declared.situation.Situation.{Situation}
 use Rattle.ccan_every.specs.declared.situation.Situation.TheVariants.{At}
 use Rattle.ccan_every.specs.declared.table.Entry.TheVariants.{Acts}
 use Rattle.ccan_every.specs.declared.table.Goes.{Goes}
@@ -23,8 +24,8 @@ use Rattle.ccan_device.specs.declared.answer.ChipAnswer.TheVariants as answer
 use Rattle.ccan_device.specs.declared.memory.ChipMemory.{ChipMemory}
 use Rattle.ccan_device.specs.declared.operation.ChipOperation.{ChipOperation}
 use Rattle.ccan_device.specs.declared.operation.ChipOperation.TheVariants as operation
-use Rattle.ccan_device.specs.ChipSteps.{ChipStep, attempt_steps, can_make, change_step, chip_steps, record_in, refusals, step_to}
-use Rattle.ccan_calls.specs.DeviceSteps.{AreOn, DeviceStep, NoneRefused}
+use Rattle.ccan_device.specs.ChipSteps.{ChipStep, attempt_steps, can_make, change_step, chip_steps, is_join, record_in, refusals, step_to}
+use Rattle.ccan_calls.specs.DeviceSteps.{AreOn, DeviceStep}
 use Rattle.ccan_calls.specs.InTheList.{ChipTable, ComesBy, acts_on, chip_after}
 use Rattle.ccan_calls.proofs.Placed.{Begins, IsStepTo, Makes, MayPass, Passes, Placed, Stays, chip}
 
@@ -53,14 +54,32 @@ module _ (from to : ChipMemory) (shown : ChipAnswer) where
       in_first steps [] (step_to to shown)
       (not_last steps (step_to from answer.Refused) (step_to to shown) (λ same. granted (its_answer same)) is)
 
-  granted_step : (asked : ChipOperation) → (shown ≡ answer.Refused → ⊥) → Contains (chip_steps true asked from) (step_to to shown)
-      → Contains (chip_steps false asked from) (step_to to shown)
+  -- a change that is no join is refused only by a chip that refuses changes
+  by_join : (change : ControllerChange) (steps : List ChipStep) (joins : Bool) → is_join change ≡ joins
+      → (shown ≡ answer.Refused → operation.ChangeController change ≡ operation.ChangeController Join)
+      → Contains (steps ++ refusals true from) (step_to to shown) → Contains (steps ++ refusals joins from) (step_to to shown)
+  by_join change steps true joins granted is = is
+  by_join change steps false joins granted is =
+      none_last steps (λ refused. true≢false (sym (ap is_join (ap held (granted refused))) ∙ joins)) is
+    where
+      held : ChipOperation → ControllerChange
+      held (operation.ChangeController one) = one
+      held other = change
+
+  granted_step : (asked : ChipOperation) → (shown ≡ answer.Refused → asked ≡ operation.ChangeController Join)
+      → Contains (chip_steps true asked from) (step_to to shown) → Contains (chip_steps false asked from) (step_to to shown)
   granted_step (operation.Look object) granted is = is
   granted_step (operation.Attempt object change) granted is =
-      none_last (attempt_steps from object change (record_in from object)) granted is
+      none_last (attempt_steps from object change (record_in from object))
+      (λ refused. true≢false (sym (ap is_at_object (granted refused)))) is
+    where
+      is_at_object : ChipOperation → Bool
+      is_at_object (operation.Attempt at one) = false
+      is_at_object other = true
   granted_step operation.Picture granted is = is
   granted_step operation.LookAtController granted is = is
-  granted_step (operation.ChangeController change) granted is = none_last _ granted is
+  granted_step (operation.ChangeController change) granted is =
+      by_join change (if can_make change then change_step from change ∷ [] else []) (is_join change) refl granted is
 
 on_chip : (refuses : Bool) (made : DeviceStep) (earlier : List DeviceStep) (from to : ChipMemory)
     → AreOn refuses (made ∷ earlier) → IsStepTo from made to → Contains (chip_steps refuses made.operation from) (step_to to made.answer)

@@ -1,58 +1,36 @@
 -- What comes of an act at a chip that others share is the answer of one step at some moment of the history: an attempt that made its
 -- change, at the change; a picture, where it was taken; any other, where the act ends.
-use Rattle.std.proofs.Common.{ℕ, zero, suc, ◌≡◌, ◌⊎◌, inl, inr, ◌+◌, ◌<◌, Bool, true, false, ◌&&◌, List, [], ◌∷◌, ◌++◌, Contains, Option, None, Some, Result, Ok, Err, length, map, reverse, refl, sym, ap, subst, ◌∙◌, append_assoc, arith, if◌then◌else◌}
+use Rattle.std.proofs.Common.{ℕ, zero, suc, ◌≡◌, ◌⊎◌, inl, inr, Bool, true, false, List, [], ◌∷◌, ◌++◌, Contains, Option, None, Some, refl, sym, ap, subst, ◌∙◌, append_assoc, arith, if◌then◌else◌}
 use Rattle.ccan_object.specs.declared.record.Record.{Record}
-use Rattle.ccan_object.specs.Profile.{Holds, objects_in}
-use Rattle.ccan_confine.specs.declared.controller.Controller.{Controller}
+use Rattle.ccan_object.specs.Profile.{objects_in}
 use Rattle.ccan_confine.specs.declared.controller_change.ControllerChange.{ControllerChange}
-use Rattle.ccan_confine.specs.declared.controller_change.ControllerChange.TheVariants as controller
-use Rattle.ccan_confine.specs.declared.status_event.StatusEvent.{StatusEvent}
-use Rattle.ccan_confine.specs.declared.status_event.StatusEvent.TheVariants as status
-use Rattle.ccan_confine.specs.Controller.{CanMake, controller_after}
 use Rattle.ccan_ram.specs.declared.change.Change.{Change}
-use Rattle.ccan_ram.specs.declared.change.Changed.{Changed}
-use Rattle.ccan_ram.specs.declared.change.Changed.TheVariants.{Done, NotNow}
-use Rattle.ccan_ram.specs.declared.change.Refused.{Refused}
-use Rattle.ccan_ram.specs.declared.change.Refused.TheVariants.{Busy, Spent}
 use Rattle.ccan_ram.specs.declared.event.Event.{Event}
-use Rattle.ccan_ram.specs.declared.handler_registers.HandlerRegisters.{HandlerRegisters}
-use Rattle.ccan_ram.specs.declared.port.PortName.{PortName}
-use Rattle.ccan_ram.specs.Attempt.{Attempt, IsDone, IsNotNow, change_at, look_at}
+use Rattle.ccan_ram.specs.Attempt.{change_at, look_at}
 use Rattle.ccan_ram.specs.Change.{changed, fits}
-use Rattle.ccan_ram.specs.HandlerRegisters.{first_records, registers_of}
-use Rattle.ccan_ram.specs.History.{IsLegal, IsStep, events_of, is_change, record_at}
-use Rattle.ccan_ram.specs.Picture.{IsPicture, pictured}
+use Rattle.ccan_ram.specs.History.{IsLegal, events_of, is_change, record_at}
 use Rattle.ccan_ram.specs.Port.{same_port}
 use Rattle.ccan_ram.specs.Terms.{Terms}
-use Rattle.ccan_ram.specs.Tries.{most_tries}
-use Rattle.ccan_ram.proofs.Histories.{IsLegal-older, events_of-append}
+use Rattle.ccan_ram.proofs.Histories.{IsLegal-older}
 use Rattle.ccan_handler.specs.Laws.{LooksInTurn}
 use Rattle.ccan_handler.proofs.Own.{its_own}
-use Rattle.ccan_process.specs.Act.{Attempted, GaveUp, Made, Unfit, WasSpent, attempted}
 use Rattle.ccan_endless.specs.declared.chip.ChipEvent.{ChipEvent}
 use Rattle.ccan_endless.specs.declared.chip.ChipEvent.TheVariants.{OfController, OfRam}
 use Rattle.ccan_endless.specs.declared.chip.ControllerEvent.{ControllerEvent}
-use Rattle.ccan_endless.specs.declared.chip.ControllerStep.TheVariants as step
-use Rattle.ccan_endless.specs.declared.controller_changed.ControllerBusy.{ControllerBusy}
-use Rattle.ccan_endless.specs.declared.controller_changed.ControllerChanged.{ControllerChanged}
-use Rattle.ccan_endless.specs.Chip.{ChipHistory, IsControllerLegal, controller_at, ram_of, step_at, steps_of}
+use Rattle.ccan_endless.specs.Chip.{ChipHistory, IsControllerLegal, ram_of, steps_of}
 use Rattle.ccan_endless.proofs.Lifting.{legal_before}
-use Rattle.ccan_registers.specs.ChipSteps.{AtController, Changes, OnObjects}
 use Rattle.ccan_registers.proofs.Histories.{ram_of-append}
 use Rattle.ccan_c.specs.Step.{own_of, port_of_event}
 use Rattle.ccan_device.specs.declared.answer.ChipAnswer.TheVariants as answer
 use Rattle.ccan_device.specs.declared.memory.ChipMemory.{ChipMemory}
 use Rattle.ccan_device.specs.declared.operation.ChipOperation.TheVariants as operation
-use Rattle.ccan_device.specs.ChipSteps.{ChipStep, attempt_step, attempt_steps, can_make, change_step, chip_steps, look_steps, pictured as as_answer, record_in, refusals, step_to, with_record}
-use Rattle.ccan_calls.specs.ActSteps.{AreLooks, AreTurns, AreTries, HasSteps}
-use Rattle.ccan_calls.specs.DeviceSteps.{DeviceStep, attempt_answer, device_steps}
+use Rattle.ccan_device.specs.ChipSteps.{ChipStep, attempt_steps, change_step, chip_steps, look_steps, record_in, refusals, step_to, with_record}
+use Rattle.ccan_calls.specs.ActSteps.{AreLooks, AreTurns}
+use Rattle.ccan_calls.specs.DeviceSteps.{DeviceStep}
 use Rattle.ccan_calls.specs.InTheList.{chip_after}
-use Rattle.ccan_calls.specs.Process.{Act, Attempts, ChangesController, Decides, Heeds, InsistsOnChange, LetsOthersAct, Looks, LooksAtController, Notes, Offers, Out, Pauses, Pictures, Recalls}
-use Rattle.ccan_calls.specs.Runs.{Acted}
-use Rattle.ccan_calls.proofs.ActSteps.{acts_have_steps}
-use Rattle.ccan_calls.proofs.ChipMemories.{change_makes, its_record, look_keeps, records_back}
+use Rattle.ccan_calls.proofs.ChipMemories.{change_makes, its_record, look_keeps}
 use Rattle.ccan_calls.proofs.OwnSteps.{cons_not_nil}
-use Rattle.ccan_calls.proofs.Parting.{no_steps_in, nothing_of, parted, same_first, same_rest}
+use Rattle.ccan_calls.proofs.Parting.{no_steps_in, same_first, same_rest}
 use Rattle.ccan_calls.proofs.Stepwise.{no_own_first}
 
 -- ---- steps in the history

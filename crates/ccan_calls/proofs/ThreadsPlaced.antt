@@ -7,7 +7,6 @@ use Rattle.ccan_ram.specs.Terms.{Terms}
 use Rattle.ccan_bus.specs.declared.choice.Choice.TheVariants.{AtOnce}
 use Rattle.ccan_process.specs.Process.{Does, Ended}
 use Rattle.ccan_endless.specs.Chip.{ChipHistory, GoesFrom}
-use Rattle.ccan_map.specs.declared.map.Map.{Map}
 use Rattle.ccan_registers.specs.declared.interface_set.InterfaceSet.{InterfaceSet}
 use Rattle.ccan_c.specs.FrameCall.{BusState, CallOnBus, CallOnBusMeans}
 use Rattle.ccan_c.specs.HostCall.{HostCall, code_got}

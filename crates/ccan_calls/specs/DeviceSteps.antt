@@ -1,6 +1,6 @@
 -- What a process asks of a chip of one thread: a step for each act at the chip, and what it is answered. Source: this project's own.
-use Rattle.std.specs.Prelude.{ℕ, ◌≡◌, Bool, true, false, List, [], ◌∷◌, ◌++◌, Result, Ok, Err}
-use Rattle.ccan_ram.specs.declared.handler_registers.HandlerRegisters.{HandlerRegisters}
+use Rattle.std.specs.Prelude.{◌≡◌, Bool, true, false, List, [], ◌∷◌, ◌++◌, Result, Ok, Err}
+use Rattle.ccan_confine.specs.declared.controller_change.ControllerChange.TheVariants.{Join}
 use Rattle.ccan_process.specs.Act.{Attempted, GaveUp, Made, Unfit, WasSpent}
 use Rattle.ccan_process.specs.Process.{Does, Ended}
 use Rattle.ccan_endless.specs.declared.controller_changed.ControllerBusy.{ControllerBusy}
@@ -62,10 +62,11 @@ AsksFor (Does act next) steps result =
     (out : Out act) × CanComeOf act out × (later : List DeviceStep) × (steps ≡ later ++ device_steps act out)
     × AsksFor (next out) later result
 
--- no step of these was refused
+-- no step of these was refused, except that the bus's port may have failed to join a controller
 abbrev pub NoneRefused : List DeviceStep → Type 0
 NoneRefused [] = Unit {0}
-NoneRefused (step ∷ earlier) = (step.answer ≡ answer.Refused → ⊥) × NoneRefused earlier
+NoneRefused (step ∷ earlier) =
+    (step.answer ≡ answer.Refused → step.operation ≡ operation.ChangeController Join) × NoneRefused earlier
 
 -- steps on a chip that may refuse a change, or on one that never does
 abbrev pub AreOn : Bool → List DeviceStep → Type 0

@@ -6,17 +6,15 @@ use Rattle.ccan_object.specs.declared.profile.Profile.{Profile}
 use Rattle.ccan_object.specs.declared.profile.Profile.TheVariants.{Two}
 use Rattle.ccan_object.specs.Profile.{objects_in}
 use Rattle.ccan_object.specs.Record.{zero_record}
-use Rattle.ccan_ram.specs.declared.port.PortName.{PortName}
 use Rattle.ccan_ram.specs.declared.port.PortName.TheVariants.{Bus, If1, If2}
 use Rattle.ccan_ram.specs.History.{leaves}
 use Rattle.ccan_ram.specs.SharedRam.{Memory, IsMemoryOf, terms_of}
 use Rattle.ccan_endless.specs.Chip.{ChipHistory, controller_at, ram_of}
 use Rattle.ccan_endless.specs.Layout.{most, same_object}
-use Rattle.ccan_registers.specs.declared.interface_set.InterfaceSet.{InterfaceSet}
 use Rattle.ccan_c.specs.declared.chip.Chip.{Chip}
 use Rattle.ccan_c.specs.declared.shown_final.ShownFinal.{ShownFinal}
 use Rattle.ccan_c.specs.Chip.{EndsWith}
-use Rattle.ccan_c.specs.FrameCall.{BusState, CallOnBus}
+use Rattle.ccan_c.specs.FrameCall.{CallOnBus}
 use Rattle.ccan_c.specs.HostCall.{HostCall, code_got}
 use Rattle.ccan_c.specs.Opening.{Set}
 use Rattle.ccan_c.specs.Record.{c_record}
@@ -44,7 +42,7 @@ use Rattle.ccan_calls.specs.ThreadProcess.{AreAnswered, ThreadEnd, asked, code_o
 abbrev pub ChipTable : Type 0
 ChipTable = Table ChipOperation ChipAnswer
 
--- a step of a chip that may refuse changes, or never does, by any thread
+-- a step of a chip that may refuse changes, or that refuses none but a join, by any thread
 abbrev pub acts_on : Bool → ℕ → ChipOperation → ChipMemory → ChipMemory → ChipAnswer → Type 0
 acts_on refuses thread operation from to answer = Contains (chip_steps refuses operation from) (step_to to answer)
 
@@ -123,7 +121,7 @@ pub record ShowsChip (profile : Profile) (memory : ChipMemory) (out : ShownFinal
       ≡ map c_record (memory.records ++ replicate (objects_in Two - objects_in profile) zero_record)
 
 -- Whatever tables the threads go by: what they and the chip have come to is among what all schedules of the tables come to, and so
--- in the list of a search that was whole. On a chip that never refuses a change this holds if none was refused.
+-- in the list of a search that was whole. On a chip that refuses none but a join this holds if no other change was refused.
 abbrev pub IsInTheList : ChipMemory → ChipMemory → ThreadSteps → Type 0
 IsInTheList first last steps =
     (refuses : Bool) (eq : ChipAnswer → ChipAnswer → Bool) (if1 if2 bus : ChipTable) (place1 place2 place_bus : ℕ)
