@@ -1,5 +1,5 @@
 -- Three threads on a chip of the library for C stand in the list of all schedules of their tables.
-use Rattle.std.proofs.Common.{List, refl, sym, ap, subst}
+use Rattle.std.proofs.Common.{Bool, List, refl, sym, ap, subst}
 use Rattle.ccan_object.specs.declared.profile.Profile.{Profile}
 use Rattle.ccan_ram.specs.declared.port.PortName.{PortName}
 use Rattle.ccan_ram.specs.declared.port.PortName.TheVariants.{Bus, If1, If2}
@@ -12,15 +12,16 @@ use Rattle.ccan_c.specs.declared.shown_final.ShownFinal.{ShownFinal}
 use Rattle.ccan_c.specs.HostCall.{code_got}
 use Rattle.ccan_c.specs.Opening.{Set}
 use Rattle.ccan_c.specs.Threads.{FitOneHistory, Part, Places, opened_with, opening_bus}
+use Rattle.ccan_device.specs.declared.answer.ChipAnswer.{ChipAnswer}
 use Rattle.ccan_calls.specs.HostAsk.{asked_by, place_of}
 use Rattle.ccan_calls.specs.HostCallProcess.{host_process}
 use Rattle.ccan_calls.specs.InTheList.{IsInTheList, OnlyMeet, StandsInTheList, calls_of_bus, calls_of_if1, calls_of_if2, chip_after}
 use Rattle.ccan_calls.specs.ThreadProcess.{asked, code_of_call, on_bus_process, place_of_call}
-use Rattle.ccan_calls.proofs.ListWalk.{all_come}
+use Rattle.ccan_calls.proofs.ListWalk.{acts_on, all_come}
 use Rattle.ccan_calls.proofs.Placed.{IsLegalHere}
 use Rattle.ccan_calls.proofs.ThreadsPlaced.{bus_through, if1_through, if2_through, in_history}
 
-module _ (profile : Profile) (set : Set) (parts : List Part) (out : ShownFinal)
+module _ (refuses : Bool) (eq : ChipAnswer → ChipAnswer → Bool) (profile : Profile) (set : Set) (parts : List Part) (out : ShownFinal)
     (h : FitOneHistory profile (opened_with set) parts out) (only : OnlyMeet parts) where
   abbrev its : PortName → Terms
   its port = terms_of same_object h.memory port
@@ -34,7 +35,7 @@ module _ (profile : Profile) (set : Set) (parts : List Part) (out : ShownFinal)
     controller = h.steps_legal;
   }
 
-  pub stands : StandsInTheList profile set parts out
+  pub stands : StandsInTheList refuses (acts_on refuses) eq profile set parts out
   stands =
       let (first, placed1) = in_history (its If1) set.tries (host_process (its If1) set.map) asked_by code_got place_of base
       set.opening.own (calls_of_if1 parts) h.first.if1 h.last.if1 h.history (legal_here If1) h.if1.begins h.if1.own
@@ -66,10 +67,10 @@ module _ (profile : Profile) (set : Set) (parts : List Part) (out : ShownFinal)
         last = chip_after profile h.history;
         shows = record { objects = h.shows.objects; records = h.shows.records };
         in_list = subst
-            (λ p. IsInTheList (chip_after p base) (chip_after p h.history)
+            (λ p. IsInTheList refuses (acts_on refuses) eq (chip_after p base) (chip_after p h.history)
             (record { if1 = first.steps; if2 = second.steps; bus = third.steps }))
             h.memory_is.profile_is
-            (λ refuses eq if1 if2 bus place1 place2 place_bus on1 on2 on3 by1 by2 by3.
+            (λ if1 if2 bus place1 place2 place_bus on1 on2 on3 by1 by2 by3.
             all_come h.memory base refuses eq if1 if2 bus h.history first.steps second.steps third.steps place1 place2 place_bus
             placed1 placed2 placed3 on1 on2 on3 by1 by2 by3);
       }

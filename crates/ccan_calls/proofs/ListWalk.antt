@@ -26,7 +26,7 @@ use Rattle.ccan_device.specs.declared.operation.ChipOperation.{ChipOperation}
 use Rattle.ccan_device.specs.declared.operation.ChipOperation.TheVariants as operation
 use Rattle.ccan_device.specs.ChipSteps.{ChipStep, attempt_steps, can_make, change_step, chip_steps, is_join, record_in, refusals, step_to}
 use Rattle.ccan_calls.specs.DeviceSteps.{AreOn, DeviceStep}
-use Rattle.ccan_calls.specs.InTheList.{ChipTable, ComesBy, acts_on, chip_after}
+use Rattle.ccan_calls.specs.InTheList.{ChipActs, ChipTable, ComesBy, chip_after}
 use Rattle.ccan_calls.proofs.Placed.{Begins, IsStepTo, Makes, MayPass, Passes, Placed, Stays, chip}
 
 -- ---- a chip that refuses nothing
@@ -170,6 +170,10 @@ not_both If2 Bus other apart first second = true≢false (sym first)
 not_both Bus If1 other apart first second = true≢false (sym first)
 not_both Bus If2 other apart first second = true≢false (sym first)
 not_both Bus Bus other apart first second = apart second
+
+-- what an operation does on the chip
+abbrev pub acts_on : Bool → ChipActs
+acts_on refuses thread operation from to answer = Contains (chip_steps refuses operation from) (step_to to answer)
 
 module _ (refuses : Bool) (eq : ChipAnswer → ChipAnswer → Bool) (tables : List ChipTable) (first : ChipMemory) where
   abbrev Come : ChipMemory → List ℕ → Type 0

@@ -1,7 +1,6 @@
 -- Three threads on a chip of the library for C stand in the list of all schedules of their tables. Source: this project's own.
 use Rattle.std.specs.Prelude.{ℕ, ◌≡◌, ◌-◌, Bool, List, [], ◌∷◌, ◌++◌, length, map, replicate, Some, slice_get}
 use Rattle.std.specs.Global.{Vec}
-use Rattle.std.specs.List.{Contains}
 use Rattle.ccan_object.specs.declared.profile.Profile.{Profile}
 use Rattle.ccan_object.specs.declared.profile.Profile.TheVariants.{Two}
 use Rattle.ccan_object.specs.Profile.{objects_in}
@@ -28,7 +27,6 @@ use Rattle.ccan_every.specs.Tables.{goes_on}
 use Rattle.ccan_device.specs.declared.answer.ChipAnswer.{ChipAnswer}
 use Rattle.ccan_device.specs.declared.memory.ChipMemory.{ChipMemory}
 use Rattle.ccan_device.specs.declared.operation.ChipOperation.{ChipOperation}
-use Rattle.ccan_device.specs.ChipSteps.{chip_steps, step_to}
 use Rattle.ccan_calls.specs.Answer.{Answer, Place}
 use Rattle.ccan_calls.specs.DeviceSteps.{AreOn, AsksFor, DeviceStep}
 use Rattle.ccan_calls.specs.HostAsk.{asked_by, place_of}
@@ -42,9 +40,9 @@ use Rattle.ccan_calls.specs.ThreadProcess.{AreAnswered, ThreadEnd, asked, code_o
 abbrev pub ChipTable : Type 0
 ChipTable = Table ChipOperation ChipAnswer
 
--- a step of a chip that may refuse changes, or that refuses none but a join, by any thread
-abbrev pub acts_on : Bool → ℕ → ChipOperation → ChipMemory → ChipMemory → ChipAnswer → Type 0
-acts_on refuses thread operation from to answer = Contains (chip_steps refuses operation from) (step_to to answer)
+-- what an operation of a thread does on a chip
+abbrev pub ChipActs : Type 1
+ChipActs = ℕ → ChipOperation → ChipMemory → ChipMemory → ChipAnswer → Type 0
 
 -- by these steps, the newest first, a thread has come from the first place of its table to this one
 abbrev pub ComesBy : (ChipAnswer → ChipAnswer → Bool) → ChipTable → List DeviceStep → ℕ → Type 0
@@ -120,26 +118,27 @@ pub record ShowsChip (profile : Profile) (memory : ChipMemory) (out : ShownFinal
   pub records : out.records
       ≡ map c_record (memory.records ++ replicate (objects_in Two - objects_in profile) zero_record)
 
--- Whatever tables the threads go by: what they and the chip have come to is among what all schedules of the tables come to, and so
--- in the list of a search that was whole. On a chip that refuses none but a join this holds if no other change was refused.
-abbrev pub IsInTheList : ChipMemory → ChipMemory → ThreadSteps → Type 0
-IsInTheList first last steps =
-    (refuses : Bool) (eq : ChipAnswer → ChipAnswer → Bool) (if1 if2 bus : ChipTable) (place1 place2 place_bus : ℕ)
-    → AreOn refuses steps.if1 → AreOn refuses steps.if2 → AreOn refuses steps.bus
-    → ComesBy eq if1 steps.if1 place1 → ComesBy eq if2 steps.if2 place2 → ComesBy eq bus steps.bus place_bus
-    → CanCome (acts_on refuses) eq (if1 ∷ if2 ∷ bus ∷ []) first (At last (place1 ∷ place2 ∷ place_bus ∷ []))
+module _ (refuses : Bool) (acts : ChipActs) (eq : ChipAnswer → ChipAnswer → Bool) where
+  -- Whatever tables the threads go by: what they and the chip have come to is among what all schedules of the tables come to, and
+  -- so in the list of a search that was whole. On a chip that refuses none but a join this holds if no other change was refused.
+  abbrev pub IsInTheList : ChipMemory → ChipMemory → ThreadSteps → Type 0
+  IsInTheList first last steps =
+      (if1 if2 bus : ChipTable) (place1 place2 place_bus : ℕ)
+      → AreOn refuses steps.if1 → AreOn refuses steps.if2 → AreOn refuses steps.bus
+      → ComesBy eq if1 steps.if1 place1 → ComesBy eq if2 steps.if2 place2 → ComesBy eq bus steps.bus place_bus
+      → CanCome acts eq (if1 ∷ if2 ∷ bus ∷ []) first (At last (place1 ∷ place2 ∷ place_bus ∷ []))
 
--- what three threads have come to on a chip that was opened with this
-pub record StandsInTheList (profile : Profile) (set : Set) (parts : List Part) (out : ShownFinal) : Type 0 where
-  pub steps : ThreadSteps
-  pub of_calls : AreStepsOf profile set parts steps
-  pub last : ChipMemory
-  pub shows : ShowsChip profile last out
-  pub in_list : IsInTheList (chip_after profile set.opening.begun) last steps
+  -- what three threads have come to on a chip that was opened with this
+  pub record StandsInTheList (profile : Profile) (set : Set) (parts : List Part) (out : ShownFinal) : Type 0 where
+    pub steps : ThreadSteps
+    pub of_calls : AreStepsOf profile set parts steps
+    pub last : ChipMemory
+    pub shows : ShowsChip profile last out
+    pub in_list : IsInTheList (chip_after profile set.opening.begun) last steps
 
--- Whatever three threads do with a chip from its opening to its end, each on a handle of its own, with meetings and without.
-abbrev pub ThreadsStandInTheList : Type 0
-ThreadsStandInTheList =
-    (profile : Profile) (set : Set) (parts : List Part) (chip last : Chip) (out : ShownFinal)
-    → Begins profile (opened_with set) chip → OnlyMeet parts → PartsDo parts chip last → EndsWith last out
-    → StandsInTheList profile set parts out
+  -- Whatever three threads do with a chip from its opening to its end, each on a handle of its own, with meetings and without.
+  abbrev pub ThreadsStandInTheList : Type 0
+  ThreadsStandInTheList =
+      (profile : Profile) (set : Set) (parts : List Part) (chip last : Chip) (out : ShownFinal)
+      → Begins profile (opened_with set) chip → OnlyMeet parts → PartsDo parts chip last → EndsWith last out
+      → StandsInTheList profile set parts out

@@ -11,6 +11,9 @@ ghost use Rattle.ccan_calls.specs.Laws.{OffersAreOneLine, ResetsAreProcesses, Sa
 ghost use Rattle.ccan_calls.specs.Laws.{StandsThroughout, StepsAreTheWhole};
 ghost use Rattle.ccan_calls.specs.ThreadProcess.{ThreadEnd};
 
+use ccan_device::{ChipAnswer, ChipDevice};
+use ccan_every::Device;
+
 /// A call on the handle of a host is its process.
 pub fn host_calls_are_processes()
     ensures { HostCallsAreProcesses }
@@ -76,10 +79,10 @@ pub fn acts_have_their_steps()
 /// Whatever three threads do with a chip from its opening, by `ccan_open` or `ccan_open_reset`, to a `ccan_end` that answers 0,
 /// each on a handle of its own, with `ccan_meet` in between and without: the calls of each are one process, which asks a chip of
 /// one thread for steps. Whatever tables the threads go by, where they have come to stands in the list of all schedules of these
-/// tables on such a chip, with the records that C gets. Where no step was refused, it stands in the list of a chip that refuses
-/// none.
-pub fn threads_stand_in_the_list()
-    ensures { ThreadsStandInTheList }
+/// tables on that device, with the records that C gets.
+pub fn threads_stand_in_the_list(_device: &ChipDevice)
+    ensures { ThreadsStandInTheList _device.now.refuses
+        (⟦<ChipDevice as Device>⟧.acts _device.now) ⟦<ChipAnswer as PartialEq>⟧.eq }
 {
     ccan_c::laws::calls_fit_one_history();
 }
