@@ -33,6 +33,7 @@ use Rattle.ccan_endless.specs.Chip.{ChipHistory, ram_of, step_at, steps_of}
 use Rattle.ccan_registers.specs.ChipSteps.{AtController, Changes}
 use Rattle.ccan_registers.proofs.Histories.{ram_of-append}
 use Rattle.ccan_device.specs.declared.answer.ChipAnswer.TheVariants as answer
+use Rattle.ccan_device.specs.declared.memory.ChipMemory.{ChipMemory}
 use Rattle.ccan_device.specs.declared.operation.ChipOperation.TheVariants as operation
 use Rattle.ccan_device.specs.ChipSteps.{can_make, has_fault_code, pictured as as_answer, step_to}
 use Rattle.ccan_calls.specs.ActSteps.{AreTries, AreTurns}
@@ -41,8 +42,8 @@ use Rattle.ccan_calls.specs.Process.{Act, Attempts, ChangesController, Decides, 
 use Rattle.ccan_calls.specs.Runs.{Acted}
 use Rattle.ccan_calls.proofs.ActSteps.{acts_have_steps}
 use Rattle.ccan_calls.proofs.ChipMemories.{records_back}
-use Rattle.ccan_calls.proofs.Parting.{no_steps_in, parted, same_rest}
-use Rattle.ccan_calls.proofs.Placed.{AllLooks, IsLegalHere, Makes, Passes, Placed, Stays, at_end, change_placed, changes, chip, looked, looks_both, looks_pass, lost_of, nothing_passes, quiet_passes, refused_of, shown_there, tries_look, turns_look, unfit_there}
+use Rattle.ccan_calls.proofs.Parting.{Parted, no_steps_in, parted, same_rest}
+use Rattle.ccan_calls.proofs.Placed.{AllLooks, IsLegalHere, IsStepTo, Makes, Passes, Placed, Stays, at_end, change_placed, changes, chip, looked, looks_both, looks_pass, lost_of, nothing_passes, quiet_passes, refused_of, shown_there, tries_look, turns_look, unfit_there}
 
 -- a change that may be made has a code that a fault can have
 fault_can : (noted : StatusEvent) → HasFaultCode noted → has_fault_code noted ≡ true
@@ -110,43 +111,68 @@ module _ (terms : Terms) (base : ChipHistory) where
 
     -- ---- pictures
 
-    by_picture : (shown : HandlerRegisters) → steps_of terms.port added ≡ []
-        → IsPicture terms shown (ram_of seen) (ram_of added)
-        → ((n : ℕ) × AreTurns terms n (events_of terms.port (ram_of added)))
-        → Comes (record { operation = operation.Picture; answer = as_answer shown } ∷ [])
-    by_picture shown none h (n, turns) =
-        let looks = turns_look terms n (events_of terms.port (ram_of added)) turns in
-        let before = h.turn.before ++ h.lost in
-        let taken = pictured terms.port (objects_in terms.profile) (h.turn.before ++ (h.lost ++ ram_of seen)) in
-        let whole : ram_of added ≡ (h.turn.after ++ taken) ++ before =
-        h.whole ∙ ap (λ (es : List Event). es ++ h.lost) h.turn.whole
-        ∙ append_assoc h.turn.after (taken ++ h.turn.before) h.lost
-        ∙ ap (λ (es : List Event). h.turn.after ++ es) (append_assoc taken h.turn.before h.lost)
-        ∙ sym (append_assoc h.turn.after taken before) in
-        let parts = parted added (h.turn.after ++ taken) before whole in
-        let (none_last, none_begun) = no_steps_in terms.port added parts.last parts.begun none parts.whole in
-        let own : events_of terms.port (ram_of added)
-        ≡ events_of terms.port (ram_of parts.last) ++ events_of terms.port (ram_of parts.begun) =
-        ap (λ es. events_of terms.port (ram_of es)) parts.whole
-        ∙ ap (events_of terms.port) (ram_of-append parts.last parts.begun)
-        ∙ events_of-append terms.port (ram_of parts.last) (ram_of parts.begun) in
-        let (looks_last, looks_begun) = looks_both terms (events_of terms.port (ram_of parts.last))
-        (events_of terms.port (ram_of parts.begun)) (subst (AllLooks terms) own looks) in
-        let all : added ++ seen ≡ parts.last ++ (parts.begun ++ seen) =
-        ap (λ (es : ChipHistory). es ++ seen) parts.whole ∙ append_assoc parts.last parts.begun seen in
-        let here : ram_of (parts.begun ++ seen) ≡ h.turn.before ++ (h.lost ++ ram_of seen) =
-        ram_of-append parts.begun seen ∙ ap (λ (es : List Event). es ++ ram_of seen) parts.begun_is
-        ∙ append_assoc h.turn.before h.lost (ram_of seen) in
-        let memory = chip terms (parts.begun ++ seen) in
-        let made : DeviceStep = record { operation = operation.Picture; answer = as_answer shown } in
-        let shows : registers_of (reverse memory.records) ≡ shown =
-        ap registers_of (records_back terms.profile (ram_of (parts.begun ++ seen)))
-        ∙ ap (λ es. registers_of (first_records (objects_in terms.profile) es)) here ∙ sym h.shows in
-        subst (λ es. Placed terms base es (made ∷ steps)) (sym all)
-        (looks_pass terms base parts.last (parts.begun ++ seen) (made ∷ steps) none_last looks_last
-        (Stays (parts.begun ++ seen) made steps
-        (looks_pass terms base parts.begun seen steps none_begun looks_begun placed)
-        (0, omega arith, ap (λ registers. step_to memory (as_answer registers)) shows)))
+    module _ (shown : HandlerRegisters) (none : steps_of terms.port added ≡ [])
+        (h : IsPicture terms shown (ram_of seen) (ram_of added)) where
+      -- the looks of the picture, and what was before them
+      abbrev looks : List Event
+      looks = pictured terms.port (objects_in terms.profile) (h.turn.before ++ (h.lost ++ ram_of seen))
+
+      abbrev before : List Event
+      before = h.turn.before ++ h.lost
+
+      -- in two parts, of which the second begins with the looks
+      in_parts : ram_of added ≡ (h.turn.after ++ looks) ++ before
+      in_parts =
+          h.whole ∙ ap (λ (es : List Event). es ++ h.lost) h.turn.whole
+          ∙ regroup h.turn.after looks h.turn.before h.lost
+        where
+          regroup : (a b c d : List Event) → (a ++ (b ++ c)) ++ d ≡ (a ++ b) ++ (c ++ d)
+          regroup a b c d =
+              append_assoc a (b ++ c) d ∙ ap (λ (es : List Event). a ++ es) (append_assoc b c d)
+              ∙ sym (append_assoc a b (c ++ d))
+
+      parts : Parted added (h.turn.after ++ looks) before
+      parts = parted added (h.turn.after ++ looks) before in_parts
+
+      abbrev memory : ChipMemory
+      memory = chip terms (parts.begun ++ seen)
+
+      abbrev taken : DeviceStep
+      taken = record { operation = operation.Picture; answer = as_answer shown }
+
+      -- the picture is that of the chip before its looks
+      is_taken : IsStepTo memory taken memory
+      is_taken =
+          let here : ram_of (parts.begun ++ seen) ≡ h.turn.before ++ (h.lost ++ ram_of seen) =
+          ram_of-append parts.begun seen ∙ ap (λ (es : List Event). es ++ ram_of seen) parts.begun_is
+          ∙ append_assoc h.turn.before h.lost (ram_of seen) in
+          let shows : registers_of (reverse memory.records) ≡ shown =
+          ap registers_of (records_back terms.profile (ram_of (parts.begun ++ seen)))
+          ∙ ap (λ es. registers_of (first_records (objects_in terms.profile) es)) here ∙ sym h.shows in
+          (0, omega arith, ap (λ registers. step_to memory (as_answer registers)) shows)
+
+      -- the port only looks in both parts
+      both_look : AllLooks terms (events_of terms.port (ram_of added))
+          → AllLooks terms (events_of terms.port (ram_of parts.last)) × AllLooks terms (events_of terms.port (ram_of parts.begun))
+      both_look all =
+          let own : events_of terms.port (ram_of added)
+          ≡ events_of terms.port (ram_of parts.last) ++ events_of terms.port (ram_of parts.begun) =
+          ap (λ es. events_of terms.port (ram_of es)) parts.whole
+          ∙ ap (events_of terms.port) (ram_of-append parts.last parts.begun)
+          ∙ events_of-append terms.port (ram_of parts.last) (ram_of parts.begun) in
+          looks_both terms (events_of terms.port (ram_of parts.last)) (events_of terms.port (ram_of parts.begun))
+          (subst (AllLooks terms) own all)
+
+      by_picture : (n : ℕ) → AreTurns terms n (events_of terms.port (ram_of added)) → Comes (taken ∷ [])
+      by_picture n turns =
+          let (none_last, none_begun) = no_steps_in terms.port added parts.last parts.begun none parts.whole in
+          let (look_last, look_begun) = both_look (turns_look terms n (events_of terms.port (ram_of added)) turns) in
+          let all : added ++ seen ≡ parts.last ++ (parts.begun ++ seen) =
+          ap (λ (es : ChipHistory). es ++ seen) parts.whole ∙ append_assoc parts.last parts.begun seen in
+          subst (λ es. Placed terms base es (taken ∷ steps)) (sym all)
+          (looks_pass terms base parts.last (parts.begun ++ seen) (taken ∷ steps) none_last look_last
+          (Stays (parts.begun ++ seen) taken steps
+          (looks_pass terms base parts.begun seen steps none_begun look_begun placed) is_taken))
 
     -- ---- at the controller
 
@@ -206,7 +232,7 @@ module _ (terms : Terms) (base : ChipHistory) where
         (acts_have_steps terms tries (Attempts object change) seen added (attempted outcome) (outcome, on, refl)).at_objects)
     act_placed tries Pictures out on =
         let (lost, few, turns) = (acts_have_steps terms tries Pictures seen added out on).at_objects in
-        by_picture out on.none on.means (suc lost, turns)
+        by_picture out on.none on.means (suc lost) turns
     act_placed tries LooksAtController out on = by_look out on
     act_placed tries (ChangesController change) out on = by_change change tries out on
     act_placed tries (InsistsOnChange change) out on = by_change change most_tries out on
