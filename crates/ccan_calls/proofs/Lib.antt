@@ -42,3 +42,6 @@ pub mod Asking
 pub mod ThreadsPlaced
 pub mod ListWalk
 pub mod InTheList
+pub mod Reporting
+pub mod RegistersReport
+pub mod WordsReport

@@ -9,6 +9,7 @@ pub mod Answer
 pub mod HostAsk
 pub mod HostCallProcess
 pub mod InTheList
+pub mod Refusals
 pub mod BusRegisters
 pub mod LoadProcess
 pub mod StoreProcess

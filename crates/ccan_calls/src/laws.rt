@@ -9,6 +9,7 @@ ghost use Rattle.ccan_calls.specs.Laws.{BusThreadsAreProcesses, BusThreadsStand,
 ghost use Rattle.ccan_calls.specs.Laws.{HostThreadsAreProcesses, HostThreadsStand};
 ghost use Rattle.ccan_calls.specs.Laws.{OffersAreOneLine, ResetsAreProcesses, SavesAreProcesses};
 ghost use Rattle.ccan_calls.specs.Laws.{StandsThroughout, StepsAreTheWhole};
+ghost use Rattle.ccan_calls.specs.Refusals.{BusCallsReportRefusals, HostCallsReportRefusals};
 ghost use Rattle.ccan_calls.specs.ThreadProcess.{ThreadEnd};
 
 use ccan_device::{ChipAnswer, ChipDevice};
@@ -86,3 +87,10 @@ pub fn threads_stand_in_the_list(_device: &ChipDevice)
 {
     ccan_c::laws::calls_fit_one_history();
 }
+
+/// C sees codes only. If no call of a thread answered CCAN_BUSY or CCAN_SPENT, the chip refused the thread no step, except that the
+/// bus's port may have failed to join a controller, which no code reports.
+pub fn calls_report_refusals()
+    ensures host { HostCallsReportRefusals }
+    ensures bus { BusCallsReportRefusals }
+{}
