@@ -45,3 +45,5 @@ pub mod InTheList
 pub mod Reporting
 pub mod RegistersReport
 pub mod WordsReport
+pub mod HostCallsReport
+pub mod ThreadsReport

@@ -27,7 +27,7 @@ Reports bad (Ended end) = Unit {0}
 Reports bad (Does act next) =
     (out : Out act) → (NoneRefused (device_steps act out) ⊎ EndsBad bad (next out)) × Reports bad (next out)
 
-none_of_both : (later first : List DeviceStep) → NoneRefused later → NoneRefused first → NoneRefused (later ++ first)
+pub none_of_both : (later first : List DeviceStep) → NoneRefused later → NoneRefused first → NoneRefused (later ++ first)
 none_of_both [] first none_later none_first = none_first
 none_of_both (step ∷ earlier) first (fine, none_later) none_first =
     (fine, none_of_both earlier first none_later none_first)
