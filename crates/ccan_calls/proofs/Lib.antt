@@ -46,4 +46,8 @@ pub mod Reporting
 pub mod RegistersReport
 pub mod WordsReport
 pub mod HostCallsReport
+pub mod LoadsReport
+pub mod RoundsReport
+pub mod BusCallsReport
+pub mod FramesReport
 pub mod ThreadsReport

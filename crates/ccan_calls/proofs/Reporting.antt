@@ -77,6 +77,12 @@ module _ {A B : Type 0} (bad : A → Type 0) (worse : B → Type 0) where
       → Reports bad process → Reports worse (ending process result)
   end_reports result process passed reports = then_reports (λ end. Ended (result end)) process passed (λ end. tt) reports
 
+-- whatever came of it, if each result is bad
+pub so_bad : {A B : Type 0} (worse : B → Type 0) (result : A → B) (process : Process A) → ((end : A) → worse (result end))
+    → EndsBad worse (ending process result)
+so_bad worse result (Ended end) each = each end
+so_bad worse result (Does act goes) each = λ out. so_bad worse result (goes out) each
+
 module _ {A : Type 0} (bad : A → Type 0) where
   pub if_reports : (b : Bool) (process other : Process A) → Reports bad process → Reports bad other
       → Reports bad (if b then process else other)

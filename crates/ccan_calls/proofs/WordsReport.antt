@@ -70,7 +70,7 @@ some_joined low None is = absurd is
 some_joined low (Some (Ok word)) is = absurd is
 some_joined low (Some (Err why)) is = is
 
-both_busy : (high low : Option Written) → IsBusyOff low → IsBusyOff (both_written high low)
+pub both_busy : (high low : Option Written) → IsBusyOff low → IsBusyOff (both_written high low)
 both_busy high None is = absurd is
 both_busy high (Some told) is = is
 
