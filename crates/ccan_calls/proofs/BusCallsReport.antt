@@ -6,12 +6,10 @@ use Rattle.ccan_accept.specs.declared.frame.Frame.{Frame}
 use Rattle.ccan_confine.specs.declared.controller_change.ControllerChange.TheVariants.{Recessive, ResetDcan, WriteControl, WriteTiming}
 use Rattle.ccan_confine.specs.RegisterWords.{control_in}
 use Rattle.ccan_ram.specs.Terms.{Terms}
-use Rattle.ccan_bus.specs.declared.answer.LoadAnswer.{LoadAnswer}
 use Rattle.ccan_bus.specs.declared.answer.LoadAnswer.TheVariants as load_answer
 use Rattle.ccan_bus.specs.declared.round_line.Fault.{Fault}
 use Rattle.ccan_bus.specs.Past.{BusPast}
 use Rattle.ccan_process.specs.Process.{Ended}
-use Rattle.ccan_line.specs.declared.line_answer.LineAnswer.TheVariants as answer
 use Rattle.ccan_line.specs.Limits.{most_frames, most_groups}
 use Rattle.ccan_endless.specs.declared.controller_changed.ControllerBusy.{ControllerBusy}
 use Rattle.ccan_endless.specs.declared.controller_changed.ControllerChanged.{ControllerChanged}
@@ -21,20 +19,19 @@ use Rattle.ccan_map.specs.declared.register.Register.{Register}
 use Rattle.ccan_map.specs.declared.register.Register.TheVariants as register
 use Rattle.ccan_registers.specs.declared.byte.Byte.{Byte}
 use Rattle.ccan_registers.specs.declared.byte.Byte.TheVariants.{Lower, Upper}
-use Rattle.ccan_registers.specs.Bytes.{byte_in, has_reset, start_of, with_byte}
+use Rattle.ccan_registers.specs.Bytes.{byte_in, has_reset, start_of}
 use Rattle.ccan_registers.specs.ChipSteps.{made_or_busy}
 use Rattle.ccan_registers.specs.Dcan.{asks_for_reset}
 use Rattle.ccan_registers.specs.InterfaceSet.{zero_set}
 use Rattle.ccan_registers.specs.Register.{both_written, change_by, is_refused, read_of}
 use Rattle.ccan_c.specs.declared.offer.Offer.{Offer}
-use Rattle.ccan_c.specs.Answer.{code_of}
 use Rattle.ccan_c.specs.Bus.{enabling, is_on, looping, starting, testing}
-use Rattle.ccan_c.specs.Codes.{done, fault_range, flag_range, frame_range, frames_range, senders}
+use Rattle.ccan_c.specs.Codes.{done}
 use Rattle.ccan_c.specs.Host.{flag_numbered, number_of}
 use Rattle.ccan_c.specs.HostCall.{code_of_access}
 use Rattle.ccan_c.specs.Round.{fault_numbered, is_frame, sending_of}
 use Rattle.ccan_c.specs.Settings.{is_from_one_to}
-use Rattle.ccan_calls.specs.Answer.{Nothing, Number, end_of, refuses, word_given}
+use Rattle.ccan_calls.specs.Answer.{Nothing, Number, end_of, word_given}
 use Rattle.ccan_calls.specs.BusAsk.{BusAsk, load, status, control, init, loop_back, recessive, interrupt, flags, counters, round, read8, write8, read16, write16, read32, write32, line, tell, heed}
 use Rattle.ccan_calls.specs.BusCallProcess.{asked_round, bus_process, coded, counts, load_end, loops_back, offered_round, recessive_bits, recessive_end, round_end, status_read, writes_by}
 use Rattle.ccan_calls.specs.BusRegisters.{bus_access_at, bus_resets_in_init, bus_writes, bus_writes_at, bus_writes_byte, bus_writes_byte_of, bus_writes_control_word, bus_writes_halves, bus_writes_lower, bus_writes_timing, bus_writes_upper, bus_writes_word, refuses_interface}

@@ -1,13 +1,12 @@
 -- A call by which a chip takes part in a frame, or powers down in between: if a step was refused but a join, it gets the code for
 -- busy or for spent.
-use Rattle.std.proofs.Common.{ℕ, ◌==◌, Bool, true, false, Option, Some, None, Result, Ok, Err, is_some, nat_lt, inl, inr, refl, if◌then◌else◌}
+use Rattle.std.proofs.Common.{ℕ, ◌==◌, Bool, true, false, Option, Some, None, Result, Ok, Err, is_some, nat_lt, inl, inr, refl}
 use Rattle.ccan_object.specs.declared.profile.Profile.{Profile}
 use Rattle.ccan_accept.specs.declared.frame.Frame.{Frame}
 use Rattle.ccan_confine.specs.declared.bus_event.BusEvent.{BusEvent}
 use Rattle.ccan_confine.specs.declared.controller.Controller.{Controller}
 use Rattle.ccan_confine.specs.declared.controller_change.ControllerChange.TheVariants.{Frame as FrameEvent, PowerDown}
 use Rattle.ccan_confine.specs.declared.status_event.StatusEvent.{StatusEvent}
-use Rattle.ccan_ram.specs.declared.flag.Flag.TheVariants.{TxRqst}
 use Rattle.ccan_ram.specs.declared.sending.Sending.{Sending}
 use Rattle.ccan_ram.specs.Terms.{Terms}
 use Rattle.ccan_bus.specs.declared.answer.LoadAnswer.{LoadAnswer}
@@ -24,16 +23,12 @@ use Rattle.ccan_station.specs.Station.{due, frame_won, loaded_before, may_send, 
 use Rattle.ccan_registers.specs.Frames.{StationState}
 use Rattle.ccan_registers.specs.PowerDown.{is_to_power_down, power_told}
 use Rattle.ccan_c.specs.declared.shown_wire.ShownWire.{ShownWire}
-use Rattle.ccan_c.specs.Codes.{event_range, fault_range, place_range, wire_range}
 use Rattle.ccan_c.specs.Finished.{code_of_end, event_in}
 use Rattle.ccan_c.specs.FrameCall.{BusState, code_of_change}
 use Rattle.ccan_c.specs.Wire.{flaw_in, is_flaw, is_wire, most_members, wire_in}
-use Rattle.ccan_calls.specs.Answer.{refuses}
-use Rattle.ccan_calls.specs.BusCallProcess.{controller_shown}
 use Rattle.ccan_calls.specs.FrameAsk.{FrameAsk, begin, stay, finish, retry, power_down}
-use Rattle.ccan_calls.specs.FrameProcess.{FrameLoad, FrameStart, Power, ends_as, ends_frame, finishes, frame_end, frame_process, loads_frame, own_on, part_told, power_end, powers_down, powers_down_by, powers_down_idle, retries, stay_end, start_end, start_with, started_by, starts_frame}
+use Rattle.ccan_calls.specs.FrameProcess.{FrameLoad, FrameStart, ends_as, ends_frame, finishes, frame_end, frame_process, loads_frame, own_on, part_told, power_end, powers_down, powers_down_by, powers_down_idle, retries, start_end, start_with, started_by, starts_frame}
 use Rattle.ccan_calls.specs.LoadProcess.{arrives, start_first}
-use Rattle.ccan_calls.specs.Parts.{flag_shown}
 use Rattle.ccan_calls.specs.Process.{ChangesController, ending}
 use Rattle.ccan_calls.specs.RoundProcess.{completes, makes_event}
 use Rattle.ccan_calls.proofs.HostCallsReport.{CodeIsBusy, IsBusyCode, access_busy}

@@ -1,6 +1,5 @@
 -- A call on the handle of a host of which a step was refused gets the code for busy or for spent.
-use Rattle.std.proofs.Common.{ℕ, ◌≡◌, ◌⊎◌, inl, inr, refl, false, Option, Some, None, Result, Ok, Err, if◌then◌else◌}
-use Rattle.ccan_object.specs.Interface.{set_register, shown}
+use Rattle.std.proofs.Common.{ℕ, ◌≡◌, ◌⊎◌, inl, inr, refl, false, Option, Some, None, Result, Ok, Err}
 use Rattle.ccan_object.specs.Number.{requested}
 use Rattle.ccan_ram.specs.declared.flag.Flag.{Flag}
 use Rattle.ccan_ram.specs.Terms.{Terms}
@@ -20,7 +19,7 @@ use Rattle.ccan_c.specs.Settings.{is_from_one_to}
 use Rattle.ccan_calls.specs.Answer.{CallEnd, Nothing, Number, end_of, refuses, word_given}
 use Rattle.ccan_calls.specs.HostAsk.{HostAsk, set, get, request, flags, interrupt, peek, until, read8, write8, read16, write16, read32, write32, line, clear, tell, heed}
 use Rattle.ccan_calls.specs.HostCallProcess.{host_process, reads_off, waits, writes_off}
-use Rattle.ccan_calls.specs.Parts.{line_pulled, look, transfer, until_shown}
+use Rattle.ccan_calls.specs.Parts.{line_pulled, transfer, until_shown}
 use Rattle.ccan_calls.specs.Process.{Process}
 use Rattle.ccan_calls.specs.ReadProcess.{Word, reads_at, reads_byte}
 use Rattle.ccan_calls.specs.WordProcess.{OffEnd, reads_word, writes_word}

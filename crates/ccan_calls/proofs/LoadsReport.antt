@@ -1,5 +1,5 @@
 -- A choice of what is sent, and acceptance filtering: if a step was refused, they end as busy or spent.
-use Rattle.std.proofs.Common.{ℕ, zero, suc, Bool, true, false, Option, Some, None, Result, inl, inr, refl, if◌then◌else◌}
+use Rattle.std.proofs.Common.{ℕ, zero, suc, Bool, true, false, Option, Some, None, Result, inl, refl}
 use Rattle.ccan_object.specs.declared.profile.Profile.{Profile}
 use Rattle.ccan_object.specs.declared.record.Record.{Record}
 use Rattle.ccan_object.specs.Profile.{objects_in}
@@ -23,7 +23,7 @@ use Rattle.ccan_chip.specs.Round.{as_found, events_in}
 use Rattle.ccan_endless.specs.declared.controller_changed.ControllerBusy.{ControllerBusy}
 use Rattle.ccan_endless.specs.declared.controller_changed.ControllerChanged.{ControllerChanged}
 use Rattle.ccan_calls.specs.DeviceSteps.{NoneRefused, device_steps}
-use Rattle.ccan_calls.specs.LoadProcess.{LoadEnd, Looked, arrives, arrives_and, load_from, load_next, load_on, loaded_by, loads, looks_again, start_at, start_each, start_end, start_first}
+use Rattle.ccan_calls.specs.LoadProcess.{LoadEnd, Looked, arrives, arrives_and, load_from, load_next, load_on, loaded_by, loads, looks_again, start_each, start_end, start_first}
 use Rattle.ccan_calls.specs.Process.{Attempts, InsistsOnChange, Process, Recalls}
 use Rattle.ccan_calls.specs.StoreProcess.{Filtered, GaveUpAt, NoneAccepts, SpentAt, StoredAt, store_each, store_end, store_first, unless_stored, visits}
 use Rattle.ccan_calls.proofs.Reporting.{EndsBad, IsLost, Reports, attempt_reports, end_reports, found_none, if_reports, looked, pictures, then_reports}

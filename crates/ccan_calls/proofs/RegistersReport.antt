@@ -1,17 +1,14 @@
 -- Accesses to registers, transfers and changes of all objects: if a step was refused, they end as busy or spent.
-use Rattle.std.proofs.Common.{ℕ, zero, suc, Bool, true, false, Option, Some, None, Result, Ok, Err, inl, inr, if◌then◌else◌}
+use Rattle.std.proofs.Common.{ℕ, zero, suc, Bool, true, false, Option, Some, None, Result, Ok, Err, inl}
 use Rattle.ccan_object.specs.Command.{is_pure_read}
 use Rattle.ccan_object.specs.Number.{requested}
 use Rattle.ccan_object.specs.Profile.{objects_in}
-use Rattle.ccan_confine.specs.declared.controller.Controller.{Controller}
 use Rattle.ccan_confine.specs.declared.controller_change.ControllerChange.{ControllerChange}
-use Rattle.ccan_confine.specs.declared.controller_change.ControllerChange.TheVariants.{ResetDcan, WriteControl, WriteTiming}
-use Rattle.ccan_confine.specs.RegisterWords.{control_in, error_counter_word}
+use Rattle.ccan_confine.specs.declared.controller_change.ControllerChange.TheVariants.{ResetDcan}
 use Rattle.ccan_confine.specs.Controller.{shows_interrupt}
 use Rattle.ccan_ram.specs.declared.change.Change.{Change}
 use Rattle.ccan_ram.specs.declared.change.Change.TheVariants.{Reset, Send}
 use Rattle.ccan_ram.specs.declared.flag.Flag.{Flag}
-use Rattle.ccan_ram.specs.declared.port.PortName.{PortName}
 use Rattle.ccan_ram.specs.Flags.{flag_of}
 use Rattle.ccan_ram.specs.Terms.{Terms}
 use Rattle.ccan_map.specs.declared.map.Map.{Map}
@@ -30,17 +27,16 @@ use Rattle.ccan_registers.specs.declared.access_error.AccessError.TheVariants as
 use Rattle.ccan_registers.specs.declared.byte.Byte.{Byte}
 use Rattle.ccan_registers.specs.declared.byte.Byte.TheVariants.{Lower, Upper}
 use Rattle.ccan_registers.specs.declared.interface_set.InterfaceSet.{InterfaceSet}
-use Rattle.ccan_registers.specs.Bytes.{byte_in, byte_told, has_reset, start_of, with_byte}
+use Rattle.ccan_registers.specs.Bytes.{byte_in, has_reset, start_of}
 use Rattle.ccan_registers.specs.ChipSteps.{made_or_busy}
 use Rattle.ccan_registers.specs.Dcan.{asks_for_reset, is_object_of, is_sending, number_in}
-use Rattle.ccan_registers.specs.Register.{both_written, change_by, is_own, is_refused, joined, read_of, status_told, transfer_told}
-use Rattle.ccan_calls.specs.Offsets.{FlagWord, are_halves, flag_word_at, register_at}
+use Rattle.ccan_registers.specs.Register.{change_by, is_own, transfer_told}
+use Rattle.ccan_calls.specs.Offsets.{register_at}
 use Rattle.ccan_calls.specs.Parts.{flag_shown, interrupt_value, line_pulled, moved_to, transfer, transfer_end, until_shown, value_shown}
-use Rattle.ccan_calls.specs.Process.{Attempts, ChangesController, LooksAtController, Looks, Process, ending}
-use Rattle.ccan_calls.specs.ReadProcess.{Word, reads, reads_at, reads_byte, shows}
-use Rattle.ccan_calls.specs.WordProcess.{OffEnd, control_word_shown, flag_word_shown, reads_flags, reads_halves, reads_other_word, reads_word, shows_word, timing_word, writes_control_word, writes_halves, writes_word}
+use Rattle.ccan_calls.specs.Process.{Attempts, Looks, Process, ending}
+use Rattle.ccan_calls.specs.WordProcess.{OffEnd}
 use Rattle.ccan_calls.specs.WriteProcess.{WriteEnd, WriteProcess, Written, access_at, attempt_told, change_all, change_controller, change_each, keeping, requests, requests_by, requests_object, resets, resets_in_init, sends, sets, unless_refused, writes, writes_at, writes_byte, writes_byte_of, writes_lower, writes_rest, writes_timing_byte, writes_upper}
-use Rattle.ccan_calls.proofs.Reporting.{EndsBad, IsGivenUp, IsLost, Reports, attempt_reports, change_reports, end_reports, found_none, if_reports, looked, option_reports, pictures, then_reports}
+use Rattle.ccan_calls.proofs.Reporting.{EndsBad, IsGivenUp, IsLost, Reports, attempt_reports, change_reports, end_reports, found_none, if_reports, looked, option_reports, pictures}
 
 -- ---- what is busy
 

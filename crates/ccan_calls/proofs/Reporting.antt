@@ -1,5 +1,5 @@
 -- Processes whose end says so if a step was refused.
-use Rattle.std.proofs.Common.{◌≡◌, ◌⊎◌, inl, inr, Bool, true, false, List, [], ◌∷◌, ◌++◌, Option, Some, None, Result, Ok, Err, sym, subst, if◌then◌else◌}
+use Rattle.std.proofs.Common.{◌⊎◌, inl, inr, Bool, true, false, List, [], ◌∷◌, ◌++◌, Option, Some, None, Result, Ok, Err, sym, subst, if◌then◌else◌}
 use Rattle.std.specs.Option.{option_map_or}
 use Rattle.ccan_object.specs.declared.record.Record.{Record}
 use Rattle.ccan_confine.specs.declared.controller.Controller.{Controller}
@@ -14,7 +14,7 @@ use Rattle.ccan_device.specs.declared.answer.ChipAnswer.{ChipAnswer}
 use Rattle.ccan_device.specs.declared.answer.ChipAnswer.TheVariants as answer
 use Rattle.ccan_device.specs.declared.operation.ChipOperation.{ChipOperation}
 use Rattle.ccan_calls.specs.DeviceSteps.{AsksFor, DeviceStep, NoneRefused, device_steps}
-use Rattle.ccan_calls.specs.Process.{Act, Attempts, ChangesController, Looks, LooksAtController, Out, Pictures, Process, ending}
+use Rattle.ccan_calls.specs.Process.{Attempts, ChangesController, Looks, LooksAtController, Out, Pictures, Process, ending}
 
 -- every end of the process is bad
 abbrev pub EndsBad : {A : Type 0} → (A → Type 0) → Process A → Type 0

@@ -1,10 +1,9 @@
 -- A round: if a step was refused, or the controller's event was lost, its code is that for busy or for spent.
-use Rattle.std.proofs.Common.{ℕ, Option, Some, None, Result, Ok, Err, inl, inr, refl, if◌then◌else◌}
+use Rattle.std.proofs.Common.{ℕ, Option, Some, None, Ok, Err, inl, inr, refl, if◌then◌else◌}
 use Rattle.ccan_object.specs.declared.profile.Profile.{Profile}
 use Rattle.ccan_object.specs.declared.record.Record.{Record}
 use Rattle.ccan_accept.specs.declared.frame.Frame.{Frame}
 use Rattle.ccan_confine.specs.declared.bus_event.BusEvent.{BusEvent}
-use Rattle.ccan_confine.specs.declared.controller.Controller.{Controller}
 use Rattle.ccan_confine.specs.declared.controller_change.ControllerChange.TheVariants.{Frame as FrameEvent}
 use Rattle.ccan_confine.specs.declared.status_event.StatusEvent.{StatusEvent}
 use Rattle.ccan_ram.specs.declared.sending.Sending.{Sending}
@@ -20,15 +19,12 @@ use Rattle.ccan_bus.specs.declared.round_line.RoundLine.{RoundLine}
 use Rattle.ccan_bus.specs.Past.{BusPast}
 use Rattle.ccan_bus.specs.Round.{refusal_of_round}
 use Rattle.ccan_process.specs.Act.{Attempted, GaveUp, Made, Unfit, WasSpent}
-use Rattle.ccan_process.specs.Process.{Does, Ended}
 use Rattle.ccan_line.specs.declared.line_answer.LineAnswer.TheVariants as line_answer
-use Rattle.ccan_endless.specs.declared.controller_changed.ControllerBusy.{ControllerBusy}
-use Rattle.ccan_endless.specs.declared.controller_changed.ControllerChanged.{ControllerChanged}
 use Rattle.ccan_c.specs.Answer.{code_of}
 use Rattle.ccan_c.specs.Codes.{busy}
 use Rattle.ccan_c.specs.Outcome.{code_of_round, is_lost}
 use Rattle.ccan_calls.specs.LoadProcess.{LoadEnd, load_on}
-use Rattle.ccan_calls.specs.Process.{Attempts, Decided, Process, ending}
+use Rattle.ccan_calls.specs.Process.{ending}
 use Rattle.ccan_calls.specs.RoundProcess.{EventEnd, Played, RoundTold, completes, contend, finish_end, loop_end, makes_event, played, plays, plays_on, receipt_end, receives_own, round_told, rounds}
 use Rattle.ccan_calls.specs.StoreProcess.{Filtered, GaveUpAt, NoneAccepts, SpentAt, StoredAt, store_first}
 use Rattle.ccan_calls.proofs.HostCallsReport.{IsBusyCode}

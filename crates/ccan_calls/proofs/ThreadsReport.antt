@@ -1,5 +1,5 @@
 -- A thread of whose calls none got the code for busy or for spent was refused nothing but a join.
-use Rattle.std.proofs.Common.{ℕ, ◌≡◌, inl, inr, List, [], ◌∷◌, map, refl, sym, ap, subst, ◌∙◌}
+use Rattle.std.proofs.Common.{ℕ, inl, inr, List, [], ◌∷◌, map, sym, ap, subst, ◌∙◌}
 use Rattle.ccan_ram.specs.Terms.{Terms}
 use Rattle.ccan_map.specs.declared.map.Map.{Map}
 use Rattle.ccan_c.specs.FrameCall.{BusState}

@@ -1,8 +1,7 @@
 -- Reads of registers, and accesses to words of 32 bits: if a step was refused, they end as busy or spent.
-use Rattle.std.proofs.Common.{ℕ, ◌+◌, ◌*◌, ◌/◌, ◌%◌, ◌^◌, ◌==◌, Bool, true, false, Option, Some, None, Result, Ok, Err, inl, inr, if◌then◌else◌}
-use Rattle.ccan_object.specs.Interface.{shown}
+use Rattle.std.proofs.Common.{ℕ, ◌+◌, ◌/◌, ◌%◌, ◌^◌, ◌==◌, Option, Some, None, Result, Ok, Err, inl, if◌then◌else◌}
 use Rattle.ccan_confine.specs.declared.controller.Controller.{Controller}
-use Rattle.ccan_confine.specs.declared.controller_change.ControllerChange.TheVariants.{ResetDcan, WriteControl, WriteTiming}
+use Rattle.ccan_confine.specs.declared.controller_change.ControllerChange.TheVariants.{WriteControl, WriteTiming}
 use Rattle.ccan_confine.specs.RegisterWords.{control_in, error_counter_word}
 use Rattle.ccan_ram.specs.declared.port.PortName.{PortName}
 use Rattle.ccan_ram.specs.Terms.{Terms}
@@ -13,7 +12,6 @@ use Rattle.ccan_map.specs.declared.register.Register.TheVariants as register
 use Rattle.ccan_process.specs.Process.{Ended}
 use Rattle.ccan_endless.specs.declared.controller_changed.ControllerBusy.{ControllerBusy}
 use Rattle.ccan_endless.specs.declared.controller_changed.ControllerChanged.{ControllerChanged}
-use Rattle.ccan_registers.specs.declared.access_error.AccessError.TheVariants as why
 use Rattle.ccan_registers.specs.declared.byte.Byte.{Byte}
 use Rattle.ccan_registers.specs.declared.interface_set.InterfaceSet.{InterfaceSet}
 use Rattle.ccan_registers.specs.Bytes.{byte_in, byte_told, start_of}
@@ -23,8 +21,8 @@ use Rattle.ccan_calls.specs.Offsets.{FlagWord, are_halves, flag_word_at, registe
 use Rattle.ccan_calls.specs.Process.{Process, ending}
 use Rattle.ccan_calls.specs.ReadProcess.{Word, reads, reads_at, reads_byte, reads_own, shows}
 use Rattle.ccan_calls.specs.WordProcess.{OffEnd, control_word_shown, reads_flags, reads_halves, reads_other_word, reads_word, shows_word, some_written, timing_word, writes_control_word, writes_halves, writes_word}
-use Rattle.ccan_calls.specs.WriteProcess.{WriteProcess, Written, change_controller, keeping, resets, writes_at}
-use Rattle.ccan_calls.proofs.RegistersReport.{EndsBusy, EndsBusyOff, IsBusy, IsBusyOff, change_kept, flags_report, software_reports, value_reports, writes_at_report}
+use Rattle.ccan_calls.specs.WriteProcess.{WriteProcess, Written, change_controller, keeping, writes_at}
+use Rattle.ccan_calls.proofs.RegistersReport.{EndsBusy, EndsBusyOff, IsBusy, IsBusyOff, change_kept, software_reports, value_reports, writes_at_report}
 use Rattle.ccan_calls.proofs.Reporting.{EndsBad, IsGivenUp, Reports, change_reports, end_reports, found_none, if_reports, option_reports, pictures, then_reports}
 
 -- ---- reads
