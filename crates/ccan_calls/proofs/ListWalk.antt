@@ -25,11 +25,16 @@ use Rattle.ccan_device.specs.declared.memory.ChipMemory.{ChipMemory}
 use Rattle.ccan_device.specs.declared.operation.ChipOperation.{ChipOperation}
 use Rattle.ccan_device.specs.declared.operation.ChipOperation.TheVariants as operation
 use Rattle.ccan_device.specs.ChipSteps.{ChipStep, attempt_steps, can_make, change_step, chip_steps, is_join, record_in, refusals, step_to}
-use Rattle.ccan_calls.specs.DeviceSteps.{AreOn, DeviceStep}
+use Rattle.ccan_calls.specs.DeviceSteps.{DeviceStep, NoneRefused}
 use Rattle.ccan_calls.specs.InTheList.{ChipActs, ChipTable, ComesBy, chip_after}
 use Rattle.ccan_calls.proofs.Placed.{Begins, IsStepTo, Makes, MayPass, Passes, Placed, Stays, chip}
 
 -- ---- a chip that refuses nothing
+
+-- steps on a chip that may refuse a change, or on one that refuses none but a join
+abbrev pub AreOn : Bool → List DeviceStep → Type 0
+AreOn true steps = Unit {0}
+AreOn false steps = NoneRefused steps
 
 in_first : {A : Type 0} (xs ys : List A) (x : A) → Contains xs x → Contains (xs ++ ys) x
 in_first [] ys x (k, less, is) = absurd (omega (arith, less))

@@ -1,5 +1,5 @@
 -- What a process asks of a chip of one thread: a step for each act at the chip, and what it is answered. Source: this project's own.
-use Rattle.std.specs.Prelude.{◌≡◌, Bool, true, false, List, [], ◌∷◌, ◌++◌, Result, Ok, Err}
+use Rattle.std.specs.Prelude.{ℕ, ◌≡◌, List, [], ◌∷◌, ◌++◌, Result, Ok, Err}
 use Rattle.ccan_confine.specs.declared.controller_change.ControllerChange.TheVariants.{Join}
 use Rattle.ccan_process.specs.Act.{Attempted, GaveUp, Made, Unfit, WasSpent}
 use Rattle.ccan_process.specs.Process.{Does, Ended}
@@ -10,8 +10,10 @@ use Rattle.ccan_device.specs.declared.answer.ChipAnswer.TheVariants as answer
 use Rattle.ccan_device.specs.declared.operation.ChipOperation.{ChipOperation}
 use Rattle.ccan_device.specs.declared.operation.ChipOperation.TheVariants as operation
 use Rattle.ccan_device.specs.ChipSteps.{pictured}
+use Rattle.ccan_calls.specs.Answer.{Answer, Place}
 use Rattle.ccan_calls.specs.Process.{Act, Attempts, ChangesController, Decides, Heeds, InsistsOnChange, LetsOthersAct, Looks, LooksAtController, Notes, Offers, Out, Pauses, Pictures, Process, Recalls}
 use Rattle.ccan_calls.specs.Runs.{IsDecided, IsLineOf}
+use Rattle.ccan_calls.specs.ThreadProcess.{AreAnswered, ThreadEnd}
 
 -- what is asked for, and the answer
 pub record DeviceStep : Type 0 where
@@ -62,13 +64,16 @@ AsksFor (Does act next) steps result =
     (out : Out act) × CanComeOf act out × (later : List DeviceStep) × (steps ≡ later ++ device_steps act out)
     × AsksFor (next out) later result
 
+-- the process of a thread's calls asks for these steps, and the calls got their answers
+pub record CallsAskFor {Call State : Type 0} (code : Call → ℕ) (place : Call → Place) (calls : List Call)
+    (process : Process (ThreadEnd State)) (steps : List DeviceStep) : Type 0 where
+  pub answers : List Answer
+  pub left : State
+  pub answered : AreAnswered code place calls answers
+  pub asks : AsksFor process steps (answers, left)
+
 -- no step of these was refused, except that the bus's port may have failed to join a controller
 abbrev pub NoneRefused : List DeviceStep → Type 0
 NoneRefused [] = Unit {0}
 NoneRefused (step ∷ earlier) =
     (step.answer ≡ answer.Refused → step.operation ≡ operation.ChangeController Join) × NoneRefused earlier
-
--- steps on a chip that may refuse a change, or on one that never does
-abbrev pub AreOn : Bool → List DeviceStep → Type 0
-AreOn true steps = Unit {0}
-AreOn false steps = NoneRefused steps

@@ -1,5 +1,5 @@
 -- Three threads on a chip of the library for C stand in the list of all schedules of their tables. Source: this project's own.
-use Rattle.std.specs.Prelude.{ℕ, ◌≡◌, ◌-◌, Bool, List, [], ◌∷◌, ◌++◌, length, map, replicate, Some, slice_get}
+use Rattle.std.specs.Prelude.{ℕ, ◌≡◌, ◌-◌, Bool, true, false, List, [], ◌∷◌, ◌++◌, length, map, replicate, Some, slice_get}
 use Rattle.std.specs.Global.{Vec}
 use Rattle.ccan_object.specs.declared.profile.Profile.{Profile}
 use Rattle.ccan_object.specs.declared.profile.Profile.TheVariants.{Two}
@@ -27,12 +27,11 @@ use Rattle.ccan_every.specs.Tables.{goes_on}
 use Rattle.ccan_device.specs.declared.answer.ChipAnswer.{ChipAnswer}
 use Rattle.ccan_device.specs.declared.memory.ChipMemory.{ChipMemory}
 use Rattle.ccan_device.specs.declared.operation.ChipOperation.{ChipOperation}
-use Rattle.ccan_calls.specs.Answer.{Answer, Place}
-use Rattle.ccan_calls.specs.DeviceSteps.{AreOn, AsksFor, DeviceStep}
+use Rattle.ccan_calls.specs.DeviceSteps.{CallsAskFor, DeviceStep}
 use Rattle.ccan_calls.specs.HostAsk.{asked_by, place_of}
 use Rattle.ccan_calls.specs.HostCallProcess.{host_process}
-use Rattle.ccan_calls.specs.Process.{Process}
-use Rattle.ccan_calls.specs.ThreadProcess.{AreAnswered, ThreadEnd, asked, code_of_call, on_bus_process, place_of_call, thread_process}
+use Rattle.ccan_calls.specs.Refusals.{NoneBusy}
+use Rattle.ccan_calls.specs.ThreadProcess.{asked, code_of_call, on_bus_process, place_of_call, thread_process}
 
 -- ---- threads as tables
 
@@ -78,14 +77,6 @@ OnlyMeet (meeting ∷ parts) = OnlyMeet parts
 OnlyMeet (saving text ∷ parts) = ⊥
 OnlyMeet (resetting code ∷ parts) = ⊥
 
--- the process of a thread's calls asks for these steps, and the calls got their answers
-pub record CallsAskFor {Call State : Type 0} (code : Call → ℕ) (place : Call → Place) (calls : List Call)
-    (process : Process (ThreadEnd State)) (steps : List DeviceStep) : Type 0 where
-  pub answers : List Answer
-  pub left : State
-  pub answered : AreAnswered code place calls answers
-  pub asks : AsksFor process steps (answers, left)
-
 -- the steps of three threads
 pub record ThreadSteps : Type 0 where
   pub if1 : List DeviceStep
@@ -118,27 +109,36 @@ pub record ShowsChip (profile : Profile) (memory : ChipMemory) (out : ShownFinal
   pub records : out.records
       ≡ map c_record (memory.records ++ replicate (objects_in Two - objects_in profile) zero_record)
 
-module _ (refuses : Bool) (acts : ChipActs) (eq : ChipAnswer → ChipAnswer → Bool) where
+-- the chip may refuse changes, or no call was busy or spent
+abbrev pub MayBeOn : Bool → List Part → Type 0
+MayBeOn true parts = Unit {0}
+MayBeOn false parts =
+    NoneBusy code_got (calls_of_if1 parts) × NoneBusy code_got (calls_of_if2 parts)
+    × NoneBusy code_of_call (calls_of_bus parts)
+
+module _ (acts : ChipActs) (eq : ChipAnswer → ChipAnswer → Bool) where
   -- Whatever tables the threads go by: what they and the chip have come to is among what all schedules of the tables come to, and
-  -- so in the list of a search that was whole. On a chip that refuses none but a join this holds if no other change was refused.
+  -- so in the list of a search that was whole.
   abbrev pub IsInTheList : ChipMemory → ChipMemory → ThreadSteps → Type 0
   IsInTheList first last steps =
       (if1 if2 bus : ChipTable) (place1 place2 place_bus : ℕ)
-      → AreOn refuses steps.if1 → AreOn refuses steps.if2 → AreOn refuses steps.bus
       → ComesBy eq if1 steps.if1 place1 → ComesBy eq if2 steps.if2 place2 → ComesBy eq bus steps.bus place_bus
       → CanCome acts eq (if1 ∷ if2 ∷ bus ∷ []) first (At last (place1 ∷ place2 ∷ place_bus ∷ []))
 
   -- what three threads have come to on a chip that was opened with this
-  pub record StandsInTheList (profile : Profile) (set : Set) (parts : List Part) (out : ShownFinal) : Type 0 where
+  pub record StandsInTheList (refuses : Bool) (profile : Profile) (set : Set) (parts : List Part) (out : ShownFinal)
+      : Type 0 where
     pub steps : ThreadSteps
     pub of_calls : AreStepsOf profile set parts steps
     pub last : ChipMemory
     pub shows : ShowsChip profile last out
-    pub in_list : IsInTheList (chip_after profile set.opening.begun) last steps
+    pub in_list : MayBeOn refuses parts → IsInTheList (chip_after profile set.opening.begun) last steps
 
-  -- Whatever three threads do with a chip from its opening to its end, each on a handle of its own, with meetings and without.
-  abbrev pub ThreadsStandInTheList : Type 0
-  ThreadsStandInTheList =
-      (profile : Profile) (set : Set) (parts : List Part) (chip last : Chip) (out : ShownFinal)
-      → Begins profile (opened_with set) chip → OnlyMeet parts → PartsDo parts chip last → EndsWith last out
-      → StandsInTheList profile set parts out
+-- Whatever three threads do with a chip from its opening to its end, each on a handle of its own, with meetings and without: they
+-- stand in the list of a chip that may refuse changes; and if no call was busy or spent, in that of one that refuses none but a
+-- join.
+abbrev pub ThreadsStandInTheList : Bool → ChipActs → (ChipAnswer → ChipAnswer → Bool) → Type 0
+ThreadsStandInTheList refuses acts eq =
+    (profile : Profile) (set : Set) (parts : List Part) (chip last : Chip) (out : ShownFinal)
+    → Begins profile (opened_with set) chip → OnlyMeet parts → PartsDo parts chip last → EndsWith last out
+    → StandsInTheList acts eq refuses profile set parts out

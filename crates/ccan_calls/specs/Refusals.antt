@@ -6,10 +6,9 @@ use Rattle.ccan_registers.specs.declared.interface_set.InterfaceSet.{InterfaceSe
 use Rattle.ccan_c.specs.Codes.{busy, spent}
 use Rattle.ccan_c.specs.FrameCall.{BusState, CallOnBus}
 use Rattle.ccan_c.specs.HostCall.{HostCall, code_got}
-use Rattle.ccan_calls.specs.DeviceSteps.{DeviceStep, NoneRefused}
+use Rattle.ccan_calls.specs.DeviceSteps.{CallsAskFor, DeviceStep, NoneRefused}
 use Rattle.ccan_calls.specs.HostAsk.{asked_by, place_of}
 use Rattle.ccan_calls.specs.HostCallProcess.{host_process}
-use Rattle.ccan_calls.specs.InTheList.{CallsAskFor}
 use Rattle.ccan_calls.specs.ThreadProcess.{asked, code_of_call, on_bus_process, place_of_call, thread_process}
 
 -- no call of these got the code for busy or for spent

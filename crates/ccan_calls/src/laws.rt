@@ -80,7 +80,8 @@ pub fn acts_have_their_steps()
 /// Whatever three threads do with a chip from its opening, by `ccan_open` or `ccan_open_reset`, to a `ccan_end` that answers 0,
 /// each on a handle of its own, with `ccan_meet` in between and without: the calls of each are one process, which asks a chip of
 /// one thread for steps. Whatever tables the threads go by, where they have come to stands in the list of all schedules of these
-/// tables on that device, with the records that C gets.
+/// tables on that device, with the records that C gets. A device that refuses no change has them all, except a join, if no call
+/// answered `CCAN_BUSY` or `CCAN_SPENT`.
 pub fn threads_stand_in_the_list(_device: &ChipDevice)
     ensures { ThreadsStandInTheList _device.now.refuses
         (⟦<ChipDevice as Device>⟧.acts _device.now) ⟦<ChipAnswer as PartialEq>⟧.eq }
