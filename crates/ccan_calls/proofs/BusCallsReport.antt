@@ -46,7 +46,7 @@ use Rattle.ccan_calls.specs.WriteProcess.{Written, change_controller, resets}
 use Rattle.ccan_calls.proofs.HostCallsReport.{CodeIsBusy, access_busy, read_reports}
 use Rattle.ccan_calls.proofs.LoadsReport.{LoadsBusy, loads_report}
 use Rattle.ccan_calls.proofs.RegistersReport.{IsBusy, IsBusyOff, controller_reports, flags_report, given_up, line_reports, reset_reports, unless_bad, unless_reports, value_reports}
-use Rattle.ccan_calls.proofs.Reporting.{EndsBad, IsGivenUp, Reports, change_reports, end_reports, found_none, if_reports, option_reports, then_reports}
+use Rattle.ccan_calls.proofs.Reporting.{EndsBad, IsGivenUp, Reports, change_reports, end_reports, found_answered, if_reports, option_reports, then_reports}
 use Rattle.ccan_calls.proofs.RoundsReport.{RoundCodeIsBusy, rounds_report}
 use Rattle.ccan_calls.proofs.WordsReport.{both_busy, reads_at_report, reads_byte_report, reads_word_report, status_given_up}
 
@@ -75,10 +75,10 @@ module _ (terms : Terms) (map : Map) where
       (option_reports IsBusy change_controller (change_by map r value) _ controller_reports (interface_reports r))
 
   timing_reports : (byte : Byte) (value : ℕ) → Reports IsBusy (bus_writes_timing terms map byte value)
-  timing_reports byte value = λ found. (inl (found_none found), write_reports register.BitTiming _)
+  timing_reports byte value = λ found. (inl (found_answered found), write_reports register.BitTiming _)
 
   init_reports : Reports IsBusy (bus_resets_in_init terms)
-  init_reports = λ found. (inl (found_none found), if_reports IsBusy found.control.init _ _ software_reports tt)
+  init_reports = λ found. (inl (found_answered found), if_reports IsBusy found.control.init _ _ software_reports tt)
 
   lower_reports : (r : Register) (value : ℕ) → Reports IsBusy (bus_writes_lower terms map r value)
   lower_reports register.ControlUpper value = tt
@@ -170,11 +170,13 @@ module _ (terms : Terms) (map : Map) where
 
 -- ---- calls
 
+-- the code of a load
 load_code : (told : LoadEnd) → LoadsBusy told → CodeIsBusy (load_end told)
 load_code (load_answer.Busy object, past) is = inl refl
 load_code (load_answer.Spent object, past) is = inr refl
 load_code (told, past) is = absurd is
 
+-- two changes, one after the other
 loop_back_reports : (on : Bool) → Reports IsBusy (loops_back on)
 loop_back_reports true =
     λ outcome. (
@@ -203,14 +205,18 @@ module _ (past : BusPast) where
       end_reports IsBusyOff CodeIsBusy (λ told. end_of (code_of_access told) Nothing past) process access_busy reports
 
   counts_report : (node : ℕ) → Reports CodeIsBusy (counts node past)
-  counts_report node = if_reports CodeIsBusy (node == 0) _ _ (λ found. (inl (found_none found), tt)) tt
+  counts_report node = if_reports CodeIsBusy (node == 0) _ _ (λ found. (inl (found_answered found), tt)) tt
 
   module _ (profile : Profile) (nodes : ℕ) where
-    offered_reports : (sends : List (ℕ × Frame)) (fault : Fault) → Reports CodeIsBusy (offered_round profile nodes sends fault past)
+    offered_reports : (sends : List (ℕ × Frame)) (fault : Fault)
+        → Reports CodeIsBusy (offered_round profile nodes sends fault past)
     offered_reports sends fault =
         if_reports CodeIsBusy (are_senders nodes sends) _ _
-        (λ by. (inl tt, end_reports RoundCodeIsBusy CodeIsBusy round_end (rounds profile by past) (λ told is. is)
-        (rounds_report profile by past))) tt
+        (λ by. (
+          inl tt,
+          end_reports RoundCodeIsBusy CodeIsBusy round_end (rounds profile by past) (λ told is. is)
+              (rounds_report profile by past),
+        )) tt
 
     asked_reports : (offers : List Offer) (number : ℕ) → Reports CodeIsBusy (asked_round profile nodes offers number past)
     asked_reports offers number =
@@ -219,14 +225,17 @@ module _ (past : BusPast) where
         (option_reports CodeIsBusy _ (fault_numbered number) _ (offered_reports (map sending_of offers)) tt) tt) tt
 
 module _ (terms : Terms) (layout : Map) (nodes : ℕ) (past : BusPast) where
+  -- each call
   pub bus_reports : (ask : BusAsk) → Reports CodeIsBusy (bus_process terms layout nodes ask past)
-  bus_reports load = end_reports LoadsBusy CodeIsBusy load_end (loads terms.profile past) load_code (loads_report terms.profile past)
+  bus_reports load =
+      end_reports LoadsBusy CodeIsBusy load_end (loads terms.profile past) load_code (loads_report terms.profile past)
   bus_reports status =
       end_reports IsBusy CodeIsBusy (λ told. end_of (code_of_access (Some told)) (word_given (Some told)) past) status_read
       (λ told. access_busy (Some told))
       (λ outcome. (change_reports (read_of Narrow) outcome (status_given_up Narrow outcome), tt))
   bus_reports (control sie eie) =
-      coded_reports past (change_controller (enabling (is_on sie) (is_on eie))) (controller_reports (enabling (is_on sie) (is_on eie)))
+      coded_reports past (change_controller (enabling (is_on sie) (is_on eie)))
+      (controller_reports (enabling (is_on sie) (is_on eie)))
   bus_reports init = coded_reports past (change_controller starting) (controller_reports starting)
   bus_reports (loop_back on) = coded_reports past (loops_back (is_on on)) (loop_back_reports (is_on on))
   bus_reports (recessive groups) =
@@ -239,10 +248,12 @@ module _ (terms : Terms) (layout : Map) (nodes : ℕ) (past : BusPast) where
       (λ flag. flags_report CodeIsBusy flag (λ word. end_of done (Number word) past)) tt
   bus_reports (counters node) = if_reports CodeIsBusy (nat_le node nodes) _ _ (counts_report past node) tt
   bus_reports (round offers number) = asked_reports past terms.profile nodes offers number
-  bus_reports (read8 offset) = read_reports past (reads_byte terms layout offset zero_set) (reads_byte_report terms layout zero_set offset)
+  bus_reports (read8 offset) =
+      read_reports past (reads_byte terms layout offset zero_set) (reads_byte_report terms layout zero_set offset)
   bus_reports (write8 offset value) =
       by_reports past (bus_writes_byte terms layout offset value) (byte_at_reports terms layout offset value)
-  bus_reports (read16 offset) = read_reports past (reads_at terms layout offset zero_set) (reads_at_report terms layout zero_set offset)
+  bus_reports (read16 offset) =
+      read_reports past (reads_at terms layout offset zero_set) (reads_at_report terms layout zero_set offset)
   bus_reports (write16 offset value) =
       by_reports past (bus_writes_at terms layout offset value) (at_reports terms layout offset value)
   bus_reports (read32 offset) =

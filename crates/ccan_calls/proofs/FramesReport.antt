@@ -34,15 +34,15 @@ use Rattle.ccan_calls.specs.RoundProcess.{completes, makes_event}
 use Rattle.ccan_calls.proofs.HostCallsReport.{CodeIsBusy, IsBusyCode, access_busy}
 use Rattle.ccan_calls.proofs.LoadsReport.{IsBusyLoad, arrives_report, first_reports}
 use Rattle.ccan_calls.proofs.RegistersReport.{IsBusy}
-use Rattle.ccan_calls.proofs.Reporting.{IsGivenUp, Reports, change_reports, end_reports, found_none, if_reports, option_reports, pictures, so_bad, then_reports}
+use Rattle.ccan_calls.proofs.Reporting.{IsGivenUp, Reports, change_reports, end_reports, found_answered, if_reports, option_reports, picture_answered, so_bad, then_reports}
 use Rattle.ccan_calls.proofs.RoundsReport.{EventIsLost, RoundIsBusy, complete_reports, event_reports, lost_code, refused_code}
 
 -- ---- the start of a frame
 
-abbrev pub LoadIsBusy : FrameLoad → Type 0
+abbrev LoadIsBusy : FrameLoad → Type 0
 LoadIsBusy end = IsBusyLoad end.0
 
-abbrev pub StartIsBusy : FrameStart → Type 0
+abbrev StartIsBusy : FrameStart → Type 0
 StartIsBusy end = IsBusyLoad end.1.0
 
 started_busy : (sending : Sending) (told : LoadAnswer) → IsBusyLoad told → LoadIsBusy (started_by sending told)
@@ -75,7 +75,7 @@ start_code old (found, (told, loaded)) is = absurd is
 
 -- ---- its end
 
-abbrev pub EndCodeIsBusy : EndedPart → Type 0
+abbrev EndCodeIsBusy : EndedPart → Type 0
 EndCodeIsBusy told = IsBusyCode (code_of_end told)
 
 module _ (profile : Profile) where
@@ -92,7 +92,7 @@ module _ (profile : Profile) where
       → Reports EndCodeIsBusy (ends_frame profile on place flaw station)
   frame_reports on place flaw station =
       λ found. (
-        inl (found_none found),
+        inl (found_answered found),
         ends_report found (own_on on place flaw station found) (still_loaded found station.loaded) (frame_won (start_of on)),
       )
 
@@ -117,19 +117,19 @@ power_busy : (outcome : Result ControllerChanged ControllerBusy) → IsGivenUp o
 power_busy (Ok made) lost = absurd lost
 power_busy (Err busy) lost = tt
 
+power_reports : Reports IsBusy (Does (ChangesController PowerDown) (λ outcome. Ended (power_told outcome)))
+power_reports = λ outcome. (change_reports PowerDown outcome (power_busy outcome), tt)
+
 idle_reports : (requests : ℕ) → Reports IsBusy (powers_down_idle requests)
-idle_reports requests =
-    let downs : Reports IsBusy (Does (ChangesController PowerDown) (λ outcome. Ended (power_told outcome))) =
-        λ outcome. (change_reports PowerDown outcome (power_busy outcome), tt) in
-    if_reports IsBusy (requests == 0) _ _ downs tt
+idle_reports requests = if_reports IsBusy (requests == 0) _ _ power_reports tt
 
 asked_reports : (wanted : Bool) (found : Controller) → Reports IsBusy (powers_down_by wanted found)
-asked_reports true found = λ shown. (inl (pictures shown), idle_reports _)
+asked_reports true found = λ shown. (inl (picture_answered shown), idle_reports _)
 asked_reports false found = tt
 
 down_reports : (under_way : Bool) → Reports IsBusy (powers_down under_way)
 down_reports true = tt
-down_reports false = λ found. (inl (found_none found), asked_reports (is_to_power_down found) found)
+down_reports false = λ found. (inl (found_answered found), asked_reports (is_to_power_down found) found)
 
 -- ---- all of them
 
@@ -137,7 +137,7 @@ pub frame_calls_report : (terms : Terms) (ask : FrameAsk) (old : BusState) → R
 frame_calls_report terms begin old =
     end_reports StartIsBusy CodeIsBusy (start_end old) (starts_frame terms.profile old.station.loaded) (start_code old)
     (start_reports terms.profile old.station.loaded)
-frame_calls_report terms stay old = λ found. (inl (found_none found), tt)
+frame_calls_report terms stay old = λ found. (inl (found_answered found), tt)
 frame_calls_report terms (finish on place fault) old = finish_reports terms.profile on place fault old
 frame_calls_report terms (retry lost) old = option_reports CodeIsBusy _ (event_in lost) _ (retry_reports old) tt
 frame_calls_report terms power_down old =

@@ -25,7 +25,7 @@ use Rattle.ccan_calls.specs.ReadProcess.{Word, reads_at, reads_byte}
 use Rattle.ccan_calls.specs.WordProcess.{OffEnd, reads_word, writes_word}
 use Rattle.ccan_calls.specs.WriteProcess.{change_all, writes_at, writes_byte}
 use Rattle.ccan_calls.proofs.RegistersReport.{EndsBusyOff, IsBusy, IsBusyOff, IsBusyReply, RepliesBusy, all_report, flags_report, interrupt_reports, line_reports, transfer_reports, until_reports, writes_at_report, writes_byte_report}
-use Rattle.ccan_calls.proofs.Reporting.{Reports, end_reports, if_reports, looked, option_reports}
+use Rattle.ccan_calls.proofs.Reporting.{Reports, end_reports, if_reports, look_answered, option_reports}
 use Rattle.ccan_calls.proofs.WordsReport.{reads_at_report, reads_byte_report, reads_word_report, writes_word_report}
 
 -- ---- codes
@@ -37,13 +37,16 @@ IsBusyCode code = (code ≡ busy) ⊎ (code ≡ spent)
 abbrev pub CodeIsBusy : {State : Type 0} → CallEnd State → Type 0
 CodeIsBusy end = IsBusyCode end.0.code
 
-pub access_busy : {Value : Type 0} (told : Option (Result Value AccessError)) → IsBusyOff told → IsBusyCode (code_of_access told)
+-- the code of an access
+pub access_busy : {Value : Type 0} (told : Option (Result Value AccessError)) → IsBusyOff told
+    → IsBusyCode (code_of_access told)
 access_busy None is = absurd is
 access_busy (Some (Ok value)) is = absurd is
 access_busy (Some (Err why.OtherInterface)) is = absurd is
 access_busy (Some (Err why.Busy)) is = inl refl
 access_busy (Some (Err why.Spent)) is = inr refl
 
+-- and of a transfer
 reply_busy : (told : LineAnswer) → IsBusyReply told → IsBusyCode (code_of told)
 reply_busy (reply.Busy object) is = inl refl
 reply_busy (reply.Spent object) is = inr refl
@@ -52,22 +55,26 @@ reply_busy told is = absurd is
 -- ---- calls
 
 module _ {State : Type 0} (own : State) where
+  -- a read at an offset
   pub read_reports : (process : Process (Option Word)) → Reports IsBusyOff process → Reports CodeIsBusy (reads_off process own)
   read_reports process reports =
       end_reports IsBusyOff CodeIsBusy (λ told. end_of (code_of_access told) (word_given told) own) process access_busy reports
 
+-- a write at an offset
 write_reports : (process : Process OffEnd) → Reports EndsBusyOff process → Reports CodeIsBusy (writes_off process)
 write_reports process reports =
     end_reports EndsBusyOff CodeIsBusy (λ end. end_of (code_of_access end.0) Nothing end.1) process (λ end. access_busy end.0)
     reports
 
 module _ (terms : Terms) (map : Map) (own : InterfaceSet) where
+  -- looks for a flag, at most so many
   wait_reports : (object turns : ℕ) (flag : Flag) → Reports CodeIsBusy (waits object turns own flag)
   wait_reports object turns flag =
       if_reports CodeIsBusy (is_from_one_to most_turns turns) _ _
       (end_reports (λ found. ⊥) CodeIsBusy (λ found. end_of done (Number (number_of found)) own)
       (until_shown object flag turns) (λ found is. absurd is) (until_reports (λ found. ⊥) object flag turns)) tt
 
+  -- each call
   pub host_reports : (ask : HostAsk) → Reports CodeIsBusy (host_process terms map ask own)
   host_reports (set number value) = option_reports CodeIsBusy _ (register_numbered number) _ (λ reg. tt) tt
   host_reports (get number) = option_reports CodeIsBusy _ (register_numbered number) _ (λ reg. tt) tt
@@ -80,7 +87,7 @@ module _ (terms : Terms) (map : Map) (own : InterfaceSet) where
       (λ flag. flags_report CodeIsBusy flag (λ word. end_of done (Number word) own)) tt
   host_reports interrupt = interrupt_reports CodeIsBusy false (λ value. end_of done (Number value) own)
   host_reports (peek object) =
-      if_reports CodeIsBusy (is_object terms.profile object) _ _ (λ found. (inl (looked object found), tt)) tt
+      if_reports CodeIsBusy (is_object terms.profile object) _ _ (λ found. (inl (look_answered object found), tt)) tt
   host_reports (until object number turns) =
       if_reports CodeIsBusy (is_object terms.profile object) _ _
       (option_reports CodeIsBusy (waits object turns own) (flag_numbered number) (refuses flag_range own)

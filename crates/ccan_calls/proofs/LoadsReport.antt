@@ -26,10 +26,11 @@ use Rattle.ccan_calls.specs.DeviceSteps.{NoneRefused, device_steps}
 use Rattle.ccan_calls.specs.LoadProcess.{LoadEnd, Looked, arrives, arrives_and, load_from, load_next, load_on, loaded_by, loads, looks_again, start_each, start_end, start_first}
 use Rattle.ccan_calls.specs.Process.{Attempts, InsistsOnChange, Process, Recalls}
 use Rattle.ccan_calls.specs.StoreProcess.{Filtered, GaveUpAt, NoneAccepts, SpentAt, StoredAt, store_each, store_end, store_first, unless_stored, visits}
-use Rattle.ccan_calls.proofs.Reporting.{EndsBad, IsLost, Reports, attempt_reports, end_reports, found_none, if_reports, looked, pictures, then_reports}
+use Rattle.ccan_calls.proofs.Reporting.{EndsBad, IsLost, Reports, attempt_reports, end_reports, found_answered, if_reports, look_answered, picture_answered, then_reports}
 
 -- ---- a load
 
+-- a start was given up, or no change was left for it
 abbrev pub IsBusyLoad : LoadAnswer → Type 0
 IsBusyLoad (load.Busy object) = Unit {0}
 IsBusyLoad (load.Spent object) = Unit {0}
@@ -43,6 +44,7 @@ lost_start object next (Unfit now) lost = absurd lost
 lost_start object next GaveUp lost = tt
 lost_start object next WasSpent lost = tt
 
+-- what follows a start
 after_start : (object : ℕ) (next : Process LoadAnswer) (end : Attempted) → Reports IsBusyLoad next
     → Reports IsBusyLoad (start_end object next end)
 after_start object next (Made before after) reports = tt
@@ -67,7 +69,7 @@ module _ (sending : Sending) where
       if_reports IsBusyLoad (was_ready shown object) _ next (start_reports object next reports) reports
 
   pub first_reports : (profile : Profile) → Reports IsBusyLoad (start_first profile sending)
-  first_reports profile = λ shown. (inl (pictures shown), each_start shown (objects_in profile) 1)
+  first_reports profile = λ shown. (inl (picture_answered shown), each_start shown (objects_in profile) 1)
 
 abbrev pub LoadsBusy : LoadEnd → Type 0
 LoadsBusy end = IsBusyLoad end.0
@@ -98,14 +100,13 @@ module _ (past : BusPast) where
 joined : (outcome : Result ControllerChanged ControllerBusy) → NoneRefused (device_steps (InsistsOnChange Join) outcome)
 joined outcome = (λ refused. refl, tt)
 
+join_reports : (bad : Looked → Type 0) (first : Controller)
+    → Reports bad (Does (InsistsOnChange Join) (λ told. looks_again first))
+join_reports bad first = λ outcome. (inl (joined outcome), λ found. (inl (found_answered found), tt))
+
 pub arrives_report : (bad : Looked → Type 0) → Reports bad arrives
 arrives_report bad =
-    λ first.
-        let joins : Reports bad (Does (InsistsOnChange Join) (λ told. looks_again first)) =
-            λ outcome. (inl (joined outcome), λ found. (inl (found_none found), tt)) in (
-          inl (found_none first),
-          if_reports bad (comes_back first) _ _ joins tt,
-        )
+    λ first. (inl (found_answered first), if_reports bad (comes_back first) _ _ (join_reports bad first) tt)
 
 pub arrived_reports : {A : Type 0} (bad : A → Type 0) (past : BusPast) (next : Controller → BusPast → Process A)
     → ((found : Controller) (here : BusPast) → Reports bad (next found here)) → Reports bad (arrives_and past next)
@@ -120,6 +121,7 @@ loads_report profile past =
 
 -- ---- acceptance filtering
 
+-- a store was given up, or no change was left for it
 abbrev pub IsBusyStore : Filtered → Type 0
 IsBusyStore NoneAccepts = ⊥
 IsBusyStore (StoredAt object after) = ⊥
@@ -132,6 +134,7 @@ lost_store object (Unfit now) lost = absurd lost
 lost_store object GaveUp lost = tt
 lost_store object WasSpent lost = tt
 
+-- what follows an object that refused is left out
 stopped : (told : Filtered) (next : Process Filtered) → IsBusyStore told → EndsBad IsBusyStore (unless_stored told next)
 stopped NoneAccepts next is = absurd is
 stopped (StoredAt object after) next is = absurd is
@@ -145,14 +148,12 @@ goes_on (GaveUpAt object) next reports = tt
 goes_on (SpentAt object) next reports = tt
 
 module _ (frame : Frame) where
+  try_reports : (object : ℕ) → Reports IsBusyStore (Does (Attempts object (Store frame)) (λ end. Ended (store_end object end)))
+  try_reports object = λ end. (attempt_reports object (Store frame) end (lost_store object end), tt)
+
   visit_reports : (object : ℕ) → Reports IsBusyStore (visits frame object)
   visit_reports object =
-      λ shown.
-          let tries : Reports IsBusyStore (Does (Attempts object (Store frame)) (λ end. Ended (store_end object end))) =
-              λ end. (attempt_reports object (Store frame) end (lost_store object end), tt) in (
-            inl (looked object shown),
-            if_reports IsBusyStore (accepts shown frame) _ _ tries tt,
-          )
+      λ shown. (inl (look_answered object shown), if_reports IsBusyStore (accepts shown frame) _ _ (try_reports object) tt)
 
   each_store : (more object : ℕ) → Reports IsBusyStore (store_each frame more object)
   each_store zero object = tt

@@ -36,7 +36,7 @@ use Rattle.ccan_calls.specs.Parts.{flag_shown, interrupt_value, line_pulled, mov
 use Rattle.ccan_calls.specs.Process.{Attempts, Looks, Process, ending}
 use Rattle.ccan_calls.specs.WordProcess.{OffEnd}
 use Rattle.ccan_calls.specs.WriteProcess.{WriteEnd, WriteProcess, Written, access_at, attempt_told, change_all, change_controller, change_each, keeping, requests, requests_by, requests_object, resets, resets_in_init, sends, sets, unless_refused, writes, writes_at, writes_byte, writes_byte_of, writes_lower, writes_rest, writes_timing_byte, writes_upper}
-use Rattle.ccan_calls.proofs.Reporting.{EndsBad, IsGivenUp, IsLost, Reports, attempt_reports, change_reports, end_reports, found_none, if_reports, looked, option_reports, pictures}
+use Rattle.ccan_calls.proofs.Reporting.{EndsBad, IsGivenUp, IsLost, Reports, attempt_reports, change_reports, end_reports, found_answered, if_reports, look_answered, option_reports, picture_answered}
 
 -- ---- what is busy
 
@@ -61,29 +61,34 @@ EndsBusyOff end = IsBusyOff end.0
 -- ---- looks
 
 module _ {A : Type 0} (bad : A → Type 0) where
+  -- a flag of all objects
   pub flags_report : (flag : Flag) (end : ℕ → A) → Reports bad (ending (flag_shown flag) end)
-  flags_report flag end = λ found. (inl (pictures found), tt)
+  flags_report flag end = λ found. (inl (picture_answered found), tt)
 
+  -- the interrupt value
   pub interrupt_reports : (pending : Bool) (end : ℕ → A) → Reports bad (ending (interrupt_value pending) end)
   interrupt_reports true end = λ paused. (inl tt, tt)
-  interrupt_reports false end = λ found. (inl (pictures found), tt)
+  interrupt_reports false end = λ found. (inl (picture_answered found), tt)
 
   pub value_reports : (end : ℕ → A) → Reports bad (ending value_shown end)
-  value_reports end = λ found. (inl (found_none found), interrupt_reports (shows_interrupt found) end)
+  value_reports end = λ found. (inl (found_answered found), interrupt_reports (shows_interrupt found) end)
 
+-- the interrupt line
 pub line_reports : (bad : Bool → Type 0) → Reports bad line_pulled
-line_reports bad = λ found. (inl (found_none found), interrupt_reports bad (shows_interrupt found) _)
+line_reports bad = λ found. (inl (found_answered found), interrupt_reports bad (shows_interrupt found) _)
 
+-- looks until one shows a flag
 pub until_reports : (bad : Bool → Type 0) (object : ℕ) (flag : Flag) (turns : ℕ) → Reports bad (until_shown object flag turns)
 until_reports bad object flag zero = tt
 until_reports bad object flag (suc more) =
     λ found. (
-      inl (looked object found),
+      inl (look_answered object found),
       if_reports bad (flag_of flag found) (Ended true) (until_shown object flag more) tt (until_reports bad object flag more),
     )
 
 -- ---- transfers
 
+-- a transfer was given up, or no change was left for it
 abbrev pub IsBusyReply : LineAnswer → Type 0
 IsBusyReply (reply.Busy object) = Unit {0}
 IsBusyReply (reply.Spent object) = Unit {0}
@@ -92,29 +97,35 @@ IsBusyReply told = ⊥
 abbrev pub RepliesBusy : LineAnswer × InterfaceSet → Type 0
 RepliesBusy end = IsBusyReply end.0
 
+-- an attempt that was lost
 lost_replies : (object : ℕ) (own : InterfaceSet) (end : Attempted) → IsLost end → RepliesBusy (transfer_end object own end)
 lost_replies object own (Made before after) lost = absurd lost
 lost_replies object own (Unfit shown) lost = absurd lost
 lost_replies object own GaveUp lost = tt
 lost_replies object own WasSpent lost = tt
 
+look_reports : (object : ℕ) (own : InterfaceSet)
+    → Reports RepliesBusy (Does (Looks object) (λ found. Ended (moved_to object own found)))
+look_reports object own = λ found. (inl (look_answered object found), tt)
+
+attempt_replies : (object : ℕ) (own : InterfaceSet)
+    → Reports RepliesBusy (Does (Attempts object (change_of own.registers)) (λ end. Ended (transfer_end object own end)))
+attempt_replies object own = λ end. (attempt_reports object (change_of own.registers) end (lost_replies object own end), tt)
+
 pub transfer_reports : (object : ℕ) (own : InterfaceSet) → Reports RepliesBusy (transfer object own)
 transfer_reports object own =
-    let by_look : Reports RepliesBusy (Does (Looks object) (λ found. Ended (moved_to object own found))) =
-        λ found. (inl (looked object found), tt) in
-    let by_attempt : Reports RepliesBusy
-        (Does (Attempts object (change_of own.registers)) (λ end. Ended (transfer_end object own end))) =
-        λ end. (attempt_reports object (change_of own.registers) end (lost_replies object own end), tt) in
-    if_reports RepliesBusy (is_pure_read own.registers.command) _ _ by_look by_attempt
+    if_reports RepliesBusy (is_pure_read own.registers.command) _ _ (look_reports object own) (attempt_replies object own)
 
 -- ---- changes of all objects, and of the controller
 
+-- an attempt that was lost
 told_lost : (end : Attempted) → IsLost end → IsBusy (attempt_told end)
 told_lost (Made before after) lost = absurd lost
 told_lost (Unfit shown) lost = absurd lost
 told_lost GaveUp lost = tt
 told_lost WasSpent lost = tt
 
+-- a change that was given up
 pub given_up : (outcome : Result ControllerChanged ControllerBusy) → IsGivenUp outcome → IsBusy (made_or_busy outcome)
 given_up (Ok made) lost = absurd lost
 given_up (Err busy) lost = tt
@@ -128,6 +139,7 @@ pub unless_reports : (told : Written) (next : Process Written) → Reports IsBus
 unless_reports (Ok done) next reports = reports
 unless_reports (Err why) next reports = tt
 
+-- so many objects from this one on
 each_reports : (change : Change) (more object : ℕ) → Reports IsBusy (change_each change more object)
 each_reports change zero object = tt
 each_reports change (suc more) object =
@@ -157,6 +169,7 @@ keeping_reports own process reports = end_reports IsBusy EndsBusy (λ told. (tol
 
 -- ---- writes
 
+-- what is told of a request
 requests_told : (told : LineAnswer) → IsBusyReply told → IsBusy (transfer_told told)
 requests_told (reply.Busy object) is = tt
 requests_told (reply.Spent object) is = tt
@@ -208,7 +221,7 @@ module _ (terms : Terms) (own : InterfaceSet) where
     pub change_kept : (change : ControllerChange) → Reports EndsBusy (keeping own (change_controller change))
     change_kept change = keeping_reports own (change_controller change) (controller_reports change)
 
-    pub writes_report : (r : Register) (value : ℕ) → Reports EndsBusy (writes terms map r value own)
+    writes_report : (r : Register) (value : ℕ) → Reports EndsBusy (writes terms map r value own)
     writes_report r value =
         if_reports EndsBusy (asks_for_reset map r value) _ _ software_reports
         (option_reports EndsBusy _ (change_by map r value) _ change_kept (rest_reports r value))
@@ -216,11 +229,11 @@ module _ (terms : Terms) (own : InterfaceSet) where
     -- ---- of a byte
 
     timing_reports : (byte : Byte) (value : ℕ) → Reports EndsBusy (writes_timing_byte terms map byte value own)
-    timing_reports byte value = λ found. (inl (found_none found), writes_report register.BitTiming _)
+    timing_reports byte value = λ found. (inl (found_answered found), writes_report register.BitTiming _)
 
     init_reports : Reports EndsBusy (resets_in_init terms own)
     init_reports =
-        λ found. (inl (found_none found), if_reports EndsBusy found.control.init _ _ software_reports tt)
+        λ found. (inl (found_answered found), if_reports EndsBusy found.control.init _ _ software_reports tt)
 
     lower_reports : (r : Register) (value : ℕ) → Reports EndsBusy (writes_lower terms map r value own)
     lower_reports register.ControlUpper value = tt

@@ -1,5 +1,5 @@
 -- Processes whose end says so if a step was refused.
-use Rattle.std.proofs.Common.{◌⊎◌, inl, inr, Bool, true, false, List, [], ◌∷◌, ◌++◌, Option, Some, None, Result, Ok, Err, sym, subst, if◌then◌else◌}
+use Rattle.std.proofs.Common.{ℕ, ◌⊎◌, inl, inr, Bool, true, false, List, [], ◌∷◌, ◌++◌, Option, Some, None, Result, Ok, Err, sym, subst, if◌then◌else◌}
 use Rattle.std.specs.Option.{option_map_or}
 use Rattle.ccan_object.specs.declared.record.Record.{Record}
 use Rattle.ccan_confine.specs.declared.controller.Controller.{Controller}
@@ -27,6 +27,7 @@ Reports bad (Ended end) = Unit {0}
 Reports bad (Does act next) =
     (out : Out act) → (NoneRefused (device_steps act out) ⊎ EndsBad bad (next out)) × Reports bad (next out)
 
+-- the steps of both parts
 pub none_of_both : (later first : List DeviceStep) → NoneRefused later → NoneRefused first → NoneRefused (later ++ first)
 none_of_both [] first none_later none_first = none_first
 none_of_both (step ∷ earlier) first (fine, none_later) none_first =
@@ -57,20 +58,21 @@ module _ {A : Type 0} (bad : A → Type 0) where
 
 module _ {A B : Type 0} (bad : A → Type 0) (worse : B → Type 0) where
   -- one after another, if what follows a bad end ends badly
-  pub bad_next : (next : A → Process B) (process : Process A) → ((end : A) → bad end → EndsBad worse (next end))
+  bad_next : (next : A → Process B) (process : Process A) → ((end : A) → bad end → EndsBad worse (next end))
       → EndsBad bad process → EndsBad worse (followed_by process next)
   bad_next next (Ended end) passed ends = passed end ends
   bad_next next (Does act goes) passed ends = λ out. bad_next next (goes out) passed (ends out)
 
+  -- one after another, if so, and if what follows reports too
   pub then_reports : (next : A → Process B) (process : Process A) → ((end : A) → bad end → EndsBad worse (next end))
       → ((end : A) → Reports worse (next end)) → Reports bad process → Reports worse (followed_by process next)
   then_reports next (Ended end) passed later reports = later end
   then_reports next (Does act goes) passed later reports =
       λ out.
-          let (one, rest) = reports out in (
-            elim one [ | inl none ↦ inl none | inr ends ↦ inr (bad_next next (goes out) passed ends) ],
-            then_reports next (goes out) passed later rest,
-          )
+      let (one, rest) = reports out in (
+        elim one [ inl none ↦ inl none | inr ends ↦ inr (bad_next next (goes out) passed ends) ],
+        then_reports next (goes out) passed later rest,
+      )
 
   -- with a result by what came of it
   pub end_reports : (result : A → B) (process : Process A) → ((end : A) → bad end → worse (result end))
@@ -84,11 +86,13 @@ so_bad worse result (Ended end) each = each end
 so_bad worse result (Does act goes) each = λ out. so_bad worse result (goes out) each
 
 module _ {A : Type 0} (bad : A → Type 0) where
+  -- either of two
   pub if_reports : (b : Bool) (process other : Process A) → Reports bad process → Reports bad other
       → Reports bad (if b then process else other)
   if_reports true process other reports others = reports
   if_reports false process other reports others = others
 
+  -- by what is given, or another if nothing is
   pub option_reports : {T : Type 0} (process : T → Process A) (given : Option T) (other : Process A)
       → ((t : T) → Reports bad (process t)) → Reports bad other → Reports bad (option_map_or process given other)
   option_reports process (Some t) other reports others = reports t
@@ -96,23 +100,25 @@ module _ {A : Type 0} (bad : A → Type 0) where
 
 -- ---- acts
 
+-- an answer that is no refusal
 abbrev NotRefused : ChipAnswer → Type 0
 NotRefused answer.Refused = ⊥
 NotRefused told = Unit {0}
 
+-- a step with such an answer
 answered : (operation : ChipOperation) (told : ChipAnswer) → NotRefused told
     → NoneRefused (record { operation = operation; answer = told } ∷ [])
 answered operation told so = (λ is. absurd (subst NotRefused is so), tt)
 
--- looks and pictures are never refused
-pub looked : (object : _) (shown : Record) → NoneRefused (device_steps (Looks object) shown)
-looked object shown = answered _ (answer.Shown shown) tt
+-- a look at an object, a picture and a look at the controller are never refused
+pub look_answered : (object : ℕ) (shown : Record) → NoneRefused (device_steps (Looks object) shown)
+look_answered object shown = answered _ (answer.Shown shown) tt
 
-pub pictures : (shown : HandlerRegisters) → NoneRefused (device_steps Pictures shown)
-pictures shown = answered _ _ tt
+pub picture_answered : (shown : HandlerRegisters) → NoneRefused (device_steps Pictures shown)
+picture_answered shown = answered _ _ tt
 
-pub found_none : (found : Controller) → NoneRefused (device_steps LooksAtController found)
-found_none found = answered _ (answer.Found found) tt
+pub found_answered : (found : Controller) → NoneRefused (device_steps LooksAtController found)
+found_answered found = answered _ (answer.Found found) tt
 
 -- an attempt that was given up, or for which no change was left
 abbrev pub IsLost : Attempted → Type 0
@@ -121,7 +127,8 @@ IsLost (Unfit shown) = ⊥
 IsLost GaveUp = Unit {0}
 IsLost WasSpent = Unit {0}
 
-pub attempt_reports : {Bad : Type 0} (object : _) (change : Change) (end : Attempted) → (IsLost end → Bad)
+-- an attempt is refused only if it was lost
+pub attempt_reports : {Bad : Type 0} (object : ℕ) (change : Change) (end : Attempted) → (IsLost end → Bad)
     → NoneRefused (device_steps (Attempts object change) end) ⊎ Bad
 attempt_reports object change (Made before after) lost = inl (answered _ (answer.Made before after) tt)
 attempt_reports object change (Unfit shown) lost = inl (answered _ (answer.Unfit shown) tt)
@@ -133,6 +140,7 @@ abbrev pub IsGivenUp : Result ControllerChanged ControllerBusy → Type 0
 IsGivenUp (Ok made) = ⊥
 IsGivenUp (Err lost) = Unit {0}
 
+-- a change is refused only if it was given up
 pub change_reports : {Bad : Type 0} (change : ControllerChange) (outcome : Result ControllerChanged ControllerBusy)
     → (IsGivenUp outcome → Bad) → NoneRefused (device_steps (ChangesController change) outcome) ⊎ Bad
 change_reports change (Ok made) lost = inl (answered _ (answer.Changed made.before made.after) tt)

@@ -33,6 +33,7 @@ use Rattle.ccan_calls.proofs.Reporting.{EndsBad, IsGivenUp, IsLost, Reports, att
 
 -- ---- the part of the objects
 
+-- a finish or a store was given up, or no change was left for it
 abbrev pub IsBusyRound : RoundAnswer → Type 0
 IsBusyRound (answer.Busy object) = Unit {0}
 IsBusyRound (answer.Spent object) = Unit {0}
@@ -93,7 +94,7 @@ module _ (profile : Profile) where
 
 -- ---- a load, and what follows it
 
-abbrev pub PlayedBusy : Played → Type 0
+abbrev PlayedBusy : Played → Type 0
 PlayedBusy end = RoundIsBusy end.report.end
 
 module _ (profile : Profile) (line : RoundLine) where
@@ -116,7 +117,7 @@ module _ (profile : Profile) (line : RoundLine) where
   lost_load (load.Spent object, past) is = λ paused. tt
   lost_load (told, past) is = absurd is
 
-  pub plays_report : (past : BusPast) → Reports PlayedBusy (plays profile line past)
+  plays_report : (past : BusPast) → Reports PlayedBusy (plays profile line past)
   plays_report past =
       then_reports LoadsBusy PlayedBusy (λ loading. plays_on profile line loading (refusal_of_round loading.0))
       (load_on profile past) lost_load (λ loading. on_reports loading (refusal_of_round loading.0)) (load_reports past profile)

@@ -20,6 +20,7 @@ use Rattle.ccan_calls.proofs.Reporting.{Reports, end_reports, none_of_both, none
 
 module _ {Call Ask State : Type 0} (process : Ask → State → CallProcess State) (asks_of : Call → Ask) (code : Call → ℕ)
     (place : Call → Place) (reports : (ask : Ask) (state : State) → Reports CodeIsBusy (process ask state)) where
+  -- if each call reports, so do all of them
   calls_report : (calls : List Call) (state : State) (steps : List DeviceStep) (answers : List Answer) (left : State)
       → AreAnswered code place calls answers → AsksFor (thread_process process (map asks_of calls) state) steps (answers, left)
       → NoneBusy code calls → NoneRefused steps
@@ -30,7 +31,8 @@ module _ {Call Ask State : Type 0} (process : Ask → State → CallProcess Stat
       (process (asks_of call) state) steps (answer ∷ answers, left) asks in
       let (rest, asks_rest, is) = of_end (answered_first h.between.0)
       (thread_process process (map asks_of calls) h.between.1) h.later (answer ∷ answers, left) h.ends in
-      let (got_it, others_got) = subst (AreAnswered code place (call ∷ calls)) (ap (λ (e : ThreadEnd State). e.0) is) (got, others) in
+      let (got_it, others_got) = subst (AreAnswered code place (call ∷ calls)) (ap (λ (e : ThreadEnd State). e.0) is)
+      (got, others) in
       let not_bad : CodeIsBusy h.between → ⊥ = λ bad. elim bad [
         | inl is_busy ↦ not_busy (got_it.code_is ∙ is_busy)
         | inr is_spent ↦ not_spent (got_it.code_is ∙ is_spent)
@@ -43,8 +45,8 @@ module _ {Call Ask State : Type 0} (process : Ask → State → CallProcess Stat
 
 pub host_calls_report : HostCallsReportRefusals
 host_calls_report terms layout calls own steps h fine =
-    calls_report (host_process terms layout) asked_by code_got place_of (λ ask state. host_reports terms layout state ask) calls own
-    steps h.answers h.left h.answered h.asks fine
+    calls_report (host_process terms layout) asked_by code_got place_of (λ ask state. host_reports terms layout state ask) calls
+    own steps h.answers h.left h.answered h.asks fine
 
 -- ---- the calls of the bus
 
@@ -57,5 +59,5 @@ on_bus_reports terms layout nodes (asks_frame ask) old = frame_calls_report term
 
 pub bus_calls_report : BusCallsReportRefusals
 bus_calls_report terms layout nodes calls begun steps h fine =
-    calls_report (on_bus_process terms layout nodes) asked code_of_call place_of_call (on_bus_reports terms layout nodes) calls begun
-    steps h.answers h.left h.answered h.asks fine
+    calls_report (on_bus_process terms layout nodes) asked code_of_call place_of_call (on_bus_reports terms layout nodes) calls
+    begun steps h.answers h.left h.answered h.asks fine

@@ -5,7 +5,6 @@ use Rattle.ccan_confine.specs.declared.controller_change.ControllerChange.TheVar
 use Rattle.ccan_confine.specs.RegisterWords.{control_in, error_counter_word}
 use Rattle.ccan_ram.specs.declared.port.PortName.{PortName}
 use Rattle.ccan_ram.specs.Terms.{Terms}
-use Rattle.ccan_map.specs.declared.interface.Interface.{Interface}
 use Rattle.ccan_map.specs.declared.map.Map.{Map}
 use Rattle.ccan_map.specs.declared.register.Register.{Register}
 use Rattle.ccan_map.specs.declared.register.Register.TheVariants as register
@@ -19,20 +18,18 @@ use Rattle.ccan_registers.specs.Dcan.{asks_for_reset, control_shown, upper_shown
 use Rattle.ccan_registers.specs.Register.{both_written, is_refused, joined, read_of, status_told, test_shown}
 use Rattle.ccan_calls.specs.Offsets.{FlagWord, are_halves, flag_word_at, register_at}
 use Rattle.ccan_calls.specs.Process.{Process, ending}
-use Rattle.ccan_calls.specs.ReadProcess.{Word, reads, reads_at, reads_byte, reads_own, shows}
+use Rattle.ccan_calls.specs.ReadProcess.{Word, reads, reads_at, reads_byte, shows}
 use Rattle.ccan_calls.specs.WordProcess.{OffEnd, control_word_shown, reads_flags, reads_halves, reads_other_word, reads_word, shows_word, some_written, timing_word, writes_control_word, writes_halves, writes_word}
 use Rattle.ccan_calls.specs.WriteProcess.{WriteProcess, Written, change_controller, keeping, writes_at}
 use Rattle.ccan_calls.proofs.RegistersReport.{EndsBusy, EndsBusyOff, IsBusy, IsBusyOff, change_kept, software_reports, value_reports, writes_at_report}
-use Rattle.ccan_calls.proofs.Reporting.{EndsBad, IsGivenUp, Reports, change_reports, end_reports, found_none, if_reports, option_reports, pictures, then_reports}
+use Rattle.ccan_calls.proofs.Reporting.{EndsBad, IsGivenUp, Reports, change_reports, end_reports, found_answered, if_reports, option_reports, picture_answered, then_reports}
 
 -- ---- reads
 
 shows_reports : (word : Controller → ℕ) → Reports IsBusy (shows word)
-shows_reports word = λ found. (inl (found_none found), tt)
+shows_reports word = λ found. (inl (found_answered found), tt)
 
-own_reports : (port : PortName) (interface : Interface) (value : ℕ) → Reports IsBusy (reads_own port interface value)
-own_reports port interface value = tt
-
+-- a read of Status that was given up
 pub status_given_up : (map : Map) (outcome : Result ControllerChanged ControllerBusy) → IsGivenUp outcome
     → IsBusy (status_told map outcome)
 status_given_up map (Ok made) lost = absurd lost
@@ -50,8 +47,9 @@ reads_report port map register.Test own = shows_reports (λ c. test_shown c.test
 reads_report port map register.Extension own = shows_reports (λ c. c.timing.extension)
 reads_report port map (register.Request interface) own = tt
 reads_report port map (register.Buffer interface reg) own = tt
-reads_report port map (register.Flags flag place) own = λ found. (inl (pictures found), tt)
+reads_report port map (register.Flags flag place) own = λ found. (inl (picture_answered found), tt)
 
+-- the byte of a word
 byte_busy : (byte : Byte) (told : Option Word) → IsBusyOff told → IsBusyOff (byte_told byte told)
 byte_busy byte None is = absurd is
 byte_busy byte (Some (Ok word)) is = absurd is
@@ -87,10 +85,10 @@ module _ (terms : Terms) (map : Map) (own : InterfaceSet) where
   -- ---- reads of words
 
   shows_word_reports : (word : Controller → ℕ) → Reports IsBusyOff (shows_word word)
-  shows_word_reports word = λ found. (inl (found_none found), tt)
+  shows_word_reports word = λ found. (inl (found_answered found), tt)
 
   flag_word_reports : (halves : FlagWord) → Reports IsBusyOff (reads_flags halves)
-  flag_word_reports (flag, low, high) = λ found. (inl (pictures found), tt)
+  flag_word_reports (flag, low, high) = λ found. (inl (picture_answered found), tt)
 
   abbrev after_low : ℕ → Option Word → Process (Option Word)
   after_low offset low =

@@ -13,6 +13,7 @@ use ccan_c::{
 use ccan_calls::laws;
 use ccan_chip::ChipReport;
 use ccan_confine::{Controller, NodeState};
+use ccan_device::ChipDevice;
 use ccan_map::{FlagPart, Interface, Map, Register};
 use ccan_object::{Profile, Record, Reg};
 use ccan_ram::Flag;
@@ -426,4 +427,6 @@ fn calls_are_processes(_rt: HostRuntime) {
     laws::ports_stand_throughout();
     laws::threads_stand_throughout();
     laws::acts_have_their_steps();
+    laws::threads_stand_in_the_list(&ChipDevice { refuses: true });
+    laws::calls_report_refusals();
 }
