@@ -199,12 +199,15 @@ module _ (terms : Terms) (base : ChipHistory) where
         let to = chip terms (OfController event ∷ (at.others ++ seen)) in
         let asked : DeviceStep =
         record { operation = operation.ChangeController change; answer = answer.Changed made.before made.after } in
-        let is : Contains (changes terms from change true) (step_to to (answer.Changed made.before made.after)) =
-        (0, omega arith, λ i. step_to (record {
-          records = from.records;
-          controller = controller_after change (sym at.stands.before i);
-        }) (answer.Changed (sym at.stands.before i)
-        ((ap (controller_after change) (sym at.stands.before) ∙ sym left) i))) in
+        let is : Contains (changes terms from change true) (step_to to (answer.Changed made.before made.after)) = (
+          0,
+          omega arith,
+          λ i. step_to (record {
+            records = from.records;
+            controller = controller_after change (sym at.stands.before i);
+          }) (answer.Changed (sym at.stands.before i)
+              ((ap (controller_after change) (sym at.stands.before) ∙ sym left) i)),
+        ) in
         subst (λ es. Placed terms base (es ++ seen) (asked ∷ steps)) (sym at.whole)
         (Makes (OfController event) (at.others ++ seen) asked steps
         (quiet_passes terms base at.others seen steps at.none at.quiet placed) (its_own terms.port)

@@ -107,11 +107,15 @@ module _ (profile : Profile) where
     where
       e : suc place ≡ 1 + place
       e = omega arith
+
       new : Record
       new = changed change shown
+
       before : ℕ → Record
       before o = record_at o (ram_of history)
+
       after : ℕ → Record
       after o = if suc place == o then new else before o
+
       with_records : List Record → ChipMemory
       with_records records = record { records = records; controller = (chip_after profile history).controller }

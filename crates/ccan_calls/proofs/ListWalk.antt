@@ -147,8 +147,14 @@ module _ (terms : Terms) (base : ChipHistory) where
           made ∷ earlier,
           refl,
           tt,
-          inr (own, made, earlier, refl,
-          subst (λ (h : ChipHistory). IsStepTo (chip terms h) made (chip terms (event ∷ h))) whole is, all),
+          inr (
+            own,
+            made,
+            earlier,
+            refl,
+            subst (λ (h : ChipHistory). IsStepTo (chip terms h) made (chip terms (event ∷ h))) whole is,
+            all,
+          ),
         ),
       )
 
@@ -190,19 +196,28 @@ module _ (refuses : Bool) (eq : ChipAnswer → ChipAnswer → Bool) (tables : Li
       → goes_on eq (length table.entries.items) goes.items made.answer ≡ Some place
       → Contains (chip_steps refuses made.operation from) (step_to to made.answer)
       → Come from places → Come to (slice_set places thread place)
-  moves thread places from to table made before place goes there has entry on is (count, walk) =
-      (suc count, (At from places, walk, (thread, record {
-        place = before;
-        table = table;
-        operation = made.operation;
-        goes = goes;
-        step = step_to to made.answer;
-        is_there = there;
-        has_table = has;
-        has_entry = entry;
-        makes_step = is;
-        comes_there = sym (ap (comes_to places thread before (step_to to made.answer)) on);
-      })))
+  moves thread places from to table made before place goes there has entry on is (count, walk) = (
+    suc count,
+    (
+      At from places,
+      walk,
+      (
+        thread,
+        record {
+          place = before;
+          table = table;
+          operation = made.operation;
+          goes = goes;
+          step = step_to to made.answer;
+          is_there = there;
+          has_table = has;
+          has_entry = entry;
+          makes_step = is;
+          comes_there = sym (ap (comes_to places thread before (step_to to made.answer)) on);
+        },
+      ),
+    ),
+  )
 
   -- one thread, whose place is among those of all
   module _ (terms : Terms) (base : ChipHistory) (thread : ℕ) (table : ChipTable) (has : slice_get tables thread ≡ Some table)

@@ -90,8 +90,8 @@ module _ (terms : Terms) where
         0,
         omega arith,
         ap (λ (b : Bool). if b
-        then step_to (with_record memory object (changed change shown)) (answer.Made shown (changed change shown))
-        else step_to memory (answer.Unfit shown)) unfit,
+            then step_to (with_record memory object (changed change shown)) (answer.Made shown (changed change shown))
+            else step_to memory (answer.Unfit shown)) unfit,
       )
 
   made_there : (memory : ChipMemory) (object : ℕ) (change : Change) (before after : Record)
@@ -104,8 +104,8 @@ module _ (terms : Terms) where
         0,
         omega arith,
         ap (λ (b : Bool). if b
-        then step_to (with_record memory object (changed change before)) (answer.Made before (changed change before))
-        else step_to memory (answer.Unfit before)) fit
+            then step_to (with_record memory object (changed change before)) (answer.Made before (changed change before))
+            else step_to memory (answer.Unfit before)) fit
             ∙ ap (λ r. step_to (with_record memory object (changed change before)) (answer.Made before r)) (sym left),
       )
 
