@@ -1,5 +1,5 @@
 -- What is written of a list, and why it isn't.
-use Rattle.std.proofs.Common.{ℕ, ◌≡◌, ◌<◌, ◌++◌, Bool, List, [], Option, inl, inr, length, sym, append_assoc, subst, arith}
+use Rattle.std.proofs.Common.{ℕ, ◌≡◌, ◌++◌, Bool, List, [], Option, inl, inr, length, append_assoc, subst}
 use Rattle.std.proofs.KnownBytes.{Appends-nil, Appends-trans}
 use Rattle.std.specs.Io.KnownBytes.{Appends}
 use Rattle.std.specs.List.{IsDistinct}
@@ -19,18 +19,8 @@ use Rattle.ccan_lab.specs.Answered.{IsAnswered, RefusesBy}
 use Rattle.ccan_lab.specs.EachFile.{FilePart, IsPartOf}
 use Rattle.ccan_lab.specs.EachList.{IsListPart, IsPartBy, ListsAsked}
 use Rattle.ccan_lab.specs.Outcomes.{AnswersTo, IsNotOfAll, IsOfAll}
-use Rattle.ccan_lab.specs.Words.{HasNoHistory, HasNoWords}
-use Rattle.ccan_lab.specs.Written.{IsReasonAt, IsUnwritten, IsWritten}
-
--- before this outcome memory ran out
-pub no_memory : (IsReason : LabError → Type 0) → IsReason fault.Memory → (all count : ℕ) (why : LabError) → why ≡ fault.Memory
-    → IsReasonAt IsReason all count why
-no_memory IsReason enough all count why is = (subst IsReason (sym is) enough, λ same. is)
-
--- it is not behind the last
-pub at_outcome : (IsReason : LabError → Type 0) (all count : ℕ) → count < all → (why : LabError) → IsReason why
-    → IsReasonAt IsReason all count why
-at_outcome IsReason all count low why is = (is, λ same. absurd (omega (arith, low, same)))
+use Rattle.ccan_lab.specs.Words.{HasNoWords}
+use Rattle.ccan_lab.specs.Written.{IsUnwritten, IsWritten}
 
 -- nothing is written yet
 pub nothing_written : (IsReason : LabError → Type 0) (old : Option (List ℕ)) (why : LabError) → IsReason why
@@ -88,7 +78,7 @@ module _ (question : OutcomesQuestion) (script : ScriptFields) where
       → AreAllEnds question.frames script outcomes → AreOutcomes script outcomes → AreOfRuns script outcomes
       → IsDistinct ending_is.eq outcomes → (end : ListEnd) (old new : Option (List ℕ)) (above : List ℕ)
       → (list : IsWritten above (AnswersTo frames question.form script outcomes question.asked)
-      (HasNoHistory script ports_are.eq question.most) (length outcomes) end old new)
+      (λ why. why ≡ fault.Memory) (length outcomes) end old new)
       → ListsAsked question script end list.text
   lists_asked frames same outcomes ends are runs once Whole old new above list = record {
     outcomes = outcomes;

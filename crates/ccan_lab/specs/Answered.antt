@@ -25,7 +25,7 @@ use Rattle.ccan_lab.specs.Rows.{has_lines, lines_of}
 use Rattle.ccan_lab.specs.Seen.{HasNoSeenList, TellsSeen}
 use Rattle.ccan_lab.specs.Sorted.{texts_of}
 use Rattle.ccan_lab.specs.Summary.{TellsSummary, TellsWithoutNumber}
-use Rattle.ccan_lab.specs.Words.{AnswersLine, HasNoGraph, HasNoWords, IsUnanswered, IsWithout}
+use Rattle.ccan_lab.specs.Words.{AnswersLine, HasNoGraph, HasNoWords, IsUnanswered}
 
 -- ---- the script that is searched
 
@@ -133,7 +133,7 @@ RefusesBy (Observed names) question script why =
     HasNoSeenList question.frames (names_in names.now) script ports_are.eq question.most why
 RefusesBy All question script why = HasNoWords question.frames script ports_are.eq question.most why
 RefusesBy (AllObserved names) question script why = HasNoWords question.frames script ports_are.eq question.most why
-RefusesBy Json question script why = IsWithout question.frames script ports_are.eq question.most why
+RefusesBy Json question script why = HasNoWords question.frames script ports_are.eq question.most why
 
 abbrev pub RefusesAsked : OutcomesQuestion → ScriptFields → LabError → Type 0
 RefusesAsked question script why = RefusesBy question.asked question script why

@@ -1,5 +1,5 @@
 -- Histories in few lines. Source: this project's own.
-use Rattle.std.specs.Prelude.{ℕ, zero, suc, ◌≡◌, ◌+◌, ◌⊎◌, ◌++◌, ◌==◌, ◌&&◌, ◌||◌, Bool, true, false, List, [], Option, Some, None}
+use Rattle.std.specs.Prelude.{ℕ, zero, suc, ◌≡◌, ◌+◌, ◌++◌, ◌==◌, ◌&&◌, ◌||◌, Bool, true, false, List, [], Option, Some, None}
 use Rattle.std.specs.Prelude.{codes, decimal, length, slice_get, unwrap_or, if◌then◌else◌}
 use Rattle.ccan_accept.specs.declared.frame.Frame.{Frame}
 use Rattle.ccan_explain.specs.FrameText.{winner_text}
@@ -128,17 +128,13 @@ abbrev pub IsDetailOf : ScriptFields → HistoryStep → HistoryKind → AllPort
 IsDetailOf script step kind.Decides from to text = IsWinnerText script step.line from text
 IsDetailOf script step did from to text = text ≡ (if is_change did then changed_text step.object from to else [])
 
--- the text says so of a step between these two states; of one whose states are not known it says nothing
-abbrev pub IsDetail : ScriptFields → HistoryStep → Option AllPorts → Option AllPorts → List ℕ → Type 0
-IsDetail script step (Some from) (Some to) text = IsDetailOf script step step.kind from to text
-IsDetail script step from to text = text ≡ []
-
--- these are such texts of all steps
+-- these are such texts of all steps, each between the states before and after it
 pub record AreDetails (script : ScriptFields) (steps : List HistoryStep) (states : List AllPorts) (details : List (List ℕ))
     : Type 0 where
   pub as_many : length details ≡ length steps
   pub are : (place : ℕ) (step : HistoryStep) (text : List ℕ) → slice_get steps place ≡ Some step
-      → slice_get details place ≡ Some text → IsDetail script step (slice_get states place) (slice_get states (place + 1)) text
+      → slice_get details place ≡ Some text → (from to : AllPorts) → slice_get states place ≡ Some from
+      → slice_get states (place + 1) ≡ Some to → IsDetailOf script step step.kind from to text
 
 -- ---- a history in a form
 
@@ -153,11 +149,7 @@ abbrev pub IsTextOf : HistoryForm → ScriptFields → List HistoryStep → List
 IsTextOf EachStep script steps states text = text ≡ history_text steps
 IsTextOf Brief script steps states text = IsBriefText script steps states text
 
--- the states are those that the steps lead through from where the ports begin, or none is known
-abbrev pub AreAllOrNone : ScriptFields → List HistoryStep → List AllPorts → Type 0
-AreAllOrNone script steps states = LeadThrough script steps states ⊎ (states ≡ [])
-
--- the text is that of the steps in this form, with the states on their way, if they are known
+-- the text is that of the steps in this form, with the states on their way
 abbrev pub IsHistoryText : HistoryForm → ScriptFields → List HistoryStep → List ℕ → Type 0
 IsHistoryText form script steps text =
-    (states : List AllPorts) × AreAllOrNone script steps states × IsTextOf form script steps states text
+    (states : List AllPorts) × LeadThrough script steps states × IsTextOf form script steps states text

@@ -1,11 +1,11 @@
 -- What is printed of the list of all outcomes of the scripts in files, piece by piece. Source: this project's own.
 use Rattle.std.specs.Prelude.{ℕ, ◌≡◌, ◌++◌, Bool, List, [], Result, Ok, Err}
 use Rattle.ccan_line.specs.Script.{ScriptFields}
-use Rattle.ccan_outcomes.specs.contracts.all_ports.AllPortsPartialEq.TheImpl.{ghosts as ports_are}
 use Rattle.ccan_outcomes.specs.contracts.ending.EndingPartialEq.TheImpl.{ghosts as ending_is}
 use Rattle.ccan_lab.specs.declared.asked.Asked.{Asked}
 use Rattle.ccan_lab.specs.declared.asked.Asked.TheVariants.{Summary, All, Json, Can, Never, Observed, AllObserved}
 use Rattle.ccan_lab.specs.declared.lab_error.LabError.{LabError}
+use Rattle.ccan_lab.specs.declared.lab_error.LabError.TheVariants as fault
 use Rattle.ccan_lab.specs.declared.list_end.ListEnd.{ListEnd}
 use Rattle.ccan_lab.specs.declared.list_end.ListEnd.TheVariants.{Whole, GivenUp}
 use Rattle.ccan_lab.specs.declared.outcomes.OutcomesQuestion.{OutcomesQuestion}
@@ -14,14 +14,13 @@ use Rattle.ccan_lab.specs.EachFile.{FilePart, IsPartOf, heading_if}
 use Rattle.ccan_lab.specs.LabError.{exit_status}
 use Rattle.ccan_lab.specs.Outcomes.{BeginsAll, TellsAll}
 use Rattle.ccan_lab.specs.Question.{AreKnown}
-use Rattle.ccan_lab.specs.Words.{HasNoHistory}
 
--- the text is the whole list, or the beginning of a list that was given up, as there is an outcome without a history
+-- the text is the whole list, or the beginning of a list that was given up as memory ran out
 abbrev pub ListsAsked : OutcomesQuestion → ScriptFields → ListEnd → List ℕ → Type 0
 ListsAsked question script Whole text = TellsAll question.frames question.form script ending_is.eq question.asked text
 ListsAsked question script (GivenUp why) text =
     BeginsAll question.frames question.form script ending_is.eq question.asked why text
-    × HasNoHistory script ports_are.eq question.most why
+    × (why ≡ fault.Memory)
 
 -- the script in these bytes is listed so: its names are all known, and the list is of the script whose waits look once, and so are
 -- histories

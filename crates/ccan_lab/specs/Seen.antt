@@ -1,5 +1,6 @@
 -- A list of what can be told apart of the outcomes by the lines that are looked at. Source: this project's own.
 use Rattle.std.specs.Prelude.{ℕ, ◌≡◌, ◌++◌, ◌⊎◌, Bool, List, Some, Contains, length, codes, slice_get}
+use Rattle.std.specs.Global.{Vec}
 use Rattle.std.specs.List.{IsDistinct}
 use Rattle.ccan_language.specs.declared.letter.Letter.{Letter}
 use Rattle.ccan_language.specs.Images.{word_image}
@@ -22,7 +23,7 @@ use Rattle.ccan_lab.specs.Observed.{AreFirstTexts, first_count, marks_of, observ
 use Rattle.ccan_lab.specs.Replay.{Replays}
 use Rattle.ccan_lab.specs.Report.{IsTextWith, counted_text}
 use Rattle.ccan_lab.specs.Rows.{rows_of}
-use Rattle.ccan_lab.specs.Words.{IsWithout}
+use Rattle.ccan_lab.specs.Words.{HasNoWords}
 
 -- ---- outcomes that stand for all
 
@@ -37,6 +38,12 @@ IsShownAt words observed number ending =
 pub record AreShown (words : OutcomeWords) (observed : Observed) (shown : List Ending) : Type 0 where
   pub as_many : length shown ≡ length (observed_words words observed)
   pub are : (number : ℕ) (ending : Ending) → slice_get shown number ≡ Some ending → IsShownAt words observed number ending
+
+-- each of these words is one of all, and its outcome stands in the same place
+abbrev pub AreSaid : OutcomeWords → List (Vec Letter) → List Ending → Type 0
+AreSaid words said endings =
+    (place : ℕ) (word : Vec Letter) → slice_get said place ≡ Some word
+    → IsWordFrom words.graph.nodes.keys words.start word.items × (slice_get endings place ≡ Some (ending_of_word words word.items))
 
 -- each of these is an outcome, and in the places where these marks are set each outcome shows the same as one of them
 pub record AreShownOf (marks : List Bool) (endings shown : List Ending) : Type 0 where
@@ -96,9 +103,9 @@ HasNoImages words marks most (fault.Nodes told) = (told ≡ most) × HasManyImag
 HasNoImages words marks most fault.Memory = Unit {0}
 HasNoImages words marks most _ = ⊥
 
--- the same of the words of all outcomes of the script, or there is no list of them, or there is one without a history
+-- the same of the words of all outcomes of the script, or there is no list of them
 abbrev pub HasNoSeenList : Bool → List (List ℕ) → ScriptFields → (AllPorts → AllPorts → Bool) → ℕ → LabError → Type 0
 HasNoSeenList frames names script eq most why =
-    IsWithout frames script eq most why
+    HasNoWords frames script eq most why
     ⊎ ((words : OutcomeWords) × AreAllEnds frames script (endings_in words) × AreOutcomes script (endings_in words)
     × HasNoImages words (marks_of names script) most why)

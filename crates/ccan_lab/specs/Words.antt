@@ -5,7 +5,6 @@ use Rattle.ccan_line.specs.Script.{ScriptFields}
 use Rattle.ccan_outcomes.specs.declared.all_ports.AllPorts.{AllPorts}
 use Rattle.ccan_outcomes.specs.declared.ending.Ending.{Ending}
 use Rattle.ccan_outcomes.specs.declared.line_ends.LineEnds.{LineEnds}
-use Rattle.ccan_outcomes.specs.AllPortsReached.{HasMoreAtOnce}
 use Rattle.ccan_outcomes.specs.AnswerGraph.{HasLargeGraph}
 use Rattle.ccan_outcomes.specs.Ending.{AreAllEnds, AreOfRuns, AreOutcomes}
 use Rattle.ccan_outcomes.specs.LineEnds.{AreSaidOfLines, SayAllEnds, SayWholeOutcomes}
@@ -34,7 +33,7 @@ HasNoWords frames script eq most fault.Memory = Unit {0}
 HasNoWords frames script eq most _ = ⊥
 
 -- these are all outcomes that the promise allows, as they are printed, each once, and no other; each is that of a run, and has an
--- end for each line; and a history of each can be found along the graph
+-- end for each line; and a history of each is found along the graph
 pub record AreAllOutcomes (frames : Bool) (script : ScriptFields) (eq : Ending → Ending → Bool) (list : OutcomeList) : Type 0
   where
     pub can : CanBeTold script list
@@ -59,16 +58,6 @@ abbrev pub HasNoGraph : ScriptFields → (AllPorts → AllPorts → Bool) → �
 HasNoGraph script eq most (fault.More told) = (told ≡ most) × HasLargeGraph script eq most
 HasNoGraph script eq most fault.Memory = Unit {0}
 HasNoGraph script eq most _ = ⊥
-
--- why there is no history: a search through all states comes to more of them, or memory ran out
-abbrev pub HasNoHistory : ScriptFields → (AllPorts → AllPorts → Bool) → ℕ → LabError → Type 0
-HasNoHistory script eq most (fault.More told) = (told ≡ most) × HasMoreAtOnce script eq most
-HasNoHistory script eq most fault.Memory = Unit {0}
-HasNoHistory script eq most _ = ⊥
-
--- why there is no list: there are no words, or there is an outcome without a history
-abbrev pub IsWithout : Bool → ScriptFields → (AllPorts → AllPorts → Bool) → ℕ → LabError → Type 0
-IsWithout frames script eq most why = HasNoWords frames script eq most why ⊎ HasNoHistory script eq most why
 
 -- none of the outcomes has these lines, and the text says so
 pub record SaysNone (endings : List Ending) (begins : List (List ℕ)) (text : List ℕ) : Type 0 where
@@ -127,9 +116,9 @@ AnswersLine frames form script eq most begins never text holds =
     TellsLine frames form script eq begins never text holds ⊎ TellsApart frames script most begins never text holds
 
 -- why there is no answer: a line is refused; or the words need too many nodes, and it isn't certain without them whether one outcome
--- has all the lines; or there is no graph, or an outcome without a history
+-- has all the lines; or there is no graph, or memory ran out
 abbrev pub IsUnanswered : Bool → ScriptFields → List (List ℕ) → (AllPorts → AllPorts → Bool) → ℕ → LabError → Type 0
 IsUnanswered frames script begins eq most fault.NoLine =
     RefusesLine frames script begins ⊎ RefusesApart frames script most begins
 IsUnanswered frames script begins eq most (fault.Nodes told) = (told ≡ most) × IsNotCertain frames script most begins
-IsUnanswered frames script begins eq most why = IsWithout frames script eq most why
+IsUnanswered frames script begins eq most why = HasNoWords frames script eq most why

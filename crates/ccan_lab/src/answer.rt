@@ -5,7 +5,6 @@ ghost use Rattle.ccan_outcomes.specs.OutcomeWords.{endings_in};
 ghost use Rattle.ccan_lab.specs.Answer.{each_below, none_text, not_had};
 ghost use Rattle.ccan_lab.specs.Listing.{IsOneText};
 ghost use Rattle.ccan_lab.specs.Sorted.{texts_of};
-ghost use Rattle.ccan_lab.specs.Words.{HasNoHistory};
 ghost use Rattle.ccan_lab.specs.Telling.{CanBeTold, frames_in};
 
 use crate::choices::all_choices;
@@ -15,7 +14,6 @@ use crate::report::{add_outcome, different_lines};
 use crate::summary::all_in_order;
 use crate::telling::Telling;
 use crate::wording::add_number;
-use ccan_outcomes::Histories;
 use ccan_outcomes::all_ports::AllPorts;
 use ccan_script::RaceScript;
 use ccan_search::Progress;
@@ -105,15 +103,13 @@ pub fn found_text<P: Progress>(
     alloc: Global,
     telling: &Telling<'_, P>,
     number: usize,
-) -> Result<String, LabError>
+) -> Result<String, AllocError>
     requires can { CanBeTold (fields_of telling.now.query.now.race.now) telling.now.list.now }
     requires within { number < length (endings_in telling.now.list.now.words) }
     requires few { number < 2 ^ 64 - 1 }
-    ensures text { IfOk result (λ text. IsOneText (frames_in telling.now.list.now)
+    ensures { IfOk result (λ text. IsOneText (frames_in telling.now.list.now)
         telling.now.query.now.form (fields_of telling.now.query.now.race.now)
         (endings_in telling.now.list.now.words) number (string_bytes text)) }
-    ensures without { IfErr result (HasNoHistory (fields_of telling.now.query.now.race.now)
-        ⟦<AllPorts as PartialEq>⟧.eq telling.now.query.now.most) }
 {
     let words = &telling.list.words;
     let Some(ending) = words.ending(alloc, number as u64)? else {
@@ -123,14 +119,6 @@ pub fn found_text<P: Progress>(
     let choices = all_in_order(alloc, rows.as_slice())?;
     let lines = different_lines(alloc, choices.as_slice(), &ending)?;
     let mut text = count_text(alloc, words.count())?;
-    add_outcome(
-        alloc,
-        &mut text,
-        telling,
-        &mut Histories::new(alloc),
-        &ending,
-        lines.as_str(),
-        number,
-    )?;
+    add_outcome(alloc, &mut text, telling, &ending, lines.as_str(), number)?;
     Ok(text)
 }

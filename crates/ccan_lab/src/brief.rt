@@ -9,9 +9,9 @@
 //! Looks of one line at one object after the other share a line, and so do the look of an attempt and its change, if no step of
 //! another port comes between. After a change is what its object became, and after the decision of a round the frame that was on
 //! the bus.
-ghost use Rattle.std.specs.Prelude.{◌≡◌, ◌+◌, ◌^◌, ◌<◌, ◌++◌, false, IfOk, OnOk, length, map, slice_get, string_bytes};
+ghost use Rattle.std.specs.Prelude.{◌≡◌, ◌+◌, ◌^◌, ◌<◌, ◌++◌, false, IfOk, OnOk, length, map, string_bytes};
 ghost use Rattle.ccan_outcomes.specs.RaceScript.{fields_of};
-ghost use Rattle.ccan_lab.specs.Brief.{AreDetails, IsBriefText, IsDetail, IsDetailOf, IsTextOf, IsWinnerText, brief_text};
+ghost use Rattle.ccan_lab.specs.Brief.{AreDetails, IsBriefText, IsDetailOf, IsTextOf, IsWinnerText, brief_text};
 ghost use Rattle.ccan_lab.specs.Report.{history_text};
 ghost use Rattle.ccan_lab.specs.Brief.{changed_text, first_at, goes_on, goes_on_at, group_line, group_text, is_change};
 ghost use Rattle.ccan_lab.specs.Brief.{deed_text, label_text};
@@ -321,24 +321,6 @@ fn detail_between(
     }
 }
 
-/// What is written of the step of this place.
-fn detail_at(
-    alloc: Global,
-    race: &RaceScript,
-    step: &HistoryStep,
-    states: &[AllPorts],
-    place: usize,
-) -> Result<String, AllocError>
-    requires { place + 1 < 2 ^ 64 }
-    ensures { IfOk result (λ text. IsDetail (fields_of race.now) step.now
-        (slice_get states.now place) (slice_get states.now (place + 1)) (string_bytes text)) }
-{
-    match moved_at(states, place) {
-        Some(moved) => detail_between(alloc, race, step, &moved),
-        None => Ok(String::new(alloc)),
-    }
-}
-
 /// What is written of each step.
 fn details_of(
     alloc: Global,
@@ -346,12 +328,14 @@ fn details_of(
     steps: &[HistoryStep],
     states: &[AllPorts],
 ) -> Result<Vec<String>, AllocError>
+    requires { length states.now ≡ length steps.now + 1 }
     ensures { IfOk result (λ details. AreDetails (fields_of race.now) steps.now states.now
         (map string_bytes details.items)) }
 {
     let mut details = Vec::new(alloc);
     for (place, step) in steps.iter().enumerate() {
-        details.push(detail_at(alloc, race, step, states, place)?)?;
+        let moved = moved_at(states, place);
+        details.push(detail_between(alloc, race, step, &moved)?)?;
     }
     Ok(details)
 }
@@ -373,6 +357,7 @@ fn groups_told(
 
 /// A history in few lines.
 fn brief_told(alloc: Global, race: &RaceScript, history: &History) -> Result<String, AllocError>
+    requires { length history.now.states.items ≡ length history.now.steps.items + 1 }
     ensures { IfOk result (λ text. IsBriefText (fields_of race.now)
         history.now.steps.items history.now.states.items (string_bytes text)) }
 {
@@ -397,6 +382,7 @@ pub fn history_told(
     form: HistoryForm,
     history: &History,
 ) -> Result<String, AllocError>
+    requires { length history.now.states.items ≡ length history.now.steps.items + 1 }
     ensures { IfOk result (λ text. IsTextOf form (fields_of race.now)
         history.now.steps.items history.now.states.items (string_bytes text)) }
 {

@@ -18,7 +18,6 @@ use crate::progress_line::ProgressLine;
 use crate::telling::{Query, Telling, history_to, list_asked};
 use ccan_explain::draw::{Picture, picture_of_run, svg_of};
 use ccan_explain::tell;
-use ccan_outcomes::Histories;
 use ccan_script::Script;
 use ccan_search::Progress;
 use clap::{Arg, ArgMatches, Command};
@@ -115,8 +114,7 @@ fn numbered_drawn<P: Progress>(
     let Some(ending) = words.ending(alloc, place as u64)? else {
         return Err(none);
     };
-    let mut histories = Histories::new(alloc);
-    let history = history_to(alloc, telling, &mut histories, place, &ending)?;
+    let history = history_to(alloc, telling, place)?;
     Ok(picture_of_history(alloc, telling.query.race, &history, &ending)?)
 }
 

@@ -11,7 +11,6 @@ ghost use Rattle.ccan_lab.specs.EachList.{IsListPart, IsListed, ListsAsked, List
 ghost use Rattle.ccan_lab.specs.LabError.{exit_status};
 ghost use Rattle.ccan_lab.specs.Outcomes.{AnswersTo, IsOfAll};
 ghost use Rattle.ccan_lab.specs.Telling.{CanBeTold, frames_in};
-ghost use Rattle.ccan_lab.specs.Words.{HasNoHistory};
 ghost use Rattle.ccan_lab.specs.Written.{IsUnwritten, IsWritten};
 
 use crate::asked::Asked;
@@ -47,8 +46,7 @@ fn write_list<T: Eprint, W: Write>(
         (frames_in telling.now.list.now) telling.now.query.now.form
         (fields_of telling.now.query.now.race.now) (endings_in telling.now.list.now.words)
         asked.entry)
-        (HasNoHistory (fields_of telling.now.query.now.race.now)
-        ⟦<AllPorts as PartialEq>⟧.eq telling.now.query.now.most)
+        (λ why. why ≡ LabError.Memory)
         (length (endings_in telling.now.list.now.words))
         end (W.contents writer.old) (W.contents writer.new)) }
     ensures unwritten { IfErr result (IsUnwritten (λ why. why ≡ LabError.Memory)
@@ -80,8 +78,7 @@ fn list_outcomes<T: Eprint, W: Write>(
     ensures written { IfOk result (λ end. IsWritten (heading_if is_shown name.now)
         (AnswersTo (frames_in list) query.now.form (fields_of query.now.race.now)
         (endings_in list.words) asked.entry)
-        (HasNoHistory (fields_of query.now.race.now)
-        ⟦<AllPorts as PartialEq>⟧.eq query.now.most)
+        (λ why. why ≡ LabError.Memory)
         (length (endings_in list.words))
         end (W.contents writer.old) (W.contents writer.new)) }
     ensures unwritten { IfErr result (IsUnwritten (λ why. why ≡ LabError.Memory)

@@ -1,5 +1,5 @@
 //! What the states before and after a step of a history show of the step.
-ghost use Rattle.std.specs.Prelude.{◌≡◌, ◌+◌, IfNone, IfSome, None, Some, option_map, slice_get};
+ghost use Rattle.std.specs.Prelude.{◌≡◌, ◌+◌, ◌<◌, Some, length, option_map, slice_get};
 ghost use Rattle.ccan_outcomes.specs.RaceScript.{fields_of};
 ghost use Rattle.ccan_lab.specs.Moved.{IsWonAt, WinsRound, round_at, round_of};
 
@@ -60,12 +60,13 @@ pub fn winner_at(race: &RaceScript, line: usize, before: &AllPorts) -> Option<(u
 }
 
 /// The states before and after the step of this place. There is one state more than there are steps, the first before any.
-pub fn moved_at(states: &[AllPorts], place: usize) -> Option<Moved<'_>>
-    ensures some { IfSome result (λ moved. (slice_get states.now place ≡ Some moved.before.now)
-        × (slice_get states.now (place + 1) ≡ Some moved.after.now)) }
-    ensures none { IfNone result (slice_get states.now (place + 1) ≡ None) }
+pub fn moved_at(states: &[AllPorts], place: usize) -> Moved<'_>
+    requires { place + 1 < length states.now }
+    ensures before { slice_get states.now place ≡ Some result.before.now }
+    ensures after { slice_get states.now (place + 1) ≡ Some result.after.now }
 {
-    let before = states.get(place)?;
-    let after = states.get(place.saturating_add(1))?;
-    Some(Moved { before, after })
+    Moved {
+        before: &states[place],
+        after: &states[place + 1],
+    }
 }

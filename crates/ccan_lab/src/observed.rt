@@ -12,8 +12,7 @@ ghost use Rattle.ccan_lab.specs.OutcomeText.{IsOutcomeText};
 ghost use Rattle.ccan_lab.specs.Observed.{is_observed, is_place, is_repeat, marks_of, names_in, text_at};
 ghost use Rattle.ccan_lab.specs.Observed.{observed_heading, observed_line, observed_lines, observed_texts, places_of};
 ghost use Rattle.ccan_lab.specs.Telling.{CanBeTold, frames_in};
-ghost use Rattle.ccan_lab.specs.Words.{HasNoHistory};
-ghost use Rattle.ccan_lab.specs.Written.{IsReasonAt, IsUnwritten, IsWritten};
+ghost use Rattle.ccan_lab.specs.Written.{IsUnwritten, IsWritten};
 
 use crate::each_file::{write_below, write_piece};
 use crate::lab_error::LabError;
@@ -27,7 +26,7 @@ use crate::shown_texts::ShownTexts;
 use crate::telling::Telling;
 use crate::wording::{add_counted, add_number};
 use ccan_outcomes::all_ports::AllPorts;
-use ccan_outcomes::{Ending, Histories, OutcomeWords};
+use ccan_outcomes::{Ending, OutcomeWords};
 use ccan_script::RaceScript;
 use ccan_search::Progress;
 use std::alloc::{AllocError, Global};
@@ -176,30 +175,26 @@ fn add_if_first<P: Progress>(
     alloc: Global,
     text: &mut String,
     telling: &Telling<'_, P>,
-    histories: &mut Histories,
     texts: &ShownTexts,
     ending: &Ending,
     number: usize,
-) -> Result<(), LabError>
+) -> Result<(), AllocError>
     requires can { CanBeTold (fields_of telling.now.query.now.race.now) telling.now.list.now }
     requires within { number < length texts.now.lines.items }
     requires at { slice_get (endings_in telling.now.list.now.words) number ≡ Some ending.now }
     requires few { number + 1 < 2 ^ 64 }
-    ensures text { OnOk result ((added : List ℕ)
+    ensures { OnOk result ((added : List ℕ)
         × (string_bytes text.new ≡ string_bytes text.old ++ added)
         × IsFirstText (IsOutcomeText (frames_in telling.now.list.now) telling.now.query.now.form
         (fields_of telling.now.query.now.race.now) (endings_in telling.now.list.now.words))
         (is_repeat (map string_bytes texts.now.lines.items) number)
         (text_at (map string_bytes texts.now.lines.items) number) number added) }
-    ensures without { IfErr result (HasNoHistory (fields_of telling.now.query.now.race.now)
-        ⟦<AllPorts as PartialEq>⟧.eq telling.now.query.now.most) }
 {
     if texts.is_repeat(number) {
         return Ok(());
     }
     let lines = texts.lines[number].as_str();
-    add_outcome(alloc, text, telling, histories, ending, lines, number)?;
-    Ok(())
+    add_outcome(alloc, text, telling, ending, lines, number)
 }
 
 /// The text of the outcome of this number, from 0, which is empty if one before it shows the same; none if there are no more than
@@ -208,9 +203,8 @@ fn first_text<P: Progress>(
     alloc: Global,
     telling: &Telling<'_, P>,
     texts: &ShownTexts,
-    histories: &mut Histories,
     number: usize,
-) -> Result<Option<String>, LabError>
+) -> Result<Option<String>, AllocError>
     requires can { CanBeTold (fields_of telling.now.query.now.race.now) telling.now.list.now }
     requires as_many { length texts.now.lines.items
         ≡ length (endings_in telling.now.list.now.words) }
@@ -223,16 +217,12 @@ fn first_text<P: Progress>(
         (text_at (map string_bytes texts.now.lines.items) number) number (string_bytes text))) }
     ensures none { IfOk result (λ found. IfNone found
         (length (endings_in telling.now.list.now.words) ≤ number)) }
-    ensures without { IfErr result (IsReasonAt
-        (HasNoHistory (fields_of telling.now.query.now.race.now)
-        ⟦<AllPorts as PartialEq>⟧.eq telling.now.query.now.most)
-        (length (endings_in telling.now.list.now.words)) number) }
 {
     let Some(ending) = telling.list.words.ending(alloc, number as u64)? else {
         return Ok(None);
     };
     let mut text = String::new(alloc);
-    add_if_first(alloc, &mut text, telling, histories, texts, &ending, number)?;
+    add_if_first(alloc, &mut text, telling, texts, &ending, number)?;
     Ok(Some(text))
 }
 
@@ -250,18 +240,16 @@ fn write_firsts<T: Eprint, W: Write>(
         (IsOutcomeText (frames_in telling.now.list.now) telling.now.query.now.form
         (fields_of telling.now.query.now.race.now) (endings_in telling.now.list.now.words))
         (map string_bytes texts.now.lines.items))
-        (HasNoHistory (fields_of telling.now.query.now.race.now)
-        ⟦<AllPorts as PartialEq>⟧.eq telling.now.query.now.most)
+        (λ why. why ≡ LabError.Memory)
         (length (endings_in telling.now.list.now.words))
         end (W.contents writer.old) (W.contents writer.new)) }
     ensures fault { IfErr result (λ why. why ≡ LabError.Write) }
 {
-    let mut histories = Histories::new(alloc);
     for number in 0..usize::MAX {
-        match first_text(alloc, telling, texts, &mut histories, number) {
+        match first_text(alloc, telling, texts, number) {
             Ok(Some(text)) => write_piece(writer, telling.query.progress, text.as_str())?,
             Ok(None) => return Ok(ListEnd::Whole),
-            Err(fault) => return Ok(ListEnd::GivenUp(fault)),
+            Err(AllocError) => return Ok(ListEnd::GivenUp(LabError::Memory)),
         }
     }
     // The loop has a bound, so that it ends. A list that comes to it is given up as if memory was refused.
@@ -340,8 +328,7 @@ pub fn write_observed<T: Eprint, W: Write>(
         (IsObservedListingTo (frames_in telling.now.list.now)
         telling.now.query.now.form (names_in list.now)
         (fields_of telling.now.query.now.race.now) (endings_in telling.now.list.now.words))
-        (HasNoHistory (fields_of telling.now.query.now.race.now)
-        ⟦<AllPorts as PartialEq>⟧.eq telling.now.query.now.most)
+        (λ why. why ≡ LabError.Memory)
         (length (endings_in telling.now.list.now.words))
         end (W.contents writer.old) (W.contents writer.new)) }
     ensures unwritten { IfErr result (IsUnwritten (λ why. why ≡ LabError.Memory)

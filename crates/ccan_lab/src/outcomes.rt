@@ -20,7 +20,7 @@ ghost use Rattle.ccan_lab.specs.Observed.{names_in};
 ghost use Rattle.ccan_lab.specs.Question.{AsksFramesBy, asks_frame, begins_with_c, files_named, is_of_frame, lines_given};
 ghost use Rattle.ccan_lab.specs.Seen.{HasNoSeenList, TellsSeen};
 ghost use Rattle.ccan_lab.specs.Sorted.{texts_of};
-ghost use Rattle.ccan_lab.specs.Words.{AnswersLine, AreAllLineEnds, HasNoGraph, HasNoHistory, IsUnanswered, IsWithout, TellsLine};
+ghost use Rattle.ccan_lab.specs.Words.{AnswersLine, AreAllLineEnds, HasNoGraph, IsUnanswered, TellsLine};
 ghost use Rattle.ccan_lab.specs.Apart.{TellsApart};
 
 use crate::answer::{Answer, found_text};

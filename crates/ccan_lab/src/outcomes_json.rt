@@ -3,7 +3,7 @@ ghost use Rattle.std.specs.Prelude.{◌≡◌, ◌++◌, IfErr, IfOk, codes, str
 ghost use Rattle.ccan_outcomes.specs.RaceScript.{fields_of};
 ghost use Rattle.ccan_page.specs.Data.{data_text};
 ghost use Rattle.ccan_lab.specs.Paging.{TellsJson};
-ghost use Rattle.ccan_lab.specs.Words.{IsWithout};
+ghost use Rattle.ccan_lab.specs.Words.{HasNoWords};
 
 use crate::each_file::FileAnswer;
 use crate::lab_error::LabError;
@@ -36,7 +36,7 @@ pub(crate) fn answer_of_json<P: Progress>(
         TellsJson query.now.frames (string_bytes source.now.name)
         (fields_of query.now.race.now) ⟦<Ending as PartialEq>⟧.eq answer.text.items) }
     ensures status { IfOk result (λ answer. answer.status ≡ 0) }
-    ensures without { IfErr result (IsWithout query.now.frames
+    ensures without { IfErr result (HasNoWords query.now.frames
         (fields_of query.now.race.now) ⟦<AllPorts as PartialEq>⟧.eq query.now.most) }
 {
     let empty = empty_page(alloc, source)?;

@@ -14,8 +14,7 @@ ghost use Rattle.ccan_lab.specs.Rows.{rows_of};
 ghost use Rattle.ccan_lab.specs.Sorted.{all_texts};
 ghost use Rattle.ccan_lab.specs.Summary.{same_parts};
 ghost use Rattle.ccan_lab.specs.Telling.{CanBeTold, frames_in};
-ghost use Rattle.ccan_lab.specs.Words.{HasNoHistory};
-ghost use Rattle.ccan_lab.specs.Written.{IsReasonAt, IsUnwritten, IsWritten};
+ghost use Rattle.ccan_lab.specs.Written.{IsUnwritten, IsWritten};
 
 use crate::brief::history_told;
 use crate::choices::all_choices;
@@ -31,7 +30,7 @@ use crate::summary::{add_same_parts, all_in_order};
 use crate::telling::{Telling, history_to};
 use crate::wording::add_number;
 use ccan_outcomes::all_ports::AllPorts;
-use ccan_outcomes::{Ending, Histories, OutcomeWords};
+use ccan_outcomes::{Ending, OutcomeWords};
 use ccan_ram::PortName;
 use ccan_script::RaceScript;
 use ccan_search::Progress;
@@ -160,23 +159,20 @@ pub fn add_outcome<P: Progress>(
     alloc: Global,
     text: &mut String,
     telling: &Telling<'_, P>,
-    histories: &mut Histories,
     ending: &Ending,
     lines: &str,
     number: usize,
-) -> Result<(), LabError>
+) -> Result<(), AllocError>
     requires can { CanBeTold (fields_of telling.now.query.now.race.now) telling.now.list.now }
     requires at { slice_get (endings_in telling.now.list.now.words) number ≡ Some ending.now }
     requires few { number + 1 < 2 ^ 64 }
-    ensures text { OnOk result ((added : List ℕ)
+    ensures { OnOk result ((added : List ℕ)
         × (string_bytes text.new ≡ string_bytes text.old ++ added)
         × IsOutcomeText (frames_in telling.now.list.now) telling.now.query.now.form
         (fields_of telling.now.query.now.race.now) (endings_in telling.now.list.now.words)
         lines.now number added) }
-    ensures without { IfErr result (HasNoHistory (fields_of telling.now.query.now.race.now)
-        ⟦<AllPorts as PartialEq>⟧.eq telling.now.query.now.most) }
 {
-    let history = history_to(alloc, telling, histories, number, ending)?;
+    let history = history_to(alloc, telling, number)?;
     let frames = telling.list.words.numbers.frames;
     let order = order_to(
         alloc,
@@ -186,8 +182,7 @@ pub fn add_outcome<P: Progress>(
         history.steps.as_slice(),
     )?;
     let told = history_told(alloc, telling.query.race, telling.query.form, &history)?;
-    add_told_outcome(text, lines, number, told.as_str(), &order)?;
-    Ok(())
+    add_told_outcome(text, lines, number, told.as_str(), &order)
 }
 
 /// The text of the outcome of this number, from 0, by the lines that may be in each place; none if there are no more than so many.
@@ -195,9 +190,8 @@ fn numbered_text<P: Progress>(
     alloc: Global,
     telling: &Telling<'_, P>,
     choices: &[Vec<&str>],
-    histories: &mut Histories,
     number: usize,
-) -> Result<Option<String>, LabError>
+) -> Result<Option<String>, AllocError>
     requires can { CanBeTold (fields_of telling.now.query.now.race.now) telling.now.list.now }
     requires few { number + 1 < 2 ^ 64 }
     ensures text { IfOk result (λ found. IfSome found (λ text.
@@ -207,25 +201,13 @@ fn numbered_text<P: Progress>(
         (all_texts choices.now) number (string_bytes text))) }
     ensures none { IfOk result (λ found. IfNone found
         (length (endings_in telling.now.list.now.words) ≤ number)) }
-    ensures without { IfErr result (IsReasonAt
-        (HasNoHistory (fields_of telling.now.query.now.race.now)
-        ⟦<AllPorts as PartialEq>⟧.eq telling.now.query.now.most)
-        (length (endings_in telling.now.list.now.words)) number) }
 {
     let Some(ending) = telling.list.words.ending(alloc, number as u64)? else {
         return Ok(None);
     };
     let lines = different_lines(alloc, choices, &ending)?;
     let mut text = String::new(alloc);
-    add_outcome(
-        alloc,
-        &mut text,
-        telling,
-        histories,
-        &ending,
-        lines.as_str(),
-        number,
-    )?;
+    add_outcome(alloc, &mut text, telling, &ending, lines.as_str(), number)?;
     Ok(Some(text))
 }
 
@@ -241,18 +223,16 @@ fn write_outcomes<T: Eprint, W: Write>(
         (frames_in telling.now.list.now) telling.now.query.now.form
         (fields_of telling.now.query.now.race.now) (endings_in telling.now.list.now.words)
         (all_texts choices.now))
-        (HasNoHistory (fields_of telling.now.query.now.race.now)
-        ⟦<AllPorts as PartialEq>⟧.eq telling.now.query.now.most)
+        (λ why. why ≡ LabError.Memory)
         (length (endings_in telling.now.list.now.words))
         end (W.contents writer.old) (W.contents writer.new)) }
     ensures fault { IfErr result (λ why. why ≡ LabError.Write) }
 {
-    let mut histories = Histories::new(alloc);
     for number in 0..usize::MAX {
-        match numbered_text(alloc, telling, choices, &mut histories, number) {
+        match numbered_text(alloc, telling, choices, number) {
             Ok(Some(text)) => write_piece(writer, telling.query.progress, text.as_str())?,
             Ok(None) => return Ok(ListEnd::Whole),
-            Err(fault) => return Ok(ListEnd::GivenUp(fault)),
+            Err(AllocError) => return Ok(ListEnd::GivenUp(LabError::Memory)),
         }
     }
     // The loop has a bound, so that it ends. A list that comes to it is given up as if memory was refused.
@@ -286,8 +266,7 @@ pub fn write_listing<T: Eprint, W: Write>(
     ensures written { IfOk result (λ end. IsWritten (heading_if is_shown name.now) (IsListingTo
         (frames_in telling.now.list.now) telling.now.query.now.form
         (fields_of telling.now.query.now.race.now) (endings_in telling.now.list.now.words))
-        (HasNoHistory (fields_of telling.now.query.now.race.now)
-        ⟦<AllPorts as PartialEq>⟧.eq telling.now.query.now.most)
+        (λ why. why ≡ LabError.Memory)
         (length (endings_in telling.now.list.now.words))
         end (W.contents writer.old) (W.contents writer.new)) }
     ensures unwritten { IfErr result (IsUnwritten (λ why. why ≡ LabError.Memory)

@@ -10,11 +10,11 @@ ghost use Rattle.ccan_lab.specs.Brief.{IsHistoryText};
 ghost use Rattle.ccan_lab.specs.Observed.{AreFirstTexts, IsFirstText, first_count, is_repeat, marks_of, names_in};
 ghost use Rattle.ccan_lab.specs.Observed.{observed_lines, observed_texts, text_at};
 ghost use Rattle.ccan_lab.specs.Report.{IsTextWith};
-ghost use Rattle.ccan_lab.specs.Seen.{AreShown, AreShownOf, HasNoImages, HasNoSeenList};
+ghost use Rattle.ccan_lab.specs.Seen.{AreSaid, AreShown, AreShownOf, HasNoImages, HasNoSeenList};
 ghost use Rattle.ccan_lab.specs.Seen.{IsSeenListing, IsSeenText, ListsSeen, ReplaysShown, TellsSeen};
 ghost use Rattle.ccan_lab.specs.Seen.{seen_heading};
 ghost use Rattle.ccan_lab.specs.Telling.{CanBeTold, frames_in};
-ghost use Rattle.ccan_lab.specs.Words.{HasNoHistory, HasNoWords};
+ghost use Rattle.ccan_lab.specs.Words.{HasNoWords};
 
 use crate::brief::history_told;
 use crate::lab_error::LabError;
@@ -28,7 +28,7 @@ use crate::telling::{Query, Telling, history_by_word, list_asked};
 use crate::wording::add_counted;
 use ccan_language::Letter;
 use ccan_outcomes::all_ports::AllPorts;
-use ccan_outcomes::{Ending, Histories, HistoryStep, Observed, OutcomeWords};
+use ccan_outcomes::{Ending, HistoryStep, Observed, OutcomeWords};
 use ccan_ram::PortName;
 use ccan_script::RaceScript;
 use ccan_search::Progress;
@@ -47,7 +47,10 @@ pub struct Shown {
 /// The outcome of each word of what is looked at, in turn.
 fn all_shown(alloc: Global, words: &OutcomeWords, observed: &Observed) -> Result<Shown, AllocError>
     requires { AreImages words.now observed.now }
-    ensures { IfOk result (λ shown. AreShown words.now observed.now shown.endings.items) }
+    ensures shown { IfOk result (λ shown.
+        AreShown words.now observed.now shown.endings.items) }
+    ensures said { IfOk result (λ shown.
+        AreSaid words.now shown.words.items shown.endings.items) }
 {
     let mut shown = Vec::new(alloc);
     let mut endings = Vec::new(alloc);
@@ -123,19 +126,18 @@ fn add_seen<P: Progress>(
     alloc: Global,
     text: &mut String,
     telling: &Telling<'_, P>,
-    histories: &mut Histories,
     marks: &[bool],
     shown: &Shown,
     place: usize,
     lines: &str,
     number: usize,
-) -> Result<(), LabError>
+) -> Result<(), AllocError>
     requires can { CanBeTold (fields_of telling.now.query.now.race.now) telling.now.list.now }
-    requires listed { (ending : Ending) → Contains shown.now.endings.items ending
-        → Contains (endings_in telling.now.list.now.words) ending }
+    requires said { AreSaid telling.now.list.now.words
+        shown.now.words.items shown.now.endings.items }
     requires within { place < length shown.now.endings.items }
     requires few { number ≤ place }
-    ensures text { OnOk result ((added : List ℕ)
+    ensures { OnOk result ((added : List ℕ)
         × (string_bytes text.new ≡ string_bytes text.old ++ added)
         × IsTextWith
         (IsHistoryOf (frames_in telling.now.list.now) (fields_of telling.now.query.now.race.now))
@@ -143,18 +145,14 @@ fn add_seen<P: Progress>(
         (λ _. ReplaysShown (frames_in telling.now.list.now)
         (fields_of telling.now.query.now.race.now) marks.now lines.now)
         shown.now.endings.items place lines.now number added) }
-    ensures without { IfErr result (HasNoHistory (fields_of telling.now.query.now.race.now)
-        ⟦<AllPorts as PartialEq>⟧.eq telling.now.query.now.most) }
 {
-    let ending = &shown.endings[place];
     let word = Vec::from_slice(alloc, shown.words[place].as_slice())?;
-    let history = history_by_word(alloc, telling, histories, word, ending)?;
+    let history = history_by_word(alloc, telling, word)?;
     let steps = history.steps.as_slice();
     let frames = telling.list.words.numbers.frames;
     let order = order_to_lines(alloc, telling.query.race, frames, marks, lines, steps)?;
     let told = history_told(alloc, telling.query.race, telling.query.form, &history)?;
-    add_told_outcome(text, lines, number, told.as_str(), &order)?;
-    Ok(())
+    add_told_outcome(text, lines, number, told.as_str(), &order)
 }
 
 /// Adds the outcome in this place under this number, unless one before it shows the same, and says whether it did.
@@ -162,16 +160,15 @@ fn add_if_new<P: Progress>(
     alloc: Global,
     text: &mut String,
     telling: &Telling<'_, P>,
-    histories: &mut Histories,
     marks: &[bool],
     shown: &Shown,
     texts: &ShownTexts,
     place: usize,
     number: usize,
-) -> Result<bool, LabError>
+) -> Result<bool, AllocError>
     requires can { CanBeTold (fields_of telling.now.query.now.race.now) telling.now.list.now }
-    requires listed { (ending : Ending) → Contains shown.now.endings.items ending
-        → Contains (endings_in telling.now.list.now.words) ending }
+    requires said { AreSaid telling.now.list.now.words
+        shown.now.words.items shown.now.endings.items }
     requires as_many { length texts.now.lines.items ≡ length shown.now.endings.items }
     requires within { place < length shown.now.endings.items }
     requires few { number ≤ place }
@@ -185,16 +182,12 @@ fn add_if_new<P: Progress>(
         shown.now.endings.items (map string_bytes texts.now.lines.items))
         (is_repeat (map string_bytes texts.now.lines.items) place)
         (text_at (map string_bytes texts.now.lines.items) place) place added) }
-    ensures without { IfErr result (HasNoHistory (fields_of telling.now.query.now.race.now)
-        ⟦<AllPorts as PartialEq>⟧.eq telling.now.query.now.most) }
 {
     if texts.is_repeat(place) {
         return Ok(false);
     }
     let lines = texts.lines[place].as_str();
-    add_seen(
-        alloc, text, telling, histories, marks, shown, place, lines, number,
-    )?;
+    add_seen(alloc, text, telling, marks, shown, place, lines, number)?;
     Ok(true)
 }
 
@@ -206,10 +199,10 @@ fn add_all_seen<P: Progress>(
     marks: &[bool],
     shown: &Shown,
     texts: &ShownTexts,
-) -> Result<usize, LabError>
+) -> Result<usize, AllocError>
     requires can { CanBeTold (fields_of telling.now.query.now.race.now) telling.now.list.now }
-    requires listed { (ending : Ending) → Contains shown.now.endings.items ending
-        → Contains (endings_in telling.now.list.now.words) ending }
+    requires said { AreSaid telling.now.list.now.words
+        shown.now.words.items shown.now.endings.items }
     requires as_many { length texts.now.lines.items ≡ length shown.now.endings.items }
     ensures count { IfOk result (λ count. count
         ≡ first_count (map string_bytes texts.now.lines.items) (length shown.now.endings.items)) }
@@ -219,23 +212,10 @@ fn add_all_seen<P: Progress>(
         (fields_of telling.now.query.now.race.now) marks.now
         shown.now.endings.items (map string_bytes texts.now.lines.items))
         (map string_bytes texts.now.lines.items) (length shown.now.endings.items) added) }
-    ensures without { IfErr result (HasNoHistory (fields_of telling.now.query.now.race.now)
-        ⟦<AllPorts as PartialEq>⟧.eq telling.now.query.now.most) }
 {
-    let mut histories = Histories::new(alloc);
     let mut count = 0;
     for place in 0..shown.endings.len() {
-        if add_if_new(
-            alloc,
-            text,
-            telling,
-            &mut histories,
-            marks,
-            shown,
-            texts,
-            place,
-            count,
-        )? {
+        if add_if_new(alloc, text, telling, marks, shown, texts, place, count)? {
             count += 1;
         }
     }
@@ -267,21 +247,19 @@ fn seen_listing<P: Progress>(
     telling: &Telling<'_, P>,
     marks: &[bool],
     shown: &Shown,
-) -> Result<String, LabError>
+) -> Result<String, AllocError>
     requires can { CanBeTold (fields_of telling.now.query.now.race.now) telling.now.list.now }
-    requires listed { (ending : Ending) → Contains shown.now.endings.items ending
-        → Contains (endings_in telling.now.list.now.words) ending }
-    ensures text { IfOk result (λ text. IsSeenListing (frames_in telling.now.list.now)
+    requires said { AreSaid telling.now.list.now.words
+        shown.now.words.items shown.now.endings.items }
+    ensures { IfOk result (λ text. IsSeenListing (frames_in telling.now.list.now)
         telling.now.query.now.form (fields_of telling.now.query.now.race.now) marks.now
         shown.now.endings.items (string_bytes text)) }
-    ensures without { IfErr result (HasNoHistory (fields_of telling.now.query.now.race.now)
-        ⟦<AllPorts as PartialEq>⟧.eq telling.now.query.now.most) }
 {
     let lines = shown_texts(alloc, marks, shown)?;
     let texts = ShownTexts::new(alloc, lines)?;
     let mut told = String::new(alloc);
     let apart = add_all_seen(alloc, &mut told, telling, marks, shown, &texts)?;
-    Ok(below_heading(alloc, apart, told.as_str())?)
+    below_heading(alloc, apart, told.as_str())
 }
 
 /// Some outcomes, such that each other one shows what one of these does, by the marks of all places.
@@ -293,6 +271,8 @@ fn shown_of<P: Progress>(
     requires can { CanBeTold (fields_of telling.now.query.now.race.now) telling.now.list.now }
     ensures shown { IfOk result (λ shown. AreShownOf marks.now
         (endings_in telling.now.list.now.words) shown.endings.items) }
+    ensures said { IfOk result (λ shown. AreSaid telling.now.list.now.words
+        shown.words.items shown.endings.items) }
     ensures without { IfErr result
         (HasNoImages telling.now.list.now.words marks.now telling.now.query.now.most) }
 {
@@ -313,13 +293,11 @@ fn seen_of<P: Progress>(
     ensures text { IfOk result (λ text. ListsSeen (frames_in telling.now.list.now)
         telling.now.query.now.form (fields_of telling.now.query.now.race.now) marks.now
         (endings_in telling.now.list.now.words) (string_bytes text)) }
-    ensures without { IfErr result (λ why.
-        HasNoImages telling.now.list.now.words marks.now telling.now.query.now.most why
-        ⊎ HasNoHistory (fields_of telling.now.query.now.race.now) ⟦<AllPorts as PartialEq>⟧.eq
-        telling.now.query.now.most why) }
+    ensures without { IfErr result
+        (HasNoImages telling.now.list.now.words marks.now telling.now.query.now.most) }
 {
     let shown = shown_of(alloc, telling, marks)?;
-    seen_listing(alloc, telling, marks, &shown)
+    Ok(seen_listing(alloc, telling, marks, &shown)?)
 }
 
 /// The list of what can be told apart of these outcomes, which are dropped, by the marks of all places.
@@ -333,9 +311,7 @@ fn seen_of_list<P: Progress>(
     ensures text { IfOk result (λ text.
         ListsSeen (frames_in list) query.now.form (fields_of query.now.race.now)
         marks.now (endings_in list.words) (string_bytes text)) }
-    ensures without { IfErr result (λ why. HasNoImages list.words marks.now query.now.most why
-        ⊎ HasNoHistory (fields_of query.now.race.now) ⟦<AllPorts as PartialEq>⟧.eq
-        query.now.most why) }
+    ensures without { IfErr result (HasNoImages list.words marks.now query.now.most) }
 {
     let telling = Telling { query, list: &list };
     seen_of(alloc, &telling, marks)

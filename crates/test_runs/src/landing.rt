@@ -48,19 +48,16 @@ impl Labelled for Landing {
         Ok(moves)
     }
 
-    fn join(&self, _alloc: Global, first: u64, second: u64) -> Result<u64, AllocError> {
-        match first.checked_add(second) {
-            Some(both) => Ok(both),
-            None => Err(AllocError),
-        }
-    }
-
-    fn pass(&self, _alloc: Global, state: &mut u64) -> Result<Option<u64>, AllocError> {
+    fn pass(&self, _alloc: Global, state: &mut u64, label: &mut u64) -> Result<bool, AllocError> {
         if *state == 0 || *state == self.at {
-            return Ok(None);
+            return Ok(false);
         }
+        let Some(down) = label.checked_add(1) else {
+            return Err(AllocError);
+        };
         *state -= 1;
-        Ok(Some(1))
+        *label = down;
+        Ok(true)
     }
 
     fn copy(&self, _alloc: Global, state: &u64) -> Result<u64, AllocError> {

@@ -1,5 +1,4 @@
 //! Each law, called once.
-use crate::ladder::Ladder;
 use ccan_line::line_process_laws;
 use ccan_machine::{
     begin_laws, begun_laws, machine_laws, process_laws, scan_laws, uncontended_laws,
@@ -72,6 +71,4 @@ fn laws_of_outcomes_hold() {
     quiet_laws::hosts_leave_alone();
     quiet_laws::hosts_have_done();
     quiet_laws::bus_leaves_alone();
-    ccan_search::laws::trails_are_walks(&Ladder);
-    ccan_search::laws::closed_states_stand_for_all(&Ladder);
 }

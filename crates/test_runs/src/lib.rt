@@ -16,7 +16,6 @@ mod faults;
 #[cfg(test)]
 mod faulty;
 #[cfg(test)]
-mod ladder;
 #[cfg(test)]
 mod landing;
 #[cfg(test)]

@@ -3,10 +3,10 @@
 ghost use Rattle.std.specs.Prelude.{◌≡◌, Some, false, slice_get};
 ghost use Rattle.ccan_outcomes.specs.RaceScript.{fields_of};
 ghost use Rattle.ccan_outcomes.specs.AnswerGraph.{IsOfMachine};
-ghost use Rattle.ccan_outcomes.specs.Ending.{AreAllEnds};
 ghost use Rattle.ccan_outcomes.specs.LineEnds.{AreSaidOfLines};
 ghost use Rattle.ccan_outcomes.specs.Observed.{AreImages};
 ghost use Rattle.ccan_outcomes.specs.OutcomeWords.{AreOfLines, endings_in};
+ghost use Rattle.ccan_outcomes.specs.WordWays.{AreOfGraph};
 
 use crate::expect::{holds, same};
 use crate::runs::read;
@@ -17,9 +17,8 @@ use ccan_line::LineEnd;
 use ccan_object::{ObjectNo, Profile, Record};
 use ccan_outcomes::all_ports::AllPorts;
 use ccan_outcomes::{
-    AnswerGraph, ByLine, Ending, Histories, HistoryKind, HistoryStep, LineEnds, Observed,
-    OutcomeWords, all_outcomes, answer_graph, history_of, line_ends_of, searched_history,
-    words_of_graph,
+    AnswerGraph, ByLine, Ending, HistoryKind, HistoryStep, LineEnds, Observed, OutcomeWords,
+    answer_graph, history_of, line_ends_of, words_of_graph,
 };
 use ccan_ram::{Array, PortName, Tries};
 use ccan_script::{LineAnswer, RaceScript, read_race};
@@ -102,28 +101,6 @@ fn writes_at_last(rt: &impl Abort, history: &[HistoryStep]) {
         is_write = matches!(step.kind, HistoryKind::Writes);
     }
     holds(rt, is_write);
-}
-
-/// How many outcomes a script has. Each has to have such a history.
-fn races(rt: &impl Abort, alloc: Global, race: &RaceScript) -> usize {
-    let Ok(Some(found)) = all_outcomes(alloc, race, false, 1000, &Untold) else {
-        panic!(rt; "not all outcomes")
-    };
-    let endings = found.listing.endings.len();
-    for place in 0..endings {
-        let Ok(history) = history_of(alloc, race, false, &found, place) else {
-            panic!(rt; "no memory")
-        };
-        writes_at_last(rt, history.as_slice());
-    }
-    endings
-}
-
-#[test]
-fn answers_a_history_of_each_outcome(rt: HostRuntime) {
-    // A look and a change of each host lead to an end, so four steps after the start. Either host may write last.
-    let race = race_of(&rt, rt.alloc(), TWO_WRITES);
-    same(&rt, races(&rt, rt.alloc(), &race), 2);
 }
 
 /// The graph of a script's outcomes.
@@ -462,7 +439,7 @@ fn ends_with(rt: &impl Abort, states: &[AllPorts], ending: &Ending) {
     }
 }
 
-/// Holds each outcome to a history of four steps, along the graph and by a search of all states.
+/// Holds each outcome to a history of four steps.
 fn hold_histories(
     rt: &impl Abort,
     alloc: Global,
@@ -471,30 +448,25 @@ fn hold_histories(
     words: &OutcomeWords,
 )
     requires machine { IsOfMachine (fields_of race.now) graph.now }
-    requires ends { AreAllEnds false (fields_of race.now) (endings_in words.now) }
+    requires words { AreOfGraph (fields_of race.now) graph.now words.now }
 {
-    let mut histories = Histories::new(alloc);
     for number in 0..words.count() {
         let ending = numbered(rt, alloc, words, number);
         let Ok(Some(word)) = words.word(alloc, number) else {
             panic!(rt; "no such outcome")
         };
-        match histories.history(alloc, race, graph, words, word, &ending) {
-            Ok(Some(history)) => {
+        match history_of(alloc, race, graph, words, word) {
+            Ok(history) => {
                 writes_at_last(rt, history.steps.as_slice());
                 same(rt, history.states.len(), 5);
                 ends_with(rt, history.states.as_slice(), &ending);
             }
-            Ok(None) | Err(_) => panic!(rt; "no history along the graph"),
-        }
-        match searched_history(alloc, race, false, &ending, 1000, &Untold) {
-            Ok(Some(history)) => same(rt, history.len(), 4),
-            Ok(None) | Err(_) => panic!(rt; "no history"),
+            Err(_) => panic!(rt; "no memory"),
         }
     }
 }
 
-/// How many outcomes a script has. Each has to have such histories.
+/// How many outcomes a script has. Each has to have such a history.
 fn told(rt: &impl Abort, alloc: Global, text: &str) -> u64 {
     let race = race_of(rt, alloc, text);
     match answer_graph(alloc, &race, 1000, &Untold) {
@@ -510,8 +482,8 @@ fn told(rt: &impl Abort, alloc: Global, text: &str) -> u64 {
 }
 
 #[test]
-fn finds_histories_along_the_graph(rt: HostRuntime) {
-    // A look and a write of each host.
+fn answers_a_history_of_each_outcome(rt: HostRuntime) {
+    // A look and a change of each host lead to an end, so four steps after the start. Either host may write last.
     same(&rt, told(&rt, rt.alloc(), TWO_WRITES), 2);
 }
 

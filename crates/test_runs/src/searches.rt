@@ -1,37 +1,11 @@
-//! Searches of a ladder, worked by hand. From the ground the moves lead by levels to 3 and 6, then to 2 and 5, then to 1 and 4,
-//! and from there to what was found before. With two moves ahead a search goes from the ground by 3 and 2 to 1, and by 6 and 5
-//! to 4; from 1 to the ground, and from 4 by 3 and 2 to 1 again.
+//! Searches of stairs, worked by hand.
 use crate::expect::{holds, same};
-use crate::ladder::Ladder;
 use crate::landing::Landing;
 use crate::stairs::Stairs;
-use ccan_search::{Edge, GraphFrom, Progress, Untold, graph_of, reachable, tale, way};
+use ccan_search::{Edge, GraphFrom, Progress, Untold, graph_of};
 use std::alloc::Global;
 use std::cell::Cell;
-use std::collections::VecDeque;
 use std::process::Abort;
-
-/// Holds the rungs that a search keeps to these, if it may keep so many.
-fn keeps(rt: &impl Abort, alloc: Global, ahead: usize, most: usize, want: &[u64]) {
-    let Ok(Some(reached)) = reachable(&Ladder, alloc, 0, ahead, most, &Untold) else {
-        panic!(rt; "not all rungs")
-    };
-    same(rt, reached.states.as_slice(), want);
-}
-
-/// Whether there are more rungs than so many.
-fn has_more<P: Progress>(alloc: Global, most: usize, progress: &P) -> bool {
-    matches!(reachable(&Ladder, alloc, 0, 0, most, progress), Ok(None))
-}
-
-#[test]
-fn finds_rungs(rt: HostRuntime) {
-    keeps(&rt, rt.alloc(), 0, 7, &[0, 3, 6, 2, 5, 1, 4]);
-    keeps(&rt, rt.alloc(), 2, 3, &[0, 1, 4]);
-    // Two follow the ground, so it is kept.
-    keeps(&rt, rt.alloc(), 10, 1, &[0]);
-    holds(&rt, has_more(rt.alloc(), 6, &Untold));
-}
 
 /// What was last reported to it of a search: the number of the state that was followed next, from 1, and how many were kept.
 #[derive(Drop)]
@@ -45,61 +19,6 @@ impl Progress for LastTold {
         self.number.set(followed.saturating_add(1));
         self.kept.set(kept);
     }
-}
-
-/// Seven states are followed, and when the search comes to the seventh all are kept.
-#[test]
-fn tells_how_far_it_is(rt: HostRuntime) {
-    let told = LastTold {
-        number: Cell::new(0),
-        kept: Cell::new(0),
-    };
-    holds(&rt, !has_more(rt.alloc(), 7, &told));
-    same(&rt, (told.number.get(), told.kept.get()), (7, 7));
-}
-
-/// The way to a rung, by the indices of the rungs.
-fn way_to(rt: &impl Abort, alloc: Global, rung: u64) -> VecDeque<usize> {
-    let Ok(Some(reached)) = reachable(&Ladder, alloc, 0, 0, 7, &Untold) else {
-        panic!(rt; "not all rungs")
-    };
-    let Some(index) = reached.states.get_index_of(&rung) else {
-        panic!(rt; "no such rung")
-    };
-    let Ok(way) = way(&Ladder, alloc, &reached, index) else {
-        panic!(rt; "no memory")
-    };
-    way
-}
-
-#[test]
-fn answers_a_shortest_way(rt: HostRuntime) {
-    // Rung 2 by rung 3, and not from rung 6 down.
-    let way = way_to(&rt, rt.alloc(), 2);
-    same(&rt, way.len(), 3);
-    for (index, want) in way.iter().zip([0, 1, 3]) {
-        same(&rt, *index, want);
-    }
-}
-
-/// Holds what is reported of the moves to a rung to this, if a search looks so many moves ahead.
-fn tells(rt: &impl Abort, alloc: Global, ahead: usize, rung: u64, want: &[u64]) {
-    let Ok(Some(reached)) = reachable(&Ladder, alloc, 0, ahead, 7, &Untold) else {
-        panic!(rt; "not all rungs")
-    };
-    let Some(index) = reached.states.get_index_of(&rung) else {
-        panic!(rt; "no such rung")
-    };
-    let Ok(tale) = tale(&Ladder, alloc, &reached, index) else {
-        panic!(rt; "no memory")
-    };
-    same(rt, tale.as_slice(), want);
-}
-
-#[test]
-fn tells_of_passed_rungs(rt: HostRuntime) {
-    tells(&rt, rt.alloc(), 0, 2, &[3, 2]);
-    tells(&rt, rt.alloc(), 2, 4, &[6, 5, 4]);
 }
 
 /// The graph of the stairs below this one.
@@ -186,4 +105,21 @@ fn finds_no_graph_where_stairs_are_many(rt: HostRuntime) {
         &rt,
         matches!(graph_of(&Stairs, rt.alloc(), 3, 10, 3, &Untold), Ok(None)),
     );
+}
+
+/// Four stairs are followed, and when the search comes to the end of the last three are kept.
+#[test]
+fn tells_how_far_it_is(rt: HostRuntime) {
+    let told = LastTold {
+        number: Cell::new(0),
+        kept: Cell::new(0),
+    };
+    holds(
+        &rt,
+        matches!(
+            graph_of(&Stairs, rt.alloc(), 3, 10, 100, &told),
+            Ok(Some(_))
+        ),
+    );
+    same(&rt, (told.number.get(), told.kept.get()), (4, 3));
 }

@@ -44,15 +44,8 @@ impl Labelled for Stairs {
         Ok(moves)
     }
 
-    fn join(&self, _alloc: Global, first: u64, second: u64) -> Result<u64, AllocError> {
-        match first.checked_add(second) {
-            Some(both) => Ok(both),
-            None => Err(AllocError),
-        }
-    }
-
-    fn pass(&self, _alloc: Global, _state: &mut u64) -> Result<Option<u64>, AllocError> {
-        Ok(None)
+    fn pass(&self, _alloc: Global, _state: &mut u64, _label: &mut u64) -> Result<bool, AllocError> {
+        Ok(false)
     }
 
     fn copy(&self, _alloc: Global, state: &u64) -> Result<u64, AllocError> {

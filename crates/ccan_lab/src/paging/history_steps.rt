@@ -1,5 +1,5 @@
 //! The steps of a history, as a page shows them.
-ghost use Rattle.std.specs.Prelude.{◌≡◌, IfOk, map};
+ghost use Rattle.std.specs.Prelude.{◌≡◌, ◌+◌, IfOk, length, map};
 ghost use Rattle.ccan_lab.specs.Paging.{line_of, line_stepped};
 
 use crate::history::{add_object, kind_text};
@@ -84,62 +84,28 @@ fn told_behind(
     Ok(told)
 }
 
-/// What the states before and after a step show of it.
-#[derive(Drop)]
-struct Seen {
-    frame: Option<SentFrame>,
-    registers: Option<Change>,
-    objects: Vec<ObjectChange>,
-}
-
-/// What the states before and after a step show of it; nothing if one of them is not known.
-fn seen_of(
-    alloc: Global,
-    race: &RaceScript,
-    step: &HistoryStep,
-    moved: Option<Moved<'_>>,
-) -> Result<Seen, AllocError> {
-    match moved {
-        Some(moved) => Ok(Seen {
-            frame: frame_of(race, step, &moved),
-            registers: registers_of(&moved, step.port),
-            objects: objects_of(alloc, &moved)?,
-        }),
-        None => Ok(Seen {
-            frame: None,
-            registers: None,
-            objects: Vec::new(alloc),
-        }),
-    }
-}
-
 /// A step of a history, as a page shows it, by the steps after it and the states around it.
 fn shown_step(
     alloc: Global,
     race: &RaceScript,
     step: &HistoryStep,
     later: &[HistoryStep],
-    moved: Option<Moved<'_>>,
+    moved: &Moved<'_>,
     ending: &Ending,
 ) -> Result<page::Step, AllocError>
     ensures { IfOk result (λ made. line_of made ≡ line_stepped step.now) }
 {
     let deed = deed_of(alloc, step)?;
     let told = told_behind(alloc, step, later, ending)?;
-    let Seen {
-        frame,
-        registers,
-        objects,
-    } = seen_of(alloc, race, step, moved)?;
     Ok(page::Step {
         port: step.port,
         line: step.line.saturating_sub(1),
         deed,
         told,
         object: step.object,
-        frame,
-        registers,
-        objects,
+        frame: frame_of(race, step, moved),
+        registers: registers_of(moved, step.port),
+        objects: objects_of(alloc, moved)?,
     })
 }
 
@@ -151,13 +117,14 @@ pub(crate) fn shown_history(
     states: &[AllPorts],
     ending: &Ending,
 ) -> Result<Vec<page::Step>, AllocError>
+    requires { length states.now ≡ length steps.now + 1 }
     ensures { IfOk result (λ made. map line_of made.items ≡ map line_stepped steps.now) }
 {
     let mut made = Vec::new(alloc);
-    for step in steps {
-        let place = made.len();
-        let later = behind(steps, place.saturating_add(1));
-        made.push(shown_step(alloc, race, step, later, moved_at(states, place), ending)?)?;
+    for (place, step) in steps.iter().enumerate() {
+        let later = behind(steps, place + 1);
+        let moved = moved_at(states, place);
+        made.push(shown_step(alloc, race, step, later, &moved, ending)?)?;
     }
     Ok(made)
 }

@@ -6,7 +6,7 @@ ghost use Rattle.ccan_lab.specs.Paging.{AreShown, IsShown, ShowsEndings, ShowsLi
 ghost use Rattle.ccan_lab.specs.Paging.{line_of, line_stepped};
 ghost use Rattle.ccan_lab.specs.Sorted.{all_texts};
 ghost use Rattle.ccan_lab.specs.Telling.{CanBeTold, frames_in};
-ghost use Rattle.ccan_lab.specs.Words.{HasNoHistory, IsWithout};
+ghost use Rattle.ccan_lab.specs.Words.{HasNoWords};
 
 use crate::choices::all_choices;
 use crate::history_form::HistoryForm;
@@ -19,7 +19,7 @@ use crate::report::different_lines;
 use crate::summary::{add_same_parts, all_in_order};
 use crate::telling::{Query, Telling, history_to, list_asked};
 use ccan_outcomes::all_ports::AllPorts;
-use ccan_outcomes::{Ending, Histories, History, HistoryStep, looking_once};
+use ccan_outcomes::{Ending, History, HistoryStep, looking_once};
 use ccan_page as page;
 use ccan_page::{Outcome, Page};
 use ccan_ram::PortName;
@@ -64,6 +64,7 @@ fn steps_shown(
     ending: &Ending,
     history: &History,
 ) -> Result<Vec<page::Step>, AllocError>
+    requires { length history.now.states.items ≡ length history.now.steps.items + 1 }
     ensures { IfOk result (λ made.
         map line_of made.items ≡ map line_stepped history.now.steps.items) }
 {
@@ -75,22 +76,19 @@ fn steps_shown(
 fn outcome_at<P: Progress>(
     alloc: Global,
     telling: &Telling<'_, P>,
-    histories: &mut Histories,
     choices: &[Vec<&str>],
     ending: &Ending,
     place: usize,
-) -> Result<Outcome, LabError>
+) -> Result<Outcome, AllocError>
     requires can { CanBeTold (fields_of telling.now.query.now.race.now) telling.now.list.now }
     requires at { slice_get (endings_in telling.now.list.now.words) place ≡ Some ending.now }
     requires few { place + 1 < 2 ^ 64 }
-    ensures shown { IfOk result (IsShown (frames_in telling.now.list.now)
+    ensures { IfOk result (IsShown (frames_in telling.now.list.now)
         (fields_of telling.now.query.now.race.now) (endings_in telling.now.list.now.words)
         (all_texts choices.now) place) }
-    ensures without { IfErr result (HasNoHistory (fields_of telling.now.query.now.race.now)
-        ⟦<AllPorts as PartialEq>⟧.eq telling.now.query.now.most) }
 {
     let race = telling.query.race;
-    let history = history_to(alloc, telling, histories, place, ending)?;
+    let history = history_to(alloc, telling, place)?;
     let steps = history.steps.as_slice();
     let frames = telling.list.words.numbers.frames;
     let Ordered { order, run } = ordered_of(alloc, race, frames, ending, steps)?;
@@ -118,22 +116,19 @@ fn outcomes_shown<P: Progress>(
     telling: &Telling<'_, P>,
     choices: &[Vec<&str>],
     limit: usize,
-) -> Result<Vec<Outcome>, LabError>
+) -> Result<Vec<Outcome>, AllocError>
     requires can { CanBeTold (fields_of telling.now.query.now.race.now) telling.now.list.now }
-    ensures shown { IfOk result (λ shown. AreShown (frames_in telling.now.list.now)
+    ensures { IfOk result (λ shown. AreShown (frames_in telling.now.list.now)
         (fields_of telling.now.query.now.race.now) (endings_in telling.now.list.now.words)
         (all_texts choices.now)
         (min limit (length (endings_in telling.now.list.now.words))) shown.items) }
-    ensures without { IfErr result (HasNoHistory (fields_of telling.now.query.now.race.now)
-        ⟦<AllPorts as PartialEq>⟧.eq telling.now.query.now.most) }
 {
-    let mut histories = Histories::new(alloc);
     let mut shown = Vec::new(alloc);
     for place in 0..limit {
         let Some(ending) = telling.list.words.ending(alloc, place as u64)? else {
             return Ok(shown);
         };
-        let outcome = outcome_at(alloc, telling, &mut histories, choices, &ending, place)?;
+        let outcome = outcome_at(alloc, telling, choices, &ending, place)?;
         add_shown(&mut shown, outcome)?;
     }
     Ok(shown)
@@ -145,13 +140,11 @@ fn found_page<'a, P: Progress>(
     telling: &Telling<'_, P>,
     limit: usize,
     mut page: Page<'a>,
-) -> Result<Page<'a>, LabError>
+) -> Result<Page<'a>, AllocError>
     requires can { CanBeTold (fields_of telling.now.query.now.race.now) telling.now.list.now }
     ensures file { IfOk result (λ made. made.file.now ≡ page.entry.file.now) }
     ensures shows { IfOk result (ShowsEndings (frames_in telling.now.list.now)
         (fields_of telling.now.query.now.race.now) (endings_in telling.now.list.now.words) limit) }
-    ensures without { IfErr result (HasNoHistory (fields_of telling.now.query.now.race.now)
-        ⟦<AllPorts as PartialEq>⟧.eq telling.now.query.now.most) }
 {
     let words = &telling.list.words;
     let rows = all_choices(alloc, telling.query.race, words)?;
@@ -174,12 +167,12 @@ pub(crate) fn listed_page<'a, P: Progress>(
     ensures file { IfOk result (λ made. made.file.now ≡ page.entry.file.now) }
     ensures outcomes { IfOk result (ShowsList query.now.frames (fields_of query.now.race.now)
         ⟦<Ending as PartialEq>⟧.eq limit) }
-    ensures without { IfErr result (IsWithout query.now.frames
+    ensures without { IfErr result (HasNoWords query.now.frames
         (fields_of query.now.race.now) ⟦<AllPorts as PartialEq>⟧.eq query.now.most) }
 {
     let list = list_asked(alloc, query)?;
     let telling = Telling { query, list: &list };
-    found_page(alloc, &telling, limit, page)
+    Ok(found_page(alloc, &telling, limit, page)?)
 }
 
 /// The same page, on which a wait is shown by its last look, as `ccan-lab outcomes` shows it.

@@ -19,8 +19,8 @@ unreachable-requires g c =
     let within = c.requires.within in
     omega (arith, past, within)
 
-pub returns-clause-text : goal.returns-clause-text
-returns-clause-text g c =
+pub returns : goal.returns
+returns g c =
     let script = fields_of c.args.telling.now.query.now.race.now in
     let frames = frames_in c.args.telling.now.list.now in
     let form = c.args.telling.now.query.now.form in
@@ -32,7 +32,7 @@ returns-clause-text g c =
     let number : c.count.result ≡ min (length endings) greatest = c.count.ensures in
     let ordered : AreAllInOrder rows choices =
     subst (λ (l : List (List (List ℕ))). AreAllInOrder l choices) c.as_slice.ensures.value c.in_ok-choices.ensures in
-    let added = c.in_ok-add_outcome.ensures.text.0 in
+    let added = c.in_ok-add_outcome.ensures.0 in
     let at : slice_get endings c.args.number ≡ Some ending = sym c.in_ok-ending.ensures ∙ c.in-Some.is in
     let lines_are = c.as_str.ensures.value ∙ c.in_ok-lines.ensures
     ∙ ap (λ (l : List Lines). different_lines (all_texts l) (rows_of ending)) c.as_slice-2.ensures.value
@@ -43,7 +43,7 @@ returns-clause-text g c =
           c.in_ok-rows.ensures.lines ordered;
       outcome = added;
       is_one = subst (λ (lines : List ℕ). IsOutcomeText frames form script endings lines c.args.number added) lines_are
-          c.in_ok-add_outcome.ensures.text.2;
-      text_is = c.in_ok-add_outcome.ensures.text.1 ∙ (λ i. c.in_ok-text.ensures i ++ added)
+          c.in_ok-add_outcome.ensures.2;
+      text_is = c.in_ok-add_outcome.ensures.1 ∙ (λ i. c.in_ok-text.ensures i ++ added)
           ∙ (λ i. count_text (number i) ++ added);
     }

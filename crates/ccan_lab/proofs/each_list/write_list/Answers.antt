@@ -1,15 +1,14 @@
-use Rattle.std.proofs.Common.{length, subst, sym}
+use Rattle.std.proofs.Common.{◌≡◌, length, subst, sym}
 use Rattle.std.proofs.lemmas.Result.{IfOk-weaker}
 use Rattle.ccan_outcomes.specs.RaceScript.{fields_of}
-use Rattle.ccan_outcomes.specs.contracts.all_ports.AllPortsPartialEq.TheImpl.{ghosts as ports_are}
 use Rattle.ccan_outcomes.specs.OutcomeWords.{endings_in}
 use Rattle.ccan_lab.specs.declared.asked.Asked.{Asked}
+use Rattle.ccan_lab.specs.declared.lab_error.LabError.TheVariants as fault
 use Rattle.ccan_lab.specs.EachFile.{heading_if}
 use Rattle.ccan_lab.specs.Listing.{IsListingTo}
 use Rattle.ccan_lab.specs.Observed.{IsObservedListingTo, names_in}
 use Rattle.ccan_lab.specs.Outcomes.{AnswersTo}
 use Rattle.ccan_lab.specs.Telling.{frames_in}
-use Rattle.ccan_lab.specs.Words.{HasNoHistory}
 use Rattle.ccan_lab.proofs.Writing.{written_as}
 use Rattle.ccan_lab.proofs.each_list.write_list.Goals as goal
 
@@ -24,7 +23,7 @@ returns-in-All-clause-written g c =
     IfOk-weaker c.write_listing.result _ _
     (λ end. written_as (heading_if c.args.is_shown c.args.name.now) (IsListingTo frames form script endings)
     (AnswersTo frames form script endings c.args.asked)
-    (HasNoHistory script ports_are.eq c.args.telling.now.query.now.most) (length endings)
+    (λ why. why ≡ fault.Memory) (length endings)
     (λ count text is. subst (λ (asked : Asked). AnswersTo frames form script endings asked count text) (sym c.in-All.is) is)
     end old new)
     c.write_listing.ensures.written
@@ -41,7 +40,7 @@ returns-in-AllObserved-clause-written g c =
     (λ end. written_as (heading_if c.args.is_shown c.args.name.now)
     (IsObservedListingTo frames form (names_in c.in-AllObserved.names.now) script endings)
     (AnswersTo frames form script endings c.args.asked)
-    (HasNoHistory script ports_are.eq c.args.telling.now.query.now.most) (length endings)
+    (λ why. why ≡ fault.Memory) (length endings)
     (λ count text is. subst (λ (asked : Asked). AnswersTo frames form script endings asked count text) (sym c.in-AllObserved.is) is)
     end old new)
     c.write_observed.ensures.written

@@ -1,16 +1,11 @@
-use Rattle.std.proofs.Common.{◌≡◌, ◌++◌, ℕ, List, Some, None, map, slice_get, string_bytes, length, sym, ap, ◌∙◌, subst, arith, rules}
+use Rattle.std.proofs.Common.{◌≡◌, ◌++◌, ℕ, List, Some, None, map, slice_get, string_bytes, sym, ap, ◌∙◌, subst, arith}
 use Rattle.std.proofs.lemmas.Option.{slice_get_within}
-use Rattle.std.proofs.lemmas.Result.{IfErr-weaker}
 use Rattle.ccan_outcomes.specs.RaceScript.{fields_of}
-use Rattle.ccan_outcomes.specs.contracts.all_ports.AllPortsPartialEq.TheImpl.{ghosts as ports_are}
 use Rattle.ccan_outcomes.specs.OutcomeWords.{endings_in}
-use Rattle.ccan_lab.specs.declared.lab_error.LabError.TheVariants as fault
 use Rattle.ccan_lab.specs.Observed.{IsFirstText, is_repeat, text_at}
 use Rattle.ccan_lab.specs.OutcomeText.{IsOutcomeText}
 use Rattle.ccan_lab.specs.Telling.{frames_in}
-use Rattle.ccan_lab.specs.Words.{HasNoHistory}
 use Rattle.ccan_lab.proofs.Listed.{past_all}
-use Rattle.ccan_lab.proofs.Writing.{at_outcome, no_memory}
 use Rattle.ccan_lab.proofs.observed.first_text.Goals as goal
 
 pub add_if_first-requires-clause-within : goal.add_if_first-requires-clause-within
@@ -31,7 +26,7 @@ returns-clause-text g c =
     let endings = endings_in c.args.telling.now.list.now.words in
     let texts = map string_bytes c.args.texts.now.lines.items in
     let at : slice_get endings number ≡ Some c.in-Some.ending = sym c.in_ok-ending.ensures ∙ c.in-Some.is in
-    let made = c.in_ok-add_if_first.ensures.text in
+    let made = c.in_ok-add_if_first.ensures in
     let text_is = sym (made.1 ∙ ap (λ (t : List ℕ). t ++ made.0) c.new-text.ensures.bytes) in (
       slice_get_within endings number c.in-Some.ending at,
       subst (λ (t : List ℕ). IsFirstText (IsOutcomeText frames form script endings) (is_repeat texts number) (text_at texts number)
@@ -44,22 +39,3 @@ returns-in_default-clause-none g c =
     let endings = endings_in c.args.telling.now.list.now.words in
     let none : slice_get endings number ≡ None = sym c.in_ok-ending.ensures ∙ c.in_default.is in
     past_all endings number none
-
-pub returns-in_err-ending-clause-without : goal.returns-in_err-ending-clause-without
-returns-in_err-ending-clause-without g c =
-    let script = fields_of c.args.telling.now.query.now.race.now in
-    IfErr-weaker c.from_residual.result (λ why. why ≡ fault.Memory) _
-    (no_memory (HasNoHistory script ports_are.eq c.args.telling.now.query.now.most) tt
-    (length (endings_in c.args.telling.now.list.now.words)) c.args.number)
-    (search rules)
-
-pub returns-in_err-add_if_first-clause-without : goal.returns-in_err-add_if_first-clause-without
-returns-in_err-add_if_first-clause-without g c =
-    let script = fields_of c.args.telling.now.query.now.race.now in
-    let number = c.args.number in
-    let endings = endings_in c.args.telling.now.list.now.words in
-    let at : slice_get endings number ≡ Some c.in-Some.ending = sym c.in_ok-ending.ensures ∙ c.in-Some.is in
-    let IsReason = HasNoHistory script ports_are.eq c.args.telling.now.query.now.most in
-    IfErr-weaker c.from_residual-in_err-add_if_first.result IsReason _
-    (at_outcome IsReason (length endings) number (slice_get_within endings number c.in-Some.ending at))
-    (search rules)

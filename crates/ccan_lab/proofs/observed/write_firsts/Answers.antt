@@ -60,7 +60,7 @@ returns-in-Err-clause-written g c =
       text = told.0;
       is_list = told.2;
       written = told.1;
-      ends = c.in-Err.ensures.without;
+      ends = (refl, λ same. refl);
     }
 
 pub returns-clause-written : goal.returns-clause-written
@@ -72,5 +72,5 @@ returns-clause-written g c =
       text = told.0;
       is_list = told.2;
       written = told.1;
-      ends = (tt, λ same. refl);
+      ends = (refl, λ same. refl);
     }

@@ -3,7 +3,6 @@ use Rattle.std.proofs.lemmas.List.{length-map}
 use Rattle.std.proofs.lemmas.Result.{IfErr-weaker, IfOk-weaker}
 use Rattle.std.specs.Io.KnownBytes.{Appends}
 use Rattle.ccan_outcomes.specs.RaceScript.{fields_of}
-use Rattle.ccan_outcomes.specs.contracts.all_ports.AllPortsPartialEq.TheImpl.{ghosts as ports_are}
 use Rattle.ccan_outcomes.specs.OutcomeWords.{endings_in}
 use Rattle.ccan_lab.specs.declared.lab_error.LabError.TheVariants as fault
 use Rattle.ccan_lab.specs.EachFile.{heading_if}
@@ -12,7 +11,6 @@ use Rattle.ccan_lab.specs.Observed.{observed_texts}
 use Rattle.ccan_lab.specs.OutcomeText.{IsOutcomeText}
 use Rattle.ccan_lab.specs.Rows.{rows_of}
 use Rattle.ccan_lab.specs.Telling.{frames_in}
-use Rattle.ccan_lab.specs.Words.{HasNoHistory}
 use Rattle.ccan_lab.proofs.Writing.{nothing_written, written_below}
 use Rattle.ccan_lab.proofs.observed.write_observed.Goals as goal
 
@@ -61,7 +59,7 @@ returns-clause-written g c =
     let new = g.W.Write.contents c.write_firsts.new.writer in
     IfOk-weaker c.write_firsts.result _ _ (λ end later.
     written_below above head (AreFirstTexts IsText texts) (IsObservedListingTo frames form names script endings)
-    (HasNoHistory script ports_are.eq c.args.telling.now.query.now.most) (length endings) whole end old between new
+    (λ why. why ≡ fault.Memory) (length endings) whole end old between new
     (subst (λ (t : List ℕ). Appends old between (above ++ t)) head_is c.in_ok-write_below.ensures.ok) later)
     c.write_firsts.ensures.written
 

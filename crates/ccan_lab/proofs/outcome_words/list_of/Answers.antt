@@ -30,6 +30,7 @@ returns-in-Some-2-clause-told g c =
     let so : words.numbers.frames ≡ c.args.frames = of_some _ _ _ is c.in_ok-words.ensures.told in
     record {
       machine = of_some _ _ _ c.in-Some.is c.in_ok-graph.ensures.machine;
+      made = of_some _ _ _ is c.in_ok-words.ensures.made;
       ends = subst (λ (frames : Bool). AreAllEnds frames script (endings_in words)) (sym so)
           (of_some _ _ _ is c.in_ok-words.ensures.ends);
       runs = of_some _ _ _ is c.in_ok-words.ensures.runs;

@@ -5,8 +5,7 @@ use Rattle.ccan_outcomes.specs.contracts.all_ports.AllPortsPartialEq.TheImpl.{gh
 use Rattle.ccan_outcomes.specs.OutcomeWords.{endings_in}
 use Rattle.ccan_lab.specs.declared.lab_error.LabError.TheVariants as fault
 use Rattle.ccan_lab.specs.Sorted.{texts_of}
-use Rattle.ccan_lab.specs.Words.{HasNoHistory, IsUnanswered}
-use Rattle.ccan_lab.proofs.Unanswered.{no_history}
+use Rattle.ccan_lab.specs.Words.{IsUnanswered}
 use Rattle.ccan_lab.proofs.outcomes.answer_by_line.Goals as goal
 
 pub returns-in_ok-text-in-Found-clause-told : goal.returns-in_ok-text-in-Found-clause-told
@@ -19,7 +18,7 @@ returns-in_ok-text-in-Found-clause-told g c =
         are = c.requires.all;
         runs = c.requires.can.runs;
         once = c.requires.distinct;
-        says = (c.in-Found.number, searched.0, c.in_ok-text-in-Found.ensures.text);
+        says = (c.in-Found.number, searched.0, c.in_ok-text-in-Found.ensures);
         taken = searched.2;
       },
       refl,
@@ -47,15 +46,17 @@ returns-in_err-number-clause-without g c =
     let frames = c.args.telling.now.list.now.words.numbers.frames in
     IfErr-weaker c.from_residual.result (λ why. why ≡ fault.Memory) _
     (λ why is. subst (IsUnanswered frames script (texts_of c.args.begins.now) ports_are.eq c.args.telling.now.query.now.most)
-    (sym is) (inl tt))
+    (sym is) tt)
     (search rules)
 
 pub returns-in_err-text-in-Found-clause-without : goal.returns-in_err-text-in-Found-clause-without
 returns-in_err-text-in-Found-clause-without g c =
     let script = fields_of c.args.telling.now.query.now.race.now in
     let frames = c.args.telling.now.list.now.words.numbers.frames in
-    IfErr-weaker c.from_residual-in_err-text-in-Found.result (HasNoHistory script ports_are.eq c.args.telling.now.query.now.most) _
-    (no_history frames script (texts_of c.args.begins.now) ports_are.eq c.args.telling.now.query.now.most) (search rules)
+    IfErr-weaker c.from_residual-in_err-text-in-Found.result (λ why. why ≡ fault.Memory) _
+    (λ why is. subst (IsUnanswered frames script (texts_of c.args.begins.now) ports_are.eq c.args.telling.now.query.now.most)
+    (sym is) tt)
+    (search rules)
 
 pub returns-in-Refused-clause-without : goal.returns-in-Refused-clause-without
 returns-in-Refused-clause-without g c =

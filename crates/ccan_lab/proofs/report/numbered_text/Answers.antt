@@ -1,17 +1,12 @@
-use Rattle.std.proofs.Common.{◌≡◌, ◌++◌, ℕ, List, Some, None, slice_get, length, sym, ap, ◌∙◌, subst, rules}
+use Rattle.std.proofs.Common.{◌≡◌, ◌++◌, ℕ, List, Some, None, slice_get, sym, ap, ◌∙◌, subst}
 use Rattle.std.proofs.lemmas.Option.{slice_get_within}
-use Rattle.std.proofs.lemmas.Result.{IfErr-weaker}
 use Rattle.ccan_outcomes.specs.RaceScript.{fields_of}
-use Rattle.ccan_outcomes.specs.contracts.all_ports.AllPortsPartialEq.TheImpl.{ghosts as ports_are}
 use Rattle.ccan_outcomes.specs.OutcomeWords.{endings_in}
-use Rattle.ccan_lab.specs.declared.lab_error.LabError.TheVariants as fault
 use Rattle.ccan_lab.specs.Listing.{IsNumberedText, different_lines}
 use Rattle.ccan_lab.specs.OutcomeText.{IsOutcomeText}
 use Rattle.ccan_lab.specs.Sorted.{all_texts}
 use Rattle.ccan_lab.specs.Telling.{frames_in}
-use Rattle.ccan_lab.specs.Words.{HasNoHistory}
 use Rattle.ccan_lab.proofs.Listed.{past_all, rows_there}
-use Rattle.ccan_lab.proofs.Writing.{at_outcome, no_memory}
 use Rattle.ccan_lab.proofs.report.numbered_text.Goals as goal
 
 pub returns-clause-text : goal.returns-clause-text
@@ -24,7 +19,7 @@ returns-clause-text g c =
     let choices = all_texts c.args.choices.now in
     let ending = c.in-Some.ending in
     let at : slice_get endings number ≡ Some ending = sym c.in_ok-ending.ensures ∙ c.in-Some.is in
-    let made = c.in_ok-add_outcome.ensures.text in
+    let made = c.in_ok-add_outcome.ensures in
     let text_is = sym (made.1 ∙ ap (λ (t : List ℕ). t ++ made.0) c.new-text.ensures.bytes) in
     let lines_are = c.as_str.ensures.value ∙ c.in_ok-lines.ensures
     ∙ ap (different_lines choices) (sym (rows_there endings number ending at)) in (
@@ -39,30 +34,3 @@ returns-in_default-clause-none g c =
     let endings = endings_in c.args.telling.now.list.now.words in
     let none : slice_get endings number ≡ None = sym c.in_ok-ending.ensures ∙ c.in_default.is in
     past_all endings number none
-
-pub returns-in_err-ending-clause-without : goal.returns-in_err-ending-clause-without
-returns-in_err-ending-clause-without g c =
-    let script = fields_of c.args.telling.now.query.now.race.now in
-    IfErr-weaker c.from_residual.result (λ why. why ≡ fault.Memory) _
-    (no_memory (HasNoHistory script ports_are.eq c.args.telling.now.query.now.most) tt
-    (length (endings_in c.args.telling.now.list.now.words)) c.args.number)
-    (search rules)
-
-pub returns-in_err-lines-clause-without : goal.returns-in_err-lines-clause-without
-returns-in_err-lines-clause-without g c =
-    let script = fields_of c.args.telling.now.query.now.race.now in
-    IfErr-weaker c.from_residual-in_err-lines.result (λ why. why ≡ fault.Memory) _
-    (no_memory (HasNoHistory script ports_are.eq c.args.telling.now.query.now.most) tt
-    (length (endings_in c.args.telling.now.list.now.words)) c.args.number)
-    (search rules)
-
-pub returns-in_err-add_outcome-clause-without : goal.returns-in_err-add_outcome-clause-without
-returns-in_err-add_outcome-clause-without g c =
-    let script = fields_of c.args.telling.now.query.now.race.now in
-    let number = c.args.number in
-    let endings = endings_in c.args.telling.now.list.now.words in
-    let at : slice_get endings number ≡ Some c.in-Some.ending = sym c.in_ok-ending.ensures ∙ c.in-Some.is in
-    let IsReason = HasNoHistory script ports_are.eq c.args.telling.now.query.now.most in
-    IfErr-weaker c.from_residual-in_err-add_outcome.result IsReason _
-    (at_outcome IsReason (length endings) number (slice_get_within endings number c.in-Some.ending at))
-    (search rules)

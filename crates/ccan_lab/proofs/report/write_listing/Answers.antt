@@ -2,7 +2,6 @@ use Rattle.std.proofs.Common.{Contains, ◌≡◌, ◌++◌, List, ℕ, length, 
 use Rattle.std.proofs.lemmas.Result.{IfErr-weaker, IfOk-weaker}
 use Rattle.std.specs.Io.KnownBytes.{Appends}
 use Rattle.ccan_outcomes.specs.RaceScript.{fields_of}
-use Rattle.ccan_outcomes.specs.contracts.all_ports.AllPortsPartialEq.TheImpl.{ghosts as ports_are}
 use Rattle.ccan_outcomes.specs.OutcomeWords.{endings_in}
 use Rattle.ccan_lab.specs.declared.lab_error.LabError.TheVariants as fault
 use Rattle.ccan_lab.specs.Counting.{count_text, greatest}
@@ -11,7 +10,6 @@ use Rattle.ccan_lab.specs.Listing.{AreOutcomeTexts, IsListingTo}
 use Rattle.ccan_lab.specs.Sorted.{AreAllInOrder, all_texts}
 use Rattle.ccan_lab.specs.Summary.{same_parts}
 use Rattle.ccan_lab.specs.Telling.{frames_in}
-use Rattle.ccan_lab.specs.Words.{HasNoHistory}
 use Rattle.ccan_lab.proofs.Listed.{has_choices}
 use Rattle.ccan_lab.proofs.Parts.{Lines}
 use Rattle.ccan_lab.proofs.Writing.{nothing_written, written_below}
@@ -49,7 +47,7 @@ returns-clause-written g c =
     let new = g.W.Write.contents c.write_outcomes.new.writer in
     IfOk-weaker c.write_outcomes.result _ _ (λ end later.
     written_below above head (AreOutcomeTexts frames form script endings (all_texts c.as_slice-3.result.now))
-    (IsListingTo frames form script endings) (HasNoHistory script ports_are.eq c.args.telling.now.query.now.most) (length endings)
+    (IsListingTo frames form script endings) (λ why. why ≡ fault.Memory) (length endings)
     whole end old between new (subst (λ (t : List ℕ). Appends old between (above ++ t)) head_is
     c.in_ok-write_below.ensures.ok) later)
     c.write_outcomes.ensures.written

@@ -20,7 +20,7 @@ returns-clause-text g c =
     let keys = c.args.shown.now.endings.items in
     let repeat = is_repeat (map string_bytes texts) place in
     let lines = text_at (map string_bytes texts) place in
-    let added = c.in_ok-add_seen.ensures.text.0 in
+    let added = c.in_ok-add_seen.ensures.0 in
     let first : repeat ≡ false = search rules in
     let shown = c.index.result.now in
     let within : place < length texts = subst (λ count. place < count) (sym c.requires.as_many) c.requires.within in
@@ -33,8 +33,8 @@ returns-clause-text g c =
     number added in
     let told : IsSeenText frames form script marks keys (map string_bytes texts) lines place added =
     subst (λ (n : ℕ). is_text lines n) c.requires.counts
-    (subst (λ (l : List ℕ). is_text l c.args.number) lines_are c.in_ok-add_seen.ensures.text.2) in (
+    (subst (λ (l : List ℕ). is_text l c.args.number) lines_are c.in_ok-add_seen.ensures.2) in (
       added,
-      c.in_ok-add_seen.ensures.text.1,
+      c.in_ok-add_seen.ensures.1,
       first_text (IsSeenText frames form script marks keys (map string_bytes texts)) repeat lines place added first told,
     )

@@ -1,5 +1,6 @@
 use Rattle.std.proofs.Common.{◌≡◌, ◌++◌, ℕ, List, length, map, ap, ◌∙◌, sym, subst, string_bytes, String, Global}
 use Rattle.std.proofs.lemmas.List.{length-map}
+use Rattle.std.proofs.lemmas.Result.{IfOk-weaker}
 use Rattle.std.specs.Global.{Vec}
 use Rattle.ccan_outcomes.specs.RaceScript.{fields_of}
 use Rattle.ccan_outcomes.specs.declared.ending.Ending.{Ending}
@@ -9,8 +10,8 @@ use Rattle.ccan_lab.specs.Seen.{IsSeenText, seen_heading}
 use Rattle.ccan_lab.specs.Telling.{frames_in}
 use Rattle.ccan_lab.proofs.seen.seen_listing.Goals as goal
 
-pub returns-clause-text : goal.returns-clause-text
-returns-clause-text g c =
+pub returns : goal.returns
+returns g c =
     let script = fields_of c.args.telling.now.query.now.race.now in
     let frames = frames_in c.args.telling.now.list.now in
     let form = c.args.telling.now.query.now.form in
@@ -27,13 +28,14 @@ returns-clause-text g c =
     let apart : c.in_ok-apart.apart ≡ first_count texts count = c.in_ok-apart.ensures.count in
     let firsts : c.as_str.result.now ≡ added =
     c.as_str.ensures.value ∙ c.in_ok-apart.ensures.text.1 ∙ ap (λ (t : List ℕ). t ++ added) c.new-told.ensures.bytes in
-    record {
+    IfOk-weaker c.below_heading.result _ _ (λ text told. record {
       outcomes = added;
       are = subst (λ told. is_told told added) texts_are are;
-      text_is = c.in_ok-below_heading.ensures ∙ ap (λ (t : List ℕ). seen_heading c.in_ok-apart.apart ++ t) firsts
+      text_is = told ∙ ap (λ (t : List ℕ). seen_heading c.in_ok-apart.apart ++ t) firsts
           ∙ ap (λ (n : ℕ). seen_heading n ++ added) apart
           ∙ ap (λ (told : List (List ℕ)). seen_heading (first_count told count) ++ added) texts_are;
-    }
+    })
+    c.below_heading.ensures
 
 -- there is a text for each outcome
 pub add_all_seen-requires-clause-as_many : goal.add_all_seen-requires-clause-as_many

@@ -1,12 +1,10 @@
-use Rattle.std.proofs.Common.{◌⊎◌, inl, inr, ◌∙◌, Bool, List, string_bytes, subst}
+use Rattle.std.proofs.Common.{inr, ◌∙◌, Bool, List, string_bytes, subst}
 use Rattle.std.proofs.lemmas.Result.{IfErr-weaker, IfOk-weaker}
 use Rattle.ccan_outcomes.specs.RaceScript.{fields_of}
 use Rattle.ccan_outcomes.specs.OutcomeWords.{endings_in}
-use Rattle.ccan_outcomes.specs.contracts.all_ports.AllPortsPartialEq.TheImpl.{ghosts as ports_are}
 use Rattle.ccan_lab.specs.Observed.{marks_of, names_in}
-use Rattle.ccan_lab.specs.Seen.{HasNoImages, HasNoSeenList, ListsSeen}
+use Rattle.ccan_lab.specs.Seen.{HasNoImages, ListsSeen}
 use Rattle.ccan_lab.specs.Telling.{frames_in}
-use Rattle.ccan_lab.specs.Words.{HasNoHistory}
 use Rattle.ccan_lab.proofs.seen.seen_text.Goals as goal
 
 pub returns-clause-text : goal.returns-clause-text
@@ -32,21 +30,14 @@ returns-clause-text g c =
 
 pub returns-clause-without : goal.returns-clause-without
 returns-clause-without g c =
-    let script = fields_of c.args.query.now.race.now in
     let words = c.in_ok-list.list.words in
     let most = c.args.query.now.most in
-    let names = names_in c.args.names.now in
-    let frames = c.args.query.now.frames in
     let marks_are = c.as_slice.ensures.value ∙ c.in_ok-marks.ensures in
-    IfErr-weaker c.seen_of_list.result
-    (λ why. HasNoImages words c.as_slice.result.now most why ⊎ HasNoHistory script ports_are.eq most why) _
-    (λ why none. elim none as (λ _. HasNoSeenList frames names script ports_are.eq most why) [
-      | inl images ↦ inr (
-        words,
-        c.in_ok-list.ensures.ends,
-        c.in_ok-list.ensures.all,
-        subst (λ (marks : List Bool). HasNoImages words marks most why) marks_are images,
-      )
-      | inr history ↦ inl (inr history)
-    ])
+    IfErr-weaker c.seen_of_list.result (HasNoImages words c.as_slice.result.now most) _
+    (λ why none. inr (
+      words,
+      c.in_ok-list.ensures.ends,
+      c.in_ok-list.ensures.all,
+      subst (λ (marks : List Bool). HasNoImages words marks most why) marks_are none,
+    ))
     c.seen_of_list.ensures.without

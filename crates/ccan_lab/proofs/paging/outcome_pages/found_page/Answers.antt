@@ -26,5 +26,5 @@ returns-clause-shows g c =
       same_is = c.in_ok-add_same_parts.ensures
           ∙ (λ i. c.new-same.ensures.bytes i ++ same_parts (all_texts (c.as_slice-2.ensures.value i)));
       are_shown = subst (λ (l : List Lines). AreShown frames script endings (all_texts l) (min c.args.limit (length endings))
-          c.in_ok-page.field-0.items) c.as_slice-3.ensures.value c.in_ok-page.ensures.shown;
+          c.in_ok-page.field-0.items) c.as_slice-3.ensures.value c.in_ok-page.ensures;
     }

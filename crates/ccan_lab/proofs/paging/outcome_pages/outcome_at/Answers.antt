@@ -1,9 +1,6 @@
 -- The steps that are shown are those of the history that was found.
-use Rattle.std.proofs.Common.{ap, refl, sym, subst, ◌∙◌}
-use Rattle.ccan_language.proofs.Grown.{same_some}
+use Rattle.std.proofs.Common.{ap, refl, sym, ◌∙◌}
 use Rattle.ccan_outcomes.specs.RaceScript.{fields_of}
-use Rattle.ccan_outcomes.specs.declared.ending.Ending.{Ending}
-use Rattle.ccan_outcomes.specs.History.{IsHistoryOf}
 use Rattle.ccan_outcomes.specs.OutcomeWords.{endings_in}
 use Rattle.ccan_lab.specs.Listing.{different_lines}
 use Rattle.ccan_lab.specs.Sorted.{all_texts}
@@ -11,8 +8,8 @@ use Rattle.ccan_lab.specs.Telling.{frames_in}
 use Rattle.ccan_lab.proofs.Listed.{rows_there}
 use Rattle.ccan_lab.proofs.paging.outcome_pages.outcome_at.Goals as goal
 
-pub returns-clause-shown : goal.returns-clause-shown
-returns-clause-shown g c =
+pub returns : goal.returns
+returns g c =
     let script = fields_of c.args.telling.now.query.now.race.now in
     let frames = frames_in c.args.telling.now.list.now in
     let ending = c.args.ending.now in
@@ -23,7 +20,6 @@ returns-clause-shown g c =
           ∙ ap (different_lines (all_texts c.args.choices.now))
           (sym (rows_there (endings_in c.args.telling.now.list.now.words) c.args.place ending c.requires.at));
       steps = steps;
-      lead_to_it = λ shown is. subst (λ (e : Ending). IsHistoryOf frames script e steps)
-          (same_some ending shown (sym c.requires.at ∙ is)) c.in_ok-history.ensures.history;
+      lead_to_it = c.in_ok-history.ensures.history;
       are_shown = c.in_ok-steps_shown.ensures;
     }

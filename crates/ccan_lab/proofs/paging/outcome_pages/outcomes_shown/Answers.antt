@@ -26,13 +26,13 @@ loop-place-preserved g c =
             c.in_ok-outcome.outcome,
             c.in_ok-add_shown.ensures,
             c.loop-place.invariant.are,
-            c.in_ok-outcome.ensures.shown,
+            c.in_ok-outcome.ensures,
           );
     }
 
 -- behind the last of all
-pub returns-in_default-clause-shown : goal.returns-in_default-clause-shown
-returns-in_default-clause-shown g c =
+pub returns-in_default : goal.returns-in_default
+returns-in_default g c =
     let place = c.loop-place.place in
     let endings = endings_in c.args.telling.now.list.now.words in
     let low = c.loop-place-test.true in
@@ -45,8 +45,8 @@ returns-in_default-clause-shown g c =
     c.loop-place.shown.items) same c.loop-place.invariant.are
 
 -- behind as many as are to be shown
-pub returns-clause-shown : goal.returns-clause-shown
-returns-clause-shown g c =
+pub returns : goal.returns
+returns g c =
     let place = c.loop-place.place in
     let endings = endings_in c.args.telling.now.list.now.words in
     let high = c.loop-place-test.false in
