@@ -3,7 +3,7 @@
 The model is made for speed. Records of objects, registers of the interfaces and answers are numbers; what a step makes of them was
 worked out before, by the second model of the rules. A transfer is one step; a wait, an interrupt value and a flag word are their
 looks; a round is its looks, its attempts and its finish or store. It takes hosts' lines, and rounds without faults, beside one other
-node, if no attempt loses all its tries."""
+node, if no attempt loses all its tries, and no object sends with the identifier of a frame of that node: it knows no collision."""
 import os
 import re
 import subprocess
