@@ -56,7 +56,7 @@ same_work held = record { tries = refl; nodes = refl; map = refl }
 
 -- a call of a host that makes no step and leaves the handle
 pub host_rests : (call : HostCall) (held : Held)
-    → HostCallMeans (terms_at (port_of held)) held.tries held.map call held.own (port_of held).whole [] held.own
+    → HostCallMeans (terms_at (port_of held)) held.chip.settings.tries held.chip.settings.map call held.own (port_of held).whole [] held.own
     → IsOpenAs (HostRuns call held) (Some held)
 host_rests call held h = (
   held,
@@ -71,7 +71,7 @@ host_rests call held h = (
 -- the same of the bus
 pub bus_rests : (call : BusCall) (held : Held) → station_after call (station_of held) ≡ station_of held
     → ((past : BusPast) → LedTo past held.bus.bus
-    → BusCallMeans (terms_at (port_of held)) held.tries held.nodes held.map call past (port_of held).whole [] past)
+    → BusCallMeans (terms_at (port_of held)) held.chip.settings.tries held.nodes held.chip.settings.map call past (port_of held).whole [] past)
     → IsOpenAs (BusRuns call held) (Some held)
 bus_rests call held still h = (
   held,
@@ -88,7 +88,7 @@ bus_rests call held still h = (
 pub host_did : (call : HostCall) (old new : Held) (what : Terms → ChipHistory → ChipHistory → InterfaceSet → Type 0)
     → HostSteps what old new
     → ((seen added : ChipHistory) → what (terms_at (port_of old)) seen added new.own
-    → HostCallMeans (terms_at (port_of old)) old.tries old.map call old.own seen added new.own)
+    → HostCallMeans (terms_at (port_of old)) old.chip.settings.tries old.chip.settings.map call old.own seen added new.own)
     → IsOpenAs (HostRuns call old) (Some new)
 host_did call old new what does f = (
   new,
@@ -103,7 +103,7 @@ host_did call old new what does f = (
 -- the same where its registers stay
 pub host_looked : (call : HostCall) (old new : Held) (what : Terms → ChipHistory → ChipHistory → Type 0) → Steps what old new
     → ((seen added : ChipHistory) → what (terms_at (port_of old)) seen added
-    → HostCallMeans (terms_at (port_of old)) old.tries old.map call old.own seen added old.own)
+    → HostCallMeans (terms_at (port_of old)) old.chip.settings.tries old.chip.settings.map call old.own seen added old.own)
     → IsOpenAs (HostRuns call old) (Some new)
 host_looked call old new what does f = (
   new,
@@ -113,7 +113,7 @@ host_looked call old new what does f = (
     bus = does.kept.bus;
     goes =
         weaker (port_of old) (port_of new) _ _ does.goes (λ seen added h.
-        subst (λ (own : InterfaceSet). HostCallMeans (terms_at (port_of old)) old.tries old.map call old.own seen added own)
+        subst (λ (own : InterfaceSet). HostCallMeans (terms_at (port_of old)) old.chip.settings.tries old.chip.settings.map call old.own seen added own)
         (sym does.kept.own) (f seen added h));
   },
 )
@@ -122,7 +122,7 @@ host_looked call old new what does f = (
 pub bus_did : (call : BusCall) (old new : Held) (what : Terms → BusPast → ChipHistory → ChipHistory → BusPast → Type 0)
     → BusSteps what old new → station_of new ≡ station_after call (station_of old)
     → ((past after : BusPast) (seen added : ChipHistory) → what (terms_at (port_of old)) past seen added after
-    → BusCallMeans (terms_at (port_of old)) old.tries old.nodes old.map call past seen added after)
+    → BusCallMeans (terms_at (port_of old)) old.chip.settings.tries old.nodes old.chip.settings.map call past seen added after)
     → IsOpenAs (BusRuns call old) (Some new)
 bus_did call old new what does station f = (
   new,
@@ -140,7 +140,7 @@ bus_did call old new what does station f = (
 pub bus_looked : (call : BusCall) (old new : Held) (what : Terms → ChipHistory → ChipHistory → Type 0) → Steps what old new
     → station_after call (station_of old) ≡ station_of old
     → ((past : BusPast) (seen added : ChipHistory) → LedTo past old.bus.bus → what (terms_at (port_of old)) seen added
-    → BusCallMeans (terms_at (port_of old)) old.tries old.nodes old.map call past seen added past)
+    → BusCallMeans (terms_at (port_of old)) old.chip.settings.tries old.nodes old.chip.settings.map call past seen added past)
     → IsOpenAs (BusRuns call old) (Some new)
 bus_looked call old new what does still f = (
   new,
@@ -167,7 +167,7 @@ still_named o old new named is same = λ h e. (
 
 -- a call that is refused on an open handle
 pub host_refused : (call : HostCall) (o : Option Held) → is_some o ≡ true
-    → ((held : Held) → HostCallMeans (terms_at (port_of held)) held.tries held.map call held.own (port_of held).whole [] held.own)
+    → ((held : Held) → HostCallMeans (terms_at (port_of held)) held.chip.settings.tries held.chip.settings.map call held.own (port_of held).whole [] held.own)
     → HostCallDoes call o o
 host_refused call None is h = absurd (let wrong : false ≡ true = is in cc)
 host_refused call (Some held) is h = host_rests call held (h held)
@@ -175,14 +175,14 @@ host_refused call (Some held) is h = host_rests call held (h held)
 pub bus_refused : (call : BusCall) (o : Option Held) → is_some o ≡ true
     → ((old : StationState) → station_after call old ≡ old)
     → ((held : Held) (past : BusPast) → LedTo past held.bus.bus
-    → BusCallMeans (terms_at (port_of held)) held.tries held.nodes held.map call past (port_of held).whole [] past)
+    → BusCallMeans (terms_at (port_of held)) held.chip.settings.tries held.nodes held.chip.settings.map call past (port_of held).whole [] past)
     → BusCallDoes call o o
 bus_refused call None is still h = absurd (let wrong : false ≡ true = is in cc)
 bus_refused call (Some held) is still h = bus_rests call held (still (station_of held)) (h held)
 
 -- a call that left the handle as it was
 pub host_rests_as : (call : HostCall) (held new : Held) → new ≡ held
-    → HostCallMeans (terms_at (port_of held)) held.tries held.map call held.own (port_of held).whole [] held.own
+    → HostCallMeans (terms_at (port_of held)) held.chip.settings.tries held.chip.settings.map call held.own (port_of held).whole [] held.own
     → IsOpenAs (HostRuns call held) (Some new)
 host_rests_as call held new is h =
     subst (λ (x : Held). IsOpenAs (HostRuns call held) (Some x)) (sym is) (host_rests call held h)
@@ -190,7 +190,7 @@ host_rests_as call held new is h =
 pub bus_rests_as : (call : BusCall) (held new : Held) → new ≡ held
     → station_after call (station_of held) ≡ station_of held
     → ((past : BusPast) → LedTo past held.bus.bus
-    → BusCallMeans (terms_at (port_of held)) held.tries held.nodes held.map call past (port_of held).whole [] past)
+    → BusCallMeans (terms_at (port_of held)) held.chip.settings.tries held.nodes held.chip.settings.map call past (port_of held).whole [] past)
     → IsOpenAs (BusRuns call held) (Some new)
 bus_rests_as call held new is still h =
     subst (λ (x : Held). IsOpenAs (BusRuns call held) (Some x)) (sym is) (bus_rests call held still h)
@@ -219,7 +219,7 @@ wait_refused terms tries map object number turns code out own seen h =
 pub bus_wrote : (call : BusCall) (old new : Held) (what : Terms → ChipHistory → ChipHistory → InterfaceSet → Type 0)
     → HostSteps what old new → new.own ≡ old.own → station_after call (station_of old) ≡ station_of old
     → ((past : BusPast) (seen added : ChipHistory) → what (terms_at (port_of old)) seen added old.own
-    → BusCallMeans (terms_at (port_of old)) old.tries old.nodes old.map call past seen added past)
+    → BusCallMeans (terms_at (port_of old)) old.chip.settings.tries old.nodes old.chip.settings.map call past seen added past)
     → IsOpenAs (BusRuns call old) (Some new)
 bus_wrote call old new what does own still f = (
   new,
@@ -244,7 +244,7 @@ pub frame_did : (call : FrameCall) (old new : Held)
     (what : Terms → StationState → ChipHistory → ChipHistory → StationState → Type 0) → StationSteps what old new
     → new.bus ≡ old.bus
     → ((past : BusPast) (seen added : ChipHistory) → what (terms_at (port_of old)) (station_of old) seen added (station_of new)
-    → FrameCallMeans (terms_at (port_of old)) old.tries call (record { past = past; station = station_of old }) seen added
+    → FrameCallMeans (terms_at (port_of old)) old.chip.settings.tries call (record { past = past; station = station_of old }) seen added
     (record { past = past; station = station_of new }))
     → IsOpenAs (FrameRuns call old) (Some new)
 frame_did call old new what does bus f = (
@@ -266,7 +266,7 @@ pub frame_began : (call : FrameCall) (old new : Held)
     (what : Terms → StationState → ChipHistory → ChipHistory → StationState → Type 0) → StationSteps what old new
     → ((past : BusPast) → LedTo past old.bus.bus → LedTo (unloaded past) new.bus.bus)
     → ((past : BusPast) (seen added : ChipHistory) → what (terms_at (port_of old)) (station_of old) seen added (station_of new)
-    → FrameCallMeans (terms_at (port_of old)) old.tries call (record { past = past; station = station_of old }) seen added
+    → FrameCallMeans (terms_at (port_of old)) old.chip.settings.tries call (record { past = past; station = station_of old }) seen added
     (record { past = unloaded past; station = station_of new }))
     → IsOpenAs (FrameRuns call old) (Some new)
 frame_began call old new what does drops f = (
@@ -286,7 +286,7 @@ frame_began call old new what does drops f = (
 -- a call that is refused on an open handle
 pub frame_refused : (call : FrameCall) (o : Option Held) → is_some o ≡ true
     → ((held : Held) (state : BusState)
-    → FrameCallMeans (terms_at (port_of held)) held.tries call state (port_of held).whole [] state)
+    → FrameCallMeans (terms_at (port_of held)) held.chip.settings.tries call state (port_of held).whole [] state)
     → FrameCallDoes call o o
 frame_refused call None is h = absurd (let wrong : false ≡ true = is in cc)
 frame_refused call (Some held) is h = (
@@ -302,7 +302,7 @@ frame_refused call (Some held) is h = (
 -- what a call does that leaves all but the port
 pub frame_looked : (call : FrameCall) (old new : Held) (what : Terms → ChipHistory → ChipHistory → Type 0) → Steps what old new
     → ((past : BusPast) (seen added : ChipHistory) → what (terms_at (port_of old)) seen added
-    → FrameCallMeans (terms_at (port_of old)) old.tries call (record { past = past; station = station_of old }) seen added
+    → FrameCallMeans (terms_at (port_of old)) old.chip.settings.tries call (record { past = past; station = station_of old }) seen added
     (record { past = past; station = station_of old }))
     → IsOpenAs (FrameRuns call old) (Some new)
 frame_looked call old new what does f = (
@@ -315,7 +315,7 @@ frame_looked call old new what does f = (
       past,
       subst (λ (b : ChipBus). LedTo past b.bus) (sym does.kept.bus) led,
       weaker (port_of old) (port_of new) _ _ does.goes (λ seen added h.
-          subst (λ (s : StationState). FrameCallMeans (terms_at (port_of old)) old.tries call
+          subst (λ (s : StationState). FrameCallMeans (terms_at (port_of old)) old.chip.settings.tries call
           (record { past = past; station = station_of old }) seen added (record { past = past; station = s }))
           (sym does.kept.station)
           (f past seen added h)),

@@ -1,5 +1,6 @@
 pub mod AsBox
 pub mod AsNoteBox
+pub mod WorksAlike
 pub mod Calls
 pub mod Chips
 pub mod OwnEvents

@@ -28,14 +28,14 @@ kept_through old mid new f s = record {
 }
 
 pub loops : (old mid new : Held) (unit : Unit {0}) (told : Result (Unit {0}) AccessError)
-    → Steps (λ terms seen added. Makes terms (testing true) old.tries seen added (Ok unit)) old mid
-    → Steps (λ terms seen added. Makes terms looping mid.tries seen added told) mid new
-    → Steps (λ terms seen added. LoopsBack terms old.tries true seen added (code_of_access (Some told))) old new
+    → Steps (λ terms seen added. Makes terms (testing true) old.chip.settings.tries seen added (Ok unit)) old mid
+    → Steps (λ terms seen added. Makes terms looping mid.chip.settings.tries seen added told) mid new
+    → Steps (λ terms seen added. LoopsBack terms old.chip.settings.tries true seen added (code_of_access (Some told))) old new
 loops old mid new unit told f s =
     let first : Terms → ChipHistory → ChipHistory → Type 0 = λ terms seen added.
-    MakesChange terms (testing true) old.tries seen added done in
+    MakesChange terms (testing true) old.chip.settings.tries seen added done in
     let second : Terms → ChipHistory → ChipHistory → Type 0 = λ terms seen added.
-    MakesChange terms looping old.tries seen added (code_of_access (Some told)) in
+    MakesChange terms looping old.chip.settings.tries seen added (code_of_access (Some told)) in
     record {
       kept = kept_through old mid new f.kept s.kept;
       goes =

@@ -1,18 +1,15 @@
 -- What C was given of a frame, and gives back, is to each member what was decided. So the laws of what is on a bus are laws of the
 -- chips that share it.
 use Rattle.std.proofs.Common.{ℕ, ◌≡◌, ◌≤◌, ◌<◌, Bool, true, false, List, [], Option, Some, map, length, refl, sym, ap, ap₂, subst, ◌∙◌}
-use Rattle.std.proofs.Common.{arith, get_or}
+use Rattle.std.proofs.Common.{arith}
 use Rattle.std.specs.Prelude.{slice_index_or, if◌then◌else◌}
 use Rattle.std.proofs.Math.ListN.{get_or-map}
 use Rattle.std.proofs.lemmas.List.{get_or_past, length-map}
 use Rattle.ccan_accept.specs.declared.frame.Frame.{Frame}
-use Rattle.ccan_confine.specs.declared.bus_event.BusEvent.{BusEvent}
-use Rattle.ccan_confine.specs.declared.status_event.StatusEvent.{StatusEvent}
 use Rattle.ccan_wire.specs.declared.flaw.Flaw.{Flaw}
 use Rattle.ccan_wire.specs.declared.member.Member.{Member}
 use Rattle.ccan_wire.specs.declared.role.Role.{Role}
 use Rattle.ccan_wire.specs.declared.role.Role.TheVariants.{Absent, Silent, Alone, Passive, Active, Looped}
-use Rattle.ccan_wire.specs.declared.start.Start.{Start}
 use Rattle.ccan_wire.specs.declared.start.Start.TheVariants.{Nothing, Collision, Won}
 use Rattle.ccan_wire.specs.declared.winner.Part.{Part}
 use Rattle.ccan_wire.specs.declared.winner.Part.TheVariants.{Sender, Dropped, Listener}
@@ -20,8 +17,8 @@ use Rattle.ccan_wire.specs.declared.winner.Winner.{Winner}
 use Rattle.ccan_wire.specs.declared.wire.Wire.{Wire}
 use Rattle.ccan_wire.specs.declared.wire.Wire.TheVariants.{Idle, Collided, Broken, Flagged, Unheard, Carried}
 use Rattle.ccan_wire.specs.Event.{event_as, event_in, event_of, listener_event, part_on, received_unheard, sender_event, sent_unheard}
-use Rattle.ccan_wire.specs.Laws.{Hears, has_received, has_sent}
-use Rattle.ccan_wire.specs.Member.{member_at, nobody, sent_by}
+use Rattle.ccan_wire.specs.Laws.{has_sent}
+use Rattle.ccan_wire.specs.Member.{nobody, sent_by}
 use Rattle.ccan_wire.specs.Role.{drives}
 use Rattle.ccan_wire.specs.Winner.{is_among, part_in, part_of}
 use Rattle.ccan_wire.specs.Wire.{Carries, start_of}

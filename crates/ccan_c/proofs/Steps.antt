@@ -46,7 +46,7 @@ HasSet own held = own ≡ held.own
 pub host_step : (call : HostCall) (held : Held) (after : Option Held) (own : InterfaceSet) → SeesChip (port_of held)
     → HasSet own held → HostCallDoes call (Some held) after
     → Step HasSet held after
-    (λ added left. HostCallMeans (here held) held.tries held.map call own (port_of held).whole added left)
+    (λ added left. HostCallMeans (here held) held.chip.settings.tries held.chip.settings.map call own (port_of held).whole added left)
 host_step call held after own sees is (new, is_open, runs) =
     let a = runs.goes.each sees in
     record {
@@ -60,7 +60,7 @@ host_step call held after own sees is (new, is_open, runs) =
       left = new.own;
       leads = refl;
       means =
-          subst (λ (o : InterfaceSet). HostCallMeans (here held) held.tries held.map call o (port_of held).whole a.0 new.own)
+          subst (λ (o : InterfaceSet). HostCallMeans (here held) held.chip.settings.tries held.chip.settings.map call o (port_of held).whole a.0 new.own)
           (sym is) a.3;
     }
 
@@ -77,7 +77,7 @@ still_on state old new kept led =
 pub bus_step : (call : CallOnBus) (held : Held) (after : Option Held) (state : BusState) → SeesChip (port_of held)
     → HasBus state held → CallOnBusDoes call (Some held) after
     → Step HasBus held after
-    (λ added left. CallOnBusMeans (here held) held.tries held.nodes held.map call state (port_of held).whole added left)
+    (λ added left. CallOnBusMeans (here held) held.chip.settings.tries held.nodes held.chip.settings.map call state (port_of held).whole added left)
 bus_step (of_rounds call) held after state sees led (new, is_open, runs) =
     let g = runs.goes state.past led.0 in
     let a = g.2.each sees in
@@ -108,7 +108,7 @@ bus_step (of_frames call) held after state sees led (new, is_open, runs) =
       left = left;
       leads = (g.1, refl);
       means =
-          subst (λ (s : StationState). FrameCallMeans (here held) held.tries call
+          subst (λ (s : StationState). FrameCallMeans (here held) held.chip.settings.tries call
           (record { past = state.past; station = s }) (port_of held).whole a.0 left) (sym led.1) a.3;
     }
 
@@ -119,8 +119,8 @@ pub record IsAt (memory : Memory) (port : PortName) (set : Set) (held : Held) : 
   pub memory_is : (pass_of held).memory ≡ memory
   pub port_is : (pass_of held).port ≡ port
   pub nodes_are : held.nodes ≡ set.nodes
-  pub tries_are : held.tries ≡ set.tries
-  pub map_is : held.map ≡ set.map
+  pub tries_are : held.chip.settings.tries ≡ set.tries
+  pub map_is : held.chip.settings.map ≡ set.map
   pub sees : SeesChip (port_of held)
 
 module _ {Call State : Type 0} (led : State → Held → Type 0) (does : Call → Option Held → Option Held → Type 0)
@@ -128,7 +128,7 @@ module _ {Call State : Type 0} (led : State → Held → Type 0) (does : Call �
     (step : (call : Call) (held : Held) (after : Option Held) (state : State) → SeesChip (port_of held) → led state held
     → does call (Some held) after
     → Step led held after
-    (λ added left. means (here held) held.tries held.nodes held.map call state (port_of held).whole added left))
+    (λ added left. means (here held) held.chip.settings.tries held.nodes held.chip.settings.map call state (port_of held).whole added left))
     (memory : Memory) (port : PortName) (set : Set) where
   abbrev pub mean : Call → State → ChipHistory → ChipHistory → State → Type 0
   mean = means (terms_of same_object memory port) set.tries set.nodes set.map
@@ -143,13 +143,13 @@ module _ {Call State : Type 0} (led : State → Held → Type 0) (does : Call �
     pub mean_all : CallsMean mean calls old (record { state = left; seen = (port_of new).whole })
 
   by_name : (held : Held) (call : Call) (state left : State) (seen added : ChipHistory) → IsAt memory port set held
-      → means (here held) held.tries held.nodes held.map call state seen added left → mean call state seen added left
+      → means (here held) held.chip.settings.tries held.nodes held.chip.settings.map call state seen added left → mean call state seen added left
   by_name held call state left seen added at h =
       subst (λ (t : Terms). means t set.tries set.nodes set.map call state seen added left)
       (ap₂ (λ (m : Memory) (p : PortName). terms_of same_object m p) at.memory_is at.port_is)
       (subst (λ (n : ℕ). means (here held) n set.nodes set.map call state seen added left) at.tries_are
-      (subst (λ (n : ℕ). means (here held) held.tries n set.map call state seen added left) at.nodes_are
-      (subst (λ (m : Map). means (here held) held.tries held.nodes m call state seen added left) at.map_is h)))
+      (subst (λ (n : ℕ). means (here held) held.chip.settings.tries n set.map call state seen added left) at.nodes_are
+      (subst (λ (m : Map). means (here held) held.chip.settings.tries held.nodes m call state seen added left) at.map_is h)))
 
   pub reached : (calls : List Call) (held : Held) (after : Option Held) (state : State) → IsAt memory port set held
       → led state held → Leads does calls (Some held) after

@@ -289,7 +289,7 @@ module _ (memory : Memory) (set : Set) where
         )
 
     abbrev making : Result (Unit {0}) AccessError → Terms → ChipHistory → ChipHistory → Type 0
-    making told u seen added = ResetsChip u (reset_of l.map) l.tries seen added told
+    making told u seen added = ResetsChip u (reset_of l.chip.settings.map) l.chip.settings.tries seen added told
 
     by_tries : (told : Result (Unit {0}) AccessError) (seen added : ChipHistory) → making told (terms Bus) seen added
         → ResetsChip (terms Bus) (reset_of set.map) set.tries seen added told

@@ -38,7 +38,7 @@ use Rattle.ccan_c.specs.Answer.{c_counters, code_of, state_number}
 use Rattle.ccan_c.specs.Bus.{enabling, is_on, looping, starting, testing}
 use Rattle.ccan_c.specs.Call.{IsCall}
 use Rattle.ccan_c.specs.Codes.{busy, done, spent, fault_range, flag_range, frame_range, frames_range, groups_range, node_range, senders}
-use Rattle.ccan_c.specs.Held.{IsOpenAs, WorksAsBefore, port_of, station_of}
+use Rattle.ccan_c.specs.Held.{IsOpenAs, WorksAsBefore, port_of, station_of, map_of, tries_of}
 use Rattle.ccan_c.specs.Host.{flag_numbered, number_of}
 use Rattle.ccan_c.specs.HostCall.{IsRead, ReadsAtOffset, ReadsByteAtOffset, ReadsWordAtOffset, code_of_access}
 use Rattle.ccan_c.specs.HostCall.{WritesAtOffset, WritesByteAtOffset, WritesWordAtOffset}
@@ -233,7 +233,7 @@ pub record BusRuns (call : BusCall) (old new : Held) : Type 0 where
   pub goes : (past : BusPast) → LedTo past old.bus.bus
       → (after : BusPast) × LedTo after new.bus.bus
       × ChipGoes (port_of old) (port_of new) (λ terms seen added.
-      BusCallMeans terms old.tries old.nodes old.map call past seen added after)
+      BusCallMeans terms (tries_of old) old.nodes (map_of old) call past seen added after)
 
 -- what the contract of the call says of what the handle stands for before and after it
 abbrev pub BusCallDoes : BusCall → Option Held → Option Held → Type 0

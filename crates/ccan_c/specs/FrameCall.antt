@@ -32,7 +32,7 @@ use Rattle.ccan_c.specs.BusCall.{BusCall, BusCallDoes, BusCallMeans, station_aft
 use Rattle.ccan_c.specs.Call.{IsCall}
 use Rattle.ccan_c.specs.Codes.{busy, done, event_range, fault_range, place_range, wire_range}
 use Rattle.ccan_c.specs.Finished.{c_finished, code_of_end, event_in}
-use Rattle.ccan_c.specs.Held.{IsOpenAs, WorksAsBefore, port_of, station_of}
+use Rattle.ccan_c.specs.Held.{IsOpenAs, WorksAsBefore, port_of, station_of, tries_of}
 use Rattle.ccan_c.specs.Host.{number_of}
 use Rattle.ccan_c.specs.HostCall.{code_of_access}
 use Rattle.ccan_c.specs.Step.{Rests}
@@ -118,7 +118,7 @@ pub record FrameRuns (call : FrameCall) (old new : Held) : Type 0 where
   pub goes : (past : BusPast) → LedTo past old.bus.bus
       → (after : BusPast) × LedTo after new.bus.bus
       × ChipGoes (port_of old) (port_of new) (λ terms seen added.
-      FrameCallMeans terms old.tries call (record { past = past; station = station_of old }) seen added
+      FrameCallMeans terms (tries_of old) call (record { past = past; station = station_of old }) seen added
       (record { past = after; station = station_of new }))
 
 -- what the contract of the call says of what the handle stands for before and after it

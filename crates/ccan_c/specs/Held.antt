@@ -10,15 +10,22 @@ use Rattle.ccan_registers.specs.ChipSteps.{SeesChip}
 use Rattle.ccan_registers.specs.Frames.{StationState, at_rest, state_of}
 use Rattle.ccan_c.specs.declared.held.Held.{Held}
 use Rattle.ccan_c.specs.Opening.{Set}
-use Rattle.ccan_registers.specs.PortHolder.{port_at}
 
 -- its port, with all that it has seen of the chip
 abbrev pub port_of : Held → ChipPass
-port_of held = port_at held.port
+port_of held = held.chip.port
 
 -- what its port has seen of the message RAM
 abbrev pub pass_of : Held → Pass
 pass_of held = (port_of held).pass
+
+-- how often its calls may try a change
+abbrev pub tries_of : Held → ℕ
+tries_of held = held.chip.settings.tries
+
+-- how the registers lie for its calls by offsets
+abbrev pub map_of : Held → Map
+map_of held = held.chip.settings.map
 
 -- its part in the frames of a bus of several
 abbrev pub station_of : Held → StationState
@@ -29,9 +36,9 @@ station_of held = state_of held.station
 pub record IsHolding (port : ChipPass) (nodes tries : ℕ) (map : Map) (own : InterfaceSet) (held : Held) : Type 0 where
   pub port_is : port_of held ≡ port
   pub sees : SeesChip (port_of held)
-  pub tries_are : held.tries ≡ tries
+  pub tries_are : tries_of held ≡ tries
   pub nodes_are : held.nodes ≡ nodes
-  pub map_is : held.map ≡ map
+  pub map_is : map_of held ≡ map
   pub own_is : held.own ≡ own
   pub bus_is : LedTo (past.opened_at_once nodes) held.bus.bus
   pub station_is : station_of held ≡ at_rest
@@ -42,9 +49,9 @@ IsOpening port set held = IsHolding port set.nodes set.tries set.map set.opening
 
 -- the handle works as it did: with as many tries, other nodes, and the same layout
 pub record WorksAsBefore (old new : Held) : Type 0 where
-  pub tries : new.tries ≡ old.tries
+  pub tries : tries_of new ≡ tries_of old
   pub nodes : new.nodes ≡ old.nodes
-  pub map : new.map ≡ old.map
+  pub map : map_of new ≡ map_of old
 
 -- all else that the handle stands for is as it was
 pub record IsKept (old new : Held) : Type 0 where

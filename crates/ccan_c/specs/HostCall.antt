@@ -25,7 +25,7 @@ use Rattle.ccan_c.specs.declared.shown_record.ShownRecord.{ShownRecord}
 use Rattle.ccan_c.specs.Answer.{code_of}
 use Rattle.ccan_c.specs.Call.{IsCall}
 use Rattle.ccan_c.specs.Codes.{done, busy, spent, register_range, object_range, flag_range, turns_range, offset_range, other_interface}
-use Rattle.ccan_c.specs.Held.{IsOpenAs, WorksAsBefore, port_of}
+use Rattle.ccan_c.specs.Held.{IsOpenAs, WorksAsBefore, port_of, map_of, tries_of}
 use Rattle.ccan_c.specs.Host.{register_numbered, flag_numbered, is_object, number_of}
 use Rattle.ccan_c.specs.Note.{HeedsNote, Tells}
 use Rattle.ccan_c.specs.Record.{c_record}
@@ -206,7 +206,7 @@ pub record HostRuns (call : HostCall) (old new : Held) : Type 0 where
   pub works : WorksAsBefore old new
   pub bus : new.bus ≡ old.bus
   pub goes : ChipGoes (port_of old) (port_of new)
-      (λ terms seen added. HostCallMeans terms old.tries old.map call old.own seen added new.own)
+      (λ terms seen added. HostCallMeans terms (tries_of old) (map_of old) call old.own seen added new.own)
 
 -- what the contract of the call says of what the handle stands for before and after it
 abbrev pub HostCallDoes : HostCall → Option Held → Option Held → Type 0

@@ -15,7 +15,7 @@ use Rattle.ccan_registers.specs.Resetting.{ResetsChip}
 use Rattle.ccan_c.specs.declared.chip.Chip.{Chip}
 use Rattle.ccan_c.specs.declared.held.Held.{Held}
 use Rattle.ccan_c.specs.Chip.{AllOpen}
-use Rattle.ccan_c.specs.Held.{WorksAsBefore, port_of, station_of}
+use Rattle.ccan_c.specs.Held.{WorksAsBefore, port_of, station_of, map_of, tries_of}
 use Rattle.ccan_c.specs.HostCall.{code_of_access}
 use Rattle.ccan_c.specs.Meeting.{HaveMet, MeetHeld}
 use Rattle.ccan_c.specs.Steps.{Steps}
@@ -36,7 +36,7 @@ pub record DropsLoaded (old new : Held) : Type 0 where
 -- the bus's port resets the controller and each object, and then the three ports meet
 pub record IsReset (h k l h' k' l' : Held) : Type 0 where
   pub put : ChipPass
-  pub goes : ChipGoes (port_of l) put (λ terms seen added. ResetsChip terms (reset_of l.map) l.tries seen added (Ok tt))
+  pub goes : ChipGoes (port_of l) put (λ terms seen added. ResetsChip terms (reset_of (map_of l)) (tries_of l) seen added (Ok tt))
   pub met : HaveMet (port_of h) (port_of k) put (port_of h') (port_of k') (port_of l')
   pub if1 : HasResetInterface h h'
   pub if2 : HasResetInterface k k'
@@ -46,7 +46,8 @@ pub record IsReset (h k l h' k' l' : Held) : Type 0 where
 abbrev pub ResetsMet : Held → Held → Held → Held → Held → Held → Result (Unit {0}) AccessError → Type 0
 ResetsMet h k l h' k' l' (Ok done) = IsReset h k l h' k' l'
 ResetsMet h k l h' k' l' (Err why) =
-    (h' ≡ h) × (k' ≡ k) × Steps (λ terms seen added. ResetsChip terms (reset_of l.map) l.tries seen added (Err why)) l l'
+    (h' ≡ h) × (k' ≡ k)
+    × Steps (λ terms seen added. ResetsChip terms (reset_of (map_of l)) (tries_of l) seen added (Err why)) l l'
 
 -- first the three ports meet, so that the reset comes after all that was done before
 pub record ResetsHeld (h k l h' k' l' : Held) (told : Result (Unit {0}) AccessError) : Type 0 where

@@ -15,7 +15,7 @@ use Rattle.ccan_c.specs.declared.chip.Chip.{Chip}
 use Rattle.ccan_c.specs.declared.held.Held.{Held}
 use Rattle.ccan_c.specs.Chip.{AllOpen}
 use Rattle.ccan_c.specs.Codes.{busy, no_chip, no_memory, spent}
-use Rattle.ccan_c.specs.Held.{IsHolding, pass_of}
+use Rattle.ccan_c.specs.Held.{IsHolding, pass_of, map_of, tries_of}
 use Rattle.ccan_c.specs.Meeting.{HaveMet, MeetHeld}
 use Rattle.ccan_c.specs.Opening.{after_reset, begins_as}
 use Rattle.ccan_c.specs.Steps.{Steps}
@@ -24,8 +24,8 @@ use Rattle.ccan_c.specs.Steps.{Steps}
 -- each object
 pub record IsSavedOf (if1 if2 old new : Held) (saved : Saved) : Type 0 where
   pub profile : saved.profile ≡ (pass_of old).memory.profile
-  pub map : saved.map ≡ old.map
-  pub tries : saved.tries ≡ old.tries
+  pub map : saved.map ≡ map_of old
+  pub tries : saved.tries ≡ tries_of old
   pub others : saved.others ≡ old.nodes
   pub own_if1 : saved.if1 ≡ if1.own
   pub own_if2 : saved.if2 ≡ if2.own

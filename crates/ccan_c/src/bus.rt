@@ -5,19 +5,21 @@ ghost use Rattle.ccan_c.specs.BusCall as bus_call;
 ghost use Rattle.ccan_c.specs.BusCall.{BusCallDoes};
 ghost use Rattle.ccan_c.specs.Codes.{busy, closed, done, spent};
 
-use crate::access_code::{code_of_access, read_byte_out, read_out, read_word_out};
+use crate::access_code::{
+    code_of_access, code_of_offset, read_byte_out, read_out, read_word_out, status_out,
+};
 use crate::bus_handle::BusHandle;
 use crate::bus_lines::{enabling, starting};
 use crate::code::{
     BUSY, CLOSED, DONE, FAULT_RANGE, FLAG_RANGE, FRAME_RANGE, FRAMES_RANGE, GROUPS_RANGE,
-    NODE_RANGE, SENDERS, code_of,
+    NODE_RANGE, SENDERS, code_of_load,
 };
 use crate::numbers::{flag_numbered, number_of};
 use crate::offer::{Offer, fault_numbered, read_offers};
 use crate::shown_counters::{ShownCounters, state_number};
 use crate::shown_load::ShownLoad;
 use crate::shown_outcome::{ShownOutcome, code_of_round};
-use ccan_line::{LineAnswer, MAX_FRAMES};
+use ccan_line::MAX_FRAMES;
 
 /// The controller chooses an object to send, and starts it.
 #[unsafe(no_mangle)]
@@ -31,7 +33,7 @@ pub extern "C" fn ccan_load(bus: &mut BusHandle, out: &mut ShownLoad) -> u32
     }
     let (_, loading, loaded) = bus.handle.seal.as_mut().load();
     *out = ShownLoad::of(&loading, &loaded);
-    code_of(&LineAnswer::Load(loading))
+    code_of_load(&loading)
 }
 
 /// Reads the Status register. The status interrupt is then no longer pending.
@@ -45,7 +47,7 @@ pub extern "C" fn ccan_status(bus: &mut BusHandle, out: &mut u16) -> u32
         return CLOSED;
     }
     let told = bus.handle.seal.as_mut().status();
-    read_out(&Some(told), out)
+    status_out(&told, out)
 }
 
 /// Sets SIE and EIE, the enables of the status interrupt. 0 is off, each other number is on.
@@ -62,7 +64,7 @@ pub extern "C" fn ccan_control(bus: &mut BusHandle, sie: u32, eie: u32) -> u32
         .seal
         .as_mut()
         .change(&enabling(sie != 0, eie != 0));
-    code_of_access(&Some(told))
+    code_of_access(&told)
 }
 
 /// Clears Init. From then on groups count for a controller that is off, and any other takes part.
@@ -75,7 +77,7 @@ pub extern "C" fn ccan_init(bus: &mut BusHandle) -> u32
         return CLOSED;
     }
     let told = bus.handle.seal.as_mut().change(&starting());
-    code_of_access(&Some(told))
+    code_of_access(&told)
 }
 
 /// Sets loop back mode: Test of the Control register, and with it LBack of the Test register. 0 is off, each other number is on.
@@ -88,7 +90,7 @@ pub extern "C" fn ccan_loop_back(bus: &mut BusHandle, on: u32) -> u32
         return CLOSED;
     }
     let told = bus.handle.seal.as_mut().loop_back(on != 0);
-    code_of_access(&Some(told))
+    code_of_access(&told)
 }
 
 /// Lets groups of eleven recessive bits pass, and reports the controller's state.
@@ -221,7 +223,7 @@ pub extern "C" fn ccan_bus_write8(bus: &mut BusHandle, offset: u32, value: u8) -
         return CLOSED;
     }
     let told = bus.handle.seal.as_mut().write_byte(offset, value);
-    code_of_access(&told)
+    code_of_offset(&told)
 }
 
 /// As `ccan_read16`, by the thread of the bus.
@@ -248,7 +250,7 @@ pub extern "C" fn ccan_bus_write16(bus: &mut BusHandle, offset: u32, value: u16)
         return CLOSED;
     }
     let told = bus.handle.seal.as_mut().write(offset, value);
-    code_of_access(&told)
+    code_of_offset(&told)
 }
 
 /// As `ccan_line`, by the thread of the bus.
@@ -291,5 +293,5 @@ pub extern "C" fn ccan_bus_write32(bus: &mut BusHandle, offset: u32, value: u32)
         return CLOSED;
     }
     let told = bus.handle.seal.as_mut().write_word(offset, value);
-    code_of_access(&told)
+    code_of_offset(&told)
 }

@@ -35,7 +35,7 @@ impl Held {
     ghost use Rattle.ccan_c.specs.Answer.{c_counters};
     ghost use Rattle.ccan_c.specs.BusCall.{Counts0, LoopsBack};
     ghost use Rattle.ccan_c.specs.Codes.{done};
-    ghost use Rattle.ccan_c.specs.Held.{pass_of, port_of, station_of};
+    ghost use Rattle.ccan_c.specs.Held.{map_of, pass_of, port_of, station_of, tries_of};
     ghost use Rattle.ccan_c.specs.HostCall.{code_of_access};
     ghost use Rattle.ccan_c.specs.Resetting.{DropsLoaded};
     ghost use Rattle.ccan_c.specs.Steps.{BusSteps, Steps};
@@ -44,11 +44,11 @@ impl Held {
     fn load_next(&mut self) -> (Controller, LoadAnswer)
         requires { (pass_of self.old).port ≡ Bus }
         ensures steps { BusSteps (λ terms past seen added after.
-            LoadsOnChip terms self.old.tries past seen added after result.0 result.1)
+            LoadsOnChip terms (tries_of self.old) past seen added after result.0 result.1)
             self.old self.new }
         ensures station { station_of self.new ≡ station_of self.old }
     {
-        load(&mut self.bus, &self.ram, &mut self.port, self.tries)
+        load(&mut self.bus, &mut self.chip)
     }
 
     /// What is loaded.
@@ -63,7 +63,7 @@ impl Held {
     pub(crate) fn load(&mut self) -> (Controller, LoadAnswer, Option<(ObjectNo, Record)>)
         requires { (pass_of self.old).port ≡ Bus }
         ensures steps { BusSteps (λ terms past seen added after.
-            LoadsOnChip terms self.old.tries past seen added after result.0 result.1
+            LoadsOnChip terms (tries_of self.old) past seen added after result.0 result.1
             × (result.2 ≡ after.loaded)) self.old self.new }
         ensures rests { station_of self.new ≡ at_rest }
     {
@@ -76,11 +76,11 @@ impl Held {
     fn run_round(&mut self, line: &RoundLine) -> ChipReport
         requires { (pass_of self.old).port ≡ Bus }
         ensures steps { BusSteps (λ terms past seen added after.
-            RoundOnChip terms line.now self.old.tries past seen added after result)
+            RoundOnChip terms line.now (tries_of self.old) past seen added after result)
             self.old self.new }
         ensures station { station_of self.new ≡ station_of self.old }
     {
-        round(&mut self.bus, &self.ram, &mut self.port, line, self.tries)
+        round(&mut self.bus, &mut self.chip, line)
     }
 
     /// Plays a round. None if a sender is not one of the other nodes, or sends twice. Otherwise what the start of a frame has
@@ -93,7 +93,7 @@ impl Held {
         ensures some { IfSome result (λ report. AreSenders self.old.nodes sends.items
             × ((line : RoundLine) × (line.send.items ≡ sends.items) × (line.fault ≡ fault)
             × BusSteps (λ terms past seen added after.
-            RoundOnChip terms line self.old.tries past seen added after report)
+            RoundOnChip terms line (tries_of self.old) past seen added after report)
             self.old self.new)) }
         ensures rests { IfSome result (λ report. station_of self.new ≡ at_rest) }
     {
@@ -106,38 +106,39 @@ impl Held {
     pub(crate) fn recessive(&mut self, groups: u16) -> Result<ControllerChanged, ControllerBusy>
         requires { (pass_of self.old).port ≡ Bus }
         ensures steps { BusSteps (λ terms past seen added after.
-            RecoversOnChip terms groups self.old.tries past seen added after result)
+            RecoversOnChip terms groups (tries_of self.old) past seen added after result)
             self.old self.new }
         ensures station { station_of self.new ≡ station_of self.old }
     {
-        recessive(&mut self.bus, &self.ram, &mut self.port, groups, self.tries)
+        recessive(&mut self.bus, &mut self.chip, groups)
     }
 
     /// Reads the Status register, as a C_CAN does it.
     pub(crate) fn status(&mut self) -> Result<u16, AccessError>
         ensures { Steps (λ terms seen added.
-            ReadsStatus terms Narrow self.old.tries seen added result) self.old self.new }
+            ReadsStatus terms Narrow (tries_of self.old) seen added result) self.old self.new }
     {
-        read_status(&self.ram, &mut self.port, Map::Narrow, self.tries)
+        read_status(&mut self.chip, Map::Narrow)
     }
 
     /// Changes the controller.
     pub(crate) fn change(&mut self, change: &ControllerChange) -> Result<(), AccessError>
         requires { MayMake (pass_of self.old).port change.now }
         ensures { Steps (λ terms seen added.
-            Makes terms change.now self.old.tries seen added result) self.old self.new }
+            Makes terms change.now (tries_of self.old) seen added result) self.old self.new }
     {
-        write_controller(&self.ram, &mut self.port, change, self.tries)
+        write_controller(&mut self.chip, change)
     }
 
     /// Resets the controller, and then each object.
     pub(crate) fn reset(&mut self) -> Result<(), AccessError>
         requires { (pass_of self.old).port ≡ Bus }
         ensures { Steps (λ terms seen added.
-            ResetsChip terms (reset_of self.old.map) self.old.tries seen added result)
+            ResetsChip terms (reset_of (map_of self.old)) (tries_of self.old) seen added result)
             self.old self.new }
     {
-        reset(&self.ram, &mut self.port, &reset_of(self.map), self.tries)
+        let map = self.chip.settings.map;
+        reset(&mut self.chip, &reset_of(map))
     }
 
     /// Drops what is loaded, and takes no more part in a frame that is under way.
@@ -154,7 +155,7 @@ impl Held {
         ensures { Steps (λ terms seen added. AtController terms.port Look result seen added)
             self.old self.new }
     {
-        look(&self.ram, &mut self.port)
+        look(&mut self.chip)
     }
 
     /// The error counters of another node.
@@ -184,7 +185,7 @@ impl Held {
     /// Sets loop back mode, or leaves test mode.
     pub(crate) fn loop_back(&mut self, on: bool) -> Result<(), AccessError>
         ensures { Steps (λ terms seen added.
-            LoopsBack terms self.old.tries on seen added (code_of_access (Some result)))
+            LoopsBack terms (tries_of self.old) on seen added (code_of_access (Some result)))
             self.old self.new }
     {
         if !on {

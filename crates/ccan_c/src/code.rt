@@ -1,9 +1,11 @@
 //! What the calls from C answer. C sees these numbers, and no others.
 ghost use Rattle.std.specs.Prelude.{◌≡◌};
+ghost use Rattle.ccan_line.specs.declared.line_answer.LineAnswer.TheVariants.{Load, Round};
+ghost use Rattle.ccan_registers.specs.Objects.{as_line};
 ghost use Rattle.ccan_c.specs.Answer.{code_of};
 
 use ccan_bus::{LoadAnswer, RoundAnswer};
-use ccan_line::LineAnswer;
+use ccan_registers::TransferAnswer;
 
 /// Done.
 pub const DONE: u32 = 0;
@@ -74,8 +76,8 @@ pub const COUNTERS_RANGE: u32 = 31;
 
 /// The code of a load.
 #[inline(always)]
-fn code_of_load(loading: &LoadAnswer) -> u32
-    ensures { result ≡ code_of (LineAnswer.Load loading.now) }
+pub(crate) fn code_of_load(loading: &LoadAnswer) -> u32
+    ensures { result ≡ code_of (Load loading.now) }
 {
     match loading {
         LoadAnswer::Busy(_) => BUSY,
@@ -86,8 +88,8 @@ fn code_of_load(loading: &LoadAnswer) -> u32
 
 /// The code of a round's answer.
 #[inline(always)]
-fn code_of_reply(reply: &RoundAnswer) -> u32
-    ensures { result ≡ code_of (LineAnswer.Round reply.now) }
+pub(crate) fn code_of_reply(reply: &RoundAnswer) -> u32
+    ensures { result ≡ code_of (Round reply.now) }
 {
     match reply {
         RoundAnswer::Busy(_) => BUSY,
@@ -103,26 +105,14 @@ fn code_of_reply(reply: &RoundAnswer) -> u32
     }
 }
 
-/// Busy or spent if a step of the memory was, else done.
+/// The code of a transfer.
 #[inline(always)]
-pub(crate) fn code_of(answer: &LineAnswer) -> u32
-    ensures { result ≡ code_of answer.now }
+pub(crate) fn code_of_transfer(answer: &TransferAnswer) -> u32
+    ensures { result ≡ code_of (as_line answer.now) }
 {
     match answer {
-        LineAnswer::Busy(_) => BUSY,
-        LineAnswer::Spent(_) => SPENT,
-        LineAnswer::Load(loading) => code_of_load(loading),
-        LineAnswer::Round(reply) => code_of_reply(reply),
-        LineAnswer::Write(_, _)
-        | LineAnswer::Read(_, _)
-        | LineAnswer::Until(_, _, _)
-        | LineAnswer::Interrupt(_)
-        | LineAnswer::Flags(_, _, _)
-        | LineAnswer::Status(_)
-        | LineAnswer::Control(_, _)
-        | LineAnswer::Counters { .. }
-        | LineAnswer::Init
-        | LineAnswer::Recessive(_)
-        | LineAnswer::LoopBack(_) => DONE,
+        TransferAnswer::Busy(_) => BUSY,
+        TransferAnswer::Spent(_) => SPENT,
+        TransferAnswer::Write(_, _) | TransferAnswer::Read(_, _) => DONE,
     }
 }

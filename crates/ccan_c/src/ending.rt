@@ -3,38 +3,40 @@ ghost use Rattle.std.specs.Prelude.{◌≡◌, ◌≢◌, ◌⊎◌, IfSome, tru
 ghost use Rattle.ccan_endless.specs.ChipEnding.{ChipEnds};
 ghost use Rattle.ccan_c.specs.Codes.{closed, done, shared};
 ghost use Rattle.ccan_c.specs.Chip.{EndsWith, IsClosed, are_open};
-ghost use Rattle.ccan_c.specs.Held.{port_of};
+ghost use Rattle.std.specs.Arc.{arc_value};
+ghost use Rattle.ccan_c.specs.Held.{pass_of, port_of};
 ghost use Rattle.ccan_c.specs.Meeting.{AreThree};
 
 use crate::chip::Chip;
 use crate::code::{CLOSED, DONE, SHARED};
 use crate::held::Held;
 use crate::shown_final::ShownFinal;
-use ccan_endless::FinalChip;
+use ccan_endless::{EndlessRam, FinalChip, Port};
 use std::alloc::Global;
 use std::mem::replace;
 use std::sync::Arc;
+
+/// The share of the memory that a handle has, and its port.
+fn parts_of(held: Held) -> (Arc<EndlessRam, Global>, Port)
+    ensures port { result.1 ≡ port_of held }
+    ensures memory { (arc_value result.0).words ≡ (pass_of held).memory }
+{
+    let Held { chip, .. } = held;
+    chip.into_parts()
+}
 
 /// What a chip holds that its three handles give back. None if somebody else holds the memory.
 fn ended(if1: Held, if2: Held, bus: Held) -> Option<FinalChip>
     requires { AreThree if1 if2 bus }
     ensures { IfSome result (ChipEnds (port_of if1) (port_of if2) (port_of bus)) }
 {
-    let Held { ram, port: if1, .. } = if1;
-    let Held {
-        ram: second,
-        port: if2,
-        ..
-    } = if2;
-    let Held {
-        ram: third,
-        port: bus,
-        ..
-    } = bus;
+    let (ram, if1) = parts_of(if1);
+    let (second, if2) = parts_of(if2);
+    let (third, bus) = parts_of(bus);
     drop(second);
     drop(third);
     match Arc::try_unwrap(ram) {
-        Ok(ram) => Some(ram.close_chip(if1.into_port(), if2.into_port(), bus.into_port())),
+        Ok(ram) => Some(ram.close_chip(if1, if2, bus)),
         Err(_) => None,
     }
 }

@@ -7,11 +7,12 @@ ghost use Rattle.ccan_c.specs.FrameCall.{FrameCallDoes};
 
 use crate::access_code::power_out;
 use crate::bus_handle::BusHandle;
-use crate::code::{BUSY, CLOSED, DONE, EVENT_RANGE, FAULT_RANGE, PLACE_RANGE, WIRE_RANGE, code_of};
+use crate::code::{
+    BUSY, CLOSED, DONE, EVENT_RANGE, FAULT_RANGE, PLACE_RANGE, WIRE_RANGE, code_of_load,
+};
 use crate::shown_finished::{ShownFinished, code_of_end};
 use crate::shown_member::{ShownMember, flaw_in};
 use crate::shown_wire::ShownWire;
-use ccan_line::LineAnswer;
 
 /// The start of a frame: an object is chosen and started, if none is loaded and the controller may send.
 #[unsafe(no_mangle)]
@@ -25,7 +26,7 @@ pub extern "C" fn ccan_begin(bus: &mut BusHandle, out: &mut ShownMember) -> u32
     }
     let begun = bus.handle.seal.as_mut().begin();
     *out = ShownMember::of(&begun.member);
-    code_of(&LineAnswer::Load(begun.loading))
+    code_of_load(&begun.loading)
 }
 
 /// A look at the controller until the end of the frame, and what the chip is to the bus from there.

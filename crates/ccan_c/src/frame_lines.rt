@@ -21,7 +21,7 @@ impl Held {
     ghost use Rattle.ccan_registers.specs.ChipSteps.{Changes};
     ghost use Rattle.ccan_registers.specs.Frames.{BeginsOnChip, EndsOnChip, StaysOnChip};
     ghost use Rattle.ccan_c.specs.FrameCall.{PowersDownBetween};
-    ghost use Rattle.ccan_c.specs.Held.{pass_of, station_of};
+    ghost use Rattle.ccan_c.specs.Held.{pass_of, station_of, tries_of};
     ghost use Rattle.ccan_c.specs.Steps.{StationSteps, Steps};
     ghost use Rattle.ccan_c.specs.Wire.{most_members};
 
@@ -30,12 +30,12 @@ impl Held {
         requires { (pass_of self.old).port ≡ Bus }
         ensures port { (pass_of self.new).port ≡ (pass_of self.old).port }
         ensures steps { StationSteps (λ terms old seen added new.
-            BeginsOnChip terms self.old.tries old seen added new result) self.old self.new }
+            BeginsOnChip terms (tries_of self.old) old seen added new result) self.old self.new }
         ensures drops { (past : BusPast) → LedTo past self.old.bus.bus
             → LedTo (unloaded past) self.new.bus.bus }
     {
         self.bus.unload();
-        begin(&mut self.station, &self.ram, &mut self.port, self.tries)
+        begin(&mut self.station, &mut self.chip)
     }
 
     /// A look until its end.
@@ -45,7 +45,7 @@ impl Held {
             StaysOnChip terms old seen added new result) self.old self.new }
         ensures bus { self.new.bus ≡ self.old.bus }
     {
-        stay(&mut self.station, &self.ram, &mut self.port)
+        stay(&mut self.station, &mut self.chip)
     }
 
     /// Its end, for the chip at this position.
@@ -54,19 +54,11 @@ impl Held {
         requires within { place < most_members }
         ensures port { (pass_of self.new).port ≡ (pass_of self.old).port }
         ensures steps { StationSteps (λ terms old seen added new.
-            EndsOnChip terms self.old.tries wire.now place flaw old seen added new result)
+            EndsOnChip terms (tries_of self.old) wire.now place flaw old seen added new result)
             self.old self.new }
         ensures bus { self.new.bus ≡ self.old.bus }
     {
-        end(
-            &mut self.station,
-            &self.ram,
-            &mut self.port,
-            wire,
-            place,
-            flaw,
-            self.tries,
-        )
+        end(&mut self.station, &mut self.chip, wire, place, flaw)
     }
 
     /// Makes the event of a frame at the controller, in up to 1,000 tries.
@@ -79,7 +71,7 @@ impl Held {
     {
         let (event, status) = own;
         let made = ControllerChange::Frame(event, status);
-        change(&self.ram, &mut self.port, &made, own_tries())
+        change(&mut self.chip, &made, own_tries())
     }
 
     /// Powers the controller down, if its driver asks for it and nothing is to be sent. Whether it is powered down. While a frame is
@@ -87,12 +79,12 @@ impl Held {
     pub(crate) fn power_down(&mut self) -> Result<bool, AccessError>
         requires { (pass_of self.old).port ≡ Bus }
         ensures { Steps (λ terms seen added.
-            PowersDownBetween terms self.old.tries (is_some (station_of self.old).under_way)
+            PowersDownBetween terms (tries_of self.old) (is_some (station_of self.old).under_way)
             seen added result) self.old self.new }
     {
         if self.station.is_under_way() {
             return Ok(false);
         }
-        power_down(&self.ram, &mut self.port, self.tries)
+        power_down(&mut self.chip)
     }
 }

@@ -5,8 +5,8 @@ ghost use Rattle.ccan_c.specs.Host.{held_by};
 ghost use Rattle.ccan_c.specs.HostCall as host_call;
 ghost use Rattle.ccan_c.specs.HostCall.{HostCallDoes};
 
-use crate::access_code::{code_of_access, read_byte_out, read_out, read_word_out};
-use crate::code::{CLOSED, DONE, FLAG_RANGE, OBJECT_RANGE, REGISTER_RANGE, code_of};
+use crate::access_code::{code_of_access, code_of_offset, read_byte_out, read_out, read_word_out};
+use crate::code::{CLOSED, DONE, FLAG_RANGE, OBJECT_RANGE, REGISTER_RANGE, code_of_transfer};
 use crate::host_handle::HostHandle;
 use crate::numbers::{flag_numbered, number_of, register_numbered};
 use crate::shown_record::ShownRecord;
@@ -54,7 +54,7 @@ pub extern "C" fn ccan_request(host: &mut HostHandle, request: u16) -> u32
         return CLOSED;
     }
     let answer = host.handle.seal.as_mut().request(request);
-    code_of(&answer)
+    code_of_transfer(&answer)
 }
 
 /// Reads a flag of all objects in one moment, that of object k in bit k - 1.
@@ -157,7 +157,7 @@ pub extern "C" fn ccan_write8(host: &mut HostHandle, offset: u32, value: u8) -> 
         return CLOSED;
     }
     let told = host.handle.seal.as_mut().write_byte(offset, value);
-    code_of_access(&told)
+    code_of_offset(&told)
 }
 
 /// Reads the 16-bit register at an offset, in bytes from where the chip begins.
@@ -184,7 +184,7 @@ pub extern "C" fn ccan_write16(host: &mut HostHandle, offset: u32, value: u16) -
         return CLOSED;
     }
     let told = host.handle.seal.as_mut().write(offset, value);
-    code_of_access(&told)
+    code_of_offset(&told)
 }
 
 /// Whether the chip pulls its interrupt line: IE is 1, and the Interrupt register is not 0. 1 if it does, else 0.
@@ -227,7 +227,7 @@ pub extern "C" fn ccan_write32(host: &mut HostHandle, offset: u32, value: u32) -
         return CLOSED;
     }
     let told = host.handle.seal.as_mut().write_word(offset, value);
-    code_of_access(&told)
+    code_of_offset(&told)
 }
 
 /// Makes each object of the chip one of zeros, one after another, as the initialisation of the message RAM of a D_CAN does. The
@@ -240,5 +240,5 @@ pub extern "C" fn ccan_clear_objects(host: &mut HostHandle) -> u32
         return CLOSED;
     }
     let told = host.handle.seal.as_mut().clear_objects();
-    code_of_access(&Some(told))
+    code_of_access(&told)
 }

@@ -2,10 +2,9 @@
 use crate::code::{FLAG_RANGE, OBJECT_RANGE, TURNS_RANGE};
 use crate::held::Held;
 use crate::numbers::flag_numbered;
-use ccan_line::LineAnswer;
 use ccan_object::{ObjectNo, Record};
-use ccan_ram::{Flag, SharedRam};
-use ccan_registers::{AccessError, clear_objects, peek, wait};
+use ccan_ram::Flag;
+use ccan_registers::{AccessError, TransferAnswer, clear_objects, peek, wait};
 
 impl Held {
     ghost use Rattle.std.specs.Prelude.{◌≡◌, ◌↔◌, Some, true, false, IfErr, IfNone, IfOk, IfSome, IsSome, IsTrue};
@@ -13,9 +12,9 @@ impl Held {
     ghost use Rattle.ccan_ram.specs.declared.flag.Flag.{Flag};
     ghost use Rattle.ccan_registers.specs.Clearing.{ClearsObjects};
     ghost use Rattle.ccan_registers.specs.InterfaceSet.{Transferred};
-    ghost use Rattle.ccan_registers.specs.Objects.{ShowsObject, WaitsFor};
+    ghost use Rattle.ccan_registers.specs.Objects.{ShowsObject, WaitsFor, as_line};
     ghost use Rattle.ccan_line.specs.Limits.{most_turns};
-    ghost use Rattle.ccan_c.specs.Held.{pass_of};
+    ghost use Rattle.ccan_c.specs.Held.{pass_of, tries_of};
     ghost use Rattle.ccan_c.specs.Host as numbers;
     ghost use Rattle.ccan_c.specs.Host.{is_object};
     ghost use Rattle.ccan_c.specs.Settings.{is_from_one_to};
@@ -24,21 +23,21 @@ impl Held {
 
     /// Makes the transfer that the Command Mask register says.
     #[inline(always)]
-    pub(crate) fn request(&mut self, request: u16) -> LineAnswer
+    pub(crate) fn request(&mut self, request: u16) -> TransferAnswer
         ensures { HostSteps (λ terms seen added left.
-            Transferred terms self.old.tries request self.old.own seen added result left)
+            Transferred terms (tries_of self.old) request self.old.own seen added
+            (as_line result) left)
             self.old self.new }
     {
-        self.own
-            .request(&self.ram, &mut self.port, request, self.tries)
+        self.own.request(&mut self.chip, request)
     }
 
     /// Makes each object of the chip one of zeros.
     pub(crate) fn clear_objects(&mut self) -> Result<(), AccessError>
-        ensures { Steps (λ terms seen added. ClearsObjects terms self.old.tries seen added result)
-            self.old self.new }
+        ensures { Steps (λ terms seen added.
+            ClearsObjects terms (tries_of self.old) seen added result) self.old self.new }
     {
-        clear_objects(&self.ram, &mut self.port, self.tries)
+        clear_objects(&mut self.chip)
     }
 
     /// The object of this number, if the chip has it.
@@ -48,7 +47,7 @@ impl Held {
         ensures value { IfSome result (λ object. (object ≡ number)
             × Holds (pass_of self.now).memory.profile object) }
     {
-        if number == 0 || number > u32::from(self.ram.profile().objects()) {
+        if number == 0 || number > u32::from(self.chip.profile().objects()) {
             return None;
         }
         ObjectNo::new(number as u8)
@@ -60,7 +59,7 @@ impl Held {
         ensures { Steps (λ terms seen added. ShowsObject terms object seen added result)
             self.old self.new }
     {
-        peek(&self.ram, &mut self.port, object)
+        peek(&mut self.chip, object)
     }
 
     /// The record of an object, by one look. None if the chip has no such object.
@@ -82,7 +81,7 @@ impl Held {
         ensures { Steps (λ terms seen added. WaitsFor terms object flag turns seen added result)
             self.old self.new }
     {
-        wait(&self.ram, &mut self.port, object, flag, turns)
+        wait(&mut self.chip, object, flag, turns)
     }
 
     /// Looks at an object until it shows a flag, or reports the first of the numbers that is out of its range.

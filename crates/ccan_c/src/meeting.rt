@@ -9,6 +9,7 @@ use crate::chip::Chip;
 use crate::code::{CLOSED, DONE};
 use crate::handle::Handle;
 use crate::held::Held;
+use ccan_chip::ChipPort;
 use ccan_endless::{EndlessRam, Port};
 use ccan_ram::SharedRam;
 use std::alloc::Global;
@@ -30,22 +31,28 @@ pub(crate) fn meet_ports(ram: &EndlessRam, if1: &mut Port, if2: &mut Port, bus: 
     ram.meet(if2, if1);
 }
 
+/// The ports of a chip meet, each with its share of the memory.
+fn meet_chips(if1: &mut ChipPort, if2: &mut ChipPort, bus: &mut ChipPort)
+    requires second { if1.old.port.pass.memory ≡ if2.old.port.pass.memory }
+    requires third { if1.old.port.pass.memory ≡ bus.old.port.pass.memory }
+    requires named_if1 { if1.old.port.pass.port ≡ If1 }
+    requires named_if2 { if2.old.port.pass.port ≡ If2 }
+    requires named_bus { bus.old.port.pass.port ≡ Bus }
+    ensures met { HaveMet if1.old.port if2.old.port bus.old.port if1.new.port if2.new.port
+        bus.new.port }
+    ensures settings { (if1.new.settings ≡ if1.old.settings)
+        × (if2.new.settings ≡ if2.old.settings) × (bus.new.settings ≡ bus.old.settings) }
+{
+    meet_ports(&if1.ram, &mut if1.port, &mut if2.port, &mut bus.port);
+}
+
 /// The ports of three handles meet.
 pub(crate) fn meet_held(if1: &mut Held, if2: &mut Held, bus: &mut Held)
     requires { AreThree if1.old if2.old bus.old }
     ensures meet { MeetHeld if1.old if2.old bus.old if1.new if2.new bus.new }
     ensures three { AreThree if1.new if2.new bus.new }
 {
-    let Some(first) = &mut if1.port.port else {
-        unreachable!();
-    };
-    let Some(second) = &mut if2.port.port else {
-        unreachable!();
-    };
-    let Some(third) = &mut bus.port.port else {
-        unreachable!();
-    };
-    meet_ports(&if1.ram, first, second, third);
+    meet_chips(&mut if1.chip, &mut if2.chip, &mut bus.chip);
 }
 
 /// Shows each port of a chip what the others have seen, so that a handle's next call goes on from all that was done. A

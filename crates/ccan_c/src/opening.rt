@@ -14,11 +14,11 @@ use crate::code::{DONE, MAP_RANGE, NO_MEMORY};
 use crate::handle::Handle;
 use crate::held::Held;
 use crate::settings::{Settings, map_numbered};
-use ccan_chip::ChipBus;
+use ccan_chip::{ChipBus, ChipPort, PortSettings};
 use ccan_endless::{EndlessRam, MOST, Port};
 use ccan_map::Map;
 use ccan_ram::SharedRam;
-use ccan_registers::{InterfaceSet, PortHolder, reset_of};
+use ccan_registers::{InterfaceSet, reset_of};
 use ccan_station::Station;
 use std::alloc::Global;
 use std::sync::Arc;
@@ -33,11 +33,12 @@ fn hold(alloc: Global, ram: &Arc<EndlessRam, Global>, port: Port, begin: &Begin)
         return None;
     };
     port.sees_one_history();
-    let held = Held {
-        ram,
-        port: PortHolder::new(port),
-        tries: begin.settings.tries,
+    let settings = PortSettings {
         map: begin.map,
+        tries: begin.settings.tries,
+    };
+    let held = Held {
+        chip: ChipPort::new(ram, port, settings),
         own: begin.own,
         nodes: begin.settings.nodes,
         bus: ChipBus::new(begin.settings.profile, begin.settings.nodes),

@@ -3,7 +3,7 @@ use crate::held::Held;
 use ccan_confine::Controller;
 use ccan_ram::Flag;
 use ccan_registers::{
-    AccessError, flags, interrupt, interrupt_value, line, read_at, read_byte, read_word, write_at,
+    OffsetError, flags, interrupt, interrupt_value, line, read_at, read_byte, read_word, write_at,
     write_byte, write_word,
 };
 
@@ -13,111 +13,70 @@ impl Held {
     ghost use Rattle.ccan_registers.specs.Bytes.{ReadsByte, WritesByte};
     ghost use Rattle.ccan_registers.specs.Objects.{ShowsFlags, ShowsInterrupt};
     ghost use Rattle.ccan_registers.specs.Register.{InterruptValue, PullsLine, ReadsAt, ReadsWord, WritesAt, WritesWord};
-    ghost use Rattle.ccan_c.specs.Held.{pass_of};
+    ghost use Rattle.ccan_registers.specs.Register.{at_register};
+    ghost use Rattle.ccan_c.specs.Held.{map_of, pass_of, tries_of};
     ghost use Rattle.ccan_c.specs.Steps.{HostSteps, Steps};
 
     /// Reads the register at an offset.
     #[inline(always)]
-    pub(crate) fn read(&mut self, offset: u32) -> Option<Result<u16, AccessError>>
+    pub(crate) fn read(&mut self, offset: u32) -> Result<u16, OffsetError>
         ensures { Steps (λ terms seen added.
-            ReadsAt terms self.old.tries self.old.map offset self.old.own seen added result)
+            ReadsAt terms (tries_of self.old) (map_of self.old) offset
+            self.old.own seen added (at_register result))
             self.old self.new }
     {
-        read_at(
-            &self.own,
-            &self.ram,
-            &mut self.port,
-            self.map,
-            offset,
-            self.tries,
-        )
+        read_at(&self.own, &mut self.chip, offset)
     }
 
     /// Writes the register at an offset.
     #[inline(always)]
-    pub(crate) fn write(&mut self, offset: u32, value: u16) -> Option<Result<(), AccessError>>
+    pub(crate) fn write(&mut self, offset: u32, value: u16) -> Result<(), OffsetError>
         ensures steps { HostSteps (λ terms seen added left.
-            WritesAt terms self.old.tries self.old.map offset value self.old.own seen added result
-            left) self.old self.new }
+            WritesAt terms (tries_of self.old) (map_of self.old) offset value
+            self.old.own seen added (at_register result) left) self.old self.new }
         ensures bus { (pass_of self.old).port ≡ Bus → self.new.own ≡ self.old.own }
     {
-        write_at(
-            &mut self.own,
-            &self.ram,
-            &mut self.port,
-            self.map,
-            offset,
-            value,
-            self.tries,
-        )
+        write_at(&mut self.own, &mut self.chip, offset, value)
     }
 
     /// Reads the byte at an offset.
-    pub(crate) fn read_byte(&mut self, offset: u32) -> Option<Result<u8, AccessError>>
+    pub(crate) fn read_byte(&mut self, offset: u32) -> Result<u8, OffsetError>
         ensures { Steps (λ terms seen added.
-            ReadsByte terms self.old.tries self.old.map offset self.old.own seen added result)
+            ReadsByte terms (tries_of self.old) (map_of self.old) offset
+            self.old.own seen added (at_register result))
             self.old self.new }
     {
-        read_byte(
-            &self.own,
-            &self.ram,
-            &mut self.port,
-            self.map,
-            offset,
-            self.tries,
-        )
+        read_byte(&self.own, &mut self.chip, offset)
     }
 
     /// Writes the byte at an offset.
-    pub(crate) fn write_byte(&mut self, offset: u32, value: u8) -> Option<Result<(), AccessError>>
+    pub(crate) fn write_byte(&mut self, offset: u32, value: u8) -> Result<(), OffsetError>
         ensures steps { HostSteps (λ terms seen added left.
-            WritesByte terms self.old.tries self.old.map offset value self.old.own seen added result
-            left) self.old self.new }
+            WritesByte terms (tries_of self.old) (map_of self.old) offset value
+            self.old.own seen added (at_register result) left) self.old self.new }
         ensures bus { (pass_of self.old).port ≡ Bus → self.new.own ≡ self.old.own }
     {
-        write_byte(
-            &mut self.own,
-            &self.ram,
-            &mut self.port,
-            self.map,
-            offset,
-            value,
-            self.tries,
-        )
+        write_byte(&mut self.own, &mut self.chip, offset, value)
     }
 
     /// Reads the word of 32 bits at an offset.
-    pub(crate) fn read_word(&mut self, offset: u32) -> Option<Result<u32, AccessError>>
+    pub(crate) fn read_word(&mut self, offset: u32) -> Result<u32, OffsetError>
         ensures { Steps (λ terms seen added.
-            ReadsWord terms self.old.tries self.old.map offset self.old.own seen added result)
+            ReadsWord terms (tries_of self.old) (map_of self.old) offset
+            self.old.own seen added (at_register result))
             self.old self.new }
     {
-        read_word(
-            &self.own,
-            &self.ram,
-            &mut self.port,
-            self.map,
-            offset,
-            self.tries,
-        )
+        read_word(&self.own, &mut self.chip, offset)
     }
 
     /// Writes the word of 32 bits at an offset.
-    pub(crate) fn write_word(&mut self, offset: u32, value: u32) -> Option<Result<(), AccessError>>
+    pub(crate) fn write_word(&mut self, offset: u32, value: u32) -> Result<(), OffsetError>
         ensures steps { HostSteps (λ terms seen added left.
-            WritesWord terms self.old.tries self.old.map offset value self.old.own seen added result
-            left) self.old self.new }
+            WritesWord terms (tries_of self.old) (map_of self.old) offset value
+            self.old.own seen added (at_register result) left) self.old self.new }
         ensures bus { (pass_of self.old).port ≡ Bus → self.new.own ≡ self.old.own }
     {
-        write_word(
-            &mut self.own,
-            &self.ram,
-            &mut self.port,
-            self.map,
-            offset,
-            value,
-            self.tries,
-        )
+        write_word(&mut self.own, &mut self.chip, offset, value)
     }
 
     /// Whether the chip pulls its interrupt line.
@@ -125,7 +84,7 @@ impl Held {
         ensures { Steps (λ terms seen added. PullsLine terms seen added result)
             self.old self.new }
     {
-        line(&self.ram, &mut self.port)
+        line(&mut self.chip)
     }
 
     /// The Interrupt register, with the controller that its look found.
@@ -133,7 +92,7 @@ impl Held {
         ensures { Steps (λ terms seen added. InterruptValue terms seen added result.0 result.1)
             self.old self.new }
     {
-        interrupt_value(&self.ram, &mut self.port)
+        interrupt_value(&mut self.chip)
     }
 
     /// The number of the first object with IntPnd in one moment, or 0.
@@ -141,7 +100,7 @@ impl Held {
         ensures { Steps (λ terms seen added. ShowsInterrupt terms false seen added result)
             self.old self.new }
     {
-        interrupt(&self.ram, &mut self.port, false)
+        interrupt(&mut self.chip, false)
     }
 
     /// A flag of all objects in one moment.
@@ -149,6 +108,6 @@ impl Held {
         ensures { Steps (λ terms seen added. ShowsFlags terms flag seen added result)
             self.old self.new }
     {
-        flags(&self.ram, &mut self.port, flag)
+        flags(&mut self.chip, flag)
     }
 }

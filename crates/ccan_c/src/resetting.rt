@@ -64,5 +64,5 @@ pub extern "C" fn ccan_reset(alloc: Global, chip: &mut Chip) -> u32
     };
     let told = reset_held(&mut if1, &mut if2, &mut bus);
     *chip = Chip::of(Handle::open(if1), Handle::open(if2), Handle::open(bus));
-    code_of_access(&Some(told))
+    code_of_access(&told)
 }

@@ -2,7 +2,10 @@
 ghost use Rattle.std.specs.Prelude.{◌≡◌, ◌≢◌, ◌≤◌, ◌⊎◌, true, false, IfErr, IfOk};
 ghost use Rattle.ccan_line.specs.Limits.{most_nodes};
 ghost use Rattle.ccan_saved.specs.declared.saved.Saved.{Saved};
-ghost use Rattle.ccan_saved.specs.Format.{AreWords, IsSaved, text_of, words_of};
+ghost use Rattle.ccan_confine.specs.Controller.{IsController};
+ghost use Rattle.ccan_registers.specs.ChipSteps.{ChipGoes};
+ghost use Rattle.ccan_saved.specs.Format.{AreUnused, AreWords, IsSaved, text_of, words_of};
+ghost use Rattle.ccan_saved.specs.Looks.{LooksAtAll};
 ghost use Rattle.ccan_c.specs.Chip.{are_open};
 ghost use Rattle.ccan_c.specs.Codes.{closed, done, no_saved_chip};
 ghost use Rattle.ccan_c.specs.Meeting.{AreThree};
@@ -17,25 +20,35 @@ use crate::meeting::{meet_held, meet_ports};
 use crate::opening::chip_of;
 use crate::saved_chip::SavedChip;
 use crate::settings::Settings;
+use ccan_chip::ChipPort;
+use ccan_confine::Controller;
 use ccan_endless::{EndlessRam, MOST};
-use ccan_ram::SharedRam;
+use ccan_object::{MOST_OBJECTS, Record};
 use ccan_registers::InterfaceSet;
 use ccan_saved::{NotRestored, Saved, from_bytes, look_at_all, put_back, to_bytes};
 use std::alloc::Global;
 use std::mem::replace;
 
+/// What looks at the controller and at each object find.
+fn looked_at(chip: &mut ChipPort) -> (Controller, [Record; MOST_OBJECTS])
+    ensures settings { chip.new.settings ≡ chip.old.settings }
+    ensures goes { ChipGoes chip.old.port chip.new.port (λ terms seen added.
+        LooksAtAll terms result.0 result.1 seen added) }
+    ensures is { IsController result.0 }
+    ensures unused { AreUnused chip.old.port.pass.memory.profile result.1 }
+{
+    look_at_all(&chip.ram, &mut chip.port)
+}
+
 /// What is saved of three handles.
 fn saved_of(if1: &Held, if2: &Held, bus: &mut Held) -> Saved
     ensures { IsSavedOf if1.now if2.now bus.old bus.new result }
 {
-    let Some(port) = &mut bus.port.port else {
-        unreachable!();
-    };
-    let (controller, records) = look_at_all(&bus.ram, port);
+    let (controller, records) = looked_at(&mut bus.chip);
     Saved {
-        profile: bus.ram.profile(),
-        map: bus.map,
-        tries: bus.tries,
+        profile: bus.chip.profile(),
+        map: bus.chip.settings.map,
+        tries: bus.chip.settings.tries,
         others: bus.nodes,
         if1: if1.own,
         if2: if2.own,

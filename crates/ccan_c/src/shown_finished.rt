@@ -4,7 +4,7 @@ ghost use Rattle.ccan_confine.specs.StatusEvent.{HasFaultCode};
 ghost use Rattle.ccan_c.specs.Finished.{c_finished, code_of_end, counts_in, counts_number, event_code};
 ghost use Rattle.ccan_c.specs.Finished.{event_in, event_number, refused_at_end, status_in};
 
-use crate::code::{BUSY, code_of};
+use crate::code::{BUSY, code_of_reply};
 use crate::shown_outcome::{
     NOT_NOTED, finished_of, is_lost, object_of, step_number, stored_object, stored_of,
     stored_record,
@@ -12,7 +12,6 @@ use crate::shown_outcome::{
 use crate::shown_record::ShownRecord;
 use ccan_chip::OwnEvent;
 use ccan_confine::{BusEvent, StatusEvent};
-use ccan_line::LineAnswer;
 use ccan_station::Ended;
 
 /// What a frame was to a chip.
@@ -123,7 +122,7 @@ pub(crate) fn code_of_end(told: &Ended) -> u32
     if is_lost(&told.noted) {
         BUSY
     } else {
-        code_of(&LineAnswer::Round(told.end.answer))
+        code_of_reply(&told.end.answer)
     }
 }
 

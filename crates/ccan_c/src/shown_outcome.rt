@@ -4,14 +4,13 @@ ghost use Rattle.ccan_c.specs.Outcome.{loaded_by, node_shown, refused_number};
 ghost use Rattle.ccan_c.specs.Outcome.{object_of, step_number, stored_object, stored_of};
 ghost use Rattle.ccan_c.specs.Outcome.{stored_record, winner_in};
 
-use crate::code::{BUSY, code_of};
+use crate::code::{BUSY, code_of_reply};
 use crate::shown_frame::ShownFrame;
 use crate::shown_record::ShownRecord;
 use ccan_accept::Frame;
 use ccan_bus::{Decision, LoadAnswer, MemoryStep, RoundAnswer};
 use ccan_chip::ChipReport;
 use ccan_endless::{ControllerBusy, ControllerChanged};
-use ccan_line::LineAnswer;
 use ccan_object::{ObjectNo, Record};
 
 /// The number that stands for no node.
@@ -206,7 +205,7 @@ pub(crate) fn code_of_round(told: &ChipReport) -> u32
     if is_lost(&told.noted) {
         BUSY
     } else {
-        code_of(&LineAnswer::Round(told.report.end.answer))
+        code_of_reply(&told.report.end.answer)
     }
 }
 

@@ -31,7 +31,7 @@ impl Held {
         ensures told { IfSome result (λ note. note.value.whole ≡ (port_of self.old).whole) }
         ensures chip { IfSome result (λ note. note.value.memory ≡ (pass_of self.old).memory) }
     {
-        let note = tell(&self.ram, &mut self.port);
+        let note = tell(&mut self.chip);
         match Box::new(alloc, note) {
             Ok(note) => Some(note),
             Err(_) => None,
@@ -44,7 +44,7 @@ impl Held {
         ensures { Steps (λ terms seen added. Heeds terms.port note.whole seen added)
             self.old self.new }
     {
-        heed(&self.ram, &mut self.port, note);
+        heed(&mut self.chip, note);
     }
 }
 

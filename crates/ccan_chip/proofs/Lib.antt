@@ -2,3 +2,4 @@ pub mod Ports
 pub mod Owns
 pub mod Rounds
 pub mod RoundLaws
+pub mod Since

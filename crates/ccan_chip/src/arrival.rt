@@ -1,12 +1,13 @@
 //! How a load or a round begins: the bus's port comes to a controller that may have left the bus meanwhile.
 ghost use Rattle.std.specs.Prelude.{◌≡◌};
 ghost use Rattle.ccan_ram.specs.declared.port.PortName.TheVariants.{Bus};
+ghost use Rattle.ccan_ram.specs.SharedRam.{IsSamePort};
 ghost use Rattle.ccan_ram.specs.Tries.{most_tries};
 ghost use Rattle.ccan_confine.specs.Controller.{IsController};
 ghost use Rattle.ccan_chip.specs.Arrival.{Arrives, comes_back, may_take_part, takes_part};
 
+use crate::chip_port::ChipPort;
 use ccan_confine::{Controller, ControllerChange, NodeState};
-use ccan_endless::{EndlessRam, Port};
 use ccan_ram::Tries;
 
 /// How often a change that the bus's port makes by itself is tried: as often as a change may be. What was on the bus can't be
@@ -47,19 +48,18 @@ fn comes_back(controller: &Controller) -> bool
 /// Comes to the bus: looks at the controller, and if that comes back, joins and looks again. The answer is the controllers that
 /// the first and the last look found. If each try to join was lost to a change of another port, the controller takes no part this
 /// time.
-pub fn arrive(ram: &EndlessRam, port: &mut Port) -> (Controller, Controller)
-    requires memory { port.old.pass.memory ≡ ram.now.words }
-    requires bus { port.old.pass.port ≡ Bus }
-    ensures arrives { Arrives port.old port.new result.0 result.1 }
-    ensures memory { port.new.pass.memory ≡ port.old.pass.memory }
-    ensures port { port.new.pass.port ≡ port.old.pass.port }
+pub fn arrive(chip: &mut ChipPort) -> (Controller, Controller)
+    requires bus { chip.old.port.pass.port ≡ Bus }
+    ensures settings { chip.new.settings ≡ chip.old.settings }
+    ensures arrives { Arrives chip.old.port chip.new.port result.0 result.1 }
+    ensures same { IsSamePort chip.old.port.pass chip.new.port.pass }
     ensures is { IsController result.1 }
 {
-    let first = ram.look_controller(port);
+    let first = chip.look_controller();
     if !comes_back(&first) {
         return (first, first);
     }
-    let _joined = ram.change_controller(port, &ControllerChange::Join, own_tries());
-    let found = ram.look_controller(port);
+    let _joined = chip.change_controller(&ControllerChange::Join, own_tries());
+    let found = chip.look_controller();
     (first, found)
 }

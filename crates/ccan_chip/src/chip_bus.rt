@@ -1,7 +1,7 @@
 ghost use Rattle.std.specs.Prelude.{◌≡◌, ◌≤◌, true, false, List, None, IfOk, IfErr};
 ghost use Rattle.ccan_ram.specs.declared.port.PortName.{PortName};
 ghost use Rattle.ccan_ram.specs.declared.port.PortName.TheVariants.{Bus as BusPort};
-ghost use Rattle.ccan_ram.specs.SharedRam.{CanSee, passes_of, terms_of};
+ghost use Rattle.ccan_ram.specs.SharedRam.{CanSee, IsSamePort, passes_of, terms_of};
 ghost use Rattle.ccan_confine.specs.Counters.{AreAfter, NodeEvent};
 ghost use Rattle.ccan_bus.specs.Bus.{GoesOnWith, IsSameBus, LedTo};
 ghost use Rattle.ccan_bus.specs.Load.{Loads};
@@ -14,12 +14,13 @@ ghost use Rattle.ccan_chip.specs.Arrival.{left_behind, takes_part, unloaded};
 ghost use Rattle.ccan_chip.specs.Round.{ChipRound, IsRecessive, IsRecessiveLost, as_found, loops_back};
 
 use crate::arrival::{arrive, own_tries, takes_part};
+use crate::chip_port::ChipPort;
 use crate::chip_report::ChipReport;
-use crate::objects::{Earlier, Objects};
+use crate::objects::{Earlier, Lent, Objects};
 use crate::own_event::own_in;
-use ccan_bus::{Bus, LoadAnswer, RoundLine, RoundReport};
+use ccan_bus::{Bus, LoadAnswer, RoundAnswer, RoundEnd, RoundLine, RoundReport};
 use ccan_confine::{Controller, ControllerChange, Counters};
-use ccan_endless::{ControllerBusy, ControllerChanged, EndlessRam, Port};
+use ccan_endless::{ControllerBusy, ControllerChanged};
 use ccan_object::{ObjectNo, Profile, Record};
 use ccan_ram::Tries;
 use std::marker::Brand;
@@ -38,48 +39,103 @@ fn loops_back(controller: &Controller) -> bool
     controller.control.test && controller.test.lback
 }
 
-/// The steps of a round that are made at the objects.
-fn steps<E: Earlier>(
+/// The steps of a round that are made at the objects. What came of them goes into the place for it.
+fn steps<'a, E: Earlier>(
     bus: &mut Bus,
-    ram: &EndlessRam,
-    port: Port,
+    lent: Lent<'a>,
     line: &RoundLine,
     tries: Tries,
-) -> (RoundReport, Port)
-    requires memory { port.pass.memory ≡ ram.now.words }
-    requires profile { port.pass.memory.profile ≡ bus.old.profile }
-    requires none { AddsNone E.earlier port }
-    ensures none { AddsNone E.earlier result.1 }
+    report: &mut RoundReport,
+) -> Lent<'a>
+    requires profile { lent.port.now.pass.memory.profile ≡ bus.old.profile }
+    requires none { AddsNone E.earlier lent.port.now }
+    requires lent { lent.port.ghost_name ≡ E.lent }
+    ensures none { AddsNone E.earlier result.port.now }
+    ensures lent { result.port.ghost_name ≡ lent.entry.port.ghost_name }
     ensures same { IsSameBus bus.old bus.new }
-    ensures goes_on { GoesOnWith (passes_of same_object port.pass)
-        (passes_of same_object result.1.pass) bus.old bus.new
+    ensures goes_on { GoesOnWith (passes_of same_object lent.entry.port.now.pass)
+        (passes_of same_object result.port.now.pass) bus.old bus.new
         (λ terms seen added past after.
-        RunsSteps terms line.now tries seen added past after result.0) }
+        RunsSteps terms line.now tries seen added past after report.new) }
 {
-    let mut objects = Objects::<E>::new(ram, port);
-    let report = bus.report_round(&mut objects, line, tries);
-    (report, objects.into_port())
+    let mut objects = Objects::<E>::new(lent);
+    *report = bus.report_round(&mut objects, line, tries);
+    objects.into_lent()
 }
 
-/// A load, over the objects.
-fn load_over<E: Earlier>(
+/// A load, over the objects. What came of it goes into the place for it.
+fn load_over<'a, E: Earlier>(
     bus: &mut Bus,
-    ram: &EndlessRam,
-    port: Port,
+    lent: Lent<'a>,
     tries: Tries,
-) -> (LoadAnswer, Port)
-    requires memory { port.pass.memory ≡ ram.now.words }
-    requires profile { port.pass.memory.profile ≡ bus.old.profile }
-    requires none { AddsNone E.earlier port }
-    ensures none { AddsNone E.earlier result.1 }
+    answer: &mut LoadAnswer,
+) -> Lent<'a>
+    requires profile { lent.port.now.pass.memory.profile ≡ bus.old.profile }
+    requires none { AddsNone E.earlier lent.port.now }
+    requires lent { lent.port.ghost_name ≡ E.lent }
+    ensures none { AddsNone E.earlier result.port.now }
+    ensures lent { result.port.ghost_name ≡ lent.entry.port.ghost_name }
     ensures same { IsSameBus bus.old bus.new }
-    ensures goes_on { GoesOnWith (passes_of same_object port.pass)
-        (passes_of same_object result.1.pass) bus.old bus.new
-        (λ terms seen added past after. Loads terms tries seen added past after result.0) }
+    ensures goes_on { GoesOnWith (passes_of same_object lent.entry.port.now.pass)
+        (passes_of same_object result.port.now.pass) bus.old bus.new
+        (λ terms seen added past after. Loads terms tries seen added past after answer.new) }
 {
-    let mut objects = Objects::<E>::new(ram, port);
-    let answer = bus.load(&mut objects, tries);
-    (answer, objects.into_port())
+    let mut objects = Objects::<E>::new(lent);
+    *answer = bus.load(&mut objects, tries);
+    objects.into_lent()
+}
+
+/// The steps of a round that are made at the objects, by the port where it is.
+fn steps_at_objects(bus: &mut Bus, chip: &mut ChipPort, line: &RoundLine) -> RoundReport
+    requires profile { chip.old.port.pass.memory.profile ≡ bus.old.profile }
+    requires one { SeesOne chip.old.port }
+    ensures settings { chip.new.settings ≡ chip.old.settings }
+    ensures none { AddsNone chip.old.port chip.new.port }
+    ensures same { IsSameBus bus.old bus.new }
+    ensures goes_on { GoesOnWith (passes_of same_object chip.old.port.pass)
+        (passes_of same_object chip.new.port.pass) bus.old bus.new
+        (λ terms seen added past after.
+        RunsSteps terms line.now chip.old.settings.tries seen added past after result) }
+{
+    let tries = chip.settings.tries;
+    let mut report = RoundReport {
+        loading: LoadAnswer::Nothing,
+        decision: None,
+        end: RoundEnd {
+            answer: RoundAnswer::Idle,
+            refused: None,
+        },
+    };
+    let lent = Lent {
+        port: &mut chip.port,
+        ram: &chip.ram,
+    };
+    let lent = steps::<Brand>(bus, lent, line, tries, &mut report);
+    lent.end();
+    report
+}
+
+/// A load, by the port where it is.
+fn load_at_objects(bus: &mut Bus, chip: &mut ChipPort) -> LoadAnswer
+    requires profile { chip.old.port.pass.memory.profile ≡ bus.old.profile }
+    requires one { SeesOne chip.old.port }
+    ensures settings { chip.new.settings ≡ chip.old.settings }
+    ensures none { AddsNone chip.old.port chip.new.port }
+    ensures same { IsSameBus bus.old bus.new }
+    ensures goes_on { GoesOnWith (passes_of same_object chip.old.port.pass)
+        (passes_of same_object chip.new.port.pass) bus.old bus.new
+        (λ terms seen added past after.
+        Loads terms chip.old.settings.tries seen added past after result) }
+{
+    let tries = chip.settings.tries;
+    let mut answer = LoadAnswer::Nothing;
+    let lent = Lent {
+        port: &mut chip.port,
+        ram: &chip.ram,
+    };
+    let lent = load_over::<Brand>(bus, lent, tries, &mut answer);
+    lent.end();
+    answer
 }
 
 impl ChipBus {
@@ -157,99 +213,83 @@ impl ChipBus {
     /// since: if Init was 1, even for a moment, or it was reset or went off. The controller takes part as its registers are at
     /// the last look; if it takes no part, nothing is loaded afterwards. The answer comes with the controller that this look
     /// found.
-    pub fn load(
-        &mut self,
-        ram: &EndlessRam,
-        mut port: Port,
-        tries: Tries,
-    ) -> (Controller, LoadAnswer, Port)
-        requires memory { port.pass.memory ≡ ram.now.words }
-        requires bus { port.pass.port ≡ BusPort }
-        requires profile { port.pass.memory.profile ≡ self.old.bus.profile }
+    pub fn load(&mut self, chip: &mut ChipPort) -> (Controller, LoadAnswer)
+        requires bus { chip.old.port.pass.port ≡ BusPort }
+        requires profile { chip.old.port.pass.memory.profile ≡ self.old.bus.profile }
         ensures same { IsSameBus self.old.bus self.new.bus }
-        ensures memory { result.2.pass.memory ≡ port.pass.memory }
-        ensures port { result.2.pass.port ≡ port.pass.port }
-        ensures sees { CanSee port.pass → CanSee result.2.pass }
-        ensures one { SeesOne result.2 }
+        ensures settings { chip.new.settings ≡ chip.old.settings }
+        ensures port { IsSamePort chip.old.port.pass chip.new.port.pass }
+        ensures sees { CanSee chip.old.port.pass → CanSee chip.new.port.pass }
+        ensures one { SeesOne chip.new.port }
         ensures load { (past : BusPast) → LedTo past self.old.bus
             → (after : BusPast) × LedTo after self.new.bus
-            × ChipLoad (terms_of same_object port.pass.memory BusPort) tries
-            port result.2 past after result.0 result.1 }
+            × ChipLoad (terms_of same_object chip.old.port.pass.memory BusPort)
+            chip.old.settings.tries chip.old.port chip.new.port past after result.0 result.1 }
     {
-        let (first, controller) = arrive(ram, &mut port);
+        let (first, controller) = arrive(chip);
         self.leave_behind(&first);
         self.take(&controller);
-        let (answer, port) = load_over::<Brand>(&mut self.bus, ram, port, tries);
-        (controller, answer, port)
+        let answer = load_at_objects(&mut self.bus, chip);
+        (controller, answer)
     }
 
     /// A round. What was loaded is dropped first if the controller has left the bus since. The controller takes part as its
     /// registers are at the look before all steps at objects. The round's event at the controller is made last, so that whoever
     /// is woken by it finds the object done, unless the step that is due at the object was refused. The event has 1,000 tries,
     /// however few the other steps have.
-    pub fn round(
-        &mut self,
-        ram: &EndlessRam,
-        mut port: Port,
-        line: &RoundLine,
-        tries: Tries,
-    ) -> (ChipReport, Port)
-        requires memory { port.pass.memory ≡ ram.now.words }
-        requires bus { port.pass.port ≡ BusPort }
-        requires profile { port.pass.memory.profile ≡ self.old.bus.profile }
+    pub fn round(&mut self, chip: &mut ChipPort, line: &RoundLine) -> ChipReport
+        requires bus { chip.old.port.pass.port ≡ BusPort }
+        requires profile { chip.old.port.pass.memory.profile ≡ self.old.bus.profile }
         ensures same { IsSameBus self.old.bus self.new.bus }
-        ensures memory { result.1.pass.memory ≡ port.pass.memory }
-        ensures port { result.1.pass.port ≡ port.pass.port }
-        ensures sees { CanSee port.pass → CanSee result.1.pass }
-        ensures one { SeesOne result.1 }
-        ensures out { takes_part result.0.found ≡ false → result.0.own ≡ None }
+        ensures settings { chip.new.settings ≡ chip.old.settings }
+        ensures port { IsSamePort chip.old.port.pass chip.new.port.pass }
+        ensures sees { CanSee chip.old.port.pass → CanSee chip.new.port.pass }
+        ensures one { SeesOne chip.new.port }
+        ensures out { takes_part result.found ≡ false → result.own ≡ None }
         ensures round { (past : BusPast) → LedTo past self.old.bus
             → (after : BusPast) × LedTo after self.new.bus
-            × ChipRound (terms_of same_object port.pass.memory BusPort) line.now tries
-            port result.1 past after result.0 }
+            × ChipRound (terms_of same_object chip.old.port.pass.memory BusPort) line.now
+            chip.old.settings.tries chip.old.port chip.new.port past after result }
     {
-        let (first, found) = arrive(ram, &mut port);
+        let (first, found) = arrive(chip);
         self.leave_behind(&first);
         self.take(&found);
-        let (report, mut port) = steps::<Brand>(&mut self.bus, ram, port, line, tries);
+        let report = steps_at_objects(&mut self.bus, chip, line);
         let own = own_in(takes_part(&found), &report.decision, self.bus.last_error());
         let noted = match own {
             None => None,
             Some((event, status)) => {
                 let change = ControllerChange::Frame(event, status);
-                Some(ram.change_controller(&mut port, &change, own_tries()))
+                Some(chip.change_controller(&change, own_tries()))
             }
         };
-        (
-            ChipReport {
-                found,
-                report,
-                own,
-                noted,
-            },
-            port,
-        )
+        ChipReport {
+            found,
+            report,
+            own,
+            noted,
+        }
     }
 
     /// So many groups of eleven recessive bits pass on the bus, and every node sees them. If each try at the controller was lost
     /// to a change of another port, no node has seen any, and the call may be made again.
     pub fn recessive(
         &mut self,
-        ram: &EndlessRam,
-        port: &mut Port,
+        chip: &mut ChipPort,
         groups: u16,
-        tries: Tries,
     ) -> Result<ControllerChanged, ControllerBusy>
-        requires memory { port.old.pass.memory ≡ ram.now.words }
-        requires bus { port.old.pass.port ≡ BusPort }
+        requires bus { chip.old.port.pass.port ≡ BusPort }
         ensures same { IsSameBus self.old.bus self.new.bus }
-        ensures sees { CanSee port.old.pass → CanSee port.new.pass }
+        ensures settings { chip.new.settings ≡ chip.old.settings }
+        ensures sees { CanSee chip.old.port.pass → CanSee chip.new.port.pass }
         ensures made { IfOk result (λ made.
-            IsRecessive groups port.old port.new self.old.bus self.new.bus made) }
+            IsRecessive groups chip.old.port chip.new.port self.old.bus self.new.bus made) }
         ensures busy { IfErr result (λ busy.
-            IsRecessiveLost tries port.old port.new busy × (self.new ≡ self.old)) }
+            IsRecessiveLost chip.old.settings.tries chip.old.port chip.new.port busy
+            × (self.new ≡ self.old)) }
     {
-        let made = ram.change_controller(port, &ControllerChange::Recessive(groups), tries)?;
+        let tries = chip.settings.tries;
+        let made = chip.change_controller(&ControllerChange::Recessive(groups), tries)?;
         self.bus.recessive(groups);
         Ok(made)
     }

@@ -1,4 +1,5 @@
-//! The bus of a chip whose controller's registers are beside its objects, where every port reads and writes them at any time.
+//! A port of a chip ([`ChipPort`]), and the bus of a chip whose controller's registers are beside its objects, where every port
+//! reads and writes them at any time.
 //!
 //! A `ccan_bus::Bus` keeps the controller's error counters and its Status register itself, so only the thread that runs the
 //! rounds can reach them. On the part a host clears Init, reads Status and sets loop back mode while frames pass. Here these
@@ -29,13 +30,17 @@
 
 mod arrival;
 mod chip_bus;
+mod chip_port;
 mod chip_report;
 pub mod laws;
 mod objects;
 mod own_event;
+mod port_settings;
 
 pub use arrival::{arrive, own_tries, takes_part};
 pub use chip_bus::ChipBus;
+pub use chip_port::ChipPort;
 pub use chip_report::ChipReport;
-pub use objects::{Earlier, Objects};
+pub use objects::{Earlier, Lent, Objects};
 pub use own_event::OwnEvent;
+pub use port_settings::PortSettings;

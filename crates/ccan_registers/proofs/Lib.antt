@@ -5,5 +5,4 @@ pub mod Framing
 pub mod Changing
 pub mod Accesses
 pub mod Halves
-pub mod Holders
 pub mod Sending

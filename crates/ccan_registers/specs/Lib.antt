@@ -1,5 +1,4 @@
 pub mod ChipSteps
-pub mod PortHolder
 pub mod Objects
 pub mod InterfaceSet
 pub mod Dcan

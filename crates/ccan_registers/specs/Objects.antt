@@ -11,13 +11,23 @@ use Rattle.ccan_handler.specs.Watch.{Watches}
 use Rattle.ccan_line.specs.declared.host_line.HostLine.{HostLine}
 use Rattle.ccan_line.specs.declared.host_line.HostLine.TheVariants as line
 use Rattle.ccan_line.specs.declared.line_answer.LineAnswer.{LineAnswer}
+use Rattle.ccan_line.specs.declared.line_answer.LineAnswer.TheVariants as answer
 use Rattle.ccan_line.specs.Host.{HostLineMeans}
 use Rattle.ccan_endless.specs.Chip.{ChipHistory}
+use Rattle.ccan_registers.specs.declared.transfer_answer.TransferAnswer.{TransferAnswer}
+use Rattle.ccan_registers.specs.declared.transfer_answer.TransferAnswer.TheVariants as told
 use Rattle.ccan_registers.specs.ChipSteps.{OnObjects}
 
 -- a transfer with the registers as they are
 abbrev pub transfer : ℕ → HostLine
 transfer request = line.Transfer request (record { items = [] })
+
+-- what a transfer answers, as a line of a script does
+abbrev pub as_line : TransferAnswer → LineAnswer
+as_line (told.Write object buffer) = answer.Write object buffer
+as_line (told.Read object buffer) = answer.Read object buffer
+as_line (told.Busy object) = answer.Busy object
+as_line (told.Spent object) = answer.Spent object
 
 -- the transfer of a Command Request, between these interface registers and the object that it names
 abbrev pub Transfers : Terms → ℕ → ℕ → Registers → ChipHistory → ChipHistory → LineAnswer → Registers → Type 0

@@ -38,6 +38,8 @@ use Rattle.ccan_map.specs.Register.{IsIn}
 use Rattle.ccan_registers.specs.declared.access_error.AccessError.{AccessError}
 use Rattle.ccan_registers.specs.declared.access_error.AccessError.TheVariants.{Busy, OtherInterface, Spent}
 use Rattle.ccan_registers.specs.declared.interface_set.InterfaceSet.{InterfaceSet}
+use Rattle.ccan_registers.specs.declared.offset_error.OffsetError.{OffsetError}
+use Rattle.ccan_registers.specs.declared.offset_error.OffsetError.TheVariants.{Access, NoRegister}
 use Rattle.ccan_registers.specs.ChipSteps.{AtController, Changes, Makes, Then}
 use Rattle.ccan_registers.specs.Dcan.{NamesNone, Sends, asks_for_reset, control_shown, control_written, is_object_of, is_sending, number_in, status_shown, test_written, upper_shown, upper_written}
 use Rattle.ccan_registers.specs.InterfaceSet.{Transferred}
@@ -221,6 +223,12 @@ Writes terms tries map r value own seen added told left =
     (λ z. WritesController terms z tries own seen added told left))
 
 -- ---- by offsets
+
+-- what came of the register that begins at an offset; None: none does
+abbrev pub at_register : {Value : Type 0} → Result Value OffsetError → Option (Result Value AccessError)
+at_register (Ok value) = Some (Ok value)
+at_register (Err NoRegister) = None
+at_register (Err (Access why)) = Some (Err why)
 
 -- the register that a chip of this profile has at this offset
 pub record IsAt (map : Map) (profile : Profile) (offset : ℕ) (r : Register) : Type 0 where

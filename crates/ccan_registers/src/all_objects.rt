@@ -5,9 +5,9 @@ ghost use Rattle.ccan_registers.specs.AllObjects.{ChangesObject, ChangesObjects}
 ghost use Rattle.ccan_registers.specs.ChipSteps.{ChipGoes};
 
 use crate::access_error::AccessError;
-use ccan_endless::{EndlessRam, Port};
+use ccan_chip::ChipPort;
 use ccan_object::{ObjectNo, Profile};
-use ccan_ram::{Change, Refused, SharedRam, Tries};
+use ccan_ram::{Change, Refused, Tries};
 
 /// The object after so many others.
 fn object_behind(profile: Profile, others: u8) -> ObjectNo
@@ -21,18 +21,17 @@ fn object_behind(profile: Profile, others: u8) -> ObjectNo
 
 /// Changes an object, by a change that fits each record.
 fn change_object(
-    ram: &EndlessRam,
-    port: &mut Port,
+    chip: &mut ChipPort,
     object: ObjectNo,
     change: &Change,
     tries: Tries,
 ) -> Result<(), AccessError>
-    requires memory { port.old.pass.memory ≡ ram.now.words }
-    requires held { Holds ram.now.words.profile object }
-    ensures { ChipGoes port.old port.new (λ terms seen added.
+    requires held { Holds chip.old.port.pass.memory.profile object }
+    ensures settings { chip.new.settings ≡ chip.old.settings }
+    ensures goes { ChipGoes chip.old.port chip.new.port (λ terms seen added.
         ChangesObject terms change.now tries object seen added result) }
 {
-    match ram.change(port, object, change, tries) {
+    match chip.change(object, change, tries) {
         Ok(_) => Ok(()),
         Err(Refused::Busy { .. }) => Err(AccessError::Busy),
         Err(Refused::Spent) => Err(AccessError::Spent),
@@ -42,18 +41,18 @@ fn change_object(
 /// Changes each object of the chip, in the order of their numbers, up to the first whose change is refused. The change fits each
 /// record.
 pub(crate) fn change_objects(
-    ram: &EndlessRam,
-    port: &mut Port,
+    chip: &mut ChipPort,
     change: &Change,
     tries: Tries,
 ) -> Result<(), AccessError>
-    requires { port.old.pass.memory ≡ ram.now.words }
-    ensures { ChipGoes port.old port.new (λ terms seen added.
+    ensures settings { chip.new.settings ≡ chip.old.settings }
+    ensures goes { ChipGoes chip.old.port chip.new.port (λ terms seen added.
         ChangesObjects terms change.now tries seen added result) }
 {
-    for n in 0..ram.profile().objects() {
-        let object = object_behind(ram.profile(), n);
-        if let Err(why) = change_object(ram, port, object, change, tries) {
+    let profile = chip.profile();
+    for n in 0..profile.objects() {
+        let object = object_behind(profile, n);
+        if let Err(why) = change_object(chip, object, change, tries) {
             return Err(why);
         }
     }

@@ -4,48 +4,40 @@ ghost use Rattle.ccan_ram.specs.declared.port.PortName.TheVariants.{Bus as BusPo
 ghost use Rattle.ccan_registers.specs.Bytes as says;
 ghost use Rattle.ccan_registers.specs.Bytes.{ReadsByte, ResetsInInit, WritesByte, WritesLower, WritesTimingByte, WritesUpper};
 ghost use Rattle.ccan_registers.specs.ChipSteps.{ChipGoes};
-ghost use Rattle.ccan_registers.specs.PortHolder.{port_at};
+ghost use Rattle.ccan_registers.specs.Register.{at_register};
 
 use crate::access_error::AccessError;
 use crate::byte::Byte;
 use crate::controller::look;
 use crate::interface_set::InterfaceSet;
-use crate::port_holder::PortHolder;
-use crate::registers::{is_own, read_at, write};
+use crate::offset_error::OffsetError;
+use crate::registers::{at_offset, is_own, read_at, write};
 use crate::resetting::reset;
+use ccan_chip::ChipPort;
 use ccan_confine::ControllerChange;
-use ccan_endless::EndlessRam;
 use ccan_map::{Map, Register};
-use ccan_ram::{SharedRam, Tries};
 
 // ---- reads
 
 /// The byte of the word that a read answered.
-fn byte_told(byte: Byte, word: Option<Result<u16, AccessError>>) -> Option<Result<u8, AccessError>>
-    ensures { result ≡ says.byte_told byte word }
+fn byte_told(byte: Byte, word: Result<u16, OffsetError>) -> Result<u8, OffsetError>
+    ensures { at_register result ≡ says.byte_told byte (at_register word) }
 {
     match word {
-        Some(Ok(word)) => Some(Ok(byte.of(word))),
-        Some(Err(why)) => Some(Err(why)),
-        None => None,
+        Ok(word) => Ok(byte.of(word)),
+        Err(why) => Err(why),
     }
 }
 
-/// Reads the byte at an offset, in bytes from where the chip begins: its register is read, by 16 bits. None if the byte is of no
-/// register.
-pub fn read_byte(
-    own: &InterfaceSet,
-    ram: &EndlessRam,
-    holder: &mut PortHolder,
-    map: Map,
-    offset: u32,
-    tries: Tries,
-) -> Option<Result<u8, AccessError>>
-    requires { (port_at holder.old).pass.memory ≡ ram.now.words }
-    ensures { ChipGoes (port_at holder.old) (port_at holder.new) (λ terms seen added.
-        ReadsByte terms tries map offset own.now seen added result) }
+/// Reads the byte at an offset, in bytes from where the chip begins: its register is read, by 16 bits. There is no register if
+/// the byte is of none.
+pub fn read_byte(own: &InterfaceSet, chip: &mut ChipPort, offset: u32) -> Result<u8, OffsetError>
+    ensures settings { chip.new.settings ≡ chip.old.settings }
+    ensures goes { ChipGoes chip.old.port chip.new.port (λ terms seen added.
+        ReadsByte terms chip.old.settings.tries chip.old.settings.map offset own.now seen added
+        (at_register result)) }
 {
-    let word = read_at(own, ram, holder, map, offset - offset % 2, tries);
+    let word = read_at(own, chip, offset - offset % 2);
     byte_told(Byte::at(offset), word)
 }
 
@@ -55,21 +47,19 @@ pub fn read_byte(
 /// the register in between, its write is lost.
 fn write_timing_byte(
     own: &mut InterfaceSet,
-    ram: &EndlessRam,
-    holder: &mut PortHolder,
-    map: Map,
+    chip: &mut ChipPort,
     byte: Byte,
     value: u8,
-    tries: Tries,
 ) -> Result<(), AccessError>
-    requires memory { (port_at holder.old).pass.memory ≡ ram.now.words }
-    ensures goes { ChipGoes (port_at holder.old) (port_at holder.new) (λ terms seen added.
-        WritesTimingByte terms tries map byte value own.old seen added result own.new) }
-    ensures bus { (port_at holder.old).pass.port ≡ BusPort → own.new ≡ own.old }
+    ensures settings { chip.new.settings ≡ chip.old.settings }
+    ensures goes { ChipGoes chip.old.port chip.new.port (λ terms seen added.
+        WritesTimingByte terms chip.old.settings.tries chip.old.settings.map byte value own.old
+        seen added result own.new) }
+    ensures bus { chip.old.port.pass.port ≡ BusPort → own.new ≡ own.old }
 {
-    let found = look(ram, holder);
+    let found = look(chip);
     let word = byte.set(value, found.timing.register());
-    write(own, ram, holder, map, Register::BitTiming, word, tries)
+    write(own, chip, Register::BitTiming, word)
 }
 
 /// Whether a write of the upper byte of Control has SWR, which only a D_CAN has.
@@ -84,19 +74,14 @@ fn has_reset(map: Map, value: u8) -> bool
 }
 
 /// Resets the chip by software if a look at the controller shows Init.
-fn reset_in_init(
-    own: &InterfaceSet,
-    ram: &EndlessRam,
-    holder: &mut PortHolder,
-    tries: Tries,
-) -> Result<(), AccessError>
-    requires memory { (port_at holder.old).pass.memory ≡ ram.now.words }
-    ensures { ChipGoes (port_at holder.old) (port_at holder.new) (λ terms seen added.
-        ResetsInInit terms tries own.now seen added result own.now) }
+fn reset_in_init(own: &InterfaceSet, chip: &mut ChipPort) -> Result<(), AccessError>
+    ensures settings { chip.new.settings ≡ chip.old.settings }
+    ensures goes { ChipGoes chip.old.port chip.new.port (λ terms seen added.
+        ResetsInInit terms chip.old.settings.tries own.now seen added result own.now) }
 {
-    let found = look(ram, holder);
+    let found = look(chip);
     if found.control.init {
-        reset(ram, holder, &ControllerChange::ResetDcan, tries)
+        reset(chip, &ControllerChange::ResetDcan)
     } else {
         Ok(())
     }
@@ -107,26 +92,22 @@ fn reset_in_init(
 /// That of a Command Request register starts the transfer.
 fn write_lower(
     own: &mut InterfaceSet,
-    ram: &EndlessRam,
-    holder: &mut PortHolder,
-    map: Map,
+    chip: &mut ChipPort,
     register: Register,
     value: u8,
-    tries: Tries,
 ) -> Result<(), AccessError>
-    requires memory { (port_at holder.old).pass.memory ≡ ram.now.words }
-    ensures goes { ChipGoes (port_at holder.old) (port_at holder.new) (λ terms seen added.
-        WritesLower terms tries map register value own.old seen added result own.new) }
-    ensures bus { (port_at holder.old).pass.port ≡ BusPort → own.new ≡ own.old }
+    ensures settings { chip.new.settings ≡ chip.old.settings }
+    ensures goes { ChipGoes chip.old.port chip.new.port (λ terms seen added.
+        WritesLower terms chip.old.settings.tries chip.old.settings.map register value own.old seen
+        added result own.new) }
+    ensures bus { chip.old.port.pass.port ≡ BusPort → own.new ≡ own.old }
 {
     match register {
         Register::ControlUpper => Ok(()),
-        Register::BitTiming => {
-            write_timing_byte(own, ram, holder, map, Byte::Lower, value, tries)
-        }
+        Register::BitTiming => { write_timing_byte(own, chip, Byte::Lower, value) }
         Register::Buffer(_, reg) => {
             let word = Byte::Lower.set(value, own.registers.get(reg));
-            write(own, ram, holder, map, register, word, tries)
+            write(own, chip, register, word)
         }
         Register::Control
         | Register::Status
@@ -135,9 +116,7 @@ fn write_lower(
         | Register::Test
         | Register::Extension
         | Register::Request(_)
-        | Register::Flags(_, _) => {
-            write(own, ram, holder, map, register, u16::from(value), tries)
-        }
+        | Register::Flags(_, _) => { write(own, chip, register, u16::from(value)) }
     }
 }
 
@@ -146,33 +125,29 @@ fn write_lower(
 /// upper byte has no bits that can be written; that of a Command Request register starts no transfer.
 fn write_upper(
     own: &mut InterfaceSet,
-    ram: &EndlessRam,
-    holder: &mut PortHolder,
-    map: Map,
+    chip: &mut ChipPort,
     register: Register,
     value: u8,
-    tries: Tries,
 ) -> Result<(), AccessError>
-    requires memory { (port_at holder.old).pass.memory ≡ ram.now.words }
-    ensures goes { ChipGoes (port_at holder.old) (port_at holder.new) (λ terms seen added.
-        WritesUpper terms tries map register value own.old seen added result own.new) }
-    ensures bus { (port_at holder.old).pass.port ≡ BusPort → own.new ≡ own.old }
+    ensures settings { chip.new.settings ≡ chip.old.settings }
+    ensures goes { ChipGoes chip.old.port chip.new.port (λ terms seen added.
+        WritesUpper terms chip.old.settings.tries chip.old.settings.map register value own.old seen
+        added result own.new) }
+    ensures bus { chip.old.port.pass.port ≡ BusPort → own.new ≡ own.old }
 {
     match register {
-        Register::Control if has_reset(map, value) => reset_in_init(own, ram, holder, tries),
+        Register::Control if has_reset(chip.settings.map, value) => reset_in_init(own, chip),
         Register::ControlUpper => {
             let word = Byte::Upper.set(value, 0);
-            write(own, ram, holder, map, register, word, tries)
+            write(own, chip, register, word)
         }
-        Register::BitTiming => {
-            write_timing_byte(own, ram, holder, map, Byte::Upper, value, tries)
-        }
-        Register::Request(interface) if !is_own(holder.name(), interface) => {
+        Register::BitTiming => { write_timing_byte(own, chip, Byte::Upper, value) }
+        Register::Request(interface) if !is_own(chip.name(), interface) => {
             Err(AccessError::OtherInterface)
         }
         Register::Buffer(_, reg) => {
             let word = Byte::Upper.set(value, own.registers.get(reg));
-            write(own, ram, holder, map, register, word, tries)
+            write(own, chip, register, word)
         }
         Register::Control
         | Register::Status
@@ -185,27 +160,25 @@ fn write_upper(
     }
 }
 
-/// Writes the byte at an offset, in bytes from where the chip begins. None if the byte is of no register.
+/// Writes the byte at an offset, in bytes from where the chip begins. There is no register if the byte is of none.
 pub fn write_byte(
     own: &mut InterfaceSet,
-    ram: &EndlessRam,
-    holder: &mut PortHolder,
-    map: Map,
+    chip: &mut ChipPort,
     offset: u32,
     value: u8,
-    tries: Tries,
-) -> Option<Result<(), AccessError>>
-    requires { (port_at holder.old).pass.memory ≡ ram.now.words }
-    ensures goes { ChipGoes (port_at holder.old) (port_at holder.new) (λ terms seen added.
-        WritesByte terms tries map offset value own.old seen added result own.new) }
-    ensures bus { (port_at holder.old).pass.port ≡ BusPort → own.new ≡ own.old }
+) -> Result<(), OffsetError>
+    ensures settings { chip.new.settings ≡ chip.old.settings }
+    ensures goes { ChipGoes chip.old.port chip.new.port (λ terms seen added.
+        WritesByte terms chip.old.settings.tries chip.old.settings.map offset value own.old seen
+        added (at_register result) own.new) }
+    ensures bus { chip.old.port.pass.port ≡ BusPort → own.new ≡ own.old }
 {
     let start = offset - offset % 2;
-    let Some(register) = map.register_at(ram.profile(), start) else {
-        return None;
+    let Some(register) = chip.settings.map.register_at(chip.profile(), start) else {
+        return Err(OffsetError::NoRegister);
     };
     match Byte::at(offset) {
-        Byte::Lower => Some(write_lower(own, ram, holder, map, register, value, tries)),
-        Byte::Upper => Some(write_upper(own, ram, holder, map, register, value, tries)),
+        Byte::Lower => at_offset(write_lower(own, chip, register, value)),
+        Byte::Upper => at_offset(write_upper(own, chip, register, value)),
     }
 }

@@ -6,14 +6,12 @@ ghost use Rattle.ccan_ram.specs.Change.{changed};
 ghost use Rattle.ccan_registers.specs.ChipSteps.{ChipGoes};
 ghost use Rattle.ccan_registers.specs.Clearing as says;
 ghost use Rattle.ccan_registers.specs.Clearing.{ClearsObjects};
-ghost use Rattle.ccan_registers.specs.PortHolder.{port_at};
 
 use crate::access_error::AccessError;
 use crate::all_objects::change_objects;
-use crate::port_holder::PortHolder;
-use ccan_endless::EndlessRam;
+use ccan_chip::ChipPort;
 use ccan_object::{CommandMask, Record};
-use ccan_ram::{Change, Tries};
+use ccan_ram::Change;
 
 /// A command that writes all parts of an object: WR/RD, Mask, Arb, Control, Data A and Data B.
 const ALL_PARTS: u16 = 0x00f3;
@@ -29,17 +27,10 @@ fn zeros() -> Change
 /// Makes each object of the chip one of zeros, in the order of their numbers, as the initialisation of the message RAM of a D_CAN
 /// does (Texas Instruments AM335x Technical Reference Manual, chapter Control Module, "dcan_raminit Register"). `Busy` or
 /// `Spent`: that object and those after it are as they were. After `Busy` the call may be made again.
-pub fn clear_objects(
-    ram: &EndlessRam,
-    holder: &mut PortHolder,
-    tries: Tries,
-) -> Result<(), AccessError>
-    requires { (port_at holder.old).pass.memory ≡ ram.now.words }
-    ensures { ChipGoes (port_at holder.old) (port_at holder.new) (λ terms seen added.
-        ClearsObjects terms tries seen added result) }
+pub fn clear_objects(chip: &mut ChipPort) -> Result<(), AccessError>
+    ensures settings { chip.new.settings ≡ chip.old.settings }
+    ensures goes { ChipGoes chip.old.port chip.new.port (λ terms seen added.
+        ClearsObjects terms chip.old.settings.tries seen added result) }
 {
-    let Some(port) = &mut holder.port else {
-        unreachable!();
-    };
-    change_objects(ram, port, &zeros(), tries)
+    change_objects(chip, &zeros(), chip.settings.tries)
 }

@@ -6,16 +6,14 @@ ghost use Rattle.ccan_endless.specs.Chip.{MayMake};
 ghost use Rattle.ccan_registers.specs.ChipSteps.{ChipGoes};
 ghost use Rattle.ccan_registers.specs.Dcan as says;
 ghost use Rattle.ccan_registers.specs.Dcan.{Sends, is_object_of, number_in};
-ghost use Rattle.ccan_registers.specs.PortHolder.{port_at};
 
 use crate::access_error::AccessError;
 use crate::interface_set::InterfaceSet;
-use crate::port_holder::PortHolder;
+use ccan_chip::ChipPort;
 use ccan_confine::{ControlRegister, Controller, ControllerChange, TestRegister};
-use ccan_endless::{EndlessRam, Port};
 use ccan_map::{Map, Register};
 use ccan_object::{CommandMask, ObjectNo, Profile};
-use ccan_ram::{Change, Changed, Refused, SharedRam, Tries};
+use ccan_ram::{Change, Changed, Refused, Tries};
 
 // ---- registers of the controller
 
@@ -204,23 +202,23 @@ pub(crate) fn object_named(profile: Profile, request: u16) -> Option<ObjectNo>
     ObjectNo::new(number)
 }
 
-/// The change of a transfer that requests a transmission.
-fn sent(
+/// Makes a transfer that requests a transmission. It sets NewDat of the object in addition to TxRqst, so that new data is sent
+/// even if the frame of the object is on its way.
+pub(crate) fn send(
     own: &mut InterfaceSet,
-    ram: &EndlessRam,
-    port: &mut Port,
+    chip: &mut ChipPort,
     object: ObjectNo,
     tries: Tries,
 ) -> Result<(), AccessError>
-    requires memory { port.old.pass.memory ≡ ram.now.words }
-    requires held { Holds ram.now.words.profile object }
-    ensures { ChipGoes port.old port.new (λ terms seen added.
+    requires held { Holds chip.old.port.pass.memory.profile object }
+    ensures settings { chip.new.settings ≡ chip.old.settings }
+    ensures goes { ChipGoes chip.old.port chip.new.port (λ terms seen added.
         Sends terms tries object own.old seen added result own.new) }
 {
     own.asked = u16::from(object.get());
     let command = own.registers.command();
     let change = Change::Send(command, own.registers.buffer());
-    match ram.change(port, object, &change, tries) {
+    match chip.change(object, &change, tries) {
         Ok(Changed::Done { after, .. }) => {
             own.registers.fill(command, &after);
             Ok(())
@@ -229,24 +227,4 @@ fn sent(
         Err(Refused::Busy { .. }) => Err(AccessError::Busy),
         Err(Refused::Spent) => Err(AccessError::Spent),
     }
-}
-
-/// Makes a transfer that requests a transmission. It sets NewDat of the object in addition to TxRqst, so that new data is sent
-/// even if the frame of the object is on its way.
-pub(crate) fn send(
-    own: &mut InterfaceSet,
-    ram: &EndlessRam,
-    holder: &mut PortHolder,
-    object: ObjectNo,
-    tries: Tries,
-) -> Result<(), AccessError>
-    requires memory { (port_at holder.old).pass.memory ≡ ram.now.words }
-    requires held { Holds ram.now.words.profile object }
-    ensures { ChipGoes (port_at holder.old) (port_at holder.new) (λ terms seen added.
-        Sends terms tries object own.old seen added result own.new) }
-{
-    let Some(port) = &mut holder.port else {
-        unreachable!();
-    };
-    sent(own, ram, port, object, tries)
 }

@@ -1,11 +1,9 @@
 ghost use Rattle.std.specs.Prelude.{◌≡◌};
 
 use crate::objects::transfer;
-use crate::port_holder::PortHolder;
-use ccan_endless::EndlessRam;
-use ccan_line::LineAnswer;
+use crate::transfer_answer::TransferAnswer;
+use ccan_chip::ChipPort;
 use ccan_object::{Iface, ObjectNo, Reg};
-use ccan_ram::{SharedRam, Tries};
 
 /// What a host has of its own besides its port: the registers of its interface, IF1 or IF2 (User's Manual, section 3.3).
 #[derive(Clone, Copy, PartialEq, Eq, Debug)]
@@ -19,7 +17,7 @@ pub struct InterfaceSet {
 
 impl InterfaceSet {
     ghost use Rattle.ccan_registers.specs.ChipSteps.{ChipGoes};
-    ghost use Rattle.ccan_registers.specs.PortHolder.{port_at};
+    ghost use Rattle.ccan_registers.specs.Objects.{as_line};
     ghost use Rattle.ccan_registers.specs.InterfaceSet.{Transferred, reset_set, zero_set};
 
     /// Registers that read 0, except the Command Request register, which names object 1.
@@ -45,19 +43,14 @@ impl InterfaceSet {
     /// Writes the Command Request register: the transfer that the Command Mask register says, with the object that the request
     /// names (User's Manual, section 3.3.1). If its change is refused, the message buffer stays as it was.
     #[inline(always)]
-    pub fn request(
-        &mut self,
-        ram: &EndlessRam,
-        holder: &mut PortHolder,
-        request: u16,
-        tries: Tries,
-    ) -> LineAnswer
-        requires { (port_at holder.old).pass.memory ≡ ram.now.words }
-        ensures { ChipGoes (port_at holder.old) (port_at holder.new) (λ terms seen added.
-            Transferred terms tries request self.old seen added result self.new) }
+    pub fn request(&mut self, chip: &mut ChipPort, request: u16) -> TransferAnswer
+        ensures settings { chip.new.settings ≡ chip.old.settings }
+        ensures goes { ChipGoes chip.old.port chip.new.port (λ terms seen added.
+            Transferred terms chip.old.settings.tries request self.old seen added
+            (as_line result) self.new) }
     {
-        let object = ObjectNo::from_request(ram.profile(), request);
-        let answer = transfer(&mut self.registers, ram, holder, request, tries);
+        let object = ObjectNo::from_request(chip.profile(), request);
+        let answer = transfer(&mut self.registers, chip, request);
         self.asked = u16::from(object.get());
         answer
     }

@@ -40,11 +40,12 @@ mod frames;
 mod interface_set;
 mod notes;
 mod objects;
-mod port_holder;
+mod offset_error;
 mod powering;
 mod registers;
 mod resetting;
 mod rounds;
+mod transfer_answer;
 mod transferring;
 mod words;
 
@@ -57,11 +58,12 @@ pub use frames::{begin, end, stay};
 pub use interface_set::InterfaceSet;
 pub use notes::{heed, tell};
 pub use objects::{flags, interrupt, peek, transfer, wait};
-pub use port_holder::PortHolder;
+pub use offset_error::OffsetError;
 pub use powering::power_down;
 pub use registers::{
     interrupt_value, line, read, read_at, read_status, write, write_at, write_controller,
 };
 pub use resetting::reset;
 pub use rounds::{load, recessive, round};
+pub use transfer_answer::TransferAnswer;
 pub use words::{read_word, write_word};

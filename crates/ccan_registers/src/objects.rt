@@ -1,5 +1,4 @@
-//! Steps of a port at objects, as they are in the history of the chip. Each call works on the port in its place: it makes no
-//! access of the port, which would own it for that time.
+//! Steps of a port at objects, as they are in the history of the chip.
 ghost use Rattle.std.specs.Prelude.{◌≡◌};
 ghost use Rattle.ccan_object.specs.Profile.{Holds};
 ghost use Rattle.ccan_ram.specs.SharedRam.{passes_of};
@@ -8,15 +7,13 @@ ghost use Rattle.ccan_handler.specs.Watch.{AddsWatch};
 ghost use Rattle.ccan_endless.specs.ChipPort.{AddsNone, SeesOne};
 ghost use Rattle.ccan_endless.specs.Layout.{same_object};
 ghost use Rattle.ccan_registers.specs.ChipSteps.{ChipGoes};
-ghost use Rattle.ccan_registers.specs.PortHolder.{port_at};
-ghost use Rattle.ccan_registers.specs.Objects.{ShowsFlags, ShowsInterrupt, ShowsObject, Transfers, WaitsFor};
+ghost use Rattle.ccan_registers.specs.Objects.{ShowsFlags, ShowsInterrupt, ShowsObject, Transfers, WaitsFor, as_line};
 
-use crate::port_holder::PortHolder;
+use crate::transfer_answer::TransferAnswer;
 use crate::transferring::transferred;
-use ccan_endless::{EndlessRam, Port};
-use ccan_line::LineAnswer;
+use ccan_chip::ChipPort;
 use ccan_object::{Iface, ObjectNo, Record};
-use ccan_ram::{Flag, SharedRam, Tries};
+use ccan_ram::Flag;
 
 /// The interrupt value of the status interrupt (User's Manual, section 3.4.1).
 const STATUS_INTERRUPT: u16 = 0x8000;
@@ -25,16 +22,16 @@ const STATUS_INTERRUPT: u16 = 0x8000;
 
 /// Looks at an object until it shows the flag, at most so many times. Whether it did.
 #[inline(always)]
-fn watched(ram: &EndlessRam, port: &mut Port, object: ObjectNo, flag: Flag, turns: u32) -> bool
-    requires memory { port.old.pass.memory ≡ ram.now.words }
-    requires held { Holds ram.now.words.profile object }
-    requires one { SeesOne port.old }
-    ensures none { AddsNone port.old port.new }
-    ensures goes { AddsWatch (passes_of same_object port.old.pass)
-        (passes_of same_object port.new.pass) object flag turns result }
+fn watched(chip: &mut ChipPort, object: ObjectNo, flag: Flag, turns: u32) -> bool
+    requires held { Holds chip.old.port.pass.memory.profile object }
+    requires one { SeesOne chip.old.port }
+    ensures settings { chip.new.settings ≡ chip.old.settings }
+    ensures none { AddsNone chip.old.port chip.new.port }
+    ensures goes { AddsWatch (passes_of same_object chip.old.port.pass)
+        (passes_of same_object chip.new.port.pass) object flag turns result }
 {
     for turn in 0..turns {
-        let shown = ram.look(port, object);
+        let shown = chip.look(object);
         if flag.of(&shown) {
             return true;
         }
@@ -44,18 +41,18 @@ fn watched(ram: &EndlessRam, port: &mut Port, object: ObjectNo, flag: Flag, turn
 
 /// A flag of all objects in one moment. Each flag has a look of its own, for which the compiler gathers no other flag.
 #[inline(always)]
-fn flags_shown(ram: &EndlessRam, port: &mut Port, flag: Flag) -> u64
-    requires memory { port.old.pass.memory ≡ ram.now.words }
-    ensures none { AddsNone port.old port.new }
-    ensures goes { AddsFlagsAtOnce (passes_of same_object port.old.pass)
-        (passes_of same_object port.new.pass) flag result }
+fn flags_shown(chip: &mut ChipPort, flag: Flag) -> u64
+    ensures settings { chip.new.settings ≡ chip.old.settings }
+    ensures none { AddsNone chip.old.port chip.new.port }
+    ensures goes { AddsFlagsAtOnce (passes_of same_object chip.old.port.pass)
+        (passes_of same_object chip.new.port.pass) flag result }
 {
     match flag {
-        Flag::NewDat => ram.look_all(port).newdat,
-        Flag::MsgLst => ram.look_all(port).msglst,
-        Flag::IntPnd => ram.look_all(port).intpnd,
-        Flag::TxRqst => ram.look_all(port).txrqst,
-        Flag::MsgVal => ram.look_all(port).msgval,
+        Flag::NewDat => chip.look_all().newdat,
+        Flag::MsgLst => chip.look_all().msglst,
+        Flag::IntPnd => chip.look_all().intpnd,
+        Flag::TxRqst => chip.look_all().txrqst,
+        Flag::MsgVal => chip.look_all().msgval,
     }
 }
 
@@ -72,17 +69,17 @@ fn first_set(word: u64) -> u16
 
 /// The interrupt value of one moment.
 #[inline(always)]
-fn interrupt_shown(ram: &EndlessRam, port: &mut Port, pending: bool) -> u16
-    requires memory { port.old.pass.memory ≡ ram.now.words }
-    requires one { SeesOne port.old }
-    ensures none { AddsNone port.old port.new }
-    ensures goes { AddsInterruptAtOnce (passes_of same_object port.old.pass)
-        (passes_of same_object port.new.pass) pending result }
+fn interrupt_shown(chip: &mut ChipPort, pending: bool) -> u16
+    requires one { SeesOne chip.old.port }
+    ensures settings { chip.new.settings ≡ chip.old.settings }
+    ensures none { AddsNone chip.old.port chip.new.port }
+    ensures goes { AddsInterruptAtOnce (passes_of same_object chip.old.port.pass)
+        (passes_of same_object chip.new.port.pass) pending result }
 {
     if pending {
         return STATUS_INTERRUPT;
     }
-    first_set(ram.look_all(port).intpnd)
+    first_set(chip.look_all().intpnd)
 }
 
 // ---- in the history of the chip
@@ -90,83 +87,58 @@ fn interrupt_shown(ram: &EndlessRam, port: &mut Port, pending: bool) -> u16
 /// The transfer that the Command Mask register says, between these interface registers and the object that the Command Request
 /// names.
 #[inline(always)]
-pub fn transfer(
-    registers: &mut Iface,
-    ram: &EndlessRam,
-    holder: &mut PortHolder,
-    request: u16,
-    tries: Tries,
-) -> LineAnswer
-    requires memory { (port_at holder.old).pass.memory ≡ ram.now.words }
-    ensures { ChipGoes (port_at holder.old) (port_at holder.new) (λ terms seen added.
-        Transfers terms tries request registers.old seen added result registers.new) }
+pub fn transfer(registers: &mut Iface, chip: &mut ChipPort, request: u16) -> TransferAnswer
+    ensures settings { chip.new.settings ≡ chip.old.settings }
+    ensures goes { ChipGoes chip.old.port chip.new.port (λ terms seen added.
+        Transfers terms chip.old.settings.tries request registers.old seen added
+        (as_line result) registers.new) }
 {
-    let Some(port) = &mut holder.port else {
-        unreachable!();
-    };
-    let object = ObjectNo::from_request(ram.profile(), request);
-    transferred(registers, ram, port, object, tries)
+    let object = ObjectNo::from_request(chip.profile(), request);
+    let tries = chip.settings.tries;
+    transferred(registers, chip, object, tries)
 }
 
 /// Looks at an object until it shows the flag, at most so many times. Whether it did.
 #[inline(always)]
-pub fn wait(
-    ram: &EndlessRam,
-    holder: &mut PortHolder,
-    object: ObjectNo,
-    flag: Flag,
-    turns: u32,
-) -> bool
-    requires memory { (port_at holder.old).pass.memory ≡ ram.now.words }
-    requires held { Holds ram.now.words.profile object }
-    ensures { ChipGoes (port_at holder.old) (port_at holder.new) (λ terms seen added.
+pub fn wait(chip: &mut ChipPort, object: ObjectNo, flag: Flag, turns: u32) -> bool
+    requires held { Holds chip.old.port.pass.memory.profile object }
+    ensures settings { chip.new.settings ≡ chip.old.settings }
+    ensures goes { ChipGoes chip.old.port chip.new.port (λ terms seen added.
         WaitsFor terms object flag turns seen added result) }
 {
-    let Some(port) = &mut holder.port else {
-        unreachable!();
-    };
-    port.sees_one_history();
-    watched(ram, port, object, flag, turns)
+    chip.sees_one_history();
+    watched(chip, object, flag, turns)
 }
 
 /// A flag of all objects in one moment: that of object k in bit k - 1.
 #[inline(never)]
-pub fn flags(ram: &EndlessRam, holder: &mut PortHolder, flag: Flag) -> u64
-    requires memory { (port_at holder.old).pass.memory ≡ ram.now.words }
-    ensures { ChipGoes (port_at holder.old) (port_at holder.new) (λ terms seen added.
+pub fn flags(chip: &mut ChipPort, flag: Flag) -> u64
+    ensures settings { chip.new.settings ≡ chip.old.settings }
+    ensures goes { ChipGoes chip.old.port chip.new.port (λ terms seen added.
         ShowsFlags terms flag seen added result) }
 {
-    let Some(port) = &mut holder.port else {
-        unreachable!();
-    };
-    flags_shown(ram, port, flag)
+    flags_shown(chip, flag)
 }
 
 /// The interrupt value of one moment: 0x8000 if the status interrupt is pending; else the number of the first object with IntPnd,
 /// or 0.
 #[inline(never)]
-pub fn interrupt(ram: &EndlessRam, holder: &mut PortHolder, pending: bool) -> u16
-    requires memory { (port_at holder.old).pass.memory ≡ ram.now.words }
-    ensures { ChipGoes (port_at holder.old) (port_at holder.new) (λ terms seen added.
+pub fn interrupt(chip: &mut ChipPort, pending: bool) -> u16
+    ensures settings { chip.new.settings ≡ chip.old.settings }
+    ensures goes { ChipGoes chip.old.port chip.new.port (λ terms seen added.
         ShowsInterrupt terms pending seen added result) }
 {
-    let Some(port) = &mut holder.port else {
-        unreachable!();
-    };
-    port.sees_one_history();
-    interrupt_shown(ram, port, pending)
+    chip.sees_one_history();
+    interrupt_shown(chip, pending)
 }
 
 /// One look at an object.
 #[inline(always)]
-pub fn peek(ram: &EndlessRam, holder: &mut PortHolder, object: ObjectNo) -> Record
-    requires memory { (port_at holder.old).pass.memory ≡ ram.now.words }
-    requires held { Holds ram.now.words.profile object }
-    ensures { ChipGoes (port_at holder.old) (port_at holder.new) (λ terms seen added.
+pub fn peek(chip: &mut ChipPort, object: ObjectNo) -> Record
+    requires held { Holds chip.old.port.pass.memory.profile object }
+    ensures settings { chip.new.settings ≡ chip.old.settings }
+    ensures goes { ChipGoes chip.old.port chip.new.port (λ terms seen added.
         ShowsObject terms object seen added result) }
 {
-    let Some(port) = &mut holder.port else {
-        unreachable!();
-    };
-    ram.look(port, object)
+    chip.look(object)
 }

@@ -1,14 +1,14 @@
 //! Reads and writes of the registers of a chip.
-ghost use Rattle.std.specs.Prelude.{◌≡◌, true, false, Ok, Err};
+ghost use Rattle.std.specs.Prelude.{◌≡◌, true, false, Ok, Err, Some};
 ghost use Rattle.ccan_object.specs.Interface.{set_register};
 ghost use Rattle.ccan_map.specs.declared.map.Map.TheVariants.{Dcan};
 ghost use Rattle.ccan_ram.specs.declared.port.PortName.TheVariants.{Bus as BusPort};
 ghost use Rattle.ccan_endless.specs.Chip.{MayMake};
 ghost use Rattle.ccan_registers.specs.ChipSteps.{ChipGoes, Makes};
-ghost use Rattle.ccan_registers.specs.PortHolder.{port_at};
+ghost use Rattle.ccan_registers.specs.Objects.{as_line};
 ghost use Rattle.ccan_registers.specs.Register as says;
 ghost use Rattle.ccan_registers.specs.Register.{InterruptValue, PullsLine, Reads, ReadsAt};
-ghost use Rattle.ccan_registers.specs.Register.{ReadsStatus, Requests, RequestsBy, Writes, WritesAt};
+ghost use Rattle.ccan_registers.specs.Register.{ReadsStatus, Requests, RequestsBy, Writes, WritesAt, at_register};
 ghost use Rattle.ccan_registers.specs.declared.access_error.AccessError.TheVariants.{OtherInterface};
 
 use crate::access_error::AccessError;
@@ -19,14 +19,14 @@ use crate::dcan::{
 };
 use crate::interface_set::InterfaceSet;
 use crate::objects::{flags, interrupt};
-use crate::port_holder::PortHolder;
+use crate::offset_error::OffsetError;
 use crate::resetting::reset;
+use crate::transfer_answer::TransferAnswer;
+use ccan_chip::ChipPort;
 use ccan_confine::{Controller, ControllerChange, StatusFlags, TestRegister};
-use ccan_endless::EndlessRam;
-use ccan_line::LineAnswer;
 use ccan_map::{Interface, Map, Register};
 use ccan_object::Reg;
-use ccan_ram::{PortName, SharedRam, Tries};
+use ccan_ram::PortName;
 
 // ---- whose a register is
 
@@ -68,17 +68,13 @@ fn read_of(map: Map) -> ControllerChange
 
 /// Reads the Status register.
 #[inline(never)]
-pub fn read_status(
-    ram: &EndlessRam,
-    holder: &mut PortHolder,
-    map: Map,
-    tries: Tries,
-) -> Result<u16, AccessError>
-    requires memory { (port_at holder.old).pass.memory ≡ ram.now.words }
-    ensures { ChipGoes (port_at holder.old) (port_at holder.new) (λ terms seen added.
-        ReadsStatus terms map tries seen added result) }
+pub fn read_status(chip: &mut ChipPort, map: Map) -> Result<u16, AccessError>
+    ensures settings { chip.new.settings ≡ chip.old.settings }
+    ensures goes { ChipGoes chip.old.port chip.new.port (λ terms seen added.
+        ReadsStatus terms map chip.old.settings.tries seen added result) }
 {
-    match change(ram, holder, &read_of(map), tries) {
+    let tries = chip.settings.tries;
+    match change(chip, &read_of(map), tries) {
         Ok(made) => Ok(status_shown(map, &made.before)),
         Err(_) => Err(AccessError::Busy),
     }
@@ -86,18 +82,14 @@ pub fn read_status(
 
 /// Writes a register of the controller.
 #[inline(never)]
-pub fn write_controller(
-    ram: &EndlessRam,
-    holder: &mut PortHolder,
-    made: &ControllerChange,
-    tries: Tries,
-) -> Result<(), AccessError>
-    requires memory { (port_at holder.old).pass.memory ≡ ram.now.words }
-    requires may { MayMake (port_at holder.old).pass.port made.now }
-    ensures { ChipGoes (port_at holder.old) (port_at holder.new) (λ terms seen added.
-        Makes terms made.now tries seen added result) }
+pub fn write_controller(chip: &mut ChipPort, made: &ControllerChange) -> Result<(), AccessError>
+    requires may { MayMake chip.old.port.pass.port made.now }
+    ensures settings { chip.new.settings ≡ chip.old.settings }
+    ensures goes { ChipGoes chip.old.port chip.new.port (λ terms seen added.
+        Makes terms made.now chip.old.settings.tries seen added result) }
 {
-    match change(ram, holder, made, tries) {
+    let tries = chip.settings.tries;
+    match change(chip, made, tries) {
         Ok(_) => Ok(()),
         Err(_) => Err(AccessError::Busy),
     }
@@ -106,24 +98,24 @@ pub fn write_controller(
 /// The Interrupt register: 0x8000 for the status interrupt, else the number of the first object with IntPnd, or 0. It comes with
 /// the controller that its look found.
 #[inline(always)]
-pub fn interrupt_value(ram: &EndlessRam, holder: &mut PortHolder) -> (Controller, u16)
-    requires memory { (port_at holder.old).pass.memory ≡ ram.now.words }
-    ensures { ChipGoes (port_at holder.old) (port_at holder.new) (λ terms seen added.
+pub fn interrupt_value(chip: &mut ChipPort) -> (Controller, u16)
+    ensures settings { chip.new.settings ≡ chip.old.settings }
+    ensures goes { ChipGoes chip.old.port chip.new.port (λ terms seen added.
         InterruptValue terms seen added result.0 result.1) }
 {
-    let found = look(ram, holder);
-    let value = interrupt(ram, holder, found.shows_status_interrupt());
+    let found = look(chip);
+    let value = interrupt(chip, found.shows_status_interrupt());
     (found, value)
 }
 
 /// Whether the chip pulls its interrupt line: IE is 1, and the Interrupt register is not 0.
 #[inline(always)]
-pub fn line(ram: &EndlessRam, holder: &mut PortHolder) -> bool
-    requires memory { (port_at holder.old).pass.memory ≡ ram.now.words }
-    ensures { ChipGoes (port_at holder.old) (port_at holder.new) (λ terms seen added.
+pub fn line(chip: &mut ChipPort) -> bool
+    ensures settings { chip.new.settings ≡ chip.old.settings }
+    ensures goes { ChipGoes chip.old.port chip.new.port (λ terms seen added.
         PullsLine terms seen added result) }
 {
-    let (found, value) = interrupt_value(ram, holder);
+    let (found, value) = interrupt_value(chip);
     found.control.ie && value != 0
 }
 
@@ -144,100 +136,82 @@ fn read_own(port: PortName, interface: Interface, value: u16) -> Result<u16, Acc
 
 /// Reads a register.
 #[inline(never)]
-pub fn read(
-    own: &InterfaceSet,
-    ram: &EndlessRam,
-    holder: &mut PortHolder,
-    map: Map,
-    register: Register,
-    tries: Tries,
-) -> Result<u16, AccessError>
-    requires memory { (port_at holder.old).pass.memory ≡ ram.now.words }
-    ensures { ChipGoes (port_at holder.old) (port_at holder.new) (λ terms seen added.
-        Reads terms tries map register own.now seen added result) }
+pub fn read(own: &InterfaceSet, chip: &mut ChipPort, register: Register) -> Result<u16, AccessError>
+    ensures settings { chip.new.settings ≡ chip.old.settings }
+    ensures goes { ChipGoes chip.old.port chip.new.port (λ terms seen added.
+        Reads terms chip.old.settings.tries chip.old.settings.map register own.now seen added
+        result) }
 {
+    let map = chip.settings.map;
     match register {
-        Register::Control => Ok(control_shown(map, &look(ram, holder).control)),
-        Register::ControlUpper => Ok(upper_shown(map, &look(ram, holder).control)),
-        Register::Status => read_status(ram, holder, map, tries),
-        Register::ErrorCounter => Ok(look(ram, holder).error_counter_word()),
-        Register::BitTiming => Ok(look(ram, holder).timing.register()),
-        Register::Interrupt => Ok(interrupt_value(ram, holder).1),
-        Register::Test => Ok(test_shown(&look(ram, holder).test)),
-        Register::Extension => Ok(look(ram, holder).timing.extension()),
-        Register::Request(interface) => read_own(holder.name(), interface, own.asked),
+        Register::Control => Ok(control_shown(map, &look(chip).control)),
+        Register::ControlUpper => Ok(upper_shown(map, &look(chip).control)),
+        Register::Status => read_status(chip, map),
+        Register::ErrorCounter => Ok(look(chip).error_counter_word()),
+        Register::BitTiming => Ok(look(chip).timing.register()),
+        Register::Interrupt => Ok(interrupt_value(chip).1),
+        Register::Test => Ok(test_shown(&look(chip).test)),
+        Register::Extension => Ok(look(chip).timing.extension()),
+        Register::Request(interface) => read_own(chip.name(), interface, own.asked),
         Register::Buffer(interface, reg) => {
             let value = own.registers.get(reg);
-            read_own(holder.name(), interface, value)
+            read_own(chip.name(), interface, value)
         }
-        Register::Flags(flag, part) => Ok(part.of(flags(ram, holder, flag))),
+        Register::Flags(flag, part) => Ok(part.of(flags(chip, flag))),
     }
 }
 
-/// Reads the register at an offset, in bytes from where the chip begins. None if no register of the layout begins there.
+/// What an access to the register that begins at an offset answers.
 #[inline(always)]
-pub fn read_at(
-    own: &InterfaceSet,
-    ram: &EndlessRam,
-    holder: &mut PortHolder,
-    map: Map,
-    offset: u32,
-    tries: Tries,
-) -> Option<Result<u16, AccessError>>
-    requires memory { (port_at holder.old).pass.memory ≡ ram.now.words }
-    ensures { ChipGoes (port_at holder.old) (port_at holder.new) (λ terms seen added.
-        ReadsAt terms tries map offset own.now seen added result) }
+pub(crate) fn at_offset<T: Copy>(told: Result<T, AccessError>) -> Result<T, OffsetError>
+    ensures { at_register result ≡ Some told }
 {
-    match map.register_at(ram.profile(), offset) {
+    match told {
+        Ok(value) => Ok(value),
+        Err(why) => Err(OffsetError::Access(why)),
+    }
+}
+
+/// Reads the register at an offset, in bytes from where the chip begins.
+#[inline(always)]
+pub fn read_at(own: &InterfaceSet, chip: &mut ChipPort, offset: u32) -> Result<u16, OffsetError>
+    ensures settings { chip.new.settings ≡ chip.old.settings }
+    ensures goes { ChipGoes chip.old.port chip.new.port (λ terms seen added.
+        ReadsAt terms chip.old.settings.tries chip.old.settings.map offset own.now seen added
+        (at_register result)) }
+{
+    match chip.settings.map.register_at(chip.profile(), offset) {
         // Nobody else has these, so they are read here, and not by the long way of what the ports share.
         Some(Register::Buffer(interface, reg)) => {
             let value = own.registers.get(reg);
-            Some(read_own(holder.name(), interface, value))
+            at_offset(read_own(chip.name(), interface, value))
         }
-        Some(register) => Some(read(own, ram, holder, map, register, tries)),
-        None => None,
+        Some(register) => at_offset(read(own, chip, register)),
+        None => Err(OffsetError::NoRegister),
     }
 }
 
 // ---- writes
 
 /// What a transfer answers.
-fn transfer_told(reply: &LineAnswer) -> Result<(), AccessError>
-    ensures { result ≡ says.transfer_told reply.now }
+fn transfer_told(reply: &TransferAnswer) -> Result<(), AccessError>
+    ensures { result ≡ says.transfer_told (as_line reply.now) }
 {
     match reply {
-        LineAnswer::Busy(_) => Err(AccessError::Busy),
-        LineAnswer::Spent(_) => Err(AccessError::Spent),
-        LineAnswer::Write(_, _)
-        | LineAnswer::Read(_, _)
-        | LineAnswer::Until(_, _, _)
-        | LineAnswer::Interrupt(_)
-        | LineAnswer::Flags(_, _, _)
-        | LineAnswer::Load(_)
-        | LineAnswer::Round(_)
-        | LineAnswer::Status(_)
-        | LineAnswer::Control(_, _)
-        | LineAnswer::Counters { .. }
-        | LineAnswer::Init
-        | LineAnswer::Recessive(_)
-        | LineAnswer::LoopBack(_) => Ok(()),
+        TransferAnswer::Busy(_) => Err(AccessError::Busy),
+        TransferAnswer::Spent(_) => Err(AccessError::Spent),
+        TransferAnswer::Write(_, _) | TransferAnswer::Read(_, _) => Ok(()),
     }
 }
 
 /// Writes the Command Request register of the port's own interface.
 #[inline(never)]
-fn write_request(
-    own: &mut InterfaceSet,
-    ram: &EndlessRam,
-    holder: &mut PortHolder,
-    value: u16,
-    tries: Tries,
-) -> Result<(), AccessError>
-    requires memory { (port_at holder.old).pass.memory ≡ ram.now.words }
-    ensures { ChipGoes (port_at holder.old) (port_at holder.new) (λ terms seen added.
-        Requests terms tries value own.old seen added result own.new) }
+fn write_request(own: &mut InterfaceSet, chip: &mut ChipPort, value: u16) -> Result<(), AccessError>
+    ensures settings { chip.new.settings ≡ chip.old.settings }
+    ensures goes { ChipGoes chip.old.port chip.new.port (λ terms seen added.
+        Requests terms chip.old.settings.tries value own.old seen added result own.new) }
 {
-    let reply = own.request(ram, holder, value, tries);
+    let reply = own.request(chip, value);
     transfer_told(&reply)
 }
 
@@ -245,20 +219,18 @@ fn write_request(
 #[inline(never)]
 fn write_request_of_dcan(
     own: &mut InterfaceSet,
-    ram: &EndlessRam,
-    holder: &mut PortHolder,
+    chip: &mut ChipPort,
     value: u16,
-    tries: Tries,
 ) -> Result<(), AccessError>
-    requires memory { (port_at holder.old).pass.memory ≡ ram.now.words }
-    ensures { ChipGoes (port_at holder.old) (port_at holder.new) (λ terms seen added.
-        RequestsBy Dcan terms tries value own.old seen added result own.new) }
+    ensures settings { chip.new.settings ≡ chip.old.settings }
+    ensures goes { ChipGoes chip.old.port chip.new.port (λ terms seen added.
+        RequestsBy Dcan terms chip.old.settings.tries value own.old seen added result own.new) }
 {
-    match object_named(ram.profile(), value) {
+    match object_named(chip.profile(), value) {
         Some(object) if is_sending(own.registers.command()) => {
-            send(own, ram, holder, object, tries)
+            send(own, chip, object, chip.settings.tries)
         }
-        Some(object) => write_request(own, ram, holder, u16::from(object.get()), tries),
+        Some(object) => write_request(own, chip, u16::from(object.get())),
         None => Ok(()),
     }
 }
@@ -267,20 +239,18 @@ fn write_request_of_dcan(
 #[inline(always)]
 fn write_request_by(
     own: &mut InterfaceSet,
-    ram: &EndlessRam,
-    holder: &mut PortHolder,
-    map: Map,
+    chip: &mut ChipPort,
     value: u16,
-    tries: Tries,
 ) -> Result<(), AccessError>
-    requires memory { (port_at holder.old).pass.memory ≡ ram.now.words }
-    ensures { ChipGoes (port_at holder.old) (port_at holder.new) (λ terms seen added.
-        RequestsBy map terms tries value own.old seen added result own.new) }
+    ensures settings { chip.new.settings ≡ chip.old.settings }
+    ensures goes { ChipGoes chip.old.port chip.new.port (λ terms seen added.
+        RequestsBy chip.old.settings.map terms chip.old.settings.tries value own.old seen added
+        result own.new) }
 {
-    match map {
-        Map::Narrow => write_request(own, ram, holder, value, tries),
-        Map::Wide => write_request(own, ram, holder, value, tries),
-        Map::Dcan => write_request_of_dcan(own, ram, holder, value, tries),
+    match chip.settings.map {
+        Map::Narrow => write_request(own, chip, value),
+        Map::Wide => write_request(own, chip, value),
+        Map::Dcan => write_request_of_dcan(own, chip, value),
     }
 }
 
@@ -341,30 +311,28 @@ fn change_by(map: Map, register: Register, value: u16) -> Option<ControllerChang
 #[inline(never)]
 pub fn write(
     own: &mut InterfaceSet,
-    ram: &EndlessRam,
-    holder: &mut PortHolder,
-    map: Map,
+    chip: &mut ChipPort,
     register: Register,
     value: u16,
-    tries: Tries,
 ) -> Result<(), AccessError>
-    requires memory { (port_at holder.old).pass.memory ≡ ram.now.words }
-    ensures goes { ChipGoes (port_at holder.old) (port_at holder.new) (λ terms seen added.
-        Writes terms tries map register value own.old seen added result own.new) }
-    ensures bus { (port_at holder.old).pass.port ≡ BusPort → own.new ≡ own.old }
+    ensures settings { chip.new.settings ≡ chip.old.settings }
+    ensures goes { ChipGoes chip.old.port chip.new.port (λ terms seen added.
+        Writes terms chip.old.settings.tries chip.old.settings.map register value own.old seen
+        added result own.new) }
+    ensures bus { chip.old.port.pass.port ≡ BusPort → own.new ≡ own.old }
 {
-    if asks_for_reset(map, register, value) {
-        return reset(ram, holder, &ControllerChange::ResetDcan, tries);
+    if asks_for_reset(chip.settings.map, register, value) {
+        return reset(chip, &ControllerChange::ResetDcan);
     }
-    if let Some(change) = change_by(map, register, value) {
-        return write_controller(ram, holder, &change, tries);
+    if let Some(change) = change_by(chip.settings.map, register, value) {
+        return write_controller(chip, &change);
     }
     match register {
-        Register::Request(interface) if is_own(holder.name(), interface) => {
-            write_request_by(own, ram, holder, map, value, tries)
+        Register::Request(interface) if is_own(chip.name(), interface) => {
+            write_request_by(own, chip, value)
         }
         Register::Request(_) => Err(AccessError::OtherInterface),
-        Register::Buffer(interface, reg) => write_own(own, holder.name(), interface, reg, value),
+        Register::Buffer(interface, reg) => write_own(own, chip.name(), interface, reg, value),
         Register::Control
         | Register::ControlUpper
         | Register::Status
@@ -377,28 +345,26 @@ pub fn write(
     }
 }
 
-/// Writes the register at an offset, in bytes from where the chip begins. None if no register of the layout begins there.
+/// Writes the register at an offset, in bytes from where the chip begins.
 #[inline(always)]
 pub fn write_at(
     own: &mut InterfaceSet,
-    ram: &EndlessRam,
-    holder: &mut PortHolder,
-    map: Map,
+    chip: &mut ChipPort,
     offset: u32,
     value: u16,
-    tries: Tries,
-) -> Option<Result<(), AccessError>>
-    requires memory { (port_at holder.old).pass.memory ≡ ram.now.words }
-    ensures goes { ChipGoes (port_at holder.old) (port_at holder.new) (λ terms seen added.
-        WritesAt terms tries map offset value own.old seen added result own.new) }
-    ensures bus { (port_at holder.old).pass.port ≡ BusPort → own.new ≡ own.old }
+) -> Result<(), OffsetError>
+    ensures settings { chip.new.settings ≡ chip.old.settings }
+    ensures goes { ChipGoes chip.old.port chip.new.port (λ terms seen added.
+        WritesAt terms chip.old.settings.tries chip.old.settings.map offset value own.old seen
+        added (at_register result) own.new) }
+    ensures bus { chip.old.port.pass.port ≡ BusPort → own.new ≡ own.old }
 {
-    match map.register_at(ram.profile(), offset) {
+    match chip.settings.map.register_at(chip.profile(), offset) {
         // As in `read_at`.
         Some(Register::Buffer(interface, reg)) => {
-            Some(write_own(own, holder.name(), interface, reg, value))
+            at_offset(write_own(own, chip.name(), interface, reg, value))
         }
-        Some(register) => Some(write(own, ram, holder, map, register, value, tries)),
-        None => None,
+        Some(register) => at_offset(write(own, chip, register, value)),
+        None => Err(OffsetError::NoRegister),
     }
 }

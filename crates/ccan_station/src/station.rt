@@ -3,7 +3,7 @@ ghost use Rattle.std.specs.Option.{ForSome};
 ghost use Rattle.ccan_object.specs.Profile.{Holds};
 ghost use Rattle.ccan_ram.specs.declared.port.PortName.TheVariants.{Bus as BusPort};
 ghost use Rattle.ccan_ram.specs.Access.{Goes};
-ghost use Rattle.ccan_ram.specs.SharedRam.{CanSee, passes_of, terms_of};
+ghost use Rattle.ccan_ram.specs.SharedRam.{CanSee, IsSamePort, passes_of, terms_of};
 ghost use Rattle.ccan_bus.specs.Complete.{Completes};
 ghost use Rattle.ccan_bus.specs.Decide.{IsOf};
 ghost use Rattle.ccan_endless.specs.ChipPort.{AddsNone, SeesOne};
@@ -16,10 +16,9 @@ use crate::loaded::Loaded;
 use crate::note::note;
 use crate::part::{ending, kept, loaded_frame, may_send, member_now, role_now, sending_now};
 use crate::stayed::Stayed;
-use ccan_bus::{Decision, LoadAnswer, RoundEnd};
-use ccan_chip::{Earlier, Objects, OwnEvent, arrive, takes_part};
+use ccan_bus::{Decision, LoadAnswer, RoundAnswer, RoundEnd};
+use ccan_chip::{ChipPort, Earlier, Lent, Objects, OwnEvent, arrive, takes_part};
 use ccan_confine::Controller;
-use ccan_endless::{EndlessRam, Port};
 use ccan_object::Profile;
 use ccan_ram::{Sending, Tries};
 use ccan_wire::{Flaw, MOST_MEMBERS, Member, Wire};
@@ -35,24 +34,50 @@ pub struct Station {
     ghost held: { ForSome loaded (λ found. Holds profile found.object) },
 }
 
-/// The memory steps of a decision, over the objects.
-fn complete_over<E: Earlier>(
+/// The memory steps of a decision, over the objects. What came of them goes into the place for it.
+fn complete_over<'a, E: Earlier>(
     decided: &Decision,
-    ram: &EndlessRam,
-    port: Port,
+    lent: Lent<'a>,
     sending: Sending,
     tries: Tries,
-) -> (RoundEnd, Port)
-    requires memory { port.pass.memory ≡ ram.now.words }
-    requires held { IsOf port.pass.memory.profile decided.now }
-    requires none { AddsNone E.earlier port }
-    ensures none { AddsNone E.earlier result.1 }
-    ensures goes { Goes (passes_of same_object port.pass) (passes_of same_object result.1.pass)
-        (λ terms seen added. Completes terms sending tries seen added decided.now result.0) }
+    end: &mut RoundEnd,
+) -> Lent<'a>
+    requires held { IsOf lent.port.now.pass.memory.profile decided.now }
+    requires none { AddsNone E.earlier lent.port.now }
+    requires lent { lent.port.ghost_name ≡ E.lent }
+    ensures none { AddsNone E.earlier result.port.now }
+    ensures lent { result.port.ghost_name ≡ lent.entry.port.ghost_name }
+    ensures goes { Goes (passes_of same_object lent.entry.port.now.pass)
+        (passes_of same_object result.port.now.pass)
+        (λ terms seen added. Completes terms sending tries seen added decided.now end.new) }
 {
-    let mut objects = Objects::<E>::new(ram, port);
-    let end = decided.complete(&mut objects, sending, tries);
-    (end, objects.into_port())
+    let mut objects = Objects::<E>::new(lent);
+    *end = decided.complete(&mut objects, sending, tries);
+    objects.into_lent()
+}
+
+/// The memory steps of a decision, by the port where it is.
+fn complete_at_objects(decided: &Decision, chip: &mut ChipPort, sending: Sending) -> RoundEnd
+    requires held { IsOf chip.old.port.pass.memory.profile decided.now }
+    requires one { SeesOne chip.old.port }
+    ensures settings { chip.new.settings ≡ chip.old.settings }
+    ensures none { AddsNone chip.old.port chip.new.port }
+    ensures goes { Goes (passes_of same_object chip.old.port.pass)
+        (passes_of same_object chip.new.port.pass) (λ terms seen added.
+        Completes terms sending chip.old.settings.tries seen added decided.now result) }
+{
+    let tries = chip.settings.tries;
+    let mut end = RoundEnd {
+        answer: RoundAnswer::Idle,
+        refused: None,
+    };
+    let lent = Lent {
+        port: &mut chip.port,
+        ram: &chip.ram,
+    };
+    let lent = complete_over::<Brand>(decided, lent, sending, tries, &mut end);
+    lent.end();
+    end
 }
 
 impl Station {
@@ -138,78 +163,99 @@ impl Station {
         self.under_way = None;
     }
 
-    /// A load, over the objects.
-    fn load_over<E: Earlier>(
+    /// A load, over the objects. What came of it goes into the place for it.
+    fn load_over<'a, E: Earlier>(
         &mut self,
-        ram: &EndlessRam,
-        port: Port,
+        lent: Lent<'a>,
         sends: bool,
         sending: Sending,
         tries: Tries,
-    ) -> (LoadAnswer, Port)
-        requires memory { port.pass.memory ≡ ram.now.words }
-        requires profile { port.pass.memory.profile ≡ self.old.profile }
-        requires none { AddsNone E.earlier port }
-        ensures none { AddsNone E.earlier result.1 }
+        answer: &mut LoadAnswer,
+    ) -> Lent<'a>
+        requires profile { lent.port.now.pass.memory.profile ≡ self.old.profile }
+        requires none { AddsNone E.earlier lent.port.now }
+        requires lent { lent.port.ghost_name ≡ E.lent }
+        ensures none { AddsNone E.earlier result.port.now }
+        ensures lent { result.port.ghost_name ≡ lent.entry.port.ghost_name }
         ensures profile { self.new.profile ≡ self.old.profile }
-        ensures goes { Goes (passes_of same_object port.pass) (passes_of same_object result.1.pass)
-            (λ terms seen added.
-            Loads sends sending terms tries seen added self.old.loaded self.new.loaded result.0) }
+        ensures goes { Goes (passes_of same_object lent.entry.port.now.pass)
+            (passes_of same_object result.port.now.pass) (λ terms seen added.
+            Loads sends sending terms tries seen added self.old.loaded self.new.loaded
+            answer.new) }
     {
-        let mut objects = Objects::<E>::new(ram, port);
-        let answer = self.load(&mut objects, sends, sending, tries);
-        (answer, objects.into_port())
+        let mut objects = Objects::<E>::new(lent);
+        *answer = self.load(&mut objects, sends, sending, tries);
+        objects.into_lent()
+    }
+
+    /// A load, by the port where it is.
+    fn load_at_objects(&mut self, chip: &mut ChipPort, sends: bool, sending: Sending) -> LoadAnswer
+        requires profile { chip.old.port.pass.memory.profile ≡ self.old.profile }
+        requires one { SeesOne chip.old.port }
+        ensures settings { chip.new.settings ≡ chip.old.settings }
+        ensures none { AddsNone chip.old.port chip.new.port }
+        ensures profile { self.new.profile ≡ self.old.profile }
+        ensures goes { Goes (passes_of same_object chip.old.port.pass)
+            (passes_of same_object chip.new.port.pass) (λ terms seen added.
+            Loads sends sending terms chip.old.settings.tries seen added self.old.loaded
+            self.new.loaded result) }
+    {
+        let tries = chip.settings.tries;
+        let mut answer = LoadAnswer::Nothing;
+        let lent = Lent {
+            port: &mut chip.port,
+            ram: &chip.ram,
+        };
+        let lent = self.load_over::<Brand>(lent, sends, sending, tries, &mut answer);
+        lent.end();
+        answer
     }
 
     /// The start of a frame. The bus's port looks at the controller; if that has left the bus and may take part again, it joins
     /// and looks again. What was loaded is dropped if the controller has left the bus since. Then an object is chosen and
     /// started, if nothing is loaded and the controller may send; with DAR 1 its frame is tried once. What the chip is to the bus
     /// is under way from here on.
-    pub fn begin(&mut self, ram: &EndlessRam, mut port: Port, tries: Tries) -> (Begun, Port)
-        requires memory { port.pass.memory ≡ ram.now.words }
-        requires bus { port.pass.port ≡ BusPort }
-        requires profile { port.pass.memory.profile ≡ self.old.profile }
+    pub fn begin(&mut self, chip: &mut ChipPort) -> Begun
+        requires bus { chip.old.port.pass.port ≡ BusPort }
+        requires profile { chip.old.port.pass.memory.profile ≡ self.old.profile }
         ensures profile { self.new.profile ≡ self.old.profile }
-        ensures memory { result.1.pass.memory ≡ port.pass.memory }
-        ensures port { result.1.pass.port ≡ port.pass.port }
-        ensures sees { CanSee result.1.pass }
-        ensures one { SeesOne result.1 }
-        ensures begins { Begins (terms_of same_object port.pass.memory BusPort) tries port result.1
-            self.old.loaded self.new.loaded self.new.under_way result.0 }
+        ensures settings { chip.new.settings ≡ chip.old.settings }
+        ensures port { IsSamePort chip.old.port.pass chip.new.port.pass }
+        ensures sees { CanSee chip.new.port.pass }
+        ensures one { SeesOne chip.new.port }
+        ensures begins { Begins (terms_of same_object chip.old.port.pass.memory BusPort)
+            chip.old.settings.tries chip.old.port chip.new.port
+            self.old.loaded self.new.loaded self.new.under_way result }
     {
-        let (first, found) = arrive(ram, &mut port);
+        let (first, found) = arrive(chip);
         self.leave_behind(&first);
         let role = role_now(&found);
         let sending = sending_now(&found);
-        let (loading, port) = self.load_over::<Brand>(ram, port, may_send(role), sending, tries);
+        let loading = self.load_at_objects(chip, may_send(role), sending);
         let member = Member {
             role,
             frame: loaded_frame(&self.loaded),
             flaw: None,
         };
         self.under_way = kept(&member);
-        (
-            Begun {
-                found,
-                loading,
-                member,
-            },
-            port,
-        )
+        Begun {
+            found,
+            loading,
+            member,
+        }
     }
 
     /// One more look at the controller while a frame is under way, and what the chip is to the bus from there. If the controller
     /// has left the bus since the start, even if it is back, it takes no part in the rest: nothing is under way, nothing is
     /// loaded.
-    pub fn stay(&mut self, ram: &EndlessRam, port: &mut Port) -> Stayed
-        requires memory { port.old.pass.memory ≡ ram.now.words }
+    pub fn stay(&mut self, chip: &mut ChipPort) -> Stayed
         ensures profile { self.new.profile ≡ self.old.profile }
-        ensures memory { port.new.pass.memory ≡ port.old.pass.memory }
-        ensures port { port.new.pass.port ≡ port.old.pass.port }
-        ensures stays { Stays port.old port.new self.old.loaded self.new.loaded
+        ensures settings { chip.new.settings ≡ chip.old.settings }
+        ensures port { IsSamePort chip.old.port.pass chip.new.port.pass }
+        ensures stays { Stays chip.old.port chip.new.port self.old.loaded self.new.loaded
             self.old.under_way self.new.under_way result }
     {
-        let found = ram.look_controller(port);
+        let found: Controller = chip.look_controller();
         self.take(&found);
         Stayed {
             found,
@@ -223,42 +269,37 @@ impl Station {
     /// the event at the controller, in up to 1,000 tries. Nothing is under way afterwards.
     pub fn end(
         &mut self,
-        ram: &EndlessRam,
-        mut port: Port,
+        chip: &mut ChipPort,
         wire: &Wire,
         place: usize,
         flaw: Option<Flaw>,
-        tries: Tries,
-    ) -> (Ended, Port)
+    ) -> Ended
         requires within { place < MOST_MEMBERS }
-        requires memory { port.pass.memory ≡ ram.now.words }
-        requires bus { port.pass.port ≡ BusPort }
-        requires profile { port.pass.memory.profile ≡ self.old.profile }
+        requires bus { chip.old.port.pass.port ≡ BusPort }
+        requires profile { chip.old.port.pass.memory.profile ≡ self.old.profile }
         ensures profile { self.new.profile ≡ self.old.profile }
-        ensures memory { result.1.pass.memory ≡ port.pass.memory }
-        ensures port { result.1.pass.port ≡ port.pass.port }
-        ensures sees { CanSee result.1.pass }
-        ensures one { SeesOne result.1 }
-        ensures ends { Ends (terms_of same_object port.pass.memory BusPort) tries port result.1
-            wire.now place flaw self.old.loaded self.new.loaded self.old.under_way result.0 }
+        ensures settings { chip.new.settings ≡ chip.old.settings }
+        ensures port { IsSamePort chip.old.port.pass chip.new.port.pass }
+        ensures sees { CanSee chip.new.port.pass }
+        ensures one { SeesOne chip.new.port }
+        ensures ends { Ends (terms_of same_object chip.old.port.pass.memory BusPort)
+            chip.old.settings.tries chip.old.port chip.new.port wire.now place flaw
+            self.old.loaded self.new.loaded self.old.under_way result }
         ensures over { self.new.under_way ≡ None }
     {
-        let found = ram.look_controller(&mut port);
+        let found = chip.look_controller();
         self.take(&found);
         let own = wire.event(place, &ending(&self.under_way, flaw));
         let decided = due(self.profile, &own, &self.loaded, frame_on(wire));
         let sending = sent_as(&self.loaded);
-        let (end, mut port) = complete_over::<Brand>(&decided, ram, port, sending, tries);
+        let end = complete_at_objects(&decided, chip, sending);
         self.settle(&own);
-        let noted = note(ram, &mut port, &own);
-        (
-            Ended {
-                found,
-                own,
-                end,
-                noted,
-            },
-            port,
-        )
+        let noted = note(chip, &own);
+        Ended {
+            found,
+            own,
+            end,
+            noted,
+        }
     }
 }

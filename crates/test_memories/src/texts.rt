@@ -5,7 +5,7 @@ use ccan_confine::NodeState;
 use ccan_handler::ScanRefused;
 use ccan_object::{ObjectNo, Profile};
 use ccan_ram::{CommitError, OpenError, PortName, Refused};
-use ccan_registers::AccessError;
+use ccan_registers::{AccessError, OffsetError};
 use ccan_saved::{Field, FormatError, NotRestored};
 use std::alloc::Global;
 use std::fmt::Display;
@@ -116,4 +116,12 @@ fn errors_of_chips_have_texts(rt: HostRuntime) {
         ),
     ];
     holds(&rt, say(rt.alloc(), &access));
+    let offset = [
+        (OffsetError::NoRegister, "no register begins at the offset"),
+        (
+            OffsetError::Access(AccessError::Busy),
+            "each try was lost to a change of another port",
+        ),
+    ];
+    holds(&rt, say(rt.alloc(), &offset));
 }

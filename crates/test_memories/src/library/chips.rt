@@ -667,6 +667,16 @@ fn going_off_sets_init(rt: HostRuntime) {
     same(&rt, after_groups(&rt, &mut chip.bus), 0);
 }
 
+/// IF1's host sets an interface register.
+fn sets_by_if1(rt: &impl Abort, chip: &mut Chip, number: u32, value: u16) {
+    same(rt, ccan_set(&mut chip.if1, number, value), 0);
+}
+
+/// IF1's host writes the Command Request register.
+fn requests_by_if1(rt: &impl Abort, chip: &mut Chip, request: u16) {
+    same(rt, ccan_request(&mut chip.if1, request), 0);
+}
+
 /// A chip is saved and opened again from its bytes. Other bytes are refused, and leave the place as it is.
 #[test]
 fn a_saved_chip_opens_again(rt: HostRuntime) {
@@ -676,10 +686,10 @@ fn a_saved_chip_opens_again(rt: HostRuntime) {
     let mut other = Chip::closed(alloc);
     same(&rt, save(alloc, &mut other, &mut text), 1);
     same(&rt, restore(alloc, &mut other, &text), 23);
-    same(&rt, ccan_set(&mut chip.if1, 0, 0x00f3), 0);
-    same(&rt, ccan_set(&mut chip.if1, 4, 0xa400), 0);
-    same(&rt, ccan_set(&mut chip.if1, 5, 0x0981), 0);
-    same(&rt, ccan_request(&mut chip.if1, 2), 0);
+    sets_by_if1(&rt, &mut chip, 0, 0x00f3);
+    sets_by_if1(&rt, &mut chip, 4, 0xa400);
+    sets_by_if1(&rt, &mut chip, 5, 0x0981);
+    requests_by_if1(&rt, &mut chip, 2);
     same(&rt, save(alloc, &mut chip, &mut text), 0);
     let mut later = text;
     later.bytes[8] = 3;

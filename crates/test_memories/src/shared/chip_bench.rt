@@ -1,5 +1,6 @@
 //! A chip with its three ports and a bus over it, in one thread, for worked examples of rounds.
 ghost use Rattle.std.specs.Prelude.{◌≡◌};
+ghost use Rattle.std.specs.Arc.{arc_value};
 ghost use Rattle.ccan_ram.specs.declared.port.PortName.TheVariants.{If1, If2, Bus};
 ghost use Rattle.ccan_object.specs.declared.profile.Profile.TheVariants.{One};
 
@@ -8,28 +9,31 @@ use crate::shared::chips::{changed, looked};
 use arrayvec::ArrayVec;
 use ccan_accept::Frame;
 use ccan_bus::{Fault, LoadAnswer, RoundAnswer, RoundLine};
-use ccan_chip::ChipBus;
+use ccan_chip::{ChipBus, ChipPort, PortSettings};
 use ccan_confine::{ControlRegister, Controller, ControllerChange, NodeState};
 use ccan_endless::{EndlessRam, FinalChip, Port};
+use ccan_map::Map;
 use ccan_object::Profile;
 use ccan_ram::{Change, Changed, SharedRam, Tries};
 use std::alloc::Global;
 use std::process::Abort;
+use std::sync::Arc;
 
 /// The chip. The host's calls are IF1's.
 #[derive(Drop)]
 pub struct ChipBench {
-    ram: EndlessRam,
+    ram: Arc<EndlessRam, Global>,
     if1: Port,
     if2: Port,
-    port: Port,
+    chip: ChipPort,
     bus: ChipBus,
     tries: Tries,
-    ghost first: { (if1.pass.memory ≡ ram.words) × (if1.pass.port ≡ If1) },
-    ghost second: { (if2.pass.memory ≡ ram.words) × (if2.pass.port ≡ If2) },
-    ghost third: { (port.pass.memory ≡ ram.words) × (port.pass.port ≡ Bus) },
-    ghost profile: { port.pass.memory.profile ≡ bus.bus.profile },
-    ghost objects: { port.pass.memory.profile ≡ One },
+    ghost first: { (if1.pass.memory ≡ (arc_value ram).words) × (if1.pass.port ≡ If1) },
+    ghost second: { (if2.pass.memory ≡ (arc_value ram).words) × (if2.pass.port ≡ If2) },
+    ghost third: { (chip.port.pass.memory ≡ (arc_value ram).words)
+        × (chip.port.pass.port ≡ Bus) },
+    ghost profile: { chip.port.pass.memory.profile ≡ bus.bus.profile },
+    ghost objects: { chip.port.pass.memory.profile ≡ One },
 }
 
 /// The line of a round in which node 1 sends, or none, and this spoils the winner's frame.
@@ -47,16 +51,26 @@ pub fn line_of(rt: &impl Abort, send: Option<Frame>, fault: Fault) -> RoundLine 
 impl ChipBench {
     /// A chip after its reset, with two other nodes.
     pub fn open(rt: &impl Abort, alloc: Global) -> ChipBench {
-        match EndlessRam::open_reset(alloc, Profile::One, 64) {
-            Ok((ram, if1, if2, port)) => ChipBench {
-                ram,
-                if1,
-                if2,
-                port,
-                bus: ChipBus::new(Profile::One, 2),
-                tries: tries(8),
-            },
-            Err(_) => panic!(rt; "no memory"),
+        let Ok((ram, if1, if2, port)) = EndlessRam::open_reset(alloc, Profile::One, 64) else {
+            panic!(rt; "no memory")
+        };
+        let Ok(ram) = Arc::new(alloc, ram) else {
+            panic!(rt; "no memory")
+        };
+        let Ok(share) = Arc::try_clone(&ram) else {
+            panic!(rt; "too many shares")
+        };
+        let settings = PortSettings {
+            map: Map::Narrow,
+            tries: tries(8),
+        };
+        ChipBench {
+            ram,
+            if1,
+            if2,
+            chip: ChipPort::new(share, port, settings),
+            bus: ChipBus::new(Profile::One, 2),
+            tries: tries(8),
         }
     }
 
@@ -95,61 +109,20 @@ impl ChipBench {
     }
 
     /// A load, with whether Init was 1 at its look.
-    pub fn load(self) -> (ChipBench, bool, LoadAnswer) {
-        let ChipBench {
-            ram,
-            if1,
-            if2,
-            port,
-            mut bus,
-            tries,
-        } = self;
-        let (found, answer, port) = bus.load(&ram, port, tries);
-        (
-            ChipBench {
-                ram,
-                if1,
-                if2,
-                port,
-                bus,
-                tries,
-            },
-            found.control.init,
-            answer,
-        )
+    pub fn load(&mut self) -> (bool, LoadAnswer) {
+        let (found, answer) = self.bus.load(&mut self.chip);
+        (found.control.init, answer)
     }
 
     /// A round of this line: what it loaded, and what it came to.
-    pub fn round(self, line: &RoundLine) -> (ChipBench, LoadAnswer, RoundAnswer) {
-        let ChipBench {
-            ram,
-            if1,
-            if2,
-            port,
-            mut bus,
-            tries,
-        } = self;
-        let (report, port) = bus.round(&ram, port, line, tries);
-        (
-            ChipBench {
-                ram,
-                if1,
-                if2,
-                port,
-                bus,
-                tries,
-            },
-            report.report.loading,
-            report.report.end.answer,
-        )
+    pub fn round(&mut self, line: &RoundLine) -> (LoadAnswer, RoundAnswer) {
+        let report = self.bus.round(&mut self.chip, line);
+        (report.report.loading, report.report.end.answer)
     }
 
     /// So many groups of recessive bits. The state of the controller then.
     pub fn recessive(&mut self, groups: u16) -> Option<NodeState> {
-        let answer = self
-            .bus
-            .recessive(&self.ram, &mut self.port, groups, self.tries);
-        match answer {
+        match self.bus.recessive(&mut self.chip, groups) {
             Ok(made) => Some(made.after.counters.state()),
             Err(_) => None,
         }
@@ -171,14 +144,19 @@ impl ChipBench {
     }
 
     /// What the chip leaves.
-    pub fn close(self) -> FinalChip {
+    pub fn close(self, rt: &impl Abort) -> FinalChip {
         let ChipBench {
             ram,
             if1,
             if2,
-            port,
+            chip,
             ..
         } = self;
-        ram.close_chip(if1, if2, port)
+        let (share, bus) = chip.into_parts();
+        drop(share);
+        match Arc::try_unwrap(ram) {
+            Ok(ram) => ram.close_chip(if1, if2, bus),
+            Err(_) => panic!(rt; "the memory is shared"),
+        }
     }
 }

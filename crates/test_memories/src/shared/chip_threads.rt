@@ -5,11 +5,15 @@ ghost use Rattle.ccan_ram.specs.declared.port.PortName.TheVariants.{If1, If2, Bu
 
 use crate::shared::chips::{changed, control};
 use ccan_bus::RoundLine;
-use ccan_chip::ChipBus;
+use ccan_chip::{ChipBus, ChipPort, PortSettings};
 use ccan_confine::{BusEvent, ControllerChange, Counters};
 use ccan_endless::{ControllerChanged, EndlessRam, FinalChip, Port};
+use ccan_map::Map;
 use ccan_object::Profile;
 use ccan_ram::Tries;
+use std::alloc::Global;
+use std::process::Abort;
+use std::sync::Arc;
 use std::thread::{Threads, join};
 
 /// What came of it.
@@ -42,18 +46,11 @@ impl AtWork {
 }
 
 /// So many rounds, of two lines in turn.
-pub fn play(
-    ram: &EndlessRam,
-    mut port: Port,
-    lines: &[RoundLine; 2],
-    turns: u32,
-    tries: Tries,
-) -> (AtWork, Port)
-    requires memory { port.pass.memory ≡ ram.now.words }
-    requires bus { port.pass.port ≡ Bus }
-    requires profile { port.pass.memory.profile ≡ One }
-    ensures memory { result.1.pass.memory ≡ port.pass.memory }
-    ensures port { result.1.pass.port ≡ port.pass.port }
+pub fn play(mut chip: ChipPort, lines: &[RoundLine; 2], turns: u32) -> (AtWork, ChipPort)
+    requires bus { chip.port.pass.port ≡ Bus }
+    requires profile { chip.port.pass.memory.profile ≡ One }
+    ensures memory { result.1.port.pass.memory ≡ chip.port.pass.memory }
+    ensures port { result.1.port.pass.port ≡ chip.port.pass.port }
 {
     let mut bus = ChipBus::new(Profile::One, 2);
     let mut at_work = AtWork {
@@ -65,8 +62,7 @@ pub fn play(
     };
     for turn in 0..turns {
         let line = if turn % 2 == 0 { &lines[0] } else { &lines[1] };
-        let (told, left) = bus.round(ram, port, line, tries);
-        port = left;
+        let told = bus.round(&mut chip, line);
         if let Some((event, _)) = told.own {
             at_work.parts = at_work.parts.saturating_add(1);
             match told.noted {
@@ -76,7 +72,7 @@ pub fn play(
             }
         }
     }
-    (at_work, port)
+    (at_work, chip)
 }
 
 /// Sets Init, clears it, and reads the Status register, so many times. How many reads found a status interrupt.
@@ -96,8 +92,9 @@ pub fn write_and_read(ram: &EndlessRam, mut port: Port, turns: u32, tries: Tries
 }
 
 /// Both at work, each in a thread of its own, and then the end of the chip.
-pub fn rounds_beside_a_host<T: Threads + Sync>(
+pub fn rounds_beside_a_host<T: Abort + Threads + Sync>(
     rt: &T,
+    alloc: Global,
     ram: EndlessRam,
     ports: (Port, Port, Port),
     lines: &[RoundLine; 2],
@@ -110,17 +107,32 @@ pub fn rounds_beside_a_host<T: Threads + Sync>(
     requires profile { ports.2.pass.memory.profile ≡ One }
 {
     let (if1, if2, bus) = ports;
-    let shared = &ram;
-    let ((read, if1), (at_work, bus)) = join(
+    let Ok(ram) = Arc::new(alloc, ram) else {
+        panic!(rt; "no memory")
+    };
+    let Ok(share) = Arc::try_clone(&ram) else {
+        panic!(rt; "too many shares")
+    };
+    let settings = PortSettings {
+        map: Map::Narrow,
+        tries,
+    };
+    let chip = ChipPort::new(share, bus, settings);
+    let shared: &EndlessRam = &ram;
+    let ((read, if1), (at_work, chip)) = join(
         rt,
         move ||
             requires { if1.pass.memory ≡ shared.now.words }
         { write_and_read(shared, if1, turns, tries) },
         move ||
-            requires memory { bus.pass.memory ≡ shared.now.words }
-            requires bus { bus.pass.port ≡ Bus }
-            requires profile { bus.pass.memory.profile ≡ One }
-        { play(shared, bus, lines, turns, tries) },
+            requires bus { chip.port.pass.port ≡ Bus }
+            requires profile { chip.port.pass.memory.profile ≡ One }
+        { play(chip, lines, turns) },
     );
-    (AtWork { read, ..at_work }, ram.close_chip(if1, if2, bus))
+    let (share, bus) = chip.into_parts();
+    drop(share);
+    match Arc::try_unwrap(ram) {
+        Ok(ram) => (AtWork { read, ..at_work }, ram.close_chip(if1, if2, bus)),
+        Err(_) => panic!(rt; "the memory is shared"),
+    }
 }

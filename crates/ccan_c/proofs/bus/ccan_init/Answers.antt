@@ -10,7 +10,7 @@ pub returns : goal.returns
 returns c =
     let run = c.change-told in
     let held = c.as_mut.result.now in
-    let made = subst (λ (z : ControllerChange). Steps (λ terms seen added. Makes terms z held.tries seen added run.result) held
+    let made = subst (λ (z : ControllerChange). Steps (λ terms seen added. Makes terms z held.chip.settings.tries seen added run.result) held
     run.new.self) c.starting.ensures run.ensures in
     on_open _ _ _ _ _ c.as_mut.ensures.value
     (bus_looked (bus_call.init c.code_of_access.result) held run.new.self _ made

@@ -20,6 +20,6 @@ pub returns-clause-call : goal.returns-clause-call
 returns-clause-call c =
     let run = c.load-loading in
     on_open _ _ _ _ _ c.as_mut.ensures.value
-    (bus_did (bus_call.load c.code_of.result c.of.result) c.as_mut.result.now run.new.self _ run.ensures.steps
+    (bus_did (bus_call.load c.code_of_load.result c.of.result) c.as_mut.result.now run.new.self _ run.ensures.steps
     run.ensures.rests (λ past after seen added h.
-    (run.result.0, run.result.1, h.0, c.code_of.ensures, c.of.ensures ∙ ap (c_load run.result.1) h.1)))
+    (run.result.0, run.result.1, h.0, c.code_of_load.ensures, c.of.ensures ∙ ap (c_load run.result.1) h.1)))

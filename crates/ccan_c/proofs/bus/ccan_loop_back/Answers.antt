@@ -14,7 +14,7 @@ returns c =
     on_open _ _ _ _ _ c.as_mut.ensures.value
     (bus_looked (bus_call.loop_back c.args.on c.code_of_access.result) held run.new.self _ run.ensures
     refl (λ past seen added led h. (
-      subst (λ (code : ℕ). LoopsBack (terms_at (port_of held)) held.tries (is_on c.args.on) seen added code)
+      subst (λ (code : ℕ). LoopsBack (terms_at (port_of held)) held.chip.settings.tries (is_on c.args.on) seen added code)
           (sym c.code_of_access.ensures) h,
       refl,
     )))

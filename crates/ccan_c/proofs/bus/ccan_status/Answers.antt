@@ -7,5 +7,5 @@ pub returns-clause-call : goal.returns-clause-call
 returns-clause-call c =
     let run = c.status-told in
     on_open _ _ _ _ _ c.as_mut.ensures.value
-    (bus_looked (bus_call.status c.read_out.result c.read_out.new.out) c.as_mut.result.now run.new.self _ run.ensures
-    refl (λ past seen added led h. ((run.result, h, c.read_out.ensures.code, c.read_out.ensures.read), refl)))
+    (bus_looked (bus_call.status c.status_out.result c.status_out.new.out) c.as_mut.result.now run.new.self _ run.ensures
+    refl (λ past seen added led h. ((run.result, h, c.status_out.ensures.code, c.status_out.ensures.read), refl)))

@@ -19,5 +19,5 @@ pub returns-clause-call : goal.returns-clause-call
 returns-clause-call c =
     let run = c.begin-begun in
     on_open _ _ _ _ _ c.as_mut.ensures.value
-    (frame_began (frame_call.begin c.code_of.result c.of.result) c.as_mut.result.now run.new.self _ run.ensures.steps
-    run.ensures.drops (λ past seen added h. (run.result, h, c.code_of.ensures, c.of.ensures, refl)))
+    (frame_began (frame_call.begin c.code_of_load.result c.of.result) c.as_mut.result.now run.new.self _ run.ensures.steps
+    run.ensures.drops (λ past seen added h. (run.result, h, c.code_of_load.ensures, c.of.ensures, refl)))

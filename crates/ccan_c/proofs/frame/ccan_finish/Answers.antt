@@ -1,4 +1,4 @@
-use Rattle.std.proofs.Common.{◌≡◌, ◌≤◌, ◌<◌, ℕ, true, false, nat_le, refl, sym, ap, subst, ◌∙◌, arith}
+use Rattle.std.proofs.Common.{◌≡◌, ◌≤◌, ◌<◌, ℕ, true, false, refl, sym, ap, subst, ◌∙◌, arith}
 use Rattle.std.specs.Prelude.{Option, is_some, nat_lt}
 use Rattle.std.proofs.lemmas.Bool.Decides.{nat_tests}
 use Rattle.ccan_registers.specs.ChipSteps.{terms_at}
@@ -65,7 +65,7 @@ returns-clause-call c =
     (on_true _ _ _ (some_flaw c.args.fault c.if-fault-gt5.false) (record {
       told = run.result;
       ends =
-          subst (λ (u : Wire × Option Flaw). EndsOnChip (terms_at (port_of held)) held.tries u.0 c.args.place u.1
+          subst (λ (u : Wire × Option Flaw). EndsOnChip (terms_at (port_of held)) held.chip.settings.tries u.0 c.args.place u.1
           (station_of held) seen added (station_of run.new.self) run.result)
           (λ i. (c.in-Some.ensures.1 i, c.flaw_in.ensures i)) h;
       code_is = c.code_of_end.ensures;

@@ -1,4 +1,5 @@
 use Rattle.std.proofs.Common.{refl}
+use Rattle.ccan_registers.specs.Register.{at_register}
 use Rattle.ccan_c.specs.HostCall as host_call
 use Rattle.ccan_c.proofs.Calls.{host_looked, on_open}
 use Rattle.ccan_c.proofs.host.ccan_read16.Goals as goal
@@ -8,4 +9,4 @@ returns-clause-call c =
     let run = c.read-told in
     on_open _ _ _ _ _ c.as_mut.ensures.value
     (host_looked (host_call.read16 c.args.offset c.read_out.result c.read_out.new.out) c.as_mut.result.now run.new.self _
-    run.ensures (λ seen added h. ((run.result, h, c.read_out.ensures.code, c.read_out.ensures.read), refl)))
+    run.ensures (λ seen added h. ((at_register run.result, h, c.read_out.ensures.code, c.read_out.ensures.read), refl)))

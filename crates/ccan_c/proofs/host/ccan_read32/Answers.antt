@@ -1,4 +1,5 @@
 use Rattle.std.proofs.Common.{refl}
+use Rattle.ccan_registers.specs.Register.{at_register}
 use Rattle.ccan_c.specs.HostCall as host_call
 use Rattle.ccan_c.proofs.Calls.{host_looked, on_open}
 use Rattle.ccan_c.proofs.host.ccan_read32.Goals as goal
@@ -9,4 +10,4 @@ returns-clause-call c =
     on_open _ _ _ _ _ c.as_mut.ensures.value
     (host_looked (host_call.read32 c.args.offset c.read_word_out.result c.read_word_out.new.out) c.as_mut.result.now
     run.new.self _ run.ensures
-    (λ seen added h. ((run.result, h, c.read_word_out.ensures.code, c.read_word_out.ensures.read), refl)))
+    (λ seen added h. ((at_register run.result, h, c.read_word_out.ensures.code, c.read_word_out.ensures.read), refl)))

@@ -20,5 +20,5 @@ returns-in-Err-clause-call c =
     let held = c.as_mut.result.now in
     on_open _ _ _ _ _ c.as_mut.ensures.value
     (host_rests_as (host_call.until c.args.object c.args.flag c.args.turns c.in-Err.code c.args.out.now) held c.wait.new.self
-    refused.0 (wait_refused (terms_at (port_of held)) held.tries held.map c.args.object c.args.flag c.args.turns c.in-Err.code
+    refused.0 (wait_refused (terms_at (port_of held)) held.chip.settings.tries held.chip.settings.map c.args.object c.args.flag c.args.turns c.in-Err.code
     c.args.out.now held.own (port_of held).whole refused.1))

@@ -1,4 +1,4 @@
-use Rattle.std.proofs.Common.{ℕ, Bool, List, [], ◌∷◌, ◌++◌, ◌∙◌, ◌==◌, arith, ap, sym, take, length-set}
+use Rattle.std.proofs.Common.{ℕ, Bool, List, [], ◌∷◌, ◌++◌, ◌∙◌, ◌==◌, arith, ap, sym, length-set}
 use Rattle.std.specs.Prelude.{slice_index_or}
 use Rattle.std.proofs.lemmas.List.{take_more_set, map_more, take_all}
 use Rattle.ccan_c.proofs.shown_wire.places_of.Goals as goal

@@ -1,4 +1,4 @@
-use Rattle.std.proofs.Common.{ℕ, ◌≡◌, ◌==◌, map, take, length}
+use Rattle.std.proofs.Common.{◌≡◌, ◌==◌, map, take, length}
 use Rattle.ccan_c.proofs.shown_wire.places_of.Given as goal
 
 -- the places so far are told

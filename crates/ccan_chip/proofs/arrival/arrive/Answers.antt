@@ -11,15 +11,15 @@ returns-clause-arrives c =
     let first = c.look_controller-first in
     let made = c.change_controller-joined in
     let e = made.ensures in
-    let old = c.args.port.now in
-    let before = made.new.port in
+    let old = c.args.chip.now.port in
+    let before = made.new.self.port in
     let joins : Joins old before first.result = record {
-      looked = first.new.port;
+      looked = first.new.self.port;
       looks = record { adds = first.ensures.looks; quiet = first.ensures.objects };
       outcome = made.result;
       joins =
-          subst (λ (n : ℕ). IsMade Join n first.new.port before made.result) c.own_tries.ensures
-          (is_made Join c.own_tries.result first.new.port before made.result e.made e.after e.busy e.lost e.objects);
+          subst (λ (n : ℕ). IsMade Join n first.new.self.port before made.result) c.own_tries.ensures
+          (is_made Join c.own_tries.result first.new.self.port before made.result e.made e.after e.busy e.lost e.objects);
     } in
     record {
       before = before;

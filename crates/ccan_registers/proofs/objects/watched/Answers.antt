@@ -8,14 +8,14 @@ use Rattle.ccan_registers.proofs.objects.watched.Goals as goal
 
 pub loop-turn-init : goal.loop-turn-init
 loop-turn-init c = record {
-  memory = c.requires.memory;
-  none = none_yet c.args.port.now c.requires.one;
+  settings = refl;
+  none = none_yet c.args.chip.now.port c.requires.one;
   looks = watches.none_yet (λ before. c.args.object) c.args.flag;
 }
 
 pub loop-turn-preserved : goal.loop-turn-preserved
 loop-turn-preserved c = record {
-  memory = c.look-shown.ensures.memory ∙ c.loop-turn.invariant.memory;
+  settings = c.look-shown.ensures.settings ∙ c.loop-turn.invariant.settings;
   none = none_through _ _ _ c.loop-turn.invariant.none c.look-shown.ensures.chip;
   looks = none_more (λ before. c.args.object) c.loop-turn.turn c.args.object c.look-shown.result c.look-shown.ensures.looks refl
       c.args.flag (sym c.of.ensures ∙ c.if-of.false) c.loop-turn.invariant.looks;
@@ -23,6 +23,7 @@ loop-turn-preserved c = record {
 
 pub returns-then-of : goal.returns-then-of
 returns-then-of c = record {
+  settings = c.look-shown.ensures.settings ∙ c.loop-turn.invariant.settings;
   none = none_through _ _ _ c.loop-turn.invariant.none c.look-shown.ensures.chip;
   goes = Goes-weaker (first_shows (λ before. c.args.object) c.loop-turn.turn c.args.object c.look-shown.result
       c.look-shown.ensures.looks refl c.args.flag (sym c.of.ensures ∙ c.if-of.true) c.loop-turn.invariant.looks)

@@ -10,8 +10,8 @@ use Rattle.ccan_registers.proofs.objects.watched.Given as goal
 abbrev pub invariant-loop-turn : goal.invariant-loop-turn
 invariant-loop-turn l =
     record {
-      memory : l.port.pass.memory ≡ l.ram.words;
-      none : AddsNone l.fn.port l.port;
-      looks : Goes (passes_of same_object l.fn.port.pass) (passes_of same_object l.port.pass)
+      settings : l.chip.settings ≡ l.fn.chip.settings;
+      none : AddsNone l.fn.chip.port l.chip.port;
+      looks : Goes (passes_of same_object l.fn.chip.port.pass) (passes_of same_object l.chip.port.pass)
           (λ terms seen added. NoneShows terms (λ before. l.object) l.flag l.turn added);
     }

@@ -1,18 +1,12 @@
-use Rattle.std.proofs.Common.{ap, ◌∙◌}
-use Rattle.std.specs.Prelude.{Option}
-use Rattle.ccan_endless.specs.ChipPort.{ChipPass}
-use Rattle.ccan_registers.specs.PortHolder.{port_in}
-use Rattle.ccan_registers.proofs.Holders.{from_place}
 use Rattle.ccan_registers.proofs.Rounding.{round_on_chip}
 use Rattle.ccan_registers.proofs.rounds.round.Goals as goal
 
 pub returns-clause-goes : goal.returns-clause-goes
 returns-clause-goes c past led =
-    let run = c.round-report in
+    let run = c.round in
     let there = run.ensures.round past led in (
       there.0,
       there.1,
-      from_place c.args.holder.now.port c.in-Some.port run.result.1 _ c.in-Some.ensures.value
-          (round_on_chip c.in-Some.port run.result.1 c.args.line.now c.args.tries past there.0 run.result.0
-          (ap (λ (o : Option ChipPass). (port_in o).pass.port) c.in-Some.ensures.value ∙ c.requires.bus) there.2),
+      round_on_chip c.args.chip.now.port run.new.chip.port c.args.line.now c.args.chip.now.settings.tries past there.0 run.result
+          c.requires.bus there.2,
     )

@@ -1,10 +1,9 @@
 use Rattle.std.proofs.Common.{ℕ, ◌==◌, ap}
-use Rattle.ccan_registers.specs.PortHolder.{port_at}
 use Rattle.ccan_registers.proofs.Accesses.{on_true}
 use Rattle.ccan_registers.proofs.Going.{weaker}
 use Rattle.ccan_registers.proofs.words.write_word.Goals as goal
 
 pub returns-clause-goes : goal.returns-clause-goes
 returns-clause-goes c =
-    weaker (port_at c.args.holder.now) (port_at c.write_aligned.new.holder) _ _ c.write_aligned.ensures.goes
+    weaker c.args.chip.now.port c.write_aligned.new.chip.port _ _ c.write_aligned.ensures.goes
     (λ seen added h. on_true _ _ _ (ap (λ (k : ℕ). k == 0) c.if-offset-ne0.false) h)

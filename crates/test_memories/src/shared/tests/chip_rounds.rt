@@ -29,22 +29,22 @@ fn takes_part_while_init_is_clear(rt: HostRuntime) {
         (0x0001, 0x2301),
     );
     holds(&rt, bench.object(&message(0x0188)));
-    let (mut bench, loading, answer) = bench.round(&silent(&rt, Fault::Quiet));
+    let (loading, answer) = bench.round(&silent(&rt, Fault::Quiet));
     same(
         &rt,
         (loading, answer),
         (LoadAnswer::Nothing, RoundAnswer::Idle),
     );
     holds(&rt, bench.write_control(false, true));
-    let (bench, init, answer) = bench.load();
+    let (init, answer) = bench.load();
     holds(&rt, !init && matches!(answer, LoadAnswer::Loaded(_, _)));
     same(&rt, bench.loaded(), Some(32));
-    let (mut bench, loading, answer) = bench.round(&silent(&rt, Fault::Quiet));
+    let (loading, answer) = bench.round(&silent(&rt, Fault::Quiet));
     holds(&rt, matches!(loading, LoadAnswer::Held(_)));
     holds(&rt, matches!(answer, RoundAnswer::Sent(_, _)));
     same(&rt, bench.read_status(), (true, false));
     // TxOk, and LEC 0.
-    same(&rt, bench.close().controller.status_word(), 0x0008);
+    same(&rt, bench.close(&rt).controller.status_word(), 0x0008);
     laws::rounds_find_their_counters();
 }
 
@@ -54,9 +54,8 @@ fn goes_off_and_comes_back_by_its_host(rt: HostRuntime) {
     holds(&rt, bench.write_control(false, false));
     holds(&rt, bench.object(&message(0x0188)));
     for _ in 0..32 {
-        let (after, _, answer) = bench.round(&silent(&rt, Fault::Crc));
+        let (_, answer) = bench.round(&silent(&rt, Fault::Crc));
         same(&rt, answer, RoundAnswer::Fault);
-        bench = after;
     }
     // BOff, EWarn, EPass and LEC 6; going off sets Init.
     let off = bench.controller();
@@ -65,19 +64,16 @@ fn goes_off_and_comes_back_by_its_host(rt: HostRuntime) {
         (off.status_word(), off.control.word()),
         (0x00e6, 0x0001),
     );
-    let (after, _, answer) = bench.round(&heard(&rt, Fault::Quiet));
-    bench = after;
+    let (_, answer) = bench.round(&heard(&rt, Fault::Quiet));
     same(&rt, answer, RoundAnswer::Passed);
     same(&rt, bench.recessive(500), Some(NodeState::Off));
     holds(&rt, bench.write_control(false, false));
     same(&rt, bench.recessive(127), Some(NodeState::Off));
     same(&rt, bench.recessive(1), Some(NodeState::Active));
     // What was to be sent is loaded again, and then it hears another node.
-    let (after, loading, _) = bench.round(&silent(&rt, Fault::Quiet));
-    bench = after;
+    let (loading, _) = bench.round(&silent(&rt, Fault::Quiet));
     holds(&rt, matches!(loading, LoadAnswer::Loaded(_, _)));
-    let (after, _, answer) = bench.round(&heard(&rt, Fault::Quiet));
-    bench = after;
+    let (_, answer) = bench.round(&heard(&rt, Fault::Quiet));
     same(&rt, answer, RoundAnswer::Received(None));
     // TxOk, RxOk, and LEC 0.
     same(&rt, bench.controller().status_word(), 0x0018);
@@ -92,6 +88,7 @@ fn no_event_is_lost_while_a_host_writes(rt: HostRuntime) {
     let lines = [heard(&rt, Fault::Crc), heard(&rt, Fault::Quiet)];
     let (at_work, last) = rounds_beside_a_host(
         &rt,
+        rt.alloc(),
         ram,
         (host, other, port),
         &lines,

@@ -2,6 +2,7 @@
 //! from CAN Specification 2.0 and the C_CAN User's Manual 1.2, "CAN Control Register", "Test Register", "Disabled Automatic
 //! Retransmission" and section 4.2.
 ghost use Rattle.std.specs.Prelude.{◌≡◌, ◌<◌};
+ghost use Rattle.std.specs.Arc.{arc_value};
 ghost use Rattle.ccan_ram.specs.declared.port.PortName.TheVariants.{If1, If2, Bus};
 ghost use Rattle.ccan_object.specs.declared.profile.Profile.TheVariants.{One};
 
@@ -9,47 +10,60 @@ use super::message;
 use crate::expect::{BYTES, RECEIVER, change_of, frame, holds, same, shown, tries};
 use crate::shared::chips::{changed, looked};
 use ccan_bus::LoadAnswer;
-use ccan_chip::OwnEvent;
+use ccan_chip::{ChipPort, OwnEvent, PortSettings};
 use ccan_confine::{
     BusEvent, ControlRegister, Controller, ControllerChange, Counters, StatusEvent, TestRegister,
 };
 use ccan_endless::{EndlessRam, Port};
+use ccan_map::Map;
 use ccan_object::{Profile, Record, Reg};
 use ccan_ram::{Change, Changed, SharedRam, Tries};
 use ccan_station::{Plain, Station, laws};
 use ccan_wire::{MOST_MEMBERS, Member, Role, Wire, decide, decide_again};
 use std::alloc::Global;
 use std::process::Abort;
+use std::sync::Arc;
 
 /// A chip on the bus. The host's calls are IF1's, and concern its last object. The calls promise nothing.
 #[derive(Drop)]
 struct Seat {
-    ram: EndlessRam,
+    ram: Arc<EndlessRam, Global>,
     if1: Port,
     if2: Port,
-    port: Port,
+    chip: ChipPort,
     station: Station,
     tries: Tries,
-    ghost first: { (if1.pass.memory ≡ ram.words) × (if1.pass.port ≡ If1) },
-    ghost second: { (if2.pass.memory ≡ ram.words) × (if2.pass.port ≡ If2) },
-    ghost third: { (port.pass.memory ≡ ram.words) × (port.pass.port ≡ Bus) },
-    ghost profile: { port.pass.memory.profile ≡ station.profile },
-    ghost objects: { port.pass.memory.profile ≡ One },
+    ghost first: { (if1.pass.memory ≡ (arc_value ram).words) × (if1.pass.port ≡ If1) },
+    ghost second: { (if2.pass.memory ≡ (arc_value ram).words) × (if2.pass.port ≡ If2) },
+    ghost third: { (chip.port.pass.memory ≡ (arc_value ram).words)
+        × (chip.port.pass.port ≡ Bus) },
+    ghost profile: { chip.port.pass.memory.profile ≡ station.profile },
+    ghost objects: { chip.port.pass.memory.profile ≡ One },
 }
 
 impl Seat {
     /// A chip after its reset: Init is 1.
     fn open(rt: &impl Abort, alloc: Global) -> Seat {
-        match EndlessRam::open_reset(alloc, Profile::One, 64) {
-            Ok((ram, if1, if2, port)) => Seat {
-                ram,
-                if1,
-                if2,
-                port,
-                station: Station::new(Profile::One),
-                tries: tries(8),
-            },
-            Err(_) => panic!(rt; "no memory"),
+        let Ok((ram, if1, if2, port)) = EndlessRam::open_reset(alloc, Profile::One, 64) else {
+            panic!(rt; "no memory")
+        };
+        let Ok(ram) = Arc::new(alloc, ram) else {
+            panic!(rt; "no memory")
+        };
+        let Ok(share) = Arc::try_clone(&ram) else {
+            panic!(rt; "too many shares")
+        };
+        let settings = PortSettings {
+            map: Map::Narrow,
+            tries: tries(8),
+        };
+        Seat {
+            ram,
+            if1,
+            if2,
+            chip: ChipPort::new(share, port, settings),
+            station: Station::new(Profile::One),
+            tries: tries(8),
         }
     }
 
@@ -119,59 +133,21 @@ impl Seat {
     }
 
     /// The chip's start of a frame: what came of its load, and what it is to the bus.
-    fn begin(self) -> (Seat, LoadAnswer, Member) {
-        let Seat {
-            ram,
-            if1,
-            if2,
-            port,
-            mut station,
-            tries,
-        } = self;
-        let (begun, port) = station.begin(&ram, port, tries);
-        (
-            Seat {
-                ram,
-                if1,
-                if2,
-                port,
-                station,
-                tries,
-            },
-            begun.loading,
-            begun.member,
-        )
+    fn begin(&mut self) -> (LoadAnswer, Member) {
+        let begun = self.station.begin(&mut self.chip);
+        (begun.loading, begun.member)
     }
 
     /// What it is to the bus while a frame is under way.
     fn stay(&mut self) -> Member {
-        self.station.stay(&self.ram, &mut self.port).member
+        self.station.stay(&mut self.chip).member
     }
 
     /// The end of a frame, for the chip at this position: its event.
-    fn end(self, wire: &Wire, place: usize) -> (Seat, Option<OwnEvent>)
+    fn end(&mut self, wire: &Wire, place: usize) -> Option<OwnEvent>
         requires { place < MOST_MEMBERS }
     {
-        let Seat {
-            ram,
-            if1,
-            if2,
-            port,
-            mut station,
-            tries,
-        } = self;
-        let (ended, port) = station.end(&ram, port, wire, place, None, tries);
-        (
-            Seat {
-                ram,
-                if1,
-                if2,
-                port,
-                station,
-                tries,
-            },
-            ended.own,
-        )
+        self.station.end(&mut self.chip, wire, place, None).own
     }
 }
 
@@ -206,9 +182,9 @@ impl Network {
 
     /// The start of a frame.
     fn start(self) -> (Network, Wire) {
-        let Network { a, b, c } = self;
-        let (a, _, first) = a.begin();
-        let (b, _, second) = b.begin();
+        let Network { mut a, mut b, c } = self;
+        let (_, first) = a.begin();
+        let (_, second) = b.begin();
         let wire = decide(&[first, second, c.member(None, None)]);
         (Network { a, b, c }, wire)
     }
@@ -222,8 +198,8 @@ impl Network {
         } = self;
         let third = c.member(None, None);
         let wire = decide_again(start, &[a.stay(), b.stay(), third]);
-        let (b, to_b) = b.end(&wire, 1);
-        let (a, to_a) = a.end(&wire, 0);
+        let to_b = b.end(&wire, 1);
+        let to_a = a.end(&wire, 0);
         c.end(&wire, 2, &third);
         (Network { a, b, c }, to_a, to_b)
     }
@@ -323,10 +299,7 @@ fn the_end_sees_who_left_by_itself(rt: HostRuntime) {
     let (mut network, wire) = network.start();
     // No look until the end, and Init is 0 again.
     holds(&rt, network.a.init(true) && network.a.init(false));
-    let Network { a, b, c } = network;
-    let (a, to_a) = a.end(&wire, 0);
-    same(&rt, to_a, None);
-    let mut network = Network { a, b, c };
+    same(&rt, network.a.end(&wire, 0), None);
     same(&rt, network.waits(), (true, false));
     // A reset in mid-frame, at the station.
     let (mut network, wire) = network.start();
@@ -334,10 +307,7 @@ fn the_end_sees_who_left_by_itself(rt: HostRuntime) {
     same(&rt, network.a.station.member().role, Role::Active);
     network.a.station.unload();
     same(&rt, network.a.station.member().role, Role::Absent);
-    let Network { a, b, c } = network;
-    let (a, to_a) = a.end(&wire, 0);
-    same(&rt, to_a, None);
-    let mut network = Network { a, b, c };
+    same(&rt, network.a.end(&wire, 0), None);
     same(&rt, network.waits(), (true, false));
 }
 
@@ -347,14 +317,13 @@ fn a_silent_chip_loads_nothing_and_hears(rt: HostRuntime) {
     // B requests to send, too, while it is silent.
     holds(&rt, network.b.change(&message(0x0188)));
     holds(&rt, network.b.silence());
-    let Network { a, b, c } = network;
-    let (b, loading, member) = b.begin();
+    let (loading, member) = network.b.begin();
     same(
         &rt,
         (loading, member.role, member.frame),
         (LoadAnswer::Nothing, Role::Silent, None),
     );
-    let (network, wire) = Network { a, b, c }.start();
+    let (network, wire) = network.start();
     let (mut network, to_a, to_b) = network.end(&wire);
     // It stores nothing, since no object receives.
     same(&rt, (to_a, to_b), (SENT, RECEIVED));
@@ -385,11 +354,10 @@ fn a_frame_in_loop_back_mode_is_heard_without_silent(rt: HostRuntime) {
 }
 
 /// Checks that the next start finds nothing of A to send. A's object has NewDat 1 and TxRqst 0.
-fn is_not_tried_again(rt: &impl Abort, mut a: Seat) -> Seat {
+fn is_not_tried_again(rt: &impl Abort, a: &mut Seat) {
     same(rt, a.record().control(), 0x8088);
-    let (a, loading, member) = a.begin();
+    let (loading, member) = a.begin();
     same(rt, (loading, member.frame), (LoadAnswer::Nothing, None));
-    a
 }
 
 #[test]
@@ -397,13 +365,13 @@ fn a_frame_without_acknowledgement_is_tried_once_with_dar(rt: HostRuntime) {
     let Network { mut a, b, c } = Network::open(&rt, rt.alloc());
     // NewDat and TxRqst; no other node is on the bus.
     holds(&rt, a.set_dar() && a.change(&message(0x8188)));
-    let (mut a, _, member) = a.begin();
+    let (_, member) = a.begin();
     same(&rt, a.record().control(), 0x8088);
     let wire = decide(&[member]);
-    let (a, own) = a.end(&wire, 0);
+    let own = a.end(&wire, 0);
     let unheard = Some((BusEvent::SendNoAck, StatusEvent::Fault(3)));
     same(&rt, own, unheard);
-    let mut a = is_not_tried_again(&rt, a);
+    is_not_tried_again(&rt, &mut a);
     // The host sets TxRqst again, and the node without a chip is there.
     holds(&rt, a.change(&message(0x8188)));
     let (network, wire) = Network { a, b, c }.start();
@@ -417,14 +385,14 @@ fn what_loses_the_arbitration_is_tried_once_with_dar(rt: HostRuntime) {
     let Network { mut a, mut b, c } = Network::open(&rt, rt.alloc());
     holds(&rt, a.set_dar() && a.change(&message(0x8188)));
     holds(&rt, b.init(false));
-    let (a, _, first) = a.begin();
-    let (b, _, second) = b.begin();
+    let (_, first) = a.begin();
+    let (_, second) = b.begin();
     let lower = frame(0x100, false, false, 0, [0; 8]);
     let wire = decide(&[first, second, c.member(Some(lower), None)]);
-    let (b, to_b) = b.end(&wire, 1);
-    let (a, to_a) = a.end(&wire, 0);
+    let to_b = b.end(&wire, 1);
+    let to_a = a.end(&wire, 0);
     same(&rt, (to_a, to_b), (RECEIVED, RECEIVED));
-    let mut a = is_not_tried_again(&rt, a);
+    is_not_tried_again(&rt, &mut a);
     // Once it is asked for again, it is sent to B.
     holds(&rt, a.change(&message(0x8188)));
     let (network, wire) = Network { a, b, c }.start();

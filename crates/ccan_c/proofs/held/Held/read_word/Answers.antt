@@ -1,8 +1,11 @@
 use Rattle.std.proofs.Common.{refl}
+use Rattle.ccan_c.proofs.WorksAlike.{works_alike}
 use Rattle.ccan_c.proofs.held.Held.read_word.Goals as goal
 
 pub returns : goal.returns
-returns c = record {
-  kept = record { works = record { tries = refl; nodes = refl; map = refl }; own = refl; bus = refl; station = refl };
-  goes = c.read_word.ensures;
-}
+returns c =
+    let settings = c.read_word.ensures.settings in
+    record {
+      kept = record { works = works_alike _ _ settings refl; own = refl; bus = refl; station = refl };
+      goes = c.read_word.ensures.goes;
+    }

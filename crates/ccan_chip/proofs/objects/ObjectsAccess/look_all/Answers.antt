@@ -1,7 +1,12 @@
 use Rattle.std.proofs.Common.{◌∙◌}
-use Rattle.ccan_endless.proofs.ChipPorts.{none_through}
+use Rattle.ccan_chip.proofs.Since.{none_onward}
 use Rattle.ccan_chip.proofs.objects.ObjectsAccess.look_all.Goals as goal
 
 pub invariant_of-self : goal.invariant_of-self
 invariant_of-self g c =
-    (c.look_all.ensures.memory ∙ c.self.invariant.0, none_through _ _ _ c.self.invariant.1 c.look_all.ensures.chip)
+    let port = c.args.self.now in
+    record {
+      belongs = c.look_all.ensures.memory ∙ port.belongs;
+      lent = port.lent;
+      none = none_onward _ _ _ port.none c.look_all.ensures.chip;
+    }

@@ -5,4 +5,5 @@ use Rattle.test_memories.proofs.shared.chip_threads.play.Given as goal
 -- the port stays the memory's, and the bus that of a chip of this profile
 abbrev pub invariant-loop-turn : goal.invariant-loop-turn
 invariant-loop-turn l =
-    (l.port.pass.memory ≡ l.fn.port.pass.memory) × (l.port.pass.port ≡ l.fn.port.pass.port) × (l.bus.bus.profile ≡ One)
+    (l.chip.port.pass.memory ≡ l.fn.chip.port.pass.memory) × (l.chip.port.pass.port ≡ l.fn.chip.port.pass.port)
+    × (l.bus.bus.profile ≡ One)

@@ -1,0 +1,5 @@
+use Rattle.ccan_chip.proofs.chip_bus.load_at_objects.Given as goal
+
+-- the load at the objects goes on from what the port had seen before it, by the borrow that is passed to it
+abbrev pub ghosts-load_over : goal.ghosts-load_over
+ghosts-load_over a = record { earlier = a.lent.port.now; lent = a.lent.port.ghost_name }
