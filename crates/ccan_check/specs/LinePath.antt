@@ -1,32 +1,11 @@
 -- Where in a line of a script a fault is, and how that is written. Source: this project's own; paths are written as jq
 -- writes them, without their first dot.
 use Rattle.std.specs.Prelude.{ℕ, ◌++◌, List, Option, Some, None, codes, decimal}
+use Rattle.ccan_script.specs.MemberName.{name_text}
 use Rattle.ccan_script.specs.RegisterSet.{register_name}
 use Rattle.ccan_check.specs.declared.line_path.LinePath.{LinePath}
-use Rattle.ccan_check.specs.declared.line_path.MemberName.{MemberName}
-use Rattle.ccan_check.specs.declared.line_path.MemberName.TheVariants as name
 use Rattle.ccan_check.specs.declared.line_path.Part.{Part}
 use Rattle.ccan_check.specs.declared.line_path.Part.TheVariants.{Whole, Member, Register}
-
-abbrev pub name_text : MemberName → List ℕ
-name_text name.Op = codes "op"
-name_text name.Request = codes "request"
-name_text name.Set = codes "set"
-name_text name.Object = codes "object"
-name_text name.Flag = codes "flag"
-name_text name.Turns = codes "turns"
-name_text name.Send = codes "send"
-name_text name.Fault = codes "fault"
-name_text name.Sie = codes "sie"
-name_text name.Eie = codes "eie"
-name_text name.Node = codes "node"
-name_text name.Groups = codes "groups"
-name_text name.On = codes "on"
-name_text name.Id = codes "id"
-name_text name.Xtd = codes "xtd"
-name_text name.Rtr = codes "rtr"
-name_text name.Dlc = codes "dlc"
-name_text name.Data = codes "data"
 
 -- below, what is meant has this path
 module _ (path : List ℕ) where

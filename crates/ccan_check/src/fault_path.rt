@@ -6,28 +6,27 @@ ghost use Rattle.serde_json.specs.View.{view};
 ghost use Rattle.ccan_line.specs.Limits.{most_nodes};
 ghost use Rattle.ccan_script.specs.Json.{lines_in};
 ghost use Rattle.ccan_script.specs.ListName.{list_text};
+ghost use Rattle.ccan_script.specs.ScriptNumber.{number_text, least_of, greatest_of, default_of};
 ghost use Rattle.ccan_check.specs.ScriptCheck.{number_or_greatest, context_of, place_in, line_path, fault_path};
 
-use crate::first_fault::{bus_place, host_place, items_in};
+use crate::first_fault::{bus_place, host_place};
 use crate::line_path::{LinePath, Part, place_path};
+use ccan_script::json::items_in;
 use ccan_script::number::{number_member, profile_numbered};
-use ccan_script::{
-    DEFAULT_NODES, DEFAULT_PROFILE, LineContext, ListName, MAX_NODES, MAX_PROFILE, ScriptError,
-};
+use ccan_script::script_number::ScriptNumber;
+use ccan_script::{LineContext, ListName, ScriptError};
 use serde_json::Value;
 use std::alloc::{AllocError, Global};
 
-/// The number of a member of the script, or the greatest if that is at fault.
-fn number_or_greatest(value: &Value, name: &str, least: u64, greatest: u64, default: u64) -> u64
-    requires default_least { least ≤ default }
-    requires default_greatest { default ≤ greatest }
-    ensures number { result
-        ≡ number_or_greatest least greatest default (get name.now (view value.now)) }
-    ensures within { result ≤ greatest }
+/// A number of the script, or the greatest if that is at fault.
+fn number_or_greatest(value: &Value, number: ScriptNumber) -> u64
+    ensures number { result ≡ number_or_greatest (least_of number) (greatest_of number)
+        (default_of number) (get (number_text number) (view value.now)) }
+    ensures within { result ≤ greatest_of number }
 {
-    match number_member(value, name, least, greatest, default) {
-        Ok(number) => number,
-        Err(_) => greatest,
+    match number_member(value, number) {
+        Ok(member) => member,
+        Err(_) => number.row().greatest,
     }
 }
 
@@ -37,8 +36,8 @@ pub(crate) fn context_of(value: &Value) -> LineContext
     ensures context { result ≡ context_of (view value.now) }
     ensures nodes { result.nodes ≤ most_nodes }
 {
-    let profile = number_or_greatest(value, "profile", 1, MAX_PROFILE, DEFAULT_PROFILE);
-    let nodes = number_or_greatest(value, "nodes", 0, MAX_NODES, DEFAULT_NODES);
+    let profile = number_or_greatest(value, ScriptNumber::Profile);
+    let nodes = number_or_greatest(value, ScriptNumber::Nodes);
     LineContext {
         profile: profile_numbered(profile),
         nodes: nodes as u8,

@@ -1,24 +1,24 @@
 //! Where the first fault of a line is, by the order of the checks. Whether a line has a fault is what the readers of
 //! `ccan_script` say.
 
-ghost use Rattle.std.specs.Prelude.{◌≡◌, ◌≤◌, map, is_some, None, unwrap_or};
+ghost use Rattle.std.specs.Prelude.{◌≡◌, ◌≤◌, is_some, None, unwrap_or};
 ghost use Rattle.std.specs.List.{position};
-ghost use Rattle.serde_json.specs.Find.{get};
 ghost use Rattle.serde_json.specs.View.{view};
 ghost use Rattle.ccan_line.specs.Limits.{most_nodes};
-ghost use Rattle.ccan_script.specs.Json.{lines_in};
 ghost use Rattle.ccan_script.specs.FrameLine.{frame_fault};
-ghost use Rattle.ccan_check.specs.Member.{frame_members, frame_numbers};
+ghost use Rattle.ccan_script.specs.Member.{frame_row, frame_numbers};
 ghost use Rattle.ccan_check.specs.FirstFault.{part_found, operation_part, round_place, behind_members};
 ghost use Rattle.ccan_check.specs.FirstFault.{host_place, bus_place};
 
-use crate::line_path::{LinePath, MemberName, Part};
-use crate::member::{bus_members, frame_members, frame_numbers, host_members};
+use crate::line_path::{LinePath, Part};
 use crate::member_checks::part_found;
 use ccan_script::LineContext;
 use ccan_script::bus_op::{BusOp, bus_op};
 use ccan_script::frame_line::read_frame;
 use ccan_script::host_op::host_op;
+use ccan_script::json::items_in;
+use ccan_script::member::{bus_row, frame_numbers, frame_row, host_row};
+use ccan_script::member_name::MemberName;
 use serde_json::Value;
 
 /// The part at fault in a line without a known operation.
@@ -39,43 +39,30 @@ fn in_line(part: Part) -> LinePath
 }
 
 /// Whether a frame is at fault.
-fn is_frame_at_fault(frame: &Value, nodes: u8) -> bool
-    requires { nodes ≤ most_nodes }
-    ensures { result ≡ is_some (frame_fault nodes (view frame.now)) }
+fn is_frame_at_fault(frame: &Value, context: LineContext) -> bool
+    requires { context.nodes ≤ most_nodes }
+    ensures { result ≡ is_some (frame_fault context.nodes (view frame.now)) }
 {
-    read_frame(frame, nodes).is_err()
-}
-
-/// The values of the list that a member is, none if it is not a list.
-#[tactic(auto, using(ccan_script::proofs::ListFaults::lines_are), unfolding(ccan_script::specs::Json::lines_in))]
-pub(crate) fn items_in<'a>(value: &'a Value, name: &str) -> &'a [Value]
-    ensures { map view result.now ≡ lines_in (get name.now (view value.now)) }
-{
-    let Some(list) = value.get(name) else {
-        return &[];
-    };
-    match list.as_array() {
-        Some(values) => values.as_slice(),
-        None => &[],
-    }
+    read_frame(frame, context).is_err()
 }
 
 /// The index of the first frame that is at fault.
-fn frame_at_fault(frames: &[Value], nodes: u8) -> Option<usize>
-    requires { nodes ≤ most_nodes }
-    ensures { result ≡ position (λ frame. is_some (frame_fault nodes (view frame))) frames.now }
+fn frame_at_fault(frames: &[Value], context: LineContext) -> Option<usize>
+    requires { context.nodes ≤ most_nodes }
+    ensures { result ≡ position
+        (λ frame. is_some (frame_fault context.nodes (view frame))) frames.now }
 {
     frames
         .iter()
-        .position(|frame| is_frame_at_fault(frame, nodes))
+        .position(|frame| is_frame_at_fault(frame, context))
 }
 
 /// The part of a frame at fault that has its first fault.
 fn frame_part(frame: &Value, context: LineContext) -> Part
     ensures { result
-        ≡ unwrap_or (part_found context frame_members frame_numbers (view frame.now)) Part.Whole }
+        ≡ unwrap_or (part_found context frame_row frame_numbers (view frame.now)) Part.Whole }
 {
-    part_found(frame, frame_members(), frame_numbers(), context).unwrap_or(Part::Whole)
+    part_found(frame, frame_row(), frame_numbers(), context).unwrap_or(Part::Whole)
 }
 
 /// Where the first fault is in a round whose members are in order.
@@ -85,7 +72,7 @@ fn round_place(line: &Value, context: LineContext) -> LinePath
     ensures { result ≡ round_place context (view line.now) }
 {
     let frames = items_in(line, "send");
-    let Some(index) = frame_at_fault(frames, context.nodes) else {
+    let Some(index) = frame_at_fault(frames, context) else {
         return in_line(Part::Member(MemberName::Send));
     };
     match frames.get(index) {
@@ -108,7 +95,7 @@ pub(crate) fn host_place(line: &Value, context: LineContext) -> LinePath
     let Some(op) = host_op(line) else {
         return in_line(operation_part(line));
     };
-    let members = host_members(op);
+    let members = host_row(op);
     in_line(part_found(line, members, members, context).unwrap_or(Part::Whole))
 }
 
@@ -121,7 +108,7 @@ pub(crate) fn bus_place(line: &Value, context: LineContext) -> LinePath
     let Some(op) = bus_op(line) else {
         return in_line(operation_part(line));
     };
-    let members = bus_members(op);
+    let members = bus_row(op);
     match part_found(line, members, members, context) {
         Some(part) => in_line(part),
         None => behind_members(line, op, context),
@@ -134,16 +121,8 @@ fn behind_members(line: &Value, op: BusOp, context: LineContext) -> LinePath
     requires { context.nodes ≤ most_nodes }
     ensures { result ≡ behind_members context op (view line.now) }
 {
-    match op {
-        BusOp::Round => round_place(line, context),
-        BusOp::Load
-        | BusOp::Status
-        | BusOp::Control
-        | BusOp::Interrupt
-        | BusOp::Flags
-        | BusOp::Counters
-        | BusOp::Init
-        | BusOp::Recessive
-        | BusOp::LoopBack => in_line(Part::Whole),
-    }
+    let BusOp::Round = op else {
+        return in_line(Part::Whole);
+    };
+    round_place(line, context)
 }

@@ -16,10 +16,10 @@
 mod fault_path;
 mod first_fault;
 mod json_text;
+pub mod laws;
 mod line_path;
 mod line_remark;
 pub mod line_texts;
-mod member;
 mod member_checks;
 mod member_remark;
 mod not_json;

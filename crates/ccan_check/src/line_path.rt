@@ -2,33 +2,11 @@
 
 ghost use Rattle.std.specs.Prelude.{◌≡◌, IfOk, Some, string_bytes};
 ghost use Rattle.ccan_script.specs.RegisterSet.{register_name};
-ghost use Rattle.ccan_check.specs.LinePath.{name_text, part_text, frame_text, path_text};
+ghost use Rattle.ccan_check.specs.LinePath.{part_text, frame_text, path_text};
 
 use ccan_object::Reg;
+use ccan_script::member_name::MemberName;
 use std::alloc::{AllocError, Global};
-
-/// The name of a member of a line, or of a frame.
-#[derive(Clone, Copy, PartialEq, Eq, Debug)]
-pub(crate) enum MemberName {
-    Op,
-    Request,
-    Set,
-    Object,
-    Flag,
-    Turns,
-    Send,
-    Fault,
-    Sie,
-    Eie,
-    Node,
-    Groups,
-    On,
-    Id,
-    Xtd,
-    Rtr,
-    Dlc,
-    Data,
-}
 
 /// The part of a line, or of a frame, that is at fault.
 #[derive(Clone, Copy, Debug)]
@@ -47,34 +25,6 @@ pub(crate) struct LinePath {
     pub(crate) frame: Option<usize>,
     /// The part of that frame, or else of the line.
     pub(crate) part: Part,
-}
-
-impl MemberName {
-    /// The name as a script has it.
-    pub(crate) fn text(self) -> &'static str
-        ensures { result.now ≡ name_text self }
-    {
-        match self {
-            MemberName::Op => "op",
-            MemberName::Request => "request",
-            MemberName::Set => "set",
-            MemberName::Object => "object",
-            MemberName::Flag => "flag",
-            MemberName::Turns => "turns",
-            MemberName::Send => "send",
-            MemberName::Fault => "fault",
-            MemberName::Sie => "sie",
-            MemberName::Eie => "eie",
-            MemberName::Node => "node",
-            MemberName::Groups => "groups",
-            MemberName::On => "on",
-            MemberName::Id => "id",
-            MemberName::Xtd => "xtd",
-            MemberName::Rtr => "rtr",
-            MemberName::Dlc => "dlc",
-            MemberName::Data => "data",
-        }
-    }
 }
 
 /// The name of a register as a script has it.

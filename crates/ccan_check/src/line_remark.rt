@@ -1,10 +1,11 @@
 use crate::json_text::item_after;
-use crate::line_path::{LinePath, MemberName, Part, frame_path};
-use crate::member::{Kind, Member, frame_members};
+use crate::line_path::{LinePath, Part, frame_path};
 use crate::member_remark::{member_remark, register_remark, remark_on, remark_on_name};
 use crate::report::Remark;
 use crate::spot::{Spot, joined};
 use ccan_script::LineContext;
+use ccan_script::member::{Kind, Member, frame_row};
+use ccan_script::member_name::MemberName;
 use serde_json::Value;
 use std::alloc::{AllocError, Global};
 
@@ -14,7 +15,7 @@ fn known_names(alloc: Global, members: &[Member]) -> Result<String, AllocError> 
     text.push_str("is unknown here; known:")?;
     for member in members {
         text.push(' ')?;
-        text.push_str(member.name().text())?;
+        text.push_str(member.text())?;
     }
     Ok(text)
 }
@@ -30,10 +31,7 @@ fn unknown_remark(
         return Ok(Some(remark_on(alloc, path, line, "is not an object")?));
     };
     for name in object.keys() {
-        if members
-            .iter()
-            .all(|member| member.name().text() != name.as_str())
-        {
+        if members.iter().all(|member| member.text() != name.as_str()) {
             let offset = line
                 .member(name.as_str())
                 .map_or(line.offset, |spot| spot.offset);
@@ -48,7 +46,7 @@ fn unknown_remark(
 /// The name of the first member that is missing.
 fn missing_name(line: &Value, members: &[Member]) -> Option<MemberName> {
     let missing = members.iter().find(|member| member.is_needed()
-        && line.get(member.name().text()).is_none())?;
+        && line.get(member.text()).is_none())?;
     Some(missing.name())
 }
 
@@ -136,7 +134,7 @@ pub(crate) fn line_remark(
         alloc,
         path.as_str(),
         frame,
-        frame_members(),
+        frame_row(),
         place.part,
         context,
     )

@@ -1,6 +1,4 @@
-use crate::line_path::{MemberName, Part, part_path, register_text};
-use crate::member::{Kind, Range};
-use crate::member_checks::range_of;
+use crate::line_path::{Part, part_path, register_text};
 use crate::report::Remark;
 use crate::spot::{Spot, joined};
 use ccan_object::{Profile, Reg};
@@ -8,6 +6,9 @@ use ccan_script::fault_name::fault_in;
 use ccan_script::flag_name::flag_in;
 use ccan_script::frame_data::data_in;
 use ccan_script::json::word_in;
+use ccan_script::member::{Kind, Range};
+use ccan_script::member_name::MemberName;
+use ccan_script::members::range_of;
 use ccan_script::register_set::register_named;
 use ccan_script::{LineContext, MAX_FRAMES};
 use serde_json::Value;

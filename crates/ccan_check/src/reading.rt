@@ -1,4 +1,5 @@
 use crate::spot::Spot;
+use ccan_script::{RACE_MEMBERS, SCRIPT_MEMBERS};
 
 /// What a file is read as.
 #[derive(Clone, Copy)]
@@ -8,16 +9,6 @@ pub(crate) enum Reading {
     /// A script for a race.
     Race,
 }
-
-/// The members that a script has.
-const SCRIPT_MEMBERS: [&str; 8] = [
-    "profile", "quota", "tries", "nodes", "if1", "if2", "bus", "order",
-];
-
-/// The members that a script for a race has.
-const RACE_MEMBERS: [&str; 9] = [
-    "profile", "quota", "tries", "nodes", "if1", "if2", "bus", "order", "before",
-];
 
 impl Reading {
     /// Whether it may have a member of this name.

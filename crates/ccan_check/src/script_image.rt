@@ -2,6 +2,7 @@
 
 use crate::object_image::{ALL_FLAGS, INTPND, ObjectImage, WriteFinding, flag_bit};
 use ccan_bus::{Fault, RoundLine};
+use ccan_line::ControllerLine;
 use ccan_object::{CommandMask, Group, Iface, ObjectNo, Profile, Reg};
 use ccan_ram::PortName;
 use ccan_script::{BusLine, HostLine, RegisterSet};
@@ -186,6 +187,18 @@ impl ScriptImage {
         }
     }
 
+    /// A line at the controller.
+    fn controller_line(&mut self, line: &ControllerLine) {
+        match line {
+            ControllerLine::LoopBack(on) => self.loop_back = *on,
+            ControllerLine::Status
+            | ControllerLine::Control { .. }
+            | ControllerLine::Counters(_)
+            | ControllerLine::Init
+            | ControllerLine::Recessive(_) => {}
+        }
+    }
+
     /// A line of the bus.
     pub(crate) fn bus_line(&mut self, line: &BusLine) {
         match line {
@@ -194,14 +207,8 @@ impl ScriptImage {
                 self.round(round);
                 self.meet_requests();
             }
-            BusLine::LoopBack(on) => self.loop_back = *on,
-            BusLine::Status
-            | BusLine::Control { .. }
-            | BusLine::Interrupt
-            | BusLine::Flags(_)
-            | BusLine::Counters(_)
-            | BusLine::Init
-            | BusLine::Recessive(_) => {}
+            BusLine::Controller(line) => self.controller_line(line),
+            BusLine::Interrupt | BusLine::Flags(_) => {}
         }
     }
 }

@@ -3,7 +3,6 @@ ghost use Rattle.ccan_line.specs.Limits.{most_nodes};
 
 use crate::first_fault::{bus_place, host_place};
 use crate::line_remark::{line_remark, operation_remark};
-use crate::member::{bus_members, host_members};
 use crate::member_remark::remark_on;
 use crate::report::Remark;
 use crate::spot::Spot;
@@ -11,6 +10,7 @@ use crate::warning::warn_of_transfer;
 use ccan_ram::PortName;
 use ccan_script::bus_op::bus_op;
 use ccan_script::host_op::host_op;
+use ccan_script::member::{bus_row, host_row};
 use ccan_script::{BusLine, HostLine, LineContext, ScriptLine};
 use std::alloc::{AllocError, Global};
 
@@ -46,7 +46,7 @@ impl ToldLine for HostLine {
         match host_op(line.value) {
             Some(op) => {
                 let place = host_place(line.value, context);
-                line_remark(alloc, path, line, host_members(op), place, context)
+                line_remark(alloc, path, line, host_row(op), place, context)
             }
             None if bus_op(line.value).is_some() => {
                 operation_remark(
@@ -92,7 +92,7 @@ impl ToldLine for BusLine {
         match bus_op(line.value) {
             Some(op) => {
                 let place = bus_place(line.value, context);
-                line_remark(alloc, path, line, bus_members(op), place, context)
+                line_remark(alloc, path, line, bus_row(op), place, context)
             }
             None if host_op(line.value).is_some() => {
                 operation_remark(

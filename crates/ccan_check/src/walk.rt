@@ -12,10 +12,8 @@ use crate::warning::warn_of_twice;
 use ccan_ram::PortName;
 use ccan_script::bus_op::{BusOp, bus_op};
 use ccan_script::number::number_member;
-use ccan_script::{
-    BusLine, DEFAULT_NODES, DEFAULT_PROFILE, DEFAULT_QUOTA, DEFAULT_TRIES, HostLine, LineContext,
-    ListName, MAX_LINES, MAX_NAMES, MAX_NODES, MAX_PROFILE, MAX_QUOTA, MAX_TRIES, ScriptError,
-};
+use ccan_script::script_number::{NumberRow, SCRIPT_NUMBERS, ScriptNumber};
+use ccan_script::{BusLine, HostLine, LineContext, ListName, MAX_LINES, MAX_NAMES, ScriptError};
 use serde_json::Value;
 use std::alloc::{AllocError, Global};
 
@@ -60,16 +58,16 @@ fn add_unknown(
 fn add_number(
     alloc: Global,
     top: Spot<'_>,
-    name: &str,
-    range: (u64, u64),
-    default: u64,
+    number: ScriptNumber,
     report: &mut Report,
-) -> Result<(), AllocError>
-    requires default_least { range.0 ≤ default }
-    requires default_greatest { default ≤ range.1 }
-{
-    let (least, greatest) = range;
-    if let Err(error) = number_member(top.value, name, least, greatest, default) {
+) -> Result<(), AllocError> {
+    if let Err(error) = number_member(top.value, number) {
+        let NumberRow {
+            name,
+            least,
+            greatest,
+            default: _,
+        } = number.row();
         let spot = top.member(name).unwrap_or(top);
         let wrong = format!(in alloc; "is not a whole number in {least} to {greatest}")?;
         let remark = remark_on(alloc, name, spot, wrong.as_str())?;
@@ -240,17 +238,7 @@ fn add_order(
 
 /// Whether an operation of the bus sends.
 fn is_send(op: BusOp) -> bool {
-    match op {
-        BusOp::Load | BusOp::Round => true,
-        BusOp::Status
-        | BusOp::Control
-        | BusOp::Interrupt
-        | BusOp::Flags
-        | BusOp::Counters
-        | BusOp::Init
-        | BusOp::Recessive
-        | BusOp::LoopBack => false,
-    }
+    matches!(op, BusOp::Load | BusOp::Round)
 }
 
 /// Whether the bus has a line that sends.
@@ -351,11 +339,10 @@ fn warn_of_default(
 
 /// Adds the faults of the numbers of a script.
 fn add_numbers(alloc: Global, top: Spot<'_>, report: &mut Report) -> Result<(), AllocError> {
-    let profiles = (1, MAX_PROFILE);
-    add_number(alloc, top, "profile", profiles, DEFAULT_PROFILE, report)?;
-    add_number(alloc, top, "quota", (1, MAX_QUOTA), DEFAULT_QUOTA, report)?;
-    add_number(alloc, top, "tries", (1, MAX_TRIES), DEFAULT_TRIES, report)?;
-    add_number(alloc, top, "nodes", (0, MAX_NODES), DEFAULT_NODES, report)
+    for number in &SCRIPT_NUMBERS {
+        add_number(alloc, top, *number, report)?;
+    }
+    Ok(())
 }
 
 /// Adds what is said of the lines of a port.

@@ -40,15 +40,7 @@ object_named (answer.Busy object) = Some object
 object_named (answer.Spent object) = Some object
 object_named (answer.Until object _ _) = Some object
 object_named (answer.Load loading) = object_loaded loading
-object_named (answer.Interrupt _) = None
-object_named (answer.Flags _ _ _) = None
-object_named (answer.Round _) = None
-object_named (answer.Status _) = None
-object_named (answer.Control _ _) = None
-object_named (answer.Counters _ _ _ _) = None
-object_named answer.Init = None
-object_named (answer.Recessive _) = None
-object_named (answer.LoopBack _) = None
+object_named other = None
 
 -- the object that the controller was about to send in a round, or else the one that the answer names
 abbrev pub own_object : Option RoundReport → LineAnswer → Option ℕ

@@ -1,35 +1,26 @@
 //! Who contended for the bus in a round, by its report and by its line.
 ghost use Rattle.std.specs.Prelude.{◌≡◌, IfSome, IsSome, slice_get};
 ghost use Rattle.ccan_bus.specs.declared.round_line.RoundLine.{RoundLine};
+ghost use Rattle.ccan_line.specs.declared.bus_line.BusLine.TheVariants.{Round};
 ghost use Rattle.ccan_explain.specs.Contest.{winner_in};
 
 use crate::step::Step;
 use ccan_accept::Frame;
 use ccan_bus::{Decision, LoadAnswer, RoundLine, RoundReport};
-use ccan_script::{BusLine, Script};
+use ccan_script::Script;
 
 /// The round that a step is, with its report.
 pub(crate) fn round_of<'a>(script: &'a Script, step: &Step) -> Option<(&'a RoundLine, RoundReport)>
     ensures report { IfSome result (λ found. step.now.report ≡ Some found.1) }
     ensures line { IfSome result (λ found. slice_get script.now.bus.items step.now.line
-        ≡ Some (BusLine.Round found.0.now)) }
+        ≡ Some (Round found.0.now)) }
     ensures all { IsSome step.now.report → (round : RoundLine)
-        → slice_get script.now.bus.items step.now.line ≡ Some (BusLine.Round round)
+        → slice_get script.now.bus.items step.now.line ≡ Some (Round round)
         → IsSome result }
 {
     let report = step.report?;
-    match script.bus.get(step.line)? {
-        BusLine::Round(round) => Some((round, report)),
-        BusLine::Load
-        | BusLine::Status
-        | BusLine::Control { .. }
-        | BusLine::Interrupt
-        | BusLine::Flags(_)
-        | BusLine::Counters(_)
-        | BusLine::Init
-        | BusLine::Recessive(_)
-        | BusLine::LoopBack(_) => None,
-    }
+    let round = script.bus.get(step.line)?.round()?;
+    Some((round, report))
 }
 
 /// The frame that won the bus, and its node; the controller is node 0.

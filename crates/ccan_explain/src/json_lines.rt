@@ -1,21 +1,20 @@
 //! A run as JSON: one object a line.
+use crate::answer_faces::{answer_word, push_members};
 use crate::contest::{controller_contends, has_lost, node_contends, round_of, winner_of};
 use crate::digits::push_decimal;
-use crate::json_members::{
-    push_frame, push_name, push_number, push_record, push_switch, push_word,
-};
+use crate::json_members::{push_frame, push_name, push_number, push_record, push_word};
 use crate::step::{Step, Touched};
 use crate::stepping::record_of;
 use crate::told::Told;
-use crate::words::{flag_name, port_word, state_word};
+use crate::words::port_word;
 use ccan_bus::{LoadAnswer, MemoryStep, RoundAnswer, RoundLine, RoundReport};
 use ccan_object::{ObjectNo, Record};
 use ccan_ram::Access;
-use ccan_script::{LineAnswer, Script, print_final};
+use ccan_script::{Script, print_final};
 use std::alloc::{AllocError, Global};
 
 /// The name of what came of a load.
-fn load_word(loading: &LoadAnswer) -> &'static str {
+pub(crate) fn load_word(loading: &LoadAnswer) -> &'static str {
     match loading {
         LoadAnswer::Loaded(_, _) => "loaded",
         LoadAnswer::Held(_) => "held",
@@ -26,7 +25,7 @@ fn load_word(loading: &LoadAnswer) -> &'static str {
 }
 
 /// The name of what came of a round.
-fn round_word(answer: &RoundAnswer) -> &'static str {
+pub(crate) fn round_word(answer: &RoundAnswer) -> &'static str {
     match answer {
         RoundAnswer::Idle => "idle",
         RoundAnswer::Sent(_, _) => "sent",
@@ -41,29 +40,8 @@ fn round_word(answer: &RoundAnswer) -> &'static str {
     }
 }
 
-/// The name of a line's answer, as a run prints it if it prints a word.
-fn answer_word(answer: &LineAnswer) -> &'static str {
-    match answer {
-        LineAnswer::Write(_, _) => "write",
-        LineAnswer::Read(_, _) => "read",
-        LineAnswer::Busy(_) => "busy",
-        LineAnswer::Spent(_) => "spent",
-        LineAnswer::Until(_, _, _) => "until",
-        LineAnswer::Interrupt(_) => "interrupt",
-        LineAnswer::Flags(_, _, _) => "flags",
-        LineAnswer::Load(loading) => load_word(loading),
-        LineAnswer::Round(round) => round_word(round),
-        LineAnswer::Status(_) => "status",
-        LineAnswer::Control(_, _) => "control",
-        LineAnswer::Counters { .. } => "counters",
-        LineAnswer::Init => "init",
-        LineAnswer::Recessive(_) => "recessive",
-        LineAnswer::LoopBack(_) => "loopback",
-    }
-}
-
 /// Appends the numbers of the objects that have a flag.
-fn push_objects(text: &mut String, word: u64) -> Result<(), AllocError> {
+pub(crate) fn push_objects(text: &mut String, word: u64) -> Result<(), AllocError> {
     push_name(text, "objects")?;
     text.push_str("[")?;
     let mut between = "";
@@ -75,46 +53,6 @@ fn push_objects(text: &mut String, word: u64) -> Result<(), AllocError> {
         }
     }
     text.push_str("]")
-}
-
-/// Appends what an answer says besides objects and frames.
-fn push_told(text: &mut String, answer: &LineAnswer) -> Result<(), AllocError> {
-    match answer {
-        LineAnswer::Write(_, shown) => push_record(text, "registers", shown),
-        LineAnswer::Read(_, shown) => push_record(text, "registers", shown),
-        LineAnswer::Until(_, flag, shown) => {
-            push_word(text, "flag", flag_name(*flag))?;
-            push_switch(text, "shown", *shown)
-        }
-        LineAnswer::Interrupt(value) => push_number(text, "value", u64::from(*value)),
-        LineAnswer::Flags(flag, word, _) => {
-            push_word(text, "flag", flag_name(*flag))?;
-            push_objects(text, *word)
-        }
-        LineAnswer::Status(word) => push_number(text, "value", u64::from(*word)),
-        LineAnswer::Control(sie, eie) => {
-            push_switch(text, "sie", *sie)?;
-            push_switch(text, "eie", *eie)
-        }
-        LineAnswer::Counters {
-            node,
-            tec,
-            rec,
-            state,
-        } => {
-            push_number(text, "node", u64::from(*node))?;
-            push_number(text, "tec", u64::from(*tec))?;
-            push_number(text, "rec", u64::from(*rec))?;
-            push_word(text, "state", state_word(*state))
-        }
-        LineAnswer::Recessive(state) => push_word(text, "state", state_word(*state)),
-        LineAnswer::LoopBack(on) => push_switch(text, "on", *on),
-        LineAnswer::Busy(_)
-        | LineAnswer::Spent(_)
-        | LineAnswer::Load(_)
-        | LineAnswer::Round(_)
-        | LineAnswer::Init => Ok(()),
-    }
 }
 
 /// Appends the nodes that lost arbitration, the controller being node 0.
@@ -185,7 +123,7 @@ fn push_step(text: &mut String, script: &Script, step: &Step) -> Result<(), Allo
     text.push_str("\"")?;
     push_number(text, "line", step.line as u64)?;
     push_word(text, "answer", answer_word(&step.answer))?;
-    push_told(text, &step.answer)?;
+    push_members(text, &step.answer)?;
     if let Some((round, report)) = round_of(script, step) {
         push_round(text, step, round, &report)?;
     }

@@ -11,6 +11,7 @@
 //! and a script has at most one such text. The frame and its sender are those that the steps of the round itself report.
 #![tactic(auto)]
 
+mod answer_faces;
 pub mod bench;
 pub mod bus_log;
 mod contest;

@@ -1,4 +1,5 @@
 //! The answers to lines for people.
+use crate::answer_faces::push_words;
 use crate::contest::round_of;
 use crate::digits::{push_decimal, push_hex};
 use crate::record_words::{push_flags, push_if, push_record, push_touched};
@@ -9,7 +10,7 @@ use ccan_bus::LoadAnswer;
 use ccan_confine::NodeState;
 use ccan_object::{ObjectNo, Profile, Record};
 use ccan_ram::Flag;
-use ccan_script::{LineAnswer, Script};
+use ccan_script::Script;
 use std::alloc::AllocError;
 
 /// Appends words and the number of an object.
@@ -20,7 +21,7 @@ fn push_object(text: &mut String, words: &str, object: ObjectNo) -> Result<(), A
 }
 
 /// Appends a transfer: the registers as it left them, and the flags of the object.
-fn push_transfer(
+pub(crate) fn push_transfer(
     text: &mut String,
     step: &Step,
     words: &str,
@@ -37,7 +38,7 @@ fn push_transfer(
 }
 
 /// Appends a wait for a flag.
-fn push_until(
+pub(crate) fn push_until(
     text: &mut String,
     object: ObjectNo,
     flag: Flag,
@@ -50,7 +51,7 @@ fn push_until(
 }
 
 /// Appends the interrupt value and what it names.
-fn push_interrupt(text: &mut String, value: u16) -> Result<(), AllocError> {
+pub(crate) fn push_interrupt(text: &mut String, value: u16) -> Result<(), AllocError> {
     text.push_str(" interrupt ")?;
     push_hex(text, 4, u64::from(value))?;
     if value == 0 {
@@ -64,7 +65,12 @@ fn push_interrupt(text: &mut String, value: u16) -> Result<(), AllocError> {
 }
 
 /// Appends a flag of all objects: the numbers of those that have it.
-fn push_word(text: &mut String, flag: Flag, word: u64, profile: Profile) -> Result<(), AllocError> {
+pub(crate) fn push_word(
+    text: &mut String,
+    flag: Flag,
+    word: u64,
+    profile: Profile,
+) -> Result<(), AllocError> {
     text.push_str(" flags ")?;
     text.push_str(flag_word(flag))?;
     text.push_str(if word == 0 {
@@ -82,7 +88,11 @@ fn push_word(text: &mut String, flag: Flag, word: u64, profile: Profile) -> Resu
 }
 
 /// Appends what came of a load.
-fn push_load(text: &mut String, step: &Step, loading: &LoadAnswer) -> Result<(), AllocError> {
+pub(crate) fn push_load(
+    text: &mut String,
+    step: &Step,
+    loading: &LoadAnswer,
+) -> Result<(), AllocError> {
     match loading {
         LoadAnswer::Loaded(_, _) => match &step.own {
             Some(own) => push_touched(text, " load", own),
@@ -105,7 +115,7 @@ fn push_load(text: &mut String, step: &Step, loading: &LoadAnswer) -> Result<(),
 }
 
 /// Appends the Status register, bit by bit (C_CAN User's Manual 1.2, "Status Register").
-fn push_status(text: &mut String, word: u16) -> Result<(), AllocError> {
+pub(crate) fn push_status(text: &mut String, word: u16) -> Result<(), AllocError> {
     text.push_str(" status ")?;
     push_hex(text, 4, u64::from(word))?;
     text.push_str(":")?;
@@ -121,7 +131,7 @@ fn push_status(text: &mut String, word: u16) -> Result<(), AllocError> {
 }
 
 /// Appends the error counters of a node.
-fn push_counters(
+pub(crate) fn push_counters(
     text: &mut String,
     node: u8,
     tec: u16,
@@ -139,7 +149,7 @@ fn push_counters(
 }
 
 /// Appends the enables of the status interrupt, as they were set.
-fn push_control(text: &mut String, sie: bool, eie: bool) -> Result<(), AllocError> {
+pub(crate) fn push_control(text: &mut String, sie: bool, eie: bool) -> Result<(), AllocError> {
     text.push_str(" control: SIE ")?;
     text.push_str(if sie { "1" } else { "0" })?;
     text.push_str(", EIE ")?;
@@ -147,45 +157,20 @@ fn push_control(text: &mut String, sie: bool, eie: bool) -> Result<(), AllocErro
 }
 
 /// Appends the controller's state after groups of recessive bits.
-fn push_recessive(text: &mut String, state: NodeState) -> Result<(), AllocError> {
+pub(crate) fn push_recessive(text: &mut String, state: NodeState) -> Result<(), AllocError> {
     text.push_str(" recessive: the chip is ")?;
     text.push_str(state_word(state))
 }
 
 /// Appends that a transfer was given up, and why.
-fn push_given_up(text: &mut String, object: ObjectNo, why: &str) -> Result<(), AllocError> {
+pub(crate) fn push_given_up(
+    text: &mut String,
+    object: ObjectNo,
+    why: &str,
+) -> Result<(), AllocError> {
     push_object(text, " transfer", object)?;
     text.push_str(": given up, ")?;
     text.push_str(why)
-}
-
-/// Appends the answer to a line that is no round.
-fn push_answer(text: &mut String, step: &Step) -> Result<(), AllocError> {
-    match &step.answer {
-        LineAnswer::Write(object, shown) => push_transfer(text, step, " write", *object, shown),
-        LineAnswer::Read(object, shown) => push_transfer(text, step, " read", *object, shown),
-        LineAnswer::Busy(object) => push_given_up(text, *object, "each try was lost"),
-        LineAnswer::Spent(object) => {
-            push_given_up(text, *object, "the quota of changes is used up")
-        }
-        LineAnswer::Until(object, flag, shown) => push_until(text, *object, *flag, *shown),
-        LineAnswer::Interrupt(value) => push_interrupt(text, *value),
-        LineAnswer::Flags(flag, word, profile) => push_word(text, *flag, *word, *profile),
-        LineAnswer::Load(loading) => push_load(text, step, loading),
-        LineAnswer::Round(_) => text.push_str(" round"),
-        LineAnswer::Status(word) => push_status(text, *word),
-        LineAnswer::Control(sie, eie) => push_control(text, *sie, *eie),
-        LineAnswer::Counters {
-            node,
-            tec,
-            rec,
-            state,
-        } => push_counters(text, *node, *tec, *rec, *state),
-        LineAnswer::Init => text.push_str(" init: cleared"),
-        LineAnswer::Recessive(state) => push_recessive(text, *state),
-        LineAnswer::LoopBack(true) => text.push_str(" loopback: on"),
-        LineAnswer::LoopBack(false) => text.push_str(" loopback: off"),
-    }
 }
 
 /// Appends the lines of a step: its port and the line's number among those of its port, from 0, and what came of it.
@@ -197,6 +182,6 @@ pub fn push_step(text: &mut String, script: &Script, step: &Step) -> Result<(), 
     if let Some((round, report)) = round_of(script, step) {
         return push_round(text, step, round, &report);
     }
-    push_answer(text, step)?;
+    push_words(text, step)?;
     text.push_str("\n")
 }

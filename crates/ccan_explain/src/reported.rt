@@ -6,7 +6,7 @@ ghost use Rattle.ccan_line.specs.BusPort.{TakesLine};
 ghost use Rattle.ccan_line.specs.Side.{GoesOn};
 ghost use Rattle.ccan_explain.specs.Reported.{ReportsLine};
 
-use ccan_bus::{Bus, RoundLine, RoundReport};
+use ccan_bus::{Bus, RoundReport};
 use ccan_ram::{Access, Tries};
 use ccan_run::Side;
 use ccan_script::{BusLine, LineAnswer};
@@ -57,25 +57,6 @@ fn answer_of(report: &RoundReport) -> LineAnswer
     LineAnswer::Round(report.end.answer)
 }
 
-/// The round that a line is. None: it is another line.
-fn round_in(line: &BusLine) -> Option<&RoundLine>
-    ensures some { IfSome result (λ round. line.now ≡ BusLine.Round round.now) }
-    ensures none { IfNone result ((round : RoundLine) → line.now ≡ BusLine.Round round → ⊥) }
-{
-    match line {
-        BusLine::Round(round) => Some(round),
-        BusLine::Load
-        | BusLine::Status
-        | BusLine::Control { .. }
-        | BusLine::Interrupt
-        | BusLine::Flags(_)
-        | BusLine::Counters(_)
-        | BusLine::Init
-        | BusLine::Recessive(_)
-        | BusLine::LoopBack(_) => None,
-    }
-}
-
 /// Runs a line of the bus as [`Side::run_line`] does, and keeps the report of a round.
 pub(crate) fn run_reported<A: Access>(
     bus: &mut Bus,
@@ -90,7 +71,7 @@ pub(crate) fn run_reported<A: Access>(
         GoesOn LedTo bus.old bus.new (λ past after. ReportsLine terms tries line.now past
         seen added result.answer result.report after)) }
 {
-    match round_in(line) {
+    match line.round() {
         Some(round) => Reported::of_round(bus.report_round(access, round, tries)),
         None => Reported::of_other(bus.run_line(access, line, tries)),
     }

@@ -37,23 +37,18 @@ fn object_loaded(loading: &LoadAnswer) -> Option<ObjectNo>
 fn object_named(answer: &LineAnswer) -> Option<ObjectNo>
     ensures { result ≡ object_named answer.now }
 {
-    match answer {
-        LineAnswer::Write(object, _) => Some(*object),
-        LineAnswer::Read(object, _) => Some(*object),
-        LineAnswer::Busy(object) => Some(*object),
-        LineAnswer::Spent(object) => Some(*object),
-        LineAnswer::Until(object, _, _) => Some(*object),
-        LineAnswer::Load(loading) => object_loaded(loading),
-        LineAnswer::Interrupt(_)
-        | LineAnswer::Flags(_, _, _)
-        | LineAnswer::Round(_)
-        | LineAnswer::Status(_)
-        | LineAnswer::Control(_, _)
-        | LineAnswer::Counters { .. }
-        | LineAnswer::Init
-        | LineAnswer::Recessive(_)
-        | LineAnswer::LoopBack(_) => None,
+    if let LineAnswer::Load(loading) = answer {
+        return object_loaded(loading);
     }
+    let (LineAnswer::Write(object, _)
+    | LineAnswer::Read(object, _)
+    | LineAnswer::Busy(object)
+    | LineAnswer::Spent(object)
+    | LineAnswer::Until(object, _, _)) = answer
+    else {
+        return None;
+    };
+    Some(*object)
 }
 
 /// The object that the controller was about to send in a round, or else the one that the line's answer names.
@@ -90,23 +85,10 @@ fn object_storing(answer: &RoundAnswer) -> Option<ObjectNo>
 fn stored_object(answer: &LineAnswer) -> Option<ObjectNo>
     ensures { result ≡ stored_object answer.now }
 {
-    match answer {
-        LineAnswer::Round(ended) => object_storing(ended),
-        LineAnswer::Write(_, _)
-        | LineAnswer::Read(_, _)
-        | LineAnswer::Busy(_)
-        | LineAnswer::Spent(_)
-        | LineAnswer::Until(_, _, _)
-        | LineAnswer::Interrupt(_)
-        | LineAnswer::Flags(_, _, _)
-        | LineAnswer::Load(_)
-        | LineAnswer::Status(_)
-        | LineAnswer::Control(_, _)
-        | LineAnswer::Counters { .. }
-        | LineAnswer::Init
-        | LineAnswer::Recessive(_)
-        | LineAnswer::LoopBack(_) => None,
-    }
+    let LineAnswer::Round(ended) = answer else {
+        return None;
+    };
+    object_storing(ended)
 }
 
 /// How many numbers an array needs that has each object at its own.

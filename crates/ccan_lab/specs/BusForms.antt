@@ -6,6 +6,8 @@ use Rattle.ccan_ram.specs.declared.port.PortName.TheVariants.{Bus}
 use Rattle.ccan_bus.specs.declared.answer.LoadAnswer.TheVariants as load
 use Rattle.ccan_line.specs.declared.bus_line.BusLine.{BusLine}
 use Rattle.ccan_line.specs.declared.bus_line.BusLine.TheVariants as bus
+use Rattle.ccan_line.specs.declared.controller_line.ControllerLine.{ControllerLine}
+use Rattle.ccan_line.specs.declared.controller_line.ControllerLine.TheVariants as controller
 use Rattle.ccan_line.specs.declared.line_answer.LineAnswer.TheVariants as answer
 use Rattle.ccan_script.specs.Print.{line_text}
 use Rattle.ccan_script.specs.PrintedLine.{verb_text}
@@ -121,15 +123,19 @@ recessive_begins text =
     begins text (codes "bus recessive active\n")
     || (begins text (codes "bus recessive passive\n") || begins text (codes "bus recessive off\n"))
 
+-- the answer to a line at the controller
+abbrev pub controller_begins : List ℕ → ControllerLine → Bool
+controller_begins text controller.Status = begins text (codes "bus status ####\n")
+controller_begins text (controller.Control sie eie) = begins text (line_text Bus (answer.Control sie eie))
+controller_begins text (controller.Counters node) = begins text (codes "bus counters ~~~~~~~~~~~~~~~~~~~~~~~~")
+controller_begins text controller.Init = begins text (codes "bus init\n")
+controller_begins text (controller.Recessive groups) = recessive_begins text
+controller_begins text (controller.LoopBack on) = begins text (line_text Bus (answer.LoopBack on))
+
 -- the answer to this line of the bus can begin so, if the transfers name these objects
 abbrev pub bus_begins : List ℕ → Profile → List ℕ → BusLine → Bool
 bus_begins text profile objects bus.Load = loads_begin text objects
 bus_begins text profile objects (bus.Round line) = rounds_begin text objects
-bus_begins text profile objects bus.Status = begins text (codes "bus status ####\n")
-bus_begins text profile objects (bus.Control sie eie) = begins text (line_text Bus (answer.Control sie eie))
 bus_begins text profile objects bus.Interrupt = interrupt_begins text Bus
 bus_begins text profile objects (bus.Flags flag) = begins text (flags_form Bus profile flag)
-bus_begins text profile objects (bus.Counters node) = begins text (codes "bus counters ~~~~~~~~~~~~~~~~~~~~~~~~")
-bus_begins text profile objects bus.Init = begins text (codes "bus init\n")
-bus_begins text profile objects (bus.Recessive groups) = recessive_begins text
-bus_begins text profile objects (bus.LoopBack on) = begins text (line_text Bus (answer.LoopBack on))
+bus_begins text profile objects (bus.Controller line) = controller_begins text line

@@ -9,14 +9,8 @@ use Rattle.ccan_bus.specs.Decide.{Decides}
 use Rattle.ccan_bus.specs.Decision.{winner_of}
 use Rattle.ccan_bus.specs.Past.{hears_itself}
 use Rattle.ccan_line.specs.Script.{ScriptFields}
-use Rattle.ccan_line.specs.declared.bus_line.BusLine.{BusLine}
-use Rattle.ccan_line.specs.declared.bus_line.BusLine.TheVariants as line
+use Rattle.ccan_line.specs.BusLine.{round_of}
 use Rattle.ccan_outcomes.specs.declared.all_ports.AllPorts.{AllPorts}
-
--- the round that a line of the bus is
-abbrev pub round_of : BusLine → Option RoundLine
-round_of (line.Round round) = Some round
-round_of other = None
 
 -- the round that the line of this number is, from 1
 abbrev pub round_at : ScriptFields → ℕ → Option RoundLine

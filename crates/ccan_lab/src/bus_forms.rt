@@ -2,7 +2,7 @@
 ghost use Rattle.std.specs.Prelude.{◌≡◌};
 ghost use Rattle.std.specs.List.{list_any};
 ghost use Rattle.ccan_lab.specs.BusForms.{bus_begins, idle_begins, load_begins, loads_begin, looped_begins};
-ghost use Rattle.ccan_lab.specs.BusForms.{looped_form, recessive_begins, rounds_begin, sent_begins};
+ghost use Rattle.ccan_lab.specs.BusForms.{controller_begins, looped_form, recessive_begins, rounds_begin, sent_begins};
 ghost use Rattle.ccan_lab.specs.BusForms.{extended_data_begins, extended_long_begins, extended_remote_begins};
 ghost use Rattle.ccan_lab.specs.BusForms.{extended_short_begins, frames_begin, standard_data_begins};
 ghost use Rattle.ccan_lab.specs.BusForms.{standard_long_begins, standard_remote_begins, standard_short_begins};
@@ -12,6 +12,7 @@ use crate::forms::{
     RECORD, answer_begins, begins, flags_begin, interrupt_begins, object_form, shown_begins,
 };
 use ccan_bus::LoadAnswer;
+use ccan_line::ControllerLine;
 use ccan_object::{ObjectNo, Profile};
 use ccan_ram::PortName;
 use ccan_script::{BusLine, LineAnswer};
@@ -244,6 +245,24 @@ fn recessive_begins(text: &str) -> bool
         || begins(text, "bus recessive off\n")
 }
 
+/// Whether the answer to a line at the controller can begin so.
+fn controller_begins(text: &str, line: &ControllerLine) -> bool
+    ensures { result ≡ controller_begins text.now line.now }
+{
+    match line {
+        ControllerLine::Status => begins(text, "bus status ####\n"),
+        ControllerLine::Control { sie, eie } => {
+            answer_begins(text, PortName::Bus, &LineAnswer::Control(*sie, *eie))
+        }
+        ControllerLine::Counters(_) => begins(text, "bus counters ~~~~~~~~~~~~~~~~~~~~~~~~"),
+        ControllerLine::Init => begins(text, "bus init\n"),
+        ControllerLine::Recessive(_) => recessive_begins(text),
+        ControllerLine::LoopBack(on) => {
+            answer_begins(text, PortName::Bus, &LineAnswer::LoopBack(*on))
+        }
+    }
+}
+
 /// Whether the answer to a line of the bus can begin so, if the transfers name these objects.
 pub(crate) fn bus_begins(text: &str, profile: Profile, objects: &[ObjectNo], line: &BusLine) -> bool
     ensures { result ≡ bus_begins text.now profile objects.now line.now }
@@ -251,15 +270,8 @@ pub(crate) fn bus_begins(text: &str, profile: Profile, objects: &[ObjectNo], lin
     match line {
         BusLine::Load => loads_begin(text, objects),
         BusLine::Round(_) => rounds_begin(text, objects),
-        BusLine::Status => begins(text, "bus status ####\n"),
-        BusLine::Control { sie, eie } => {
-            answer_begins(text, PortName::Bus, &LineAnswer::Control(*sie, *eie))
-        }
         BusLine::Interrupt => interrupt_begins(text, PortName::Bus),
         BusLine::Flags(flag) => flags_begin(text, PortName::Bus, profile, *flag),
-        BusLine::Counters(_) => begins(text, "bus counters ~~~~~~~~~~~~~~~~~~~~~~~~"),
-        BusLine::Init => begins(text, "bus init\n"),
-        BusLine::Recessive(_) => recessive_begins(text),
-        BusLine::LoopBack(on) => answer_begins(text, PortName::Bus, &LineAnswer::LoopBack(*on)),
+        BusLine::Controller(line) => controller_begins(text, line),
     }
 }

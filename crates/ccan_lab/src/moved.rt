@@ -1,12 +1,12 @@
 //! What the states before and after a step of a history show of the step.
 ghost use Rattle.std.specs.Prelude.{◌≡◌, ◌+◌, ◌<◌, Some, length, option_map, slice_get};
 ghost use Rattle.ccan_outcomes.specs.RaceScript.{fields_of};
-ghost use Rattle.ccan_lab.specs.Moved.{IsWonAt, WinsRound, round_at, round_of};
+ghost use Rattle.ccan_lab.specs.Moved.{IsWonAt, WinsRound, round_at};
 
 use ccan_accept::Frame;
 use ccan_bus::{Bus, RoundLine};
 use ccan_outcomes::all_ports::AllPorts;
-use ccan_script::{BusLine, RaceScript};
+use ccan_script::RaceScript;
 
 /// The states before and after a step.
 #[derive(Clone, Copy)]
@@ -17,29 +17,11 @@ pub struct Moved<'a> {
     pub after: &'a AllPorts,
 }
 
-/// The round that this line of the bus is.
-fn round_of(line: &BusLine) -> Option<&RoundLine>
-    ensures { option_map (λ round. round.now) result ≡ round_of line.now }
-{
-    match line {
-        BusLine::Round(round) => Some(round),
-        BusLine::Load
-        | BusLine::Status
-        | BusLine::Control { .. }
-        | BusLine::Interrupt
-        | BusLine::Flags(_)
-        | BusLine::Counters(_)
-        | BusLine::Init
-        | BusLine::Recessive(_)
-        | BusLine::LoopBack(_) => None,
-    }
-}
-
 /// The round that a line of the bus is, by its number from 1.
 fn round_at(race: &RaceScript, line: usize) -> Option<&RoundLine>
     ensures { option_map (λ round. round.now) result ≡ round_at (fields_of race.now) line }
 {
-    round_of(race.script.bus.get(line.checked_sub(1)?)?)
+    race.script.bus.get(line.checked_sub(1)?)?.round()
 }
 
 /// The frame that wins a round, and the node that sends it; the controller is node 0. None: no frame contends, or some collide.

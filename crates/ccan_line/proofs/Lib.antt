@@ -1,4 +1,5 @@
 pub mod Rows
+pub mod ControllerLines
 pub mod ScansApart
 pub mod ChoicesApart
 pub mod LoadsApart

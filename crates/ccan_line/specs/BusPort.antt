@@ -1,31 +1,30 @@
 -- What a line of the bus stands for: the events that it adds to the history of the message RAM, its answer, and the past of
 -- the bus after it. Source: this project's own, over the definitions of the bus.
-use Rattle.std.specs.Prelude.{ℕ, ◌≡◌, ◌↔◌, Bool, IsTrue, List, [], ◌∷◌}
+use Rattle.std.specs.Prelude.{ℕ, ◌≡◌, ◌↔◌, Bool, IsTrue, List, []}
 use Rattle.ccan_object.specs.declared.profile.Profile.{Profile}
 use Rattle.ccan_ram.specs.declared.event.Event.{Event}
 use Rattle.ccan_ram.specs.declared.flag.Flag.{Flag}
 use Rattle.ccan_ram.specs.Terms.{Terms}
 use Rattle.ccan_handler.specs.Watch.{Interrupts, ReadsFlags}
-use Rattle.ccan_confine.specs.Counters.{Levels, state_of}
-use Rattle.ccan_confine.specs.Status.{Enabled, IsPending}
+use Rattle.ccan_confine.specs.Status.{IsPending}
 use Rattle.ccan_bus.specs.declared.answer.LoadAnswer.{LoadAnswer}
 use Rattle.ccan_bus.specs.declared.answer.RoundAnswer.{RoundAnswer}
 use Rattle.ccan_bus.specs.declared.bus.Bus.{Bus}
-use Rattle.ccan_bus.specs.Past.{BusPast, levels_at, clears_init, recovers}
+use Rattle.ccan_bus.specs.Past.{BusPast}
 use Rattle.ccan_bus.specs.Load.{Loads}
 use Rattle.ccan_bus.specs.Round.{Round}
-use Rattle.ccan_bus.specs.Bus.{ReadsStatus}
 use Rattle.ccan_line.specs.declared.bus_line.BusLine.{BusLine}
 use Rattle.ccan_line.specs.declared.bus_line.BusLine.TheVariants as line
 use Rattle.ccan_line.specs.declared.line_answer.LineAnswer.{LineAnswer}
 use Rattle.ccan_line.specs.declared.line_answer.LineAnswer.TheVariants as answer
 use Rattle.ccan_line.specs.BusLine.{BusFits}
+use Rattle.ccan_line.specs.ControllerLine.{controller_end}
 
--- a line that makes no step of the memory, with this answer, leaves this past
-pub record Only (is after : BusPast) (told reply : LineAnswer) (added : List Event) : Type 0 where
+-- a line that makes no step of the memory has this answer, and leaves this past
+pub record Only (end : LineAnswer × BusPast) (reply : LineAnswer) (after : BusPast) (added : List Event) : Type 0 where
   pub quiet : added ≡ []
-  pub answer_is : reply ≡ told
-  pub past_is : after ≡ is
+  pub answer_is : reply ≡ end.0
+  pub past_is : after ≡ end.1
 
 -- the interrupt value, with the status interrupt as the past of the bus has it
 pub record ReadsInterrupt (terms : Terms) (added : List Event) (past after : BusPast) (reply : LineAnswer) : Type 0 where
@@ -44,32 +43,16 @@ pub record ReadsWord (terms : Terms) (flag : Flag) (added : List Event) (past af
   pub answer_is : reply ≡ answer.Flags flag word terms.profile
   pub past_is : after ≡ past
 
--- the error counters of a node
-abbrev pub counters_shown : ℕ → Levels → LineAnswer
-counters_shown node levels = answer.Counters node levels.tec levels.rec (state_of levels)
-
--- the state of the controller
-abbrev pub state_shown : BusPast → LineAnswer
-state_shown past = answer.Recessive (state_of (levels_at past 0))
-
+-- what the line stands for
 abbrev pub BusLineMeans : Terms → ℕ → BusLine → BusPast → List Event → List Event → LineAnswer → BusPast → Type 0
 BusLineMeans terms tries line.Load past seen added reply after =
     (loading : LoadAnswer) × (reply ≡ answer.Load loading) × Loads terms tries seen added past after loading
 BusLineMeans terms tries (line.Round round) past seen added reply after =
     (ended : RoundAnswer) × (reply ≡ answer.Round ended) × Round terms round tries seen added past after ended
-BusLineMeans terms tries line.Status past seen added reply after =
-    (word : ℕ) × (reply ≡ answer.Status word) × (added ≡ []) × ReadsStatus past after word
-BusLineMeans terms tries (line.Control sie eie) past seen added reply after =
-    Only (record past { steps = Enabled sie eie ∷ past.steps }) after (answer.Control sie eie) reply added
 BusLineMeans terms tries line.Interrupt past seen added reply after = ReadsInterrupt terms added past after reply
 BusLineMeans terms tries (line.Flags flag) past seen added reply after = ReadsWord terms flag added past after reply
-BusLineMeans terms tries (line.Counters node) past seen added reply after =
-    Only past after (counters_shown node (levels_at past node)) reply added
-BusLineMeans terms tries line.Init past seen added reply after = Only (clears_init past) after answer.Init reply added
-BusLineMeans terms tries (line.Recessive groups) past seen added reply after =
-    Only (recovers groups past) after (state_shown (recovers groups past)) reply added
-BusLineMeans terms tries (line.LoopBack on) past seen added reply after =
-    Only (record past { loops_back = on }) after (answer.LoopBack on) reply added
+BusLineMeans terms tries (line.Controller at) past seen added reply after =
+    Only (controller_end at past) reply after added
 
 -- a bus of this profile runs each line of a script that has as many nodes
 pub record TakesLine (profile : Profile) (bus : Bus) (line : BusLine) : Type 0 where

@@ -1,5 +1,6 @@
 pub mod Limits
 pub mod HostLine
+pub mod ControllerLine
 pub mod BusLine
 pub mod Order
 pub mod Script

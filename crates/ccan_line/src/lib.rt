@@ -18,6 +18,7 @@
 
 pub mod bus_line;
 pub mod bus_port;
+pub mod controller_line;
 pub mod gate;
 pub mod host;
 pub mod host_line;
@@ -32,6 +33,7 @@ pub mod side;
 mod transfer;
 
 pub use bus_line::BusLine;
+pub use controller_line::ControllerLine;
 pub use gate::{FreeGate, Gate};
 pub use host_line::HostLine;
 pub use limits::{

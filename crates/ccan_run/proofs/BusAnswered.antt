@@ -44,6 +44,8 @@ use Rattle.ccan_line.specs.declared.line_answer.LineAnswer.TheVariants as answer
 use Rattle.ccan_line.specs.Lines.{LinesMean}
 use Rattle.ccan_line.specs.BusPort.{BusLineMeans}
 use Rattle.ccan_run.specs.Answered.{HasStep, NamesPending, WordWasShown, WasChanged, WasSent, WasStored, RoundShownBy}
+use Rattle.ccan_line.proofs.ControllerLines.{controller_keeps_loaded}
+use Rattle.ccan_run.proofs.ControllerAnswers.{quiet_part}
 use Rattle.ccan_run.specs.Answered.{BusShownBy, IsBusReplyTo, IsBusPart, BusInOrder, BusMakes, RoundMakes, IsAtMost, changes_in}
 use Rattle.ccan_line.proofs.InTurn.{ChoosesInTurn, line_keeps}
 use Rattle.ccan_run.proofs.HostChanges.{changes_by-attempt, changes_by-interrupt, changes_by-flags}
@@ -495,21 +497,12 @@ module _ (terms : Terms) (bus : terms.port ≡ Bus) (tries : ℕ) where
       })
   bus_line (line.Round sends) past seen added reply after in_turn carries (ended, is, h) =
       rw is (rounds sends seen added past after ended in_turn carries h)
-  bus_line line.Status past seen added reply after in_turn carries (word, is, quiet, h) =
-      rw is (record { shown = tt; changes = ap (changes_in Bus) quiet })
-  bus_line (line.Control sie eie) past seen added reply after in_turn carries h =
-      rw h.answer_is (record { shown = tt; changes = ap (changes_in Bus) h.quiet })
   bus_line line.Interrupt past seen added reply after in_turn carries h =
       rw h.answer_is (interrupts h.pending h.value seen added h.reads)
   bus_line (line.Flags flag) past seen added reply after in_turn carries h = rw h.answer_is (flags flag h.word seen added h.reads)
-  bus_line (line.Counters node) past seen added reply after in_turn carries h =
-      rw h.answer_is (record { shown = tt; changes = ap (changes_in Bus) h.quiet })
-  bus_line line.Init past seen added reply after in_turn carries h =
-      rw h.answer_is (record { shown = tt; changes = ap (changes_in Bus) h.quiet })
-  bus_line (line.Recessive groups) past seen added reply after in_turn carries h =
-      rw h.answer_is (record { shown = tt; changes = ap (changes_in Bus) h.quiet })
-  bus_line (line.LoopBack on) past seen added reply after in_turn carries h =
-      rw h.answer_is (record { shown = tt; changes = ap (changes_in Bus) h.quiet })
+  bus_line (line.Controller at) past seen added reply after in_turn carries h =
+      rw h.answer_is
+      (quiet_part terms.profile (line.Controller at) seen added (ap (changes_in Bus) h.quiet) at past)
 
   line_carries : (line : BusLine) (past : BusPast) (seen added : List Event) (reply : LineAnswer) (after : BusPast)
       → ChoosesInTurn past → BusLineMeans terms tries line past seen added reply after → Carries past seen
@@ -518,22 +511,13 @@ module _ (terms : Terms) (bus : terms.port ≡ Bus) (tries : ℕ) where
       load_carries seen added past after loading in_turn h carries
   line_carries (line.Round sends) past seen added reply after in_turn (ended, is, h) carries =
       round_carries sends seen added past after in_turn ended h carries
-  line_carries line.Status past seen added reply after in_turn (word, is, quiet, h) carries =
-      carries_same past after seen added (ap (λ (p : BusPast). p.loaded) h.read) carries
-  line_carries (line.Control sie eie) past seen added reply after in_turn h carries =
-      carries_same past after seen added (ap (λ (p : BusPast). p.loaded) h.past_is) carries
   line_carries line.Interrupt past seen added reply after in_turn h carries =
       carries_same past after seen added (ap (λ (p : BusPast). p.loaded) h.past_is) carries
   line_carries (line.Flags flag) past seen added reply after in_turn h carries =
       carries_same past after seen added (ap (λ (p : BusPast). p.loaded) h.past_is) carries
-  line_carries (line.Counters node) past seen added reply after in_turn h carries =
-      carries_same past after seen added (ap (λ (p : BusPast). p.loaded) h.past_is) carries
-  line_carries line.Init past seen added reply after in_turn h carries =
-      carries_same past after seen added (ap (λ (p : BusPast). p.loaded) h.past_is) carries
-  line_carries (line.Recessive groups) past seen added reply after in_turn h carries =
-      carries_same past after seen added (ap (λ (p : BusPast). p.loaded) h.past_is) carries
-  line_carries (line.LoopBack on) past seen added reply after in_turn h carries =
-      carries_same past after seen added (ap (λ (p : BusPast). p.loaded) h.past_is) carries
+  line_carries (line.Controller at) past seen added reply after in_turn h carries =
+      carries_same past after seen added
+      (ap (λ (p : BusPast). p.loaded) h.past_is ∙ controller_keeps_loaded at past) carries
 
   -- ---- what a line is answered
 
@@ -541,14 +525,9 @@ module _ (terms : Terms) (bus : terms.port ≡ Bus) (tries : ℕ) where
       → BusLineMeans terms tries line past seen added reply after → IsBusReplyTo terms.profile line reply
   replies_to line.Load past seen added reply after means = rw means.1 tt
   replies_to (line.Round sends) past seen added reply after means = rw means.1 tt
-  replies_to line.Status past seen added reply after means = rw means.1 tt
-  replies_to (line.Control sie eie) past seen added reply after means = rw means.answer_is (refl, refl)
   replies_to line.Interrupt past seen added reply after means = rw means.answer_is tt
   replies_to (line.Flags flag) past seen added reply after means = rw means.answer_is (refl, refl)
-  replies_to (line.Counters node) past seen added reply after means = rw means.answer_is refl
-  replies_to line.Init past seen added reply after means = rw means.answer_is tt
-  replies_to (line.Recessive groups) past seen added reply after means = rw means.answer_is tt
-  replies_to (line.LoopBack on) past seen added reply after means = rw means.answer_is refl
+  replies_to (line.Controller at) past seen added reply after means = (past, means.answer_is)
 
   -- the lines of the bus, whatever comes after them
   bus_lines : (lines : List BusLine) (past : BusPast) (seen added : List Event) (answers : List LineAnswer) (left : BusPast)

@@ -5,6 +5,7 @@ pub mod Meetings
 pub mod Turns
 pub mod TurnsSoFar
 pub mod Printed
+pub mod ControllerAnswers
 pub mod NeverBusy
 pub mod OneText
 pub mod CommandLine

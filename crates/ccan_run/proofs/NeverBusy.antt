@@ -43,6 +43,7 @@ use Rattle.ccan_line.specs.BusPort.{BusLineMeans}
 use Rattle.ccan_line.specs.Lines.{LinesMean}
 use Rattle.ccan_line.specs.Turn.{PortLine, of_if1, of_if2, of_bus, Three, PortLineMeans, terms_of, opening}
 use Rattle.ccan_run.specs.Ordered.{lines_of}
+use Rattle.ccan_run.proofs.ControllerAnswers.{never_busy}
 use Rattle.ccan_run.specs.Laws.{IsNotBusy, HasNoBusyLine}
 
 module _ (terms : Terms) (alone : terms.alone ≡ true) (tries : ℕ) (some : 1 ≤ tries) where
@@ -168,14 +169,9 @@ module _ (terms : Terms) (alone : terms.alone ≡ true) (tries : ℕ) (some : 1 
       → BusLineMeans terms tries line past seen added reply after → IsNotBusy reply
   bus_line line.Load past seen added reply after (loading, is, h) = rw is (loads seen added past after loading h)
   bus_line (line.Round sends) past seen added reply after (ended, is, h) = rw is (rounds sends seen added past after ended h)
-  bus_line line.Status past seen added reply after h = rw h.1 tt
-  bus_line (line.Control sie eie) past seen added reply after h = rw h.answer_is tt
   bus_line line.Interrupt past seen added reply after h = rw h.answer_is tt
   bus_line (line.Flags flag) past seen added reply after h = rw h.answer_is tt
-  bus_line (line.Counters node) past seen added reply after h = rw h.answer_is tt
-  bus_line line.Init past seen added reply after h = rw h.answer_is tt
-  bus_line (line.Recessive groups) past seen added reply after h = rw h.answer_is tt
-  bus_line (line.LoopBack on) past seen added reply after h = rw h.answer_is tt
+  bus_line (line.Controller at) past seen added reply after h = rw h.answer_is (never_busy at past)
 
 module _ (script : ScriptFields) (some : 1 ≤ script.tries) where
   port_line : (line : PortLine) (three : Three) (seen added : List Event) (reply : PortName × LineAnswer) (left : Three)

@@ -37,6 +37,8 @@ use Rattle.ccan_line.specs.declared.host_line.HostLine.{HostLine}
 use Rattle.ccan_line.specs.declared.host_line.HostLine.TheVariants as host
 use Rattle.ccan_line.specs.declared.line_answer.LineAnswer.{LineAnswer}
 use Rattle.ccan_line.specs.declared.line_answer.LineAnswer.TheVariants as answer
+use Rattle.ccan_bus.specs.Past.{BusPast}
+use Rattle.ccan_line.specs.ControllerLine.{controller_end}
 use Rattle.ccan_line.specs.Script.{ScriptFields}
 use Rattle.ccan_run.specs.declared.outcome.Outcome.{Outcome}
 use Rattle.ccan_line.specs.Transfer.{with_settings}
@@ -249,18 +251,14 @@ pub record IsBusPart (profile : Profile) (line : BusLine) (reply : LineAnswer) (
   pub shown : BusShownBy profile line reply before events
   pub changes : BusMakes reply (changes_in Bus events)
 
--- the answer is of the line's kind, and of what the line names or sets: the flag, the node, the enables, loop back mode
+-- the answer is of the line's kind, and of the flag that the line names; that of a line at the controller is one that the line gives
+-- to some past of the bus
 abbrev pub IsBusReplyTo : Profile → BusLine → LineAnswer → Type 0
 IsBusReplyTo profile bus.Load (answer.Load loading) = Unit {0}
 IsBusReplyTo profile (bus.Round sends) (answer.Round ended) = Unit {0}
-IsBusReplyTo profile bus.Status (answer.Status word) = Unit {0}
-IsBusReplyTo profile (bus.Control sie eie) (answer.Control status error) = (status ≡ sie) × (error ≡ eie)
 IsBusReplyTo profile bus.Interrupt (answer.Interrupt value) = Unit {0}
 IsBusReplyTo profile (bus.Flags flag) (answer.Flags of word objects) = (of ≡ flag) × (objects ≡ profile)
-IsBusReplyTo profile (bus.Counters node) (answer.Counters of tec rec state) = of ≡ node
-IsBusReplyTo profile bus.Init answer.Init = Unit {0}
-IsBusReplyTo profile (bus.Recessive groups) (answer.Recessive state) = Unit {0}
-IsBusReplyTo profile (bus.LoopBack on) (answer.LoopBack is) = is ≡ on
+IsBusReplyTo profile (bus.Controller line) reply = (past : BusPast) × (reply ≡ (controller_end line past).0)
 IsBusReplyTo profile line reply = ⊥
 
 -- each line of the bus has an answer and a part of the history, after those of the lines before it, and the bus has no

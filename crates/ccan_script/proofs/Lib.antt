@@ -6,6 +6,8 @@ pub mod Registers
 pub mod Lines
 pub mod ListFaults
 pub mod Rows
+pub mod MemberKinds
+pub mod MemberRows
 pub mod Senders
 pub mod Frames
 pub mod Rounds

@@ -1,5 +1,5 @@
 -- The names of a map's members are those of the data that it shows.
-use Rattle.std.proofs.Common.{◌≡◌, ℕ, List, [], ◌∷◌, Bool, Bor, string_bytes, map, refl, ap, ap₂, ◌&&◌, ◌||◌}
+use Rattle.std.proofs.Common.{◌≡◌, ℕ, List, [], ◌∷◌, Bool, string_bytes, map, refl, ap, ap₂, ◌&&◌, ◌||◌}
 use Rattle.std.specs.List.{list_all, list_any}
 use Rattle.std.specs.Map.{keys_of}
 use Rattle.std.specs.Str.{bytes_eq}
@@ -7,13 +7,17 @@ use Rattle.serde_json.proofs.Views.{Entry}
 use Rattle.serde_json.specs.View.{members_view}
 use Rattle.ccan_script.specs.Json.{names_in, is_among}
 
-among_texts : (known : List (Bor (List ℕ))) (name : List ℕ) → list_any (λ word. bytes_eq word.now name) known ≡ is_among
-    (map (λ word. word.now) known) name
-among_texts [] name = refl
-among_texts (word ∷ known) name = ap (λ (b : Bool). bytes_eq word.now name || b) (among_texts known name)
+-- what is known has these texts
+module _ {K : Type 0} (text : K → List ℕ) (known : List K) where
+  among_texts : (name : List ℕ) → list_any (λ k. bytes_eq (text k) name) known ≡ is_among (map text known) name
+  among_texts name = go known
+    where
+      go : (ks : List K) → list_any (λ k. bytes_eq (text k) name) ks ≡ is_among (map text ks) name
+      go [] = refl
+      go (k ∷ ks) = ap (λ (b : Bool). bytes_eq (text k) name || b) (go ks)
 
-pub names_known : (known : List (Bor (List ℕ))) (es : List Entry) → list_all
-    (λ name. list_any (λ word. bytes_eq word.now (string_bytes name)) known) (keys_of es)
-    ≡ list_all (is_among (map (λ word. word.now) known)) (names_in (members_view es))
-names_known known [] = refl
-names_known known (e ∷ es) = ap₂ ◌&&◌ (among_texts known (string_bytes e.0)) (names_known known es)
+  pub names_known : (es : List Entry)
+      → list_all (λ name. list_any (λ k. bytes_eq (text k) (string_bytes name)) known) (keys_of es)
+      ≡ list_all (is_among (map text known)) (names_in (members_view es))
+  names_known [] = refl
+  names_known (e ∷ es) = ap₂ ◌&&◌ (among_texts (string_bytes e.0)) (names_known es)

@@ -23,17 +23,10 @@ same_round a b sends fault = λ i. record {
 bus_once_by : (o : Option BusOp) (d : Data) (l m : BusLine) → BusSaysBy o d l → BusSaysBy o d m → l ≡ m
 unfolding BusSaysBy
 bus_once_by None d l m h k = absurd h
-bus_once_by (Some op.Load) d l m h k = h ∙ sym k
 bus_once_by (Some op.Round) d l m (a, is, says) (b, is', says') =
     is ∙ ap Round (same_round a b (says.sends ∙ sym says'.sends) (says.fault ∙ sym says'.fault)) ∙ sym is'
-bus_once_by (Some op.Status) d l m h k = h ∙ sym k
-bus_once_by (Some op.Control) d l m h k = h ∙ sym k
-bus_once_by (Some op.Interrupt) d l m h k = h ∙ sym k
-bus_once_by (Some op.Flags) d l m h k = h ∙ sym k
-bus_once_by (Some op.Counters) d l m h k = h ∙ sym k
-bus_once_by (Some op.Init) d l m h k = h ∙ sym k
-bus_once_by (Some op.Recessive) d l m h k = h ∙ sym k
-bus_once_by (Some op.LoopBack) d l m h k = h ∙ sym k
+-- each other operation determines its line
+bus_once_by (Some other) d l m h k = h ∙ sym k
 
 pub bus_once : (d : Data) (l m : BusLine) → BusSays d l → BusSays d m → l ≡ m
 bus_once d l m h k = bus_once_by (bus_op d) d l m h k

@@ -8,14 +8,14 @@ use Rattle.ccan_script.specs.declared.line_fault.LineFault.TheVariants.{Shape}
 use Rattle.ccan_script.specs.declared.bus_op.BusOp.{BusOp}
 use Rattle.ccan_script.specs.declared.bus_op.BusOp.TheVariants as op
 use Rattle.ccan_line.specs.declared.bus_line.BusLine.{BusLine}
-use Rattle.ccan_line.specs.declared.bus_line.BusLine.TheVariants.{Load, Round, Status, Control, Interrupt, Flags}
-use Rattle.ccan_line.specs.declared.bus_line.BusLine.TheVariants.{Counters, Init, Recessive, LoopBack}
+use Rattle.ccan_line.specs.declared.bus_line.BusLine.TheVariants.{Load, Round, Interrupt, Flags, Controller}
+use Rattle.ccan_line.specs.declared.controller_line.ControllerLine.TheVariants.{Status, Control, Counters, Init, Recessive, LoopBack}
 use Rattle.ccan_line.specs.Limits.{most_groups}
 use Rattle.ccan_script.specs.LineFault.{shape_check, shape_then_range}
 use Rattle.ccan_script.specs.BusOp.{bus_op}
 use Rattle.ccan_script.specs.Json.{has_only, has_number, is_bare, is_within, number_in, whole_in}
 use Rattle.ccan_script.specs.FlagLine.{asks_flag, flag_of_line}
-use Rattle.ccan_script.specs.Round.{round_fault, SaysRound}
+use Rattle.ccan_script.specs.Round.{is_round, round_fault, SaysRound}
 
 -- ---- the two interrupt enables
 
@@ -28,7 +28,7 @@ abbrev pub control_in_range : Data → Bool
 control_in_range d = is_within 0 1 (whole_in (codes "sie") d) && is_within 0 1 (whole_in (codes "eie") d)
 
 abbrev pub control_of : Data → BusLine
-control_of d = Control (number_in (codes "sie") d == 1) (number_in (codes "eie") d == 1)
+control_of d = Controller (Control (number_in (codes "sie") d == 1) (number_in (codes "eie") d == 1))
 
 -- ---- lines
 
@@ -52,19 +52,24 @@ bus_fault_by nodes (Some op.LoopBack) d = number_fault_of (codes "on") 0 1 d
 abbrev pub bus_fault : ℕ → Data → Option LineFault
 bus_fault nodes d = bus_fault_by nodes (bus_op d) d
 
+-- what is wrong with the members of a line of an operation: all that can be, except with the frames of a round
+unfoldable pub members_fault_by : ℕ → BusOp → Data → Option LineFault
+members_fault_by nodes op.Round d = shape_check (is_round d)
+members_fault_by nodes named d = bus_fault_by nodes (Some named) d
+
 -- what a line of each operation says
 unfoldable pub BusSaysBy : Option BusOp → Data → BusLine → Type 0
 BusSaysBy None d line = ⊥
 BusSaysBy (Some op.Load) d line = line ≡ Load
 BusSaysBy (Some op.Round) d line = (round : RoundLine) × (line ≡ Round round) × SaysRound d round
-BusSaysBy (Some op.Status) d line = line ≡ Status
+BusSaysBy (Some op.Status) d line = line ≡ Controller Status
 BusSaysBy (Some op.Control) d line = line ≡ control_of d
 BusSaysBy (Some op.Interrupt) d line = line ≡ Interrupt
 BusSaysBy (Some op.Flags) d line = line ≡ Flags (flag_of_line d)
-BusSaysBy (Some op.Counters) d line = line ≡ Counters (number_in (codes "node") d)
-BusSaysBy (Some op.Init) d line = line ≡ Init
-BusSaysBy (Some op.Recessive) d line = line ≡ Recessive (number_in (codes "groups") d)
-BusSaysBy (Some op.LoopBack) d line = line ≡ LoopBack (number_in (codes "on") d == 1)
+BusSaysBy (Some op.Counters) d line = line ≡ Controller (Counters (number_in (codes "node") d))
+BusSaysBy (Some op.Init) d line = line ≡ Controller Init
+BusSaysBy (Some op.Recessive) d line = line ≡ Controller (Recessive (number_in (codes "groups") d))
+BusSaysBy (Some op.LoopBack) d line = line ≡ Controller (LoopBack (number_in (codes "on") d == 1))
 
 -- the line says what the value says
 abbrev pub BusSays : Data → BusLine → Type 0

@@ -13,6 +13,10 @@ pub mod FrameParts
 pub mod Round
 pub mod BusOp
 pub mod BusLine
+pub mod MemberName
+pub mod Member
+pub mod Members
+pub mod ScriptNumber
 pub mod OrderName
 pub mod Lines
 pub mod Places

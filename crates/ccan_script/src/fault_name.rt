@@ -7,7 +7,7 @@ use serde_json::Value;
 
 /// What spoils a frame, by its name.
 #[tactic(auto, unfolding(crate::specs::FaultName::fault_named))]
-fn fault_named(word: &str) -> Option<Fault>
+pub(crate) fn fault_named(word: &str) -> Option<Fault>
     ensures { result ≡ fault_named word.now }
 {
     match word {

@@ -1,6 +1,6 @@
 ghost use Rattle.std.specs.Prelude.{◌≡◌, ◌≤◌, length};
 ghost use Rattle.serde_json.specs.View.{view};
-ghost use Rattle.ccan_script.specs.FlagName.{flag_name, flag_in};
+ghost use Rattle.ccan_script.specs.FlagName.{flag_name, flag_named, flag_in};
 
 use ccan_ram::Flag;
 use serde_json::Value;
@@ -20,12 +20,12 @@ pub(crate) fn flag_name(flag: Flag) -> &'static str
     }
 }
 
-/// The flag that the member `flag` of a line names, if it names one.
-#[tactic(auto, unfolding(crate::specs::FlagName::flag_in, crate::specs::FlagName::flag_named))]
-pub fn flag_in(line: &Value) -> Option<Flag>
-    ensures { result ≡ flag_in (view line.now) }
+/// The flag of this name.
+#[tactic(auto, unfolding(crate::specs::FlagName::flag_named))]
+pub(crate) fn flag_named(word: &str) -> Option<Flag>
+    ensures { result ≡ flag_named word.now }
 {
-    match line.get("flag")?.as_str()? {
+    match word {
         "newdat" => Some(Flag::NewDat),
         "msglst" => Some(Flag::MsgLst),
         "intpnd" => Some(Flag::IntPnd),
@@ -33,4 +33,12 @@ pub fn flag_in(line: &Value) -> Option<Flag>
         "msgval" => Some(Flag::MsgVal),
         _ => None,
     }
+}
+
+/// The flag that the member `flag` of a line names, if it names one.
+#[tactic(auto, unfolding(crate::specs::FlagName::flag_in))]
+pub fn flag_in(line: &Value) -> Option<Flag>
+    ensures { result ≡ flag_in (view line.now) }
+{
+    flag_named(line.get("flag")?.as_str()?)
 }

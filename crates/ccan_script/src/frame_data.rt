@@ -1,6 +1,5 @@
-ghost use Rattle.std.specs.Prelude.{◌≡◌, ◌≤◌, ◌*◌, ◌%◌, true, Some, None, IfSome, length, option_map, if◌then◌else◌};
-ghost use Rattle.std.specs.Char.{is_ascii_hexdigit};
-ghost use Rattle.std.specs.List.{list_all};
+ghost use Rattle.std.specs.Prelude.{◌≡◌, ◌≤◌, ◌*◌, ◌%◌, true, [], Some, None, IfSome, length};
+ghost use Rattle.std.specs.Prelude.{option_map, unwrap_or, if◌then◌else◌};
 ghost use Rattle.serde_json.specs.View.{view};
 ghost use Rattle.ccan_script.specs.FrameLine.{is_data_text, data_in, eight_bytes};
 
@@ -9,7 +8,7 @@ use serde_json::Value;
 
 /// Whether the text has two hexadecimal digits for each byte.
 #[tactic(auto, unfolding(crate::specs::FrameLine::is_data_text))]
-fn is_data_text(text: &str) -> bool
+pub(crate) fn is_data_text(text: &str) -> bool
     ensures { result ≡ is_data_text text.now }
 {
     text.len() % 2 == 0 && are_hexadecimal(text.as_bytes())
@@ -33,6 +32,18 @@ pub fn data_in(frame: &Value) -> Option<&str>
     match frame.get("data") {
         Some(member) => data_text(member.as_str()?),
         None => Some(""),
+    }
+}
+
+/// The data of a frame whose members have no fault.
+#[tactic(auto, unfolding(crate::specs::FrameLine::is_data_text))]
+pub(crate) fn data_of(frame: &Value) -> &str
+    ensures value { result.now ≡ unwrap_or (data_in (view frame.now)) [] }
+    ensures data { is_data_text result.now ≡ true }
+{
+    match data_in(frame) {
+        Some(text) => text,
+        None => "",
     }
 }
 

@@ -1,19 +1,22 @@
-ghost use Rattle.std.specs.Prelude.{◌≡◌, ◌≤◌, ◌==◌, true, false, length, IfOk, IfSome, IfNone};
+ghost use Rattle.std.specs.Prelude.{◌≡◌, ◌≤◌, ◌==◌, true, length, IfOk};
 ghost use Rattle.serde_json.specs.View.{view};
 ghost use Rattle.ccan_accept.specs.Frame.{data_count};
 ghost use Rattle.ccan_line.specs.Limits.{most_nodes};
-ghost use Rattle.ccan_script.specs.LineFault.{ReadsLine};
-ghost use Rattle.ccan_script.specs.FrameLine.{is_data_text, is_frame, is_in_range, has_its_length};
+ghost use Rattle.ccan_script.specs.LineFault.{ReadsLine, shape_check};
+ghost use Rattle.ccan_script.specs.FrameLine.{is_data_text, is_in_range, has_its_length};
 ghost use Rattle.ccan_script.specs.FrameLine.{frame_fault, frame_of, words_of, sending_of};
 ghost use Rattle.ccan_script.specs.FrameParts.{words_in};
 
-use crate::frame_data::{data_in, eight_bytes};
-use crate::json::{has_only, whole_in, whole_or_zero};
+use crate::frame_data::{data_of, eight_bytes};
+use crate::line_context::LineContext;
 use crate::line_fault::LineFault;
+use crate::member::{frame_numbers, frame_row};
+use crate::member_name::MemberName;
+use crate::members::{check_members, number_of};
 use ccan_accept::Frame;
 use serde_json::Value;
 
-/// The parts of a frame in a script, before their ranges are checked.
+/// The parts of a frame in a script.
 #[derive(Clone, Copy)]
 pub(crate) struct FrameParts<'a> {
     node: u64,
@@ -24,38 +27,20 @@ pub(crate) struct FrameParts<'a> {
     digits: &'a str,
 }
 
-/// The parts of a frame, `None` if the value isn't of that shape.
-#[tactic(auto, unfolding(crate::specs::FrameLine::is_frame))]
-fn frame_parts(value: &Value) -> Option<FrameParts<'_>>
-    ensures none { IfNone result (is_frame (view value.now) ≡ false) }
-    ensures some { IfSome result (λ parts. (is_frame (view value.now) ≡ true)
-        × (words_in parts ≡ words_of (view value.now))) }
-    ensures data { IfSome result (λ parts. is_data_text parts.digits.now ≡ true) }
+/// The parts of a frame whose members have no fault.
+#[tactic(auto, using(crate::proofs::MemberKinds::same_number))]
+fn frame_parts(value: &Value) -> FrameParts<'_>
+    ensures words { words_in result ≡ words_of (view value.now) }
+    ensures data { is_data_text result.digits.now ≡ true }
 {
-    if !has_only(value, &["node", "id", "xtd", "rtr", "dlc", "data"]) {
-        return None;
+    FrameParts {
+        node: number_of(value, MemberName::Node),
+        id: number_of(value, MemberName::Id),
+        xtd: number_of(value, MemberName::Xtd),
+        rtr: number_of(value, MemberName::Rtr),
+        dlc: number_of(value, MemberName::Dlc),
+        digits: data_of(value),
     }
-    Some(FrameParts {
-        node: whole_in(value, "node")?,
-        id: whole_in(value, "id")?,
-        xtd: whole_or_zero(value, "xtd")?,
-        rtr: whole_or_zero(value, "rtr")?,
-        dlc: whole_or_zero(value, "dlc")?,
-        digits: data_in(value)?,
-    })
-}
-
-/// Whether the sender is one of this many nodes, and each number of the frame fits.
-fn is_in_range(parts: FrameParts, nodes: u8) -> bool
-    ensures { result ≡ is_in_range nodes (words_in parts.entry) }
-{
-    let limit: u64 = if parts.xtd == 1 { 1 << 29 } else { 1 << 11 };
-    1 <= parts.node
-        && parts.node <= u64::from(nodes)
-        && parts.xtd <= 1
-        && parts.rtr <= 1
-        && parts.id < limit
-        && parts.dlc <= 15
 }
 
 /// How many data bytes the frame has.
@@ -89,22 +74,29 @@ fn frame_of(parts: FrameParts) -> Frame
     .unwrap()
 }
 
-/// A frame with its sender, one of this many nodes: its shape first, then its numbers, then the length of its data.
-#[tactic(auto, unfolding(crate::specs::FrameLine::frame_fault, crate::specs::FrameLine::sending_of))]
-pub fn read_frame(value: &Value, nodes: u8) -> Result<(u8, Frame), LineFault>
-    requires { nodes ≤ most_nodes }
-    ensures reads { let d = view value.now in
-        ReadsLine (frame_fault nodes d) (λ sending. sending ≡ sending_of d) result }
+/// The frame of these parts with its sender, if its data has its length.
+fn sending_of(parts: FrameParts, nodes: u8) -> Result<(u8, Frame), LineFault>
+    requires nodes { nodes ≤ most_nodes }
+    requires range { is_in_range nodes (words_in parts) ≡ true }
+    requires data { is_data_text parts.digits.now ≡ true }
+    ensures reads { let words = words_in parts.entry in
+        ReadsLine (shape_check (has_its_length words))
+        (λ sending. sending ≡ (words.node, frame_of words)) result }
     ensures sender { IfOk result (λ sending. (1 ≤ sending.0) × (sending.0 ≤ nodes)) }
 {
-    let Some(parts) = frame_parts(value) else {
-        return Err(LineFault::Shape);
-    };
-    if !is_in_range(parts, nodes) {
-        return Err(LineFault::Range);
-    }
     if parts.digits.len() != 2 * data_count(parts) {
         return Err(LineFault::Shape);
     }
     Ok((parts.node as u8, frame_of(parts)))
+}
+
+/// A frame with its sender, one of this many nodes: its members first, then their ranges, then the length of its data.
+pub fn read_frame(value: &Value, context: LineContext) -> Result<(u8, Frame), LineFault>
+    requires { context.nodes ≤ most_nodes }
+    ensures reads { let d = view value.now in
+        ReadsLine (frame_fault context.nodes d) (λ sending. sending ≡ sending_of d) result }
+    ensures sender { IfOk result (λ sending. (1 ≤ sending.0) × (sending.0 ≤ context.nodes)) }
+{
+    check_members(value, frame_row(), frame_numbers(), context)?;
+    sending_of(frame_parts(value), context.nodes)
 }

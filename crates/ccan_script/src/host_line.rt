@@ -1,23 +1,22 @@
-ghost use Rattle.std.specs.Prelude.{◌≡◌, true, false, option_map, IfOk, IfSome, IfNone};
+ghost use Rattle.std.specs.Prelude.{◌≡◌, true, [], option_map, unwrap_or, Some, None};
 ghost use Rattle.serde_json.specs.View.{view};
 ghost use Rattle.ccan_object.specs.Profile.{Holds};
-ghost use Rattle.ccan_script.specs.LineFault.{ReadsLine, shape_then_range};
 ghost use Rattle.ccan_line.specs.HostLine.{HostFits};
-ghost use Rattle.ccan_script.specs.HostLine.{host_fault, HostSays};
-ghost use Rattle.ccan_script.specs.HostLine.{request_in, settings_of, is_transfer, transfer_of};
-ghost use Rattle.ccan_script.specs.HostLine.{is_until, until_in_range, until_of};
+ghost use Rattle.ccan_script.specs.HostLine.{host_fault, host_fault_by, host_line_by, HostSays};
+ghost use Rattle.ccan_script.specs.HostLine.{request_in, settings_of, until_in_range, until_of};
 
-use crate::flag_line::sole_flag;
-use crate::flag_name::flag_in;
+use crate::flag_line::flag_of_line;
 use crate::host_op::{HostOp, host_op};
-use crate::json::{check_bare, has_only, whole_in, word_in};
+use crate::json::word_in;
 use crate::line_context::LineContext;
 use crate::line_fault::LineFault;
+use crate::member::host_row;
+use crate::member_name::MemberName;
+use crate::members::{check_members, number_of};
 use crate::register_set::settings_in;
 use crate::script_line::ScriptLine;
-use ccan_line::{HostLine, MAX_TURNS, RegisterSet};
+use ccan_line::{HostLine, RegisterSet};
 use ccan_object::{ObjectNo, Profile};
-use ccan_ram::Flag;
 use serde_json::Value;
 
 #[tactic(auto, unfolding(crate::specs::HostLine::request_in))]
@@ -38,19 +37,14 @@ fn settings_of(line: &Value) -> Option<RegisterSet>
     }
 }
 
-/// A transfer, `None` if the line isn't of that shape.
-#[tactic(auto, unfolding(crate::specs::HostLine::is_transfer))]
-fn transfer_line(line: &Value) -> Option<HostLine>
-    ensures none { IfNone result (is_transfer (view line.now) ≡ false) }
-    ensures some { IfSome result (λ read. (is_transfer (view line.now) ≡ true)
-        × (read ≡ transfer_of (view line.now))) }
+/// The same of a line without faults.
+fn set_of(line: &Value) -> RegisterSet
+    ensures { result.items ≡ unwrap_or (settings_of (view line.now)) [] }
 {
-    if !has_only(line, &["op", "request", "set"]) {
-        return None;
+    match settings_of(line) {
+        Some(set) => set,
+        None => RegisterSet::new(),
     }
-    let request = request_in(line)?;
-    let set = settings_of(line)?;
-    Some(HostLine::Transfer { request, set })
 }
 
 /// The object of this number.
@@ -61,33 +55,35 @@ fn object_numbered(profile: Profile, number: u64) -> ObjectNo
     ObjectNo::new(number as u8).unwrap()
 }
 
-/// A wait for a flag: its shape first, then its ranges.
-#[tactic(auto, unfolding(crate::specs::HostLine::is_until, crate::specs::FlagLine::flag_of_line))]
-fn until_line(line: &Value, profile: Profile) -> Result<HostLine, LineFault>
-    ensures reads { let d = view line.now in
-        ReadsLine (shape_then_range (is_until d) (until_in_range profile d))
-        (λ read. read ≡ until_of d) result }
-    ensures fits { IfOk result (HostFits profile) }
+/// The wait of a line whose numbers are in their ranges.
+fn until_of(line: &Value, profile: Profile) -> HostLine
+    requires { until_in_range profile (view line.now) ≡ true }
+    ensures says { result ≡ until_of (view line.now) }
+    ensures fits { HostFits profile result }
 {
-    if !has_only(line, &["op", "object", "flag", "turns"]) {
-        return Err(LineFault::Shape);
+    HostLine::Until {
+        object: object_numbered(profile, number_of(line, MemberName::Object)),
+        flag: flag_of_line(line),
+        turns: number_of(line, MemberName::Turns) as u32,
     }
-    let (Some(object), Some(flag), Some(turns)) = (
-        whole_in(line, "object"),
-        flag_in(line),
-        whole_in(line, "turns"),
-    ) else {
-        return Err(LineFault::Shape);
-    };
-    let objects = u64::from(profile.objects());
-    if object < 1 || objects < object || turns < 1 || MAX_TURNS < turns {
-        return Err(LineFault::Range);
+}
+
+/// The line of a value without faults.
+#[tactic(auto, unfolding(crate::specs::HostLine::host_fault_by, crate::specs::HostLine::host_line_by))]
+fn host_line(op: HostOp, line: &Value, profile: Profile) -> HostLine
+    requires { host_fault_by profile (Some op) (view line.now) ≡ None }
+    ensures says { result ≡ host_line_by (Some op) (view line.now) }
+    ensures fits { HostFits profile result }
+{
+    match op {
+        HostOp::Transfer => HostLine::Transfer {
+            request: request_in(line).unwrap_or(0),
+            set: set_of(line),
+        },
+        HostOp::Until => until_of(line, profile),
+        HostOp::Interrupt => HostLine::Interrupt,
+        HostOp::Flags => HostLine::Flags(flag_of_line(line)),
     }
-    Ok(HostLine::Until {
-        object: object_numbered(profile, object),
-        flag,
-        turns: turns as u32,
-    })
 }
 
 impl ScriptLine for HostLine {
@@ -97,20 +93,13 @@ impl ScriptLine for HostLine {
 
     ghost fits = { λ context. HostFits context.profile };
 
-    #[tactic(auto, unfolding(crate::specs::HostLine::host_fault_by, crate::specs::HostLine::host_line_by))]
+    #[tactic(auto, unfolding(crate::specs::HostLine::host_fault_by))]
     fn read(value: &Value, context: LineContext) -> Result<HostLine, LineFault> {
-        match host_op(value) {
-            Some(HostOp::Transfer) => transfer_line(value).ok_or(LineFault::Shape),
-            Some(HostOp::Until) => until_line(value, context.profile),
-            Some(HostOp::Interrupt) => match check_bare(value) {
-                Ok(()) => Ok(HostLine::Interrupt),
-                Err(fault) => Err(fault),
-            },
-            Some(HostOp::Flags) => match sole_flag(value) {
-                Ok(flag) => Ok(HostLine::Flags(flag)),
-                Err(fault) => Err(fault),
-            },
-            None => Err(LineFault::Shape),
-        }
+        let Some(op) = host_op(value) else {
+            return Err(LineFault::Shape);
+        };
+        let row = host_row(op);
+        check_members(value, row, row, context)?;
+        Ok(host_line(op, value, context.profile))
     }
 }

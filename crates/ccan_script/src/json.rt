@@ -1,16 +1,14 @@
-ghost use Rattle.std.specs.Prelude.{◌≡◌, ◌≤◌, ◌<◌, ◌+◌, ◌*◌, true, ◌∷◌, [], ◌&&◌, map, Some, None, codes};
-ghost use Rattle.std.specs.Prelude.{is_some, option_map, string_bytes, IfOk, if◌then◌else◌};
+ghost use Rattle.std.specs.Prelude.{◌≡◌, ◌<◌, ◌+◌, ◌*◌, true, map, Some, None};
+ghost use Rattle.std.specs.Prelude.{string_bytes, if◌then◌else◌};
 ghost use Rattle.std.specs.List.{list_all, list_any};
 ghost use Rattle.std.specs.Char.{digit_value, is_ascii_hexdigit};
 ghost use Rattle.std.specs.Str.{bytes_eq};
 ghost use Rattle.std.specs.BTreeMap.{keys};
 ghost use Rattle.std.specs.Str.Parse.{digits_value};
+ghost use Rattle.serde_json.specs.Find.{get};
 ghost use Rattle.serde_json.specs.View.{view};
-ghost use Rattle.ccan_script.specs.Json.{is_four_digits, word_in, whole_in, whole_or_zero, has_only};
-ghost use Rattle.ccan_script.specs.Json.{is_bare, has_number, is_within, number_in};
-ghost use Rattle.ccan_script.specs.LineFault.{shape_check, shape_then_range, ReadsLine};
+ghost use Rattle.ccan_script.specs.Json.{is_four_digits, word_in, has_only, lines_in};
 
-use crate::line_fault::LineFault;
 use serde_json::{Map, Value};
 
 /// Whether each byte is a hexadecimal digit, of either case.
@@ -68,25 +66,6 @@ pub fn word_in(value: &Value) -> Option<u16>
     four_digits(value.as_str()?)
 }
 
-/// The whole number of a member, if it has one.
-#[tactic(auto, unfolding(crate::specs::Json::whole_in))]
-pub(crate) fn whole_in(line: &Value, name: &str) -> Option<u64>
-    ensures { result ≡ whole_in name.now (view line.now) }
-{
-    line.get(name)?.as_u64()
-}
-
-/// The same, and 0 if there is no such member.
-#[tactic(auto, unfolding(crate::specs::Json::whole_or_zero))]
-pub(crate) fn whole_or_zero(line: &Value, name: &str) -> Option<u64>
-    ensures { result ≡ whole_or_zero name.now (view line.now) }
-{
-    match line.get(name) {
-        Some(member) => member.as_u64(),
-        None => Some(0),
-    }
-}
-
 fn is_among(name: &str, known: &[&str]) -> bool
     ensures { result ≡ list_any (λ word. bytes_eq word.now name.now) known.now }
 {
@@ -112,38 +91,16 @@ pub(crate) fn has_only(value: &Value, known: &[&str]) -> bool
     }
 }
 
-/// Checks that a line has no member except its operation.
-pub(crate) fn check_bare(line: &Value) -> Result<(), LineFault>
-    ensures { ReadsLine (shape_check (is_bare (view line.now))) (λ _. Unit {0}) result }
+/// The values of the list that a member is, none if it is not a list.
+#[tactic(auto, using(crate::proofs::ListFaults::lines_are), unfolding(crate::specs::Json::lines_in))]
+pub fn items_in<'a>(value: &'a Value, name: &str) -> &'a [Value]
+    ensures { map view result.now ≡ lines_in (get name.now (view value.now)) }
 {
-    if has_only(line, &["op"]) {
-        Ok(())
-    } else {
-        Err(LineFault::Shape)
-    }
-}
-
-/// The number of a line whose one member besides its operation is a whole number in a range.
-#[tactic(auto, unfolding(crate::specs::Json::has_number))]
-pub(crate) fn sole_number(
-    line: &Value,
-    name: &str,
-    least: u64,
-    greatest: u64,
-) -> Result<u64, LineFault>
-    ensures reads { let d = view line.now in
-        ReadsLine (shape_then_range (has_number name.now d)
-        (is_within least greatest (whole_in name.now d))) (λ n. n ≡ number_in name.now d) result }
-    ensures within { IfOk result (λ n. (least ≤ n) × (n ≤ greatest)) }
-{
-    if !has_only(line, &["op", name]) {
-        return Err(LineFault::Shape);
-    }
-    let Some(number) = whole_in(line, name) else {
-        return Err(LineFault::Shape);
+    let Some(list) = value.get(name) else {
+        return &[];
     };
-    if number < least || greatest < number {
-        return Err(LineFault::Range);
+    match list.as_array() {
+        Some(values) => values.as_slice(),
+        None => &[],
     }
-    Ok(number)
 }

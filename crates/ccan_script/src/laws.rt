@@ -1,6 +1,6 @@
 //! Laws of what scripts mean. The functions do nothing: their contracts are the laws.
 ghost use Rattle.ccan_script.specs.Laws.{HasOneMeaning, WhatWasReadHasAMeaning};
-ghost use Rattle.ccan_script.specs.Laws.{HasOneRace, ScriptIsARace};
+ghost use Rattle.ccan_script.specs.Laws.{HasOneRace, ScriptIsARace, GoByTable};
 
 /// A JSON value means at most one thing: one script, or one fault.
 pub fn one_meaning()
@@ -21,4 +21,9 @@ pub fn one_race()
 /// it, or the same fault.
 pub fn a_script_is_a_race()
     ensures { ScriptIsARace }
+{}
+
+/// The table of members says of each line and frame what its definition says, as far as a table can.
+pub fn lines_go_by_the_table()
+    ensures { GoByTable }
 {}

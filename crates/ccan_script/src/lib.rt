@@ -33,6 +33,9 @@ mod line_counts;
 pub mod line_fault;
 pub mod list_name;
 mod list_reader;
+pub mod member;
+pub mod member_name;
+pub mod members;
 pub mod number;
 pub mod order;
 mod order_name;
@@ -47,6 +50,7 @@ pub mod register_set;
 mod round;
 pub mod script_error;
 pub mod script_line;
+pub mod script_number;
 
 pub use ccan_line::{
     BusLine, DEFAULT_NODES, DEFAULT_PROFILE, DEFAULT_QUOTA, DEFAULT_TRIES, HostLine, LineAnswer,
@@ -59,8 +63,8 @@ pub use list_name::ListName;
 pub use order::times;
 pub use print::{print_final, print_line};
 pub use printed_line::PrintedLine;
-pub use race::read_race;
+pub use race::{RACE_MEMBERS, read_race};
 pub use race_script::RaceScript;
-pub use reader::read_script;
+pub use reader::{SCRIPT_MEMBERS, read_script};
 pub use script_error::ScriptError;
 pub use script_line::ScriptLine;

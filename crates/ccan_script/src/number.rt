@@ -3,10 +3,12 @@ ghost use Rattle.serde_json.specs.Find.{get};
 ghost use Rattle.serde_json.specs.View.{view};
 ghost use Rattle.ccan_ram.specs.Tries.{IsTries};
 ghost use Rattle.ccan_script.specs.Script.{profile_numbered};
+ghost use Rattle.ccan_script.specs.ScriptNumber.{number_text, least_of, greatest_of, default_of};
 ghost use Rattle.ccan_script.specs.Reader.{ReadsNumber};
 
 use crate::list_name::ListName;
 use crate::script_error::ScriptError;
+use crate::script_number::ScriptNumber;
 use ccan_object::Profile;
 use ccan_ram::Tries;
 use serde_json::Value;
@@ -23,7 +25,7 @@ const TOP_RANGE: ScriptError = ScriptError::Range {
 
 /// A whole number in a range, or the default if there is no such member.
 #[tactic(auto, unfolding(crate::specs::Script::number_fault, crate::specs::Script::number_or))]
-pub fn number_member(
+fn number_between(
     value: &Value,
     name: &str,
     least: u64,
@@ -45,6 +47,16 @@ pub fn number_member(
         return Err(TOP_RANGE);
     }
     Ok(number)
+}
+
+/// A number of a script by its row: a whole number in its range, or the default if there is no such member.
+pub fn number_member(value: &Value, number: ScriptNumber) -> Result<u64, ScriptError>
+    ensures reads { ReadsNumber (least_of number) (greatest_of number) (default_of number)
+        (get (number_text number) (view value.now)) result }
+    ensures within { IfOk result (λ n. (least_of number ≤ n) × (n ≤ greatest_of number)) }
+{
+    let row = number.row();
+    number_between(value, row.name, row.least, row.greatest, row.default)
 }
 
 /// The profile of this number.

@@ -23,7 +23,7 @@ use serde_json::Value;
 use std::alloc::Global;
 
 /// The members that a script for a race may have.
-const RACE_MEMBERS: [&str; 9] = [
+pub const RACE_MEMBERS: [&str; 9] = [
     "profile", "quota", "tries", "nodes", "if1", "if2", "bus", "order", "before",
 ];
 

@@ -10,15 +10,13 @@ use crate::list_reader::port_lines;
 use crate::number::{TOP_SHAPE, number_member, profile_numbered, tries_of};
 use crate::order::read_order;
 use crate::script_error::ScriptError;
-use ccan_line::{
-    DEFAULT_NODES, DEFAULT_PROFILE, DEFAULT_QUOTA, DEFAULT_TRIES, MAX_NODES, MAX_PROFILE,
-    MAX_QUOTA, MAX_TRIES, Script,
-};
+use crate::script_number::ScriptNumber;
+use ccan_line::Script;
 use serde_json::Value;
 use std::alloc::Global;
 
 /// The members that a script may have.
-const SCRIPT_MEMBERS: [&str; 8] = [
+pub const SCRIPT_MEMBERS: [&str; 8] = [
     "profile", "quota", "tries", "nodes", "if1", "if2", "bus", "order",
 ];
 
@@ -33,10 +31,10 @@ pub(crate) fn script_among(
     if !has_only(value, members) {
         return Err(TOP_SHAPE);
     }
-    let profile = number_member(value, "profile", 1, MAX_PROFILE, DEFAULT_PROFILE)?;
-    let quota = number_member(value, "quota", 1, MAX_QUOTA, DEFAULT_QUOTA)?;
-    let tries = number_member(value, "tries", 1, MAX_TRIES, DEFAULT_TRIES)?;
-    let nodes = number_member(value, "nodes", 0, MAX_NODES, DEFAULT_NODES)?;
+    let profile = number_member(value, ScriptNumber::Profile)?;
+    let quota = number_member(value, ScriptNumber::Quota)?;
+    let tries = number_member(value, ScriptNumber::Tries)?;
+    let nodes = number_member(value, ScriptNumber::Nodes)?;
     let context = LineContext {
         profile: profile_numbered(profile),
         nodes: nodes as u8,

@@ -92,7 +92,8 @@ fn except(who: &Places, those: &Places) -> Places
 /// A member that does not let the frame go on, if these have the same bits of arbitration.
 fn dissenter(members: &[Member], who: &Places, frame: &Frame) -> Option<usize>
     requires { length members.now ≤ MOST_MEMBERS }
-    ensures some { IfSome result (λ k. Dissents (is_among who.now k) (member_at members.now k) frame.now) }
+    ensures some { IfSome result
+        (λ k. Dissents (is_among who.now k) (member_at members.now k) frame.now) }
     ensures none { IfNone result ((k : ℕ) → k < length members.now
         → Agrees (is_among who.now k) (member_at members.now k) frame.now) }
 {

@@ -8,6 +8,8 @@
 #[cfg(test)]
 mod chip_device;
 #[cfg(test)]
+mod controller_lines;
+#[cfg(test)]
 mod expect;
 #[cfg(test)]
 mod failing;
@@ -16,7 +18,6 @@ mod faults;
 #[cfg(test)]
 mod faulty;
 #[cfg(test)]
-#[cfg(test)]
 mod landing;
 #[cfg(test)]
 mod languages;
@@ -24,6 +25,8 @@ mod languages;
 mod laws;
 #[cfg(test)]
 mod limits;
+#[cfg(test)]
+mod members;
 #[cfg(test)]
 mod outcomes;
 #[cfg(test)]

@@ -1,8 +1,8 @@
 //! What is in the lane of a step.
+use crate::answer_faces::push_label;
 use crate::{Step, push_decimal};
 use ccan_bus::{Decision, LoadAnswer, RoundAnswer, RoundReport};
 use ccan_object::ObjectNo;
-use ccan_script::LineAnswer;
 use std::alloc::{AllocError, Global};
 
 /// Appends words and the number of an object, in two digits.
@@ -38,7 +38,7 @@ fn fate(report: &RoundReport) -> &'static str {
 }
 
 /// Appends which object a frame came from or went to.
-fn push_end(text: &mut String, answer: &RoundAnswer) -> Result<(), AllocError> {
+pub(crate) fn push_end(text: &mut String, answer: &RoundAnswer) -> Result<(), AllocError> {
     match answer {
         RoundAnswer::Sent(object, _) => push_object(text, ", object", *object),
         RoundAnswer::Received(Some((object, _))) => push_object(text, ", stored in", *object),
@@ -72,7 +72,7 @@ fn push_round(text: &mut String, report: &RoundReport) -> Result<(), AllocError>
 }
 
 /// Appends the label of a load.
-fn push_load(text: &mut String, loading: &LoadAnswer) -> Result<(), AllocError> {
+pub(crate) fn push_load(text: &mut String, loading: &LoadAnswer) -> Result<(), AllocError> {
     match loading {
         LoadAnswer::Loaded(object, _) => push_object(text, "load", *object),
         LoadAnswer::Held(object) => push_object(text, "load: held", *object),
@@ -82,36 +82,12 @@ fn push_load(text: &mut String, loading: &LoadAnswer) -> Result<(), AllocError> 
     }
 }
 
-/// Appends the label of a line by its answer.
-fn push_answer(text: &mut String, answer: &LineAnswer) -> Result<(), AllocError> {
-    match answer {
-        LineAnswer::Write(object, _) => push_object(text, "write", *object),
-        LineAnswer::Read(object, _) => push_object(text, "read", *object),
-        LineAnswer::Busy(object) => push_object(text, "busy", *object),
-        LineAnswer::Spent(object) => push_object(text, "spent", *object),
-        LineAnswer::Until(object, _, shown) => {
-            push_object(text, "until", *object)?;
-            text.push_str(if *shown { ": yes" } else { ": no" })
-        }
-        LineAnswer::Load(loading) => push_load(text, loading),
-        LineAnswer::Round(answer) => push_end(text, answer),
-        LineAnswer::Interrupt(_) => text.push_str("interrupt"),
-        LineAnswer::Flags(_, _, _) => text.push_str("flags"),
-        LineAnswer::Status(_) => text.push_str("status"),
-        LineAnswer::Control(_, _) => text.push_str("control"),
-        LineAnswer::Counters { .. } => text.push_str("counters"),
-        LineAnswer::Init => text.push_str("init"),
-        LineAnswer::Recessive(_) => text.push_str("recessive"),
-        LineAnswer::LoopBack(_) => text.push_str("loopback"),
-    }
-}
-
 /// The label of a step of a run.
 pub fn label_of(alloc: Global, step: &Step) -> Result<String, AllocError> {
     let mut text = String::new(alloc);
     match &step.report {
         Some(report) => push_round(&mut text, report)?,
-        None => push_answer(&mut text, &step.answer)?,
+        None => push_label(&mut text, &step.answer)?,
     }
     Ok(text)
 }

@@ -48,23 +48,10 @@ impl Known {
 
 /// The registers that a transfer left.
 fn registers_left(answer: &LineAnswer) -> Option<Record> {
-    match answer {
-        LineAnswer::Write(_, shown) => Some(*shown),
-        LineAnswer::Read(_, shown) => Some(*shown),
-        LineAnswer::Busy(_)
-        | LineAnswer::Spent(_)
-        | LineAnswer::Until(_, _, _)
-        | LineAnswer::Interrupt(_)
-        | LineAnswer::Flags(_, _, _)
-        | LineAnswer::Load(_)
-        | LineAnswer::Round(_)
-        | LineAnswer::Status(_)
-        | LineAnswer::Control(_, _)
-        | LineAnswer::Counters { .. }
-        | LineAnswer::Init
-        | LineAnswer::Recessive(_)
-        | LineAnswer::LoopBack(_) => None,
-    }
+    let (LineAnswer::Write(_, shown) | LineAnswer::Read(_, shown)) = answer else {
+        return None;
+    };
+    Some(*shown)
 }
 
 /// The registers before and after a step.

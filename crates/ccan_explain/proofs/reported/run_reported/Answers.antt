@@ -7,7 +7,7 @@ use Rattle.ccan_explain.proofs.reported.run_reported.Goals as goal
 pub returns-in-Some-clause-runs : goal.returns-in-Some-clause-runs
 returns-in-Some-clause-runs g c =
     let round = c.in-Some.round.now in
-    let is = rw c.in-Some.is at c.round_in.ensures.some in
+    let is = rw c.in-Some.is at c.round.ensures.some in
     rw (is, c.of_round.ensures)
     (Goes-weaker c.report_round.ensures.goes_on
     (λ seen added _ _ f. record {
@@ -32,7 +32,7 @@ returns-in-Some-clause-takes g c =
 
 pub returns-in-None-clause-runs : goal.returns-in-None-clause-runs
 returns-in-None-clause-runs g c =
-    let other = rw c.in-None.is at c.round_in.ensures.none in
+    let other = rw c.in-None.is at c.round.ensures.none in
     rw c.of_other.ensures
     (Goes-weaker c.run_line.ensures.runs
     (λ seen added _ _ f. record {

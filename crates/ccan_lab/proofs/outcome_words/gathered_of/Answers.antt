@@ -1,7 +1,11 @@
-use Rattle.std.proofs.Common.{◌≡◌, Bool, Option, Some, None, IfSome, IfNone, subst, sym}
+use Rattle.std.proofs.Common.{◌≡◌, Bool, Option, Some, None, IfSome, IfNone, rules, subst, sym}
+use Rattle.std.proofs.lemmas.Result.{IfErr-weaker}
 use Rattle.ccan_outcomes.specs.RaceScript.{fields_of}
 use Rattle.ccan_outcomes.specs.Ending.{AreAllEnds}
 use Rattle.ccan_outcomes.specs.OutcomeWords.{endings_in}
+use Rattle.ccan_outcomes.specs.contracts.all_ports.AllPortsPartialEq.TheImpl.{ghosts as ports_are}
+use Rattle.ccan_lab.specs.declared.lab_error.LabError.TheVariants as fault
+use Rattle.ccan_lab.specs.Words.{HasNoGraph}
 use Rattle.ccan_lab.proofs.outcome_words.gathered_of.Goals as goal
 
 of_some : {T : Type 0} (P : T → Type 0) (o : Option T) (found : T) → o ≡ Some found → IfSome o P → P found
@@ -44,3 +48,16 @@ returns-in_ok-line_ends_of-in-None-clause-gathered g c = record {
   whole = c.in_ok-line_ends_of-in-None.ensures.whole;
   said = c.in_ok-line_ends_of-in-None.ensures.said;
 }
+
+-- memory ran out
+pub returns-in_err-words-clause-without : goal.returns-in_err-words-clause-without
+returns-in_err-words-clause-without g c =
+    IfErr-weaker c.from_residual-in_err-words.result (λ why. why ≡ fault.Memory) _
+    (λ why is. subst (HasNoGraph (fields_of c.args.race.now) ports_are.eq c.args.most) (sym is) tt)
+    (search (rules, c.from_residual-in_err-words.ensures))
+
+pub returns-in_err-line_ends_of-in-None-clause-without : goal.returns-in_err-line_ends_of-in-None-clause-without
+returns-in_err-line_ends_of-in-None-clause-without g c =
+    IfErr-weaker c.from_residual-in_err-line_ends_of-in-None.result (λ why. why ≡ fault.Memory) _
+    (λ why is. subst (HasNoGraph (fields_of c.args.race.now) ports_are.eq c.args.most) (sym is) tt)
+    (search (rules, c.from_residual-in_err-line_ends_of-in-None.ensures))

@@ -18,8 +18,8 @@ returns-in-Err-clause-reads c =
     let vs = c.args.values.now in
     let i = c.loop-value.value-index in
     let v = c.value-item.result in
-    found (frame_fault c.args.nodes) vs i v c.in-Err.fault c.loop-value-test.true c.loop-value.invariant.passed
-    (ap (λ (w : Value). frame_fault c.args.nodes (view w)) (sym c.value-item.is) ∙ c.in-Err.ensures.reads)
+    found (frame_fault c.args.context.nodes) vs i v c.in-Err.fault c.loop-value-test.true c.loop-value.invariant.passed
+    (ap (λ (w : Value). frame_fault c.args.context.nodes (view w)) (sym c.value-item.is) ∙ c.in-Err.ensures.reads)
 
 pub loop-value-preserved : goal.loop-value-preserved
 unfolding frames_fault
@@ -29,11 +29,11 @@ loop-value-preserved c =
     let v = c.value-item.result in
     let inv = c.loop-value.invariant in
     record {
-      passed = more (frame_fault c.args.nodes) vs i v c.loop-value-test.true inv.passed
-          ∙ ap (λ (w : Value). frame_fault c.args.nodes (view w)) (sym c.value-item.is) ∙ c.in-Ok.ensures.reads.0;
+      passed = more (frame_fault c.args.context.nodes) vs i v c.loop-value-test.true inv.passed
+          ∙ ap (λ (w : Value). frame_fault c.args.context.nodes (view w)) (sym c.value-item.is) ∙ c.in-Ok.ensures.reads.0;
       items = kept sending_of vs i v _ _ c.in-Ok.sending c.loop-value-test.true inv.items
           (c.in-Ok.ensures.reads.1 ∙ ap (λ (w : Value). sending_of (view w)) c.value-item.is) c.push.ensures.items;
       many = omega (arith, c.push.ensures.len, inv.many);
       senders = rw c.push.ensures.items
-          (All-push (λ s. (1 ≤ s.0) × (s.0 ≤ c.args.nodes)) _ c.in-Ok.sending inv.senders c.in-Ok.ensures.sender);
+          (All-push (λ s. (1 ≤ s.0) × (s.0 ≤ c.args.context.nodes)) _ c.in-Ok.sending inv.senders c.in-Ok.ensures.sender);
     }

@@ -7,8 +7,8 @@ use Rattle.ccan_script.proofs.round.read_frames.Given as goal
 -- the frames so far have no fault, and have been read
 abbrev pub invariant-loop-value : goal.invariant-loop-value
 invariant-loop-value l = record {
-  passed : frames_fault l.nodes (map view (take l.value-index l.values)) ≡ None;
+  passed : frames_fault l.context.nodes (map view (take l.value-index l.values)) ≡ None;
   items : l.sends.items ≡ map sending_of (map view (take l.value-index l.values));
   many : length l.sends.items ≡ l.value-index;
-  senders : All (λ sending. (1 ≤ sending.0) × (sending.0 ≤ l.nodes)) l.sends.items;
+  senders : All (λ sending. (1 ≤ sending.0) × (sending.0 ≤ l.context.nodes)) l.sends.items;
 }

@@ -1,8 +1,0 @@
-use Rattle.std.proofs.Common.{◌∙◌, sym}
-use Rattle.ccan_script.specs.Json.{has_only}
-use Rattle.ccan_check.proofs.Checks.{names_known}
-use Rattle.ccan_check.proofs.member_checks.has_only.Goals as goal
-
-pub returns-in-Some : goal.returns-in-Some
-unfolding has_only
-returns-in-Some c = rw (sym c.in-Some.ensures) (c.are_among.ensures ∙ names_known c.args.members.now c.in-Some.object.now.entries)
