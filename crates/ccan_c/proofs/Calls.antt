@@ -9,7 +9,7 @@ use Rattle.ccan_ram.specs.Terms.{Terms}
 use Rattle.ccan_chip.specs.declared.chip_bus.ChipBus.{ChipBus}
 use Rattle.ccan_chip.specs.Arrival.{unloaded}
 use Rattle.ccan_endless.specs.Chip.{ChipHistory}
-use Rattle.ccan_map.specs.declared.map.Map.{Map}
+use Rattle.ccan_chip.specs.declared.map.Map.{Map}
 use Rattle.ccan_registers.specs.declared.interface_set.InterfaceSet.{InterfaceSet}
 use Rattle.ccan_registers.specs.ChipSteps.{terms_at}
 use Rattle.ccan_registers.specs.Frames.{StationState}

@@ -29,7 +29,7 @@ use Rattle.ccan_line.specs.Limits.{most_frames, most_groups, most_turns}
 use Rattle.ccan_line.proofs.ChoicesApart.{at_once_apart}
 use Rattle.ccan_line.proofs.LoadsApart.{loads_apart}
 use Rattle.ccan_line.proofs.ScansApart.{watches_apart}
-use Rattle.ccan_map.specs.declared.map.Map.{Map}
+use Rattle.ccan_chip.specs.declared.map.Map.{Map}
 use Rattle.ccan_registers.specs.declared.interface_set.InterfaceSet.{InterfaceSet}
 use Rattle.ccan_registers.specs.Frames.{BeginsOnChip, EndsOnChip, StationState}
 use Rattle.ccan_registers.specs.Objects.{ShowsObject, WaitsFor}

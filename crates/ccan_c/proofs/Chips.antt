@@ -6,7 +6,7 @@ use Rattle.ccan_ram.specs.declared.port.PortName.TheVariants.{If1, If2, Bus}
 use Rattle.ccan_ram.specs.SharedRam.{Memory, IsMemoryOf}
 use Rattle.ccan_endless.specs.Layout.{most}
 use Rattle.ccan_endless.specs.ChipPort.{ChipPass}
-use Rattle.ccan_map.specs.declared.map.Map.{Map}
+use Rattle.ccan_chip.specs.declared.map.Map.{Map}
 use Rattle.ccan_registers.specs.declared.interface_set.InterfaceSet.{InterfaceSet}
 use Rattle.ccan_c.specs.declared.begin.Begin.{Begin}
 use Rattle.ccan_c.specs.declared.chip.Chip.{Chip}

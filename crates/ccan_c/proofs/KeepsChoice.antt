@@ -42,7 +42,7 @@ use Rattle.ccan_c.specs.Host.{flag_numbered}
 use Rattle.ccan_c.specs.Round.{fault_numbered, is_frame}
 use Rattle.ccan_c.specs.Settings.{is_from_one_to}
 use Rattle.ccan_c.specs.Wire.{is_flaw, is_wire, most_members}
-use Rattle.ccan_map.specs.declared.map.Map.{Map}
+use Rattle.ccan_chip.specs.declared.map.Map.{Map}
 
 same_choice : (p q : BusPast) → p ≡ q → p.choice ≡ q.choice
 same_choice p q is = ap (λ (past : BusPast). past.choice) is

@@ -6,7 +6,7 @@ use Rattle.ccan_ram.specs.SharedRam.{Memory, IsMemoryOf}
 use Rattle.ccan_endless.specs.declared.final_chip.FinalChip.{FinalChip}
 use Rattle.ccan_endless.specs.ChipEnding.{ChipEnds}
 use Rattle.ccan_endless.specs.Layout.{most}
-use Rattle.ccan_map.specs.declared.map.Map.{Map}
+use Rattle.ccan_chip.specs.declared.map.Map.{Map}
 use Rattle.ccan_c.specs.declared.held.Held.{Held}
 use Rattle.ccan_c.specs.declared.chip.Chip.{Chip}
 use Rattle.ccan_c.specs.declared.shown_final.ShownFinal.{ShownFinal}

@@ -14,7 +14,7 @@ use Rattle.ccan_endless.specs.declared.controller_changed.ControllerBusy.{Contro
 use Rattle.ccan_endless.specs.declared.controller_changed.ControllerChanged.{ControllerChanged}
 use Rattle.ccan_endless.specs.Chip.{ChipHistory}
 use Rattle.ccan_line.specs.declared.line_answer.LineAnswer.TheVariants as answer
-use Rattle.ccan_map.specs.declared.map.Map.{Map}
+use Rattle.ccan_chip.specs.declared.map.Map.{Map}
 use Rattle.ccan_registers.specs.declared.access_error.AccessError.{AccessError}
 use Rattle.ccan_registers.specs.ChipSteps.{Changes, ChipGoes}
 use Rattle.ccan_registers.specs.Frames.{BeginsOnChip, EndsOnChip, StationState, StaysOnChip}

@@ -4,7 +4,7 @@ use Rattle.ccan_ram.specs.SharedRam.{Pass}
 use Rattle.ccan_endless.specs.ChipPort.{ChipPass}
 use Rattle.ccan_bus.specs.Bus.{LedTo}
 use Rattle.ccan_bus.specs.Past as past
-use Rattle.ccan_map.specs.declared.map.Map.{Map}
+use Rattle.ccan_chip.specs.declared.map.Map.{Map}
 use Rattle.ccan_registers.specs.declared.interface_set.InterfaceSet.{InterfaceSet}
 use Rattle.ccan_registers.specs.ChipSteps.{SeesChip}
 use Rattle.ccan_registers.specs.Frames.{StationState, at_rest, state_of}

@@ -10,7 +10,7 @@ use Rattle.ccan_line.specs.declared.line_answer.LineAnswer.{LineAnswer}
 use Rattle.ccan_line.specs.Limits.{most_turns}
 use Rattle.ccan_endless.specs.Chip.{ChipHistory}
 use Rattle.ccan_endless.specs.Note.{Told}
-use Rattle.ccan_map.specs.declared.map.Map.{Map}
+use Rattle.ccan_chip.specs.declared.map.Map.{Map}
 use Rattle.ccan_registers.specs.declared.access_error.AccessError.{AccessError}
 use Rattle.ccan_registers.specs.declared.access_error.AccessError.TheVariants as why
 use Rattle.ccan_registers.specs.declared.interface_set.InterfaceSet.{InterfaceSet}

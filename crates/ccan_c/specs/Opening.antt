@@ -5,8 +5,8 @@ use Rattle.ccan_ram.specs.declared.port.PortName.{PortName}
 use Rattle.ccan_ram.specs.SharedRam.{Memory, opened}
 use Rattle.ccan_endless.specs.Chip.{ChipHistory}
 use Rattle.ccan_endless.specs.ChipPort.{ChipPass, begun_by, reset_history}
-use Rattle.ccan_map.specs.declared.map.Map.{Map}
-use Rattle.ccan_map.specs.declared.map.Map.TheVariants.{Narrow}
+use Rattle.ccan_chip.specs.declared.map.Map.{Map}
+use Rattle.ccan_chip.specs.declared.map.Map.TheVariants.{Narrow}
 use Rattle.ccan_registers.specs.declared.interface_set.InterfaceSet.{InterfaceSet}
 use Rattle.ccan_registers.specs.Dcan.{reset_of}
 use Rattle.ccan_registers.specs.InterfaceSet.{reset_set, zero_set}

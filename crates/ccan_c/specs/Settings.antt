@@ -5,8 +5,8 @@ use Rattle.ccan_object.specs.declared.profile.Profile.{Profile}
 use Rattle.ccan_object.specs.declared.profile.Profile.TheVariants.{One, Two}
 use Rattle.ccan_ram.specs.Tries.{most_tries}
 use Rattle.ccan_line.specs.Limits.{most_nodes}
-use Rattle.ccan_map.specs.declared.map.Map.{Map}
-use Rattle.ccan_map.specs.declared.map.Map.TheVariants.{Narrow, Wide, Dcan}
+use Rattle.ccan_chip.specs.declared.map.Map.{Map}
+use Rattle.ccan_chip.specs.declared.map.Map.TheVariants.{Narrow, Wide, Dcan}
 use Rattle.ccan_c.specs.Codes.{profile_range, nodes_range, tries_range, map_range}
 
 -- the profile of this number

@@ -1,5 +1,5 @@
 use crate::settings::Settings;
-use ccan_map::Map;
+use ccan_chip::Map;
 use ccan_registers::InterfaceSet;
 
 /// What each handle of a chip begins with.

@@ -6,10 +6,9 @@ ghost use Rattle.ccan_c.specs.Bus as named;
 use crate::held::Held;
 use crate::offer::Sends;
 use ccan_bus::{Fault, LoadAnswer, RoundLine};
-use ccan_chip::ChipReport;
+use ccan_chip::{ChipReport, Map};
 use ccan_confine::{ControlRegister, Controller, ControllerChange, Counters, TestRegister};
 use ccan_endless::{ControllerBusy, ControllerChanged};
-use ccan_map::Map;
 use ccan_object::{ObjectNo, Record};
 use ccan_registers::{
     AccessError, load, look, read_status, recessive, reset, reset_of, round, write_controller,
@@ -25,7 +24,7 @@ impl Held {
     ghost use Rattle.ccan_ram.specs.declared.port.PortName.TheVariants.{Bus};
     ghost use Rattle.ccan_endless.specs.declared.chip.ControllerStep.TheVariants.{Look};
     ghost use Rattle.ccan_endless.specs.Chip.{MayMake};
-    ghost use Rattle.ccan_map.specs.declared.map.Map.TheVariants.{Narrow};
+    ghost use Rattle.ccan_chip.specs.declared.map.Map.TheVariants.{Narrow};
     ghost use Rattle.ccan_registers.specs.ChipSteps.{AtController, Makes};
     ghost use Rattle.ccan_registers.specs.Dcan.{reset_of};
     ghost use Rattle.ccan_registers.specs.Frames.{at_rest};

@@ -3,7 +3,7 @@ ghost use Rattle.ccan_line.specs.Limits.{most_nodes};
 ghost use Rattle.ccan_c.specs.Settings.{map_numbered, profile_numbered, settings_fault};
 
 use crate::code::{NODES_RANGE, PROFILE_RANGE, TRIES_RANGE};
-use ccan_map::Map;
+use ccan_chip::Map;
 use ccan_object::Profile;
 use ccan_ram::Tries;
 

@@ -13,10 +13,10 @@ use Rattle.ccan_process.specs.Process.{Ended}
 use Rattle.ccan_line.specs.Limits.{most_frames, most_groups}
 use Rattle.ccan_endless.specs.declared.controller_changed.ControllerBusy.{ControllerBusy}
 use Rattle.ccan_endless.specs.declared.controller_changed.ControllerChanged.{ControllerChanged}
-use Rattle.ccan_map.specs.declared.map.Map.{Map}
-use Rattle.ccan_map.specs.declared.map.Map.TheVariants.{Narrow}
-use Rattle.ccan_map.specs.declared.register.Register.{Register}
-use Rattle.ccan_map.specs.declared.register.Register.TheVariants as register
+use Rattle.ccan_chip.specs.declared.map.Map.{Map}
+use Rattle.ccan_chip.specs.declared.map.Map.TheVariants.{Narrow}
+use Rattle.ccan_chip.specs.declared.register.Register.{Register}
+use Rattle.ccan_chip.specs.declared.register.Register.TheVariants as register
 use Rattle.ccan_registers.specs.declared.byte.Byte.{Byte}
 use Rattle.ccan_registers.specs.declared.byte.Byte.TheVariants.{Lower, Upper}
 use Rattle.ccan_registers.specs.Bytes.{byte_in, has_reset, start_of}

@@ -4,10 +4,10 @@ use Rattle.std.specs.Option.{option_map_or}
 use Rattle.ccan_ram.specs.declared.port.PortName.{PortName}
 use Rattle.ccan_ram.specs.declared.port.PortName.TheVariants.{Bus}
 use Rattle.ccan_ram.specs.Terms.{Terms}
-use Rattle.ccan_map.specs.declared.interface.Interface.TheVariants.{One, Two}
-use Rattle.ccan_map.specs.declared.map.Map.{Map}
-use Rattle.ccan_map.specs.declared.register.Register.{Register}
-use Rattle.ccan_map.specs.declared.register.Register.TheVariants as register
+use Rattle.ccan_chip.specs.declared.interface.Interface.TheVariants.{One, Two}
+use Rattle.ccan_chip.specs.declared.map.Map.{Map}
+use Rattle.ccan_chip.specs.declared.register.Register.{Register}
+use Rattle.ccan_chip.specs.declared.register.Register.TheVariants as register
 use Rattle.ccan_process.specs.Process.{Ended, followed_by}
 use Rattle.ccan_registers.specs.declared.interface_set.InterfaceSet.{InterfaceSet}
 use Rattle.ccan_registers.specs.Bytes.{byte_in, byte_told, start_of}

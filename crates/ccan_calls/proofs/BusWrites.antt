@@ -9,12 +9,12 @@ use Rattle.ccan_ram.specs.declared.port.PortName.TheVariants.{Bus}
 use Rattle.ccan_ram.specs.Terms.{Terms}
 use Rattle.ccan_process.specs.Process.{Does, Ended, followed_by}
 use Rattle.ccan_endless.specs.Chip.{ChipHistory}
-use Rattle.ccan_map.specs.declared.interface.Interface.{Interface}
-use Rattle.ccan_map.specs.declared.interface.Interface.TheVariants.{One, Two}
-use Rattle.ccan_map.specs.declared.map.Map.{Map}
-use Rattle.ccan_map.specs.declared.map.Map.TheVariants.{Dcan, Narrow, Wide}
-use Rattle.ccan_map.specs.declared.register.Register.{Register}
-use Rattle.ccan_map.specs.declared.register.Register.TheVariants as register
+use Rattle.ccan_chip.specs.declared.interface.Interface.{Interface}
+use Rattle.ccan_chip.specs.declared.interface.Interface.TheVariants.{One, Two}
+use Rattle.ccan_chip.specs.declared.map.Map.{Map}
+use Rattle.ccan_chip.specs.declared.map.Map.TheVariants.{Dcan, Narrow, Wide}
+use Rattle.ccan_chip.specs.declared.register.Register.{Register}
+use Rattle.ccan_chip.specs.declared.register.Register.TheVariants as register
 use Rattle.ccan_object.specs.declared.register.Reg.{Reg}
 use Rattle.ccan_object.specs.Interface.{set_register}
 use Rattle.ccan_registers.specs.declared.access_error.AccessError.TheVariants as why

@@ -10,10 +10,10 @@ use Rattle.ccan_confine.specs.RegisterWords.{error_counter_word}
 use Rattle.ccan_ram.specs.Terms.{Terms}
 use Rattle.ccan_process.specs.Process.{Ended}
 use Rattle.ccan_endless.specs.Chip.{ChipHistory}
-use Rattle.ccan_map.specs.declared.map.Map.{Map}
-use Rattle.ccan_map.specs.declared.register.Register.{Register}
-use Rattle.ccan_map.specs.declared.register.Register.TheVariants as register
-use Rattle.ccan_map.specs.FlagPart.{index_of}
+use Rattle.ccan_chip.specs.declared.map.Map.{Map}
+use Rattle.ccan_chip.specs.declared.register.Register.{Register}
+use Rattle.ccan_chip.specs.declared.register.Register.TheVariants as register
+use Rattle.ccan_chip.specs.FlagPart.{index_of}
 use Rattle.ccan_registers.specs.declared.access_error.AccessError.TheVariants.{OtherInterface}
 use Rattle.ccan_registers.specs.declared.interface_set.InterfaceSet.{InterfaceSet}
 use Rattle.ccan_registers.specs.Bytes.{ReadsByte, byte_in, byte_told, start_of}

@@ -9,19 +9,19 @@ use Rattle.ccan_object.specs.declared.register.Reg.TheVariants.{CMask, Mask1, Ma
 use Rattle.ccan_object.specs.Profile.{objects_in}
 use Rattle.ccan_ram.specs.declared.flag.Flag.{Flag}
 use Rattle.ccan_ram.specs.declared.flag.Flag.TheVariants.{NewDat, MsgLst, IntPnd, TxRqst, MsgVal}
-use Rattle.ccan_map.specs.declared.flag_part.FlagPart.{FlagPart}
-use Rattle.ccan_map.specs.declared.flag_part.FlagPart.TheVariants.{First, Second, Third, Fourth}
-use Rattle.ccan_map.specs.declared.interface.Interface.{Interface}
-use Rattle.ccan_map.specs.declared.interface.Interface.TheVariants.{One, Two}
-use Rattle.ccan_map.specs.declared.map.Map.{Map}
-use Rattle.ccan_map.specs.declared.map.Map.TheVariants.{Dcan, Narrow, Wide}
-use Rattle.ccan_map.specs.declared.register.Register.{Register}
-use Rattle.ccan_map.specs.declared.register.Register.TheVariants as register
-use Rattle.ccan_map.specs.FlagPart.{index_of}
-use Rattle.ccan_map.specs.Map.{offset_of}
-use Rattle.ccan_map.specs.FlagPart.{HasObjectsOf}
-use Rattle.ccan_map.specs.Register.{HasRegisters, IsIn}
-use Rattle.ccan_map.proofs.MapPlaces.{apart}
+use Rattle.ccan_chip.specs.declared.flag_part.FlagPart.{FlagPart}
+use Rattle.ccan_chip.specs.declared.flag_part.FlagPart.TheVariants.{First, Second, Third, Fourth}
+use Rattle.ccan_chip.specs.declared.interface.Interface.{Interface}
+use Rattle.ccan_chip.specs.declared.interface.Interface.TheVariants.{One, Two}
+use Rattle.ccan_chip.specs.declared.map.Map.{Map}
+use Rattle.ccan_chip.specs.declared.map.Map.TheVariants.{Dcan, Narrow, Wide}
+use Rattle.ccan_chip.specs.declared.register.Register.{Register}
+use Rattle.ccan_chip.specs.declared.register.Register.TheVariants as register
+use Rattle.ccan_chip.specs.FlagPart.{index_of}
+use Rattle.ccan_chip.specs.Map.{offset_of}
+use Rattle.ccan_chip.specs.FlagPart.{HasObjectsOf}
+use Rattle.ccan_chip.specs.Register.{HasRegisters, IsIn}
+use Rattle.ccan_chip.proofs.MapPlaces.{apart}
 use Rattle.ccan_registers.specs.Register.{HasNone, IsAt}
 use Rattle.ccan_calls.specs.Offsets.{all_flags, all_parts, all_registers, all_regs, flag_registers, has_register, has_words, interface_registers, is_at, register_at}
 use Rattle.ccan_calls.proofs.Finding.{Found, Has, first_found, has_first, has_flat, has_map, has_second}

@@ -1,7 +1,7 @@
 -- A thread of whose calls none got the code for busy or for spent was refused nothing but a join.
 use Rattle.std.proofs.Common.{ℕ, inl, inr, List, [], ◌∷◌, map, sym, ap, subst, ◌∙◌}
 use Rattle.ccan_ram.specs.Terms.{Terms}
-use Rattle.ccan_map.specs.declared.map.Map.{Map}
+use Rattle.ccan_chip.specs.declared.map.Map.{Map}
 use Rattle.ccan_c.specs.FrameCall.{BusState}
 use Rattle.ccan_c.specs.HostCall.{code_got}
 use Rattle.ccan_calls.specs.Answer.{Answer, CallProcess, Place}

@@ -5,7 +5,7 @@ use Rattle.ccan_ram.specs.Terms.{Terms}
 use Rattle.ccan_bus.specs.declared.choice.Choice.TheVariants.{AtOnce}
 use Rattle.ccan_bus.specs.Past.{BusPast}
 use Rattle.ccan_endless.specs.Chip.{ChipHistory}
-use Rattle.ccan_map.specs.declared.map.Map.{Map}
+use Rattle.ccan_chip.specs.declared.map.Map.{Map}
 use Rattle.ccan_registers.specs.Frames.{StationState}
 use Rattle.ccan_c.specs.BusCall.{BusCall, BusCallMeans, code_got as code_on, station_after}
 use Rattle.ccan_c.specs.BusCall as bus

@@ -3,12 +3,12 @@ use Rattle.std.proofs.Common.{ℕ, ◌≡◌, ◌+◌, ◌&&◌, Bool, true, Opt
 use Rattle.std.proofs.lemmas.Bool.{and_parts, false≢true}
 use Rattle.ccan_object.specs.declared.profile.Profile.{Profile}
 use Rattle.ccan_ram.specs.declared.flag.Flag.{Flag}
-use Rattle.ccan_map.specs.declared.flag_part.FlagPart.{FlagPart}
-use Rattle.ccan_map.specs.declared.map.Map.{Map}
-use Rattle.ccan_map.specs.declared.register.Register.{Register}
-use Rattle.ccan_map.specs.declared.register.Register.TheVariants as register
-use Rattle.ccan_map.specs.Register.{HasRegisters, IsIn}
-use Rattle.ccan_map.specs.declared.map.Map.TheVariants.{Dcan, Narrow, Wide}
+use Rattle.ccan_chip.specs.declared.flag_part.FlagPart.{FlagPart}
+use Rattle.ccan_chip.specs.declared.map.Map.{Map}
+use Rattle.ccan_chip.specs.declared.register.Register.{Register}
+use Rattle.ccan_chip.specs.declared.register.Register.TheVariants as register
+use Rattle.ccan_chip.specs.Register.{HasRegisters, IsIn}
+use Rattle.ccan_chip.specs.declared.map.Map.TheVariants.{Dcan, Narrow, Wide}
 use Rattle.ccan_registers.specs.Register.{AreControl, AreFlags, AreTiming, IsAt}
 use Rattle.ccan_calls.specs.Offsets.{FlagWord, all_flag_words, all_flags, all_parts, are_halves, flag_word_at, is_at}
 use Rattle.ccan_calls.proofs.Finding.{Found, Has, first_found, has_flat, has_map}

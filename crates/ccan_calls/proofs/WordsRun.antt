@@ -10,10 +10,10 @@ use Rattle.ccan_ram.specs.declared.flag.Flag.{Flag}
 use Rattle.ccan_ram.specs.Terms.{Terms}
 use Rattle.ccan_process.specs.Process.{Ended}
 use Rattle.ccan_endless.specs.Chip.{ChipHistory}
-use Rattle.ccan_map.specs.declared.flag_part.FlagPart.{FlagPart}
-use Rattle.ccan_map.specs.declared.map.Map.{Map}
-use Rattle.ccan_map.specs.declared.register.Register.TheVariants.{BitTiming, Control, ControlUpper, Extension}
-use Rattle.ccan_map.specs.FlagPart.{index_of}
+use Rattle.ccan_chip.specs.declared.flag_part.FlagPart.{FlagPart}
+use Rattle.ccan_chip.specs.declared.map.Map.{Map}
+use Rattle.ccan_chip.specs.declared.register.Register.TheVariants.{BitTiming, Control, ControlUpper, Extension}
+use Rattle.ccan_chip.specs.FlagPart.{index_of}
 use Rattle.ccan_registers.specs.declared.interface_set.InterfaceSet.{InterfaceSet}
 use Rattle.ccan_registers.specs.ChipSteps.{Then}
 use Rattle.ccan_registers.specs.Dcan.{asks_for_reset}

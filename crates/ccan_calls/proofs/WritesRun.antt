@@ -21,10 +21,10 @@ use Rattle.ccan_line.specs.declared.line_answer.LineAnswer.{LineAnswer}
 use Rattle.ccan_endless.specs.declared.controller_changed.ControllerBusy.{ControllerBusy}
 use Rattle.ccan_endless.specs.declared.controller_changed.ControllerChanged.{ControllerChanged}
 use Rattle.ccan_endless.specs.Chip.{ChipHistory}
-use Rattle.ccan_map.specs.declared.map.Map.{Map}
-use Rattle.ccan_map.specs.declared.map.Map.TheVariants.{Dcan, Narrow, Wide}
-use Rattle.ccan_map.specs.declared.register.Register.{Register}
-use Rattle.ccan_map.specs.declared.register.Register.TheVariants as register
+use Rattle.ccan_chip.specs.declared.map.Map.{Map}
+use Rattle.ccan_chip.specs.declared.map.Map.TheVariants.{Dcan, Narrow, Wide}
+use Rattle.ccan_chip.specs.declared.register.Register.{Register}
+use Rattle.ccan_chip.specs.declared.register.Register.TheVariants as register
 use Rattle.ccan_registers.specs.declared.access_error.AccessError.TheVariants.{OtherInterface}
 use Rattle.ccan_registers.specs.declared.byte.Byte.{Byte}
 use Rattle.ccan_registers.specs.declared.byte.Byte.TheVariants.{Lower, Upper}

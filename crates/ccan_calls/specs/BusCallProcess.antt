@@ -15,8 +15,8 @@ use Rattle.ccan_line.specs.declared.line_answer.LineAnswer.TheVariants as answer
 use Rattle.ccan_line.specs.Limits.{most_frames, most_groups}
 use Rattle.ccan_endless.specs.declared.controller_changed.ControllerBusy.{ControllerBusy}
 use Rattle.ccan_endless.specs.declared.controller_changed.ControllerChanged.{ControllerChanged}
-use Rattle.ccan_map.specs.declared.map.Map.{Map}
-use Rattle.ccan_map.specs.declared.map.Map.TheVariants.{Narrow}
+use Rattle.ccan_chip.specs.declared.map.Map.{Map}
+use Rattle.ccan_chip.specs.declared.map.Map.TheVariants.{Narrow}
 use Rattle.ccan_registers.specs.ChipSteps.{made_or_busy}
 use Rattle.ccan_registers.specs.InterfaceSet.{zero_set}
 use Rattle.ccan_registers.specs.Register.{read_of, status_told}

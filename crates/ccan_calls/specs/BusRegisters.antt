@@ -5,9 +5,9 @@ use Rattle.std.specs.Option.{option_map_or}
 use Rattle.ccan_confine.specs.declared.controller_change.ControllerChange.TheVariants.{ResetDcan, WriteControl, WriteTiming}
 use Rattle.ccan_confine.specs.RegisterWords.{control_in}
 use Rattle.ccan_ram.specs.Terms.{Terms}
-use Rattle.ccan_map.specs.declared.map.Map.{Map}
-use Rattle.ccan_map.specs.declared.register.Register.{Register}
-use Rattle.ccan_map.specs.declared.register.Register.TheVariants as register
+use Rattle.ccan_chip.specs.declared.map.Map.{Map}
+use Rattle.ccan_chip.specs.declared.register.Register.{Register}
+use Rattle.ccan_chip.specs.declared.register.Register.TheVariants as register
 use Rattle.ccan_process.specs.Process.{Does, Ended, followed_by}
 use Rattle.ccan_registers.specs.declared.access_error.AccessError.TheVariants as why
 use Rattle.ccan_registers.specs.declared.byte.Byte.{Byte}

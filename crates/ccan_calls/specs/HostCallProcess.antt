@@ -8,7 +8,7 @@ use Rattle.ccan_ram.specs.Terms.{Terms}
 use Rattle.ccan_process.specs.Process.{Does, Ended}
 use Rattle.ccan_line.specs.Limits.{most_turns}
 use Rattle.ccan_endless.specs.Chip.{ChipHistory}
-use Rattle.ccan_map.specs.declared.map.Map.{Map}
+use Rattle.ccan_chip.specs.declared.map.Map.{Map}
 use Rattle.ccan_registers.specs.declared.interface_set.InterfaceSet.{InterfaceSet}
 use Rattle.ccan_registers.specs.Clearing.{zeros}
 use Rattle.ccan_c.specs.Answer.{code_of}

@@ -14,7 +14,7 @@ use Rattle.ccan_bus.specs.Past.{BusPast}
 use Rattle.ccan_process.specs.Process.{Ended}
 use Rattle.ccan_endless.specs.Chip.{ChipHistory, GoesFrom}
 use Rattle.ccan_line.specs.Limits.{most_nodes}
-use Rattle.ccan_map.specs.declared.map.Map.{Map}
+use Rattle.ccan_chip.specs.declared.map.Map.{Map}
 use Rattle.ccan_registers.specs.declared.interface_set.InterfaceSet.{InterfaceSet}
 use Rattle.ccan_registers.specs.Resetting.{ResetsChip}
 use Rattle.ccan_saved.specs.Looks.{LooksAtAll}

@@ -1,7 +1,7 @@
 -- A thread none of whose calls answered CCAN_BUSY or CCAN_SPENT was refused nothing but a join. Source: this project's own.
 use Rattle.std.specs.Prelude.{ℕ, ◌≢◌, List, [], ◌∷◌, map}
 use Rattle.ccan_ram.specs.Terms.{Terms}
-use Rattle.ccan_map.specs.declared.map.Map.{Map}
+use Rattle.ccan_chip.specs.declared.map.Map.{Map}
 use Rattle.ccan_registers.specs.declared.interface_set.InterfaceSet.{InterfaceSet}
 use Rattle.ccan_c.specs.Codes.{busy, spent}
 use Rattle.ccan_c.specs.FrameCall.{BusState, CallOnBus}

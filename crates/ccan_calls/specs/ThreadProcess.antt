@@ -3,7 +3,7 @@ use Rattle.std.specs.Prelude.{ℕ, ◌≡◌, List, [], ◌∷◌, ◌++◌, if�
 use Rattle.ccan_ram.specs.Terms.{Terms}
 use Rattle.ccan_process.specs.Process.{Ended, followed_by}
 use Rattle.ccan_endless.specs.Chip.{ChipHistory}
-use Rattle.ccan_map.specs.declared.map.Map.{Map}
+use Rattle.ccan_chip.specs.declared.map.Map.{Map}
 use Rattle.ccan_bus.specs.Past.{BusPast}
 use Rattle.ccan_registers.specs.Frames.{StationState, at_rest}
 use Rattle.ccan_c.specs.BusCall.{code_got as code_on, is_played}

@@ -7,9 +7,9 @@ use Rattle.ccan_confine.specs.declared.controller.Controller.{Controller}
 use Rattle.ccan_confine.specs.declared.controller_change.ControllerChange.TheVariants.{ResetDcan, WriteControl, WriteTiming}
 use Rattle.ccan_confine.specs.RegisterWords.{control_in}
 use Rattle.ccan_ram.specs.Terms.{Terms}
-use Rattle.ccan_map.specs.declared.map.Map.{Map}
-use Rattle.ccan_map.specs.declared.register.Register.TheVariants.{BitTiming, Control, ControlUpper, Extension}
-use Rattle.ccan_map.specs.FlagPart.{index_of}
+use Rattle.ccan_chip.specs.declared.map.Map.{Map}
+use Rattle.ccan_chip.specs.declared.register.Register.TheVariants.{BitTiming, Control, ControlUpper, Extension}
+use Rattle.ccan_chip.specs.FlagPart.{index_of}
 use Rattle.ccan_process.specs.Process.{Ended, followed_by}
 use Rattle.ccan_registers.specs.declared.interface_set.InterfaceSet.{InterfaceSet}
 use Rattle.ccan_registers.specs.Dcan.{asks_for_reset, control_shown, upper_shown}

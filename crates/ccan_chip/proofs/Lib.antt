@@ -3,3 +3,7 @@ pub mod Owns
 pub mod Rounds
 pub mod RoundLaws
 pub mod Since
+pub mod Parts
+pub mod NarrowPlaces
+pub mod DcanPlaces
+pub mod MapPlaces

@@ -3,3 +3,9 @@ pub mod Round
 pub mod Load
 pub mod Laws
 pub mod Objects
+pub mod FlagPart
+pub mod Register
+pub mod Narrow
+pub mod Dcan
+pub mod Map
+pub mod MapLaws

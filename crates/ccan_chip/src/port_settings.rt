@@ -1,4 +1,4 @@
-use ccan_map::Map;
+use crate::map::Map;
 use ccan_ram::Tries;
 
 /// How the calls on a port of a chip work.

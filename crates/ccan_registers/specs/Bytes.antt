@@ -11,10 +11,10 @@ use Rattle.ccan_confine.specs.declared.controller.Controller.{Controller}
 use Rattle.ccan_ram.specs.Terms.{Terms}
 use Rattle.ccan_endless.specs.declared.chip.ControllerStep.TheVariants.{Look}
 use Rattle.ccan_endless.specs.Chip.{ChipHistory}
-use Rattle.ccan_map.specs.declared.map.Map.{Map}
-use Rattle.ccan_map.specs.declared.map.Map.TheVariants.{Dcan, Narrow, Wide}
-use Rattle.ccan_map.specs.declared.register.Register.{Register}
-use Rattle.ccan_map.specs.declared.register.Register.TheVariants as register
+use Rattle.ccan_chip.specs.declared.map.Map.{Map}
+use Rattle.ccan_chip.specs.declared.map.Map.TheVariants.{Dcan, Narrow, Wide}
+use Rattle.ccan_chip.specs.declared.register.Register.{Register}
+use Rattle.ccan_chip.specs.declared.register.Register.TheVariants as register
 use Rattle.ccan_registers.specs.declared.access_error.AccessError.{AccessError}
 use Rattle.ccan_registers.specs.declared.byte.Byte.{Byte}
 use Rattle.ccan_registers.specs.declared.byte.Byte.TheVariants.{Lower, Upper}

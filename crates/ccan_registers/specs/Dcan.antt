@@ -26,10 +26,10 @@ use Rattle.ccan_ram.specs.declared.change.Refused.TheVariants as refused
 use Rattle.ccan_ram.specs.Attempt.{Attempt}
 use Rattle.ccan_ram.specs.Terms.{Terms}
 use Rattle.ccan_endless.specs.Chip.{ChipHistory}
-use Rattle.ccan_map.specs.declared.map.Map.{Map}
-use Rattle.ccan_map.specs.declared.map.Map.TheVariants.{Dcan, Narrow, Wide}
-use Rattle.ccan_map.specs.declared.register.Register.{Register}
-use Rattle.ccan_map.specs.declared.register.Register.TheVariants as register
+use Rattle.ccan_chip.specs.declared.map.Map.{Map}
+use Rattle.ccan_chip.specs.declared.map.Map.TheVariants.{Dcan, Narrow, Wide}
+use Rattle.ccan_chip.specs.declared.register.Register.{Register}
+use Rattle.ccan_chip.specs.declared.register.Register.TheVariants as register
 use Rattle.ccan_registers.specs.declared.access_error.AccessError.{AccessError}
 use Rattle.ccan_registers.specs.declared.access_error.AccessError.TheVariants.{Busy, Spent}
 use Rattle.ccan_registers.specs.declared.interface_set.InterfaceSet.{InterfaceSet}

@@ -25,16 +25,16 @@ use Rattle.ccan_endless.specs.declared.chip.ControllerStep.TheVariants.{Look}
 use Rattle.ccan_endless.specs.declared.controller_changed.ControllerBusy.{ControllerBusy}
 use Rattle.ccan_endless.specs.declared.controller_changed.ControllerChanged.{ControllerChanged}
 use Rattle.ccan_endless.specs.Chip.{ChipHistory}
-use Rattle.ccan_map.specs.declared.flag_part.FlagPart.{FlagPart}
-use Rattle.ccan_map.specs.declared.interface.Interface.{Interface}
-use Rattle.ccan_map.specs.declared.interface.Interface.TheVariants.{One, Two}
-use Rattle.ccan_map.specs.declared.map.Map.{Map}
-use Rattle.ccan_map.specs.declared.map.Map.TheVariants.{Dcan, Narrow, Wide}
-use Rattle.ccan_map.specs.declared.register.Register.{Register}
-use Rattle.ccan_map.specs.declared.register.Register.TheVariants as register
-use Rattle.ccan_map.specs.FlagPart.{index_of}
-use Rattle.ccan_map.specs.Map.{offset_of}
-use Rattle.ccan_map.specs.Register.{IsIn}
+use Rattle.ccan_chip.specs.declared.flag_part.FlagPart.{FlagPart}
+use Rattle.ccan_chip.specs.declared.interface.Interface.{Interface}
+use Rattle.ccan_chip.specs.declared.interface.Interface.TheVariants.{One, Two}
+use Rattle.ccan_chip.specs.declared.map.Map.{Map}
+use Rattle.ccan_chip.specs.declared.map.Map.TheVariants.{Dcan, Narrow, Wide}
+use Rattle.ccan_chip.specs.declared.register.Register.{Register}
+use Rattle.ccan_chip.specs.declared.register.Register.TheVariants as register
+use Rattle.ccan_chip.specs.FlagPart.{index_of}
+use Rattle.ccan_chip.specs.Map.{offset_of}
+use Rattle.ccan_chip.specs.Register.{IsIn}
 use Rattle.ccan_registers.specs.declared.access_error.AccessError.{AccessError}
 use Rattle.ccan_registers.specs.declared.access_error.AccessError.TheVariants.{Busy, OtherInterface, Spent}
 use Rattle.ccan_registers.specs.declared.interface_set.InterfaceSet.{InterfaceSet}

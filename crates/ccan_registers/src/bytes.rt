@@ -13,9 +13,8 @@ use crate::interface_set::InterfaceSet;
 use crate::offset_error::OffsetError;
 use crate::registers::{at_offset, is_own, read_at, write};
 use crate::resetting::reset;
-use ccan_chip::ChipPort;
+use ccan_chip::{ChipPort, Map, Register};
 use ccan_confine::ControllerChange;
-use ccan_map::{Map, Register};
 
 // ---- reads
 

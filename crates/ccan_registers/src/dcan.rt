@@ -9,9 +9,8 @@ ghost use Rattle.ccan_registers.specs.Dcan.{Sends, is_object_of, number_in};
 
 use crate::access_error::AccessError;
 use crate::interface_set::InterfaceSet;
-use ccan_chip::ChipPort;
+use ccan_chip::{ChipPort, Map, Register};
 use ccan_confine::{ControlRegister, Controller, ControllerChange, TestRegister};
-use ccan_map::{Map, Register};
 use ccan_object::{CommandMask, ObjectNo, Profile};
 use ccan_ram::{Change, Changed, Refused, Tries};
 

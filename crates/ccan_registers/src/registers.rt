@@ -1,7 +1,7 @@
 //! Reads and writes of the registers of a chip.
 ghost use Rattle.std.specs.Prelude.{◌≡◌, true, false, Ok, Err, Some};
 ghost use Rattle.ccan_object.specs.Interface.{set_register};
-ghost use Rattle.ccan_map.specs.declared.map.Map.TheVariants.{Dcan};
+ghost use Rattle.ccan_chip.specs.declared.map.Map.TheVariants.{Dcan};
 ghost use Rattle.ccan_ram.specs.declared.port.PortName.TheVariants.{Bus as BusPort};
 ghost use Rattle.ccan_endless.specs.Chip.{MayMake};
 ghost use Rattle.ccan_registers.specs.ChipSteps.{ChipGoes, Makes};
@@ -22,9 +22,8 @@ use crate::objects::{flags, interrupt};
 use crate::offset_error::OffsetError;
 use crate::resetting::reset;
 use crate::transfer_answer::TransferAnswer;
-use ccan_chip::ChipPort;
+use ccan_chip::{ChipPort, Interface, Map, Register};
 use ccan_confine::{Controller, ControllerChange, StatusFlags, TestRegister};
-use ccan_map::{Interface, Map, Register};
 use ccan_object::Reg;
 use ccan_ram::PortName;
 

@@ -1,6 +1,6 @@
 //! Reads and writes of two registers that make up a word of 32 bits.
 ghost use Rattle.std.specs.Prelude.{◌≡◌, ◌+◌, ◌<◌, ◌*◌, ◌/◌, ◌%◌, ◌^◌, ◌⊎◌, true, false, IfNone, IfSome, Some};
-ghost use Rattle.ccan_map.specs.declared.flag_part.FlagPart.{FlagPart};
+ghost use Rattle.ccan_chip.specs.declared.flag_part.FlagPart.{FlagPart};
 ghost use Rattle.ccan_ram.specs.declared.flag.Flag.{Flag};
 ghost use Rattle.ccan_ram.specs.declared.port.PortName.TheVariants.{Bus as BusPort};
 ghost use Rattle.ccan_confine.specs.declared.controller_change.ControllerChange.TheVariants.{WriteTiming};
@@ -19,9 +19,8 @@ use crate::objects::flags;
 use crate::offset_error::OffsetError;
 use crate::registers::{at_offset, read_at, write_at, write_controller};
 use crate::resetting::reset;
-use ccan_chip::ChipPort;
+use ccan_chip::{ChipPort, FlagPart, Map, Register};
 use ccan_confine::{BitTiming, ControlRegister, ControllerChange};
-use ccan_map::{FlagPart, Map, Register};
 use ccan_object::Profile;
 use ccan_ram::Flag;
 

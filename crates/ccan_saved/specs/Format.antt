@@ -9,7 +9,7 @@ use Rattle.ccan_object.specs.Command.{bits_of}
 use Rattle.ccan_object.specs.Packing.{packed}
 use Rattle.ccan_object.specs.Profile.{Holds, objects_in}
 use Rattle.ccan_object.specs.Record.{IsRecord, zero_record}
-use Rattle.ccan_map.specs.Map.{map_number}
+use Rattle.ccan_chip.specs.Map.{map_number}
 use Rattle.ccan_confine.specs.Controller.{IsController}
 use Rattle.ccan_confine.specs.Controller as controller
 use Rattle.ccan_ram.specs.Tries.{IsTries}

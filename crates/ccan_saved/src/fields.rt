@@ -2,8 +2,8 @@
 ghost use Rattle.std.specs.Prelude.{◌≡◌, ◌≤◌, IfOk};
 ghost use Rattle.ccan_object.specs.declared.profile.Profile.{Profile};
 ghost use Rattle.ccan_object.specs.Profile.{objects_in};
-ghost use Rattle.ccan_map.specs.declared.map.Map.{Map};
-ghost use Rattle.ccan_map.specs.Map.{map_number};
+ghost use Rattle.ccan_chip.specs.declared.map.Map.{Map};
+ghost use Rattle.ccan_chip.specs.Map.{map_number};
 ghost use Rattle.ccan_confine.specs.declared.controller.Controller.{Controller};
 ghost use Rattle.ccan_confine.specs.Controller.{IsController, packed};
 ghost use Rattle.ccan_ram.specs.Tries.{IsTries};
@@ -12,8 +12,8 @@ ghost use Rattle.ccan_registers.specs.declared.interface_set.InterfaceSet.{Inter
 ghost use Rattle.ccan_saved.specs.Format.{IsInterface, interface_words};
 
 use crate::field::Field;
+use ccan_chip::Map;
 use ccan_confine::Controller;
-use ccan_map::Map;
 use ccan_object::{CommandMask, Iface, Profile, Reg, unpack};
 use ccan_ram::Tries;
 use ccan_registers::InterfaceSet;

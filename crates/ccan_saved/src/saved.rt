@@ -1,5 +1,5 @@
+use ccan_chip::Map;
 use ccan_confine::Controller;
-use ccan_map::Map;
 use ccan_object::{MOST_OBJECTS, Profile, Record};
 use ccan_ram::Tries;
 use ccan_registers::InterfaceSet;

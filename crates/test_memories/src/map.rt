@@ -1,12 +1,12 @@
 //! Which register is at an offset: each offset of the three layouts as the manuals list it, and no other.
 
 use crate::expect::same;
-use ccan_map::Interface::{One, Two};
-use ccan_map::Register::{
+use ccan_chip::Interface::{One, Two};
+use ccan_chip::Register::{
     BitTiming, Buffer, Control, ControlUpper, ErrorCounter, Extension, Flags, Interrupt, Request,
     Status, Test,
 };
-use ccan_map::{FlagPart, Map, Register, laws};
+use ccan_chip::{FlagPart, Map, Register, map_laws};
 use ccan_object::Profile;
 use ccan_object::Reg::{Arb1, Arb2, CMask, Ctrl, DataA1, DataA2, DataB1, DataB2, Mask1, Mask2};
 use ccan_ram::flag::Flag;
@@ -151,5 +151,5 @@ fn layouts_have_numbers_and_parts_16_flags(rt: HostRuntime) {
     ] {
         same(&rt, (part, part.of(0x1122_3344_5566_7788)), (part, flags));
     }
-    laws::registers_lie_apart();
+    map_laws::registers_lie_apart();
 }

@@ -5,11 +5,11 @@ ghost use Rattle.ccan_ram.specs.declared.port.PortName.TheVariants.{Bus};
 ghost use Rattle.ccan_endless.specs.Chip.{MayMake};
 
 use crate::expect::holds;
+use ccan_chip::Map;
 use ccan_confine::{
     BusEvent, ControlRegister, ControllerChange, StatusEvent, StatusFlags, TestRegister,
 };
 use ccan_endless::{ControllerChanged, EndlessRam, Port};
-use ccan_map::Map;
 use ccan_object::{CommandMask, Iface, ObjectNo, Profile, Reg};
 use ccan_ram::{Change, SharedRam, Tries};
 use ccan_registers::InterfaceSet;

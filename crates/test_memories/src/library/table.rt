@@ -11,10 +11,9 @@ use ccan_c::{
     register_numbered, state_number, step_number,
 };
 use ccan_calls::laws;
-use ccan_chip::ChipReport;
+use ccan_chip::{ChipReport, FlagPart, Interface, Map, Register};
 use ccan_confine::{Controller, NodeState};
 use ccan_device::ChipDevice;
-use ccan_map::{FlagPart, Interface, Map, Register};
 use ccan_object::{Profile, Record, Reg};
 use ccan_ram::Flag;
 use std::alloc::Global;

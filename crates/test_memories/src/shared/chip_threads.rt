@@ -5,10 +5,9 @@ ghost use Rattle.ccan_ram.specs.declared.port.PortName.TheVariants.{If1, If2, Bu
 
 use crate::shared::chips::{changed, control};
 use ccan_bus::RoundLine;
-use ccan_chip::{ChipBus, ChipPort, PortSettings};
+use ccan_chip::{ChipBus, ChipPort, Map, PortSettings};
 use ccan_confine::{BusEvent, ControllerChange, Counters};
 use ccan_endless::{ControllerChanged, EndlessRam, FinalChip, Port};
-use ccan_map::Map;
 use ccan_object::Profile;
 use ccan_ram::Tries;
 use std::alloc::Global;

@@ -1,4 +1,4 @@
-use Rattle.ccan_map.specs.declared.map.Map.TheVariants.{Narrow}
+use Rattle.ccan_chip.specs.declared.map.Map.TheVariants.{Narrow}
 use Rattle.ccan_c.specs.Opening.{at_zero}
 use Rattle.ccan_c.proofs.Chips.{opens_as}
 use Rattle.ccan_c.proofs.opening.opened.Goals as goal

@@ -1,5 +1,5 @@
 use Rattle.std.proofs.Common.{ℕ, ap, subst, ◌∙◌}
-use Rattle.ccan_map.specs.declared.register.Register.TheVariants.{BitTiming}
+use Rattle.ccan_chip.specs.declared.register.Register.TheVariants.{BitTiming}
 use Rattle.ccan_endless.specs.declared.chip.ControllerStep.TheVariants.{Look}
 use Rattle.ccan_chip.specs.declared.port_settings.PortSettings.{PortSettings}
 use Rattle.ccan_registers.specs.Bytes.{with_byte}

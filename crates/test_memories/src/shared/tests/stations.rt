@@ -10,12 +10,11 @@ use super::message;
 use crate::expect::{BYTES, RECEIVER, change_of, frame, holds, same, shown, tries};
 use crate::shared::chips::{changed, looked};
 use ccan_bus::LoadAnswer;
-use ccan_chip::{ChipPort, OwnEvent, PortSettings};
+use ccan_chip::{ChipPort, Map, OwnEvent, PortSettings};
 use ccan_confine::{
     BusEvent, ControlRegister, Controller, ControllerChange, Counters, StatusEvent, TestRegister,
 };
 use ccan_endless::{EndlessRam, Port};
-use ccan_map::Map;
 use ccan_object::{Profile, Record, Reg};
 use ccan_ram::{Change, Changed, SharedRam, Tries};
 use ccan_station::{Plain, Station, laws};

@@ -1,8 +1,8 @@
 use Rattle.std.proofs.Common.{arith}
 use Rattle.ccan_ram.specs.declared.flag.Flag.TheVariants.{NewDat, IntPnd, TxRqst, MsgVal}
-use Rattle.ccan_map.specs.declared.interface.Interface.TheVariants.{One, Two}
-use Rattle.ccan_map.proofs.DcanPlaces.{at_interface, at_flag}
-use Rattle.ccan_map.proofs.dcan.register_at.Goals as goal
+use Rattle.ccan_chip.specs.declared.interface.Interface.TheVariants.{One, Two}
+use Rattle.ccan_chip.proofs.DcanPlaces.{at_interface, at_flag}
+use Rattle.ccan_chip.proofs.dcan.register_at.Goals as goal
 
 pub returns-in-256-to-278-clause-each : goal.returns-in-256-to-278-clause-each
 returns-in-256-to-278-clause-each c =

@@ -1,9 +1,9 @@
 //! D_CAN, whose registers of 32 bits are taken as halves of 16 bits.
 ghost use Rattle.std.specs.Prelude.{◌≡◌, IfSome};
 ghost use Rattle.ccan_object.specs.declared.register.Reg.{Reg};
-ghost use Rattle.ccan_map.specs.declared.register.Register.{Register};
-ghost use Rattle.ccan_map.specs.Dcan.{buffer_place, dcan_offset, IsAtInterface, IsGeneral};
-ghost use Rattle.ccan_map.specs.Register.{IsInDcan};
+ghost use Rattle.ccan_chip.specs.declared.register.Register.{Register};
+ghost use Rattle.ccan_chip.specs.Dcan.{buffer_place, dcan_offset, IsAtInterface, IsGeneral};
+ghost use Rattle.ccan_chip.specs.Register.{IsInDcan};
 
 use crate::flags;
 use crate::interface::Interface;

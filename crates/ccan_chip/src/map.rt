@@ -1,7 +1,7 @@
 ghost use Rattle.std.specs.Prelude.{◌≡◌, IfSome};
-ghost use Rattle.ccan_map.specs.declared.register.Register.{Register};
-ghost use Rattle.ccan_map.specs.Map.{map_number, offset_of};
-ghost use Rattle.ccan_map.specs.Register.{IsIn};
+ghost use Rattle.ccan_chip.specs.declared.register.Register.{Register};
+ghost use Rattle.ccan_chip.specs.Map.{map_number, offset_of};
+ghost use Rattle.ccan_chip.specs.Register.{IsIn};
 
 use crate::register::Register;
 use crate::{dcan, narrow};
@@ -20,7 +20,7 @@ pub enum Map {
 }
 
 impl Map {
-    ghost use Rattle.ccan_map.specs.declared.map.Map.{Map};
+    ghost use Rattle.ccan_chip.specs.declared.map.Map.{Map};
 
     /// The layout of this number: 0 `Narrow`, 1 `Wide`, 2 `Dcan`.
     pub fn numbered(number: u32) -> Option<Map>

@@ -1,9 +1,9 @@
 //! C_CAN with its registers of 16 bits side by side.
 ghost use Rattle.std.specs.Prelude.{◌≡◌, IfSome};
 ghost use Rattle.ccan_object.specs.declared.register.Reg.{Reg};
-ghost use Rattle.ccan_map.specs.declared.register.Register.{Register};
-ghost use Rattle.ccan_map.specs.Narrow.{buffer_place, narrow_offset, IsAtInterface, IsGeneral};
-ghost use Rattle.ccan_map.specs.Register.{IsInCcan};
+ghost use Rattle.ccan_chip.specs.declared.register.Register.{Register};
+ghost use Rattle.ccan_chip.specs.Narrow.{buffer_place, narrow_offset, IsAtInterface, IsGeneral};
+ghost use Rattle.ccan_chip.specs.Register.{IsInCcan};
 
 use crate::flags;
 use crate::interface::Interface;

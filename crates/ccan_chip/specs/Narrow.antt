@@ -6,11 +6,11 @@ use Rattle.ccan_object.specs.declared.register.Reg.{Reg}
 use Rattle.ccan_object.specs.declared.register.Reg.TheVariants.{CMask, Mask1, Mask2, Arb1, Arb2, Ctrl, DataA1, DataA2, DataB1, DataB2}
 use Rattle.ccan_ram.specs.declared.flag.Flag.{Flag}
 use Rattle.ccan_ram.specs.declared.flag.Flag.TheVariants.{NewDat, MsgLst, IntPnd, TxRqst, MsgVal}
-use Rattle.ccan_map.specs.declared.interface.Interface.{Interface}
-use Rattle.ccan_map.specs.declared.interface.Interface.TheVariants.{One, Two}
-use Rattle.ccan_map.specs.declared.register.Register.{Register}
-use Rattle.ccan_map.specs.declared.register.Register.TheVariants.{Control, ControlUpper, Status, ErrorCounter, BitTiming, Interrupt, Test, Extension, Request, Buffer, Flags}
-use Rattle.ccan_map.specs.FlagPart.{index_of}
+use Rattle.ccan_chip.specs.declared.interface.Interface.{Interface}
+use Rattle.ccan_chip.specs.declared.interface.Interface.TheVariants.{One, Two}
+use Rattle.ccan_chip.specs.declared.register.Register.{Register}
+use Rattle.ccan_chip.specs.declared.register.Register.TheVariants.{Control, ControlUpper, Status, ErrorCounter, BitTiming, Interrupt, Test, Extension, Request, Buffer, Flags}
+use Rattle.ccan_chip.specs.FlagPart.{index_of}
 
 -- where an interface begins
 abbrev pub interface_base : Interface → ℕ

@@ -3,11 +3,11 @@
 -- its address, aligned to 32 bits, is as the mainline Linux driver c_can has it. The numbers of the layouts are this
 -- project's own.
 use Rattle.std.specs.Prelude.{ℕ, ◌*◌}
-use Rattle.ccan_map.specs.declared.map.Map.{Map}
-use Rattle.ccan_map.specs.declared.map.Map.TheVariants.{Narrow, Wide, Dcan}
-use Rattle.ccan_map.specs.declared.register.Register.{Register}
-use Rattle.ccan_map.specs.Narrow.{narrow_offset}
-use Rattle.ccan_map.specs.Dcan.{dcan_offset}
+use Rattle.ccan_chip.specs.declared.map.Map.{Map}
+use Rattle.ccan_chip.specs.declared.map.Map.TheVariants.{Narrow, Wide, Dcan}
+use Rattle.ccan_chip.specs.declared.register.Register.{Register}
+use Rattle.ccan_chip.specs.Narrow.{narrow_offset}
+use Rattle.ccan_chip.specs.Dcan.{dcan_offset}
 
 abbrev pub map_number : Map → ℕ
 map_number Narrow = 0

@@ -5,11 +5,11 @@ use Rattle.std.specs.Prelude.{ℕ, ◌≡◌, ⊤}
 use Rattle.ccan_object.specs.declared.profile.Profile.{Profile}
 use Rattle.ccan_ram.specs.declared.flag.Flag.{Flag}
 use Rattle.ccan_ram.specs.declared.flag.Flag.TheVariants.{MsgLst}
-use Rattle.ccan_map.specs.declared.map.Map.{Map}
-use Rattle.ccan_map.specs.declared.map.Map.TheVariants.{Narrow, Wide, Dcan}
-use Rattle.ccan_map.specs.declared.register.Register.{Register}
-use Rattle.ccan_map.specs.declared.register.Register.TheVariants.{ControlUpper, Flags}
-use Rattle.ccan_map.specs.FlagPart.{HasObjectsOf, IsPlaceOf}
+use Rattle.ccan_chip.specs.declared.map.Map.{Map}
+use Rattle.ccan_chip.specs.declared.map.Map.TheVariants.{Narrow, Wide, Dcan}
+use Rattle.ccan_chip.specs.declared.register.Register.{Register}
+use Rattle.ccan_chip.specs.declared.register.Register.TheVariants.{ControlUpper, Flags}
+use Rattle.ccan_chip.specs.FlagPart.{HasObjectsOf, IsPlaceOf}
 
 -- the flag has registers
 abbrev pub HasRegisters : Flag → Type 0

@@ -1,7 +1,7 @@
 -- The places of the parts of a flag.
 use Rattle.std.proofs.Common.{◌≡◌, ◌≤◌, arith}
-use Rattle.ccan_map.specs.declared.flag_part.FlagPart.{FlagPart}
-use Rattle.ccan_map.specs.FlagPart.{index_of}
+use Rattle.ccan_chip.specs.declared.flag_part.FlagPart.{FlagPart}
+use Rattle.ccan_chip.specs.FlagPart.{index_of}
 
 pub index-within : (part : FlagPart) → index_of part ≤ 3
 index-within part = grind arith

@@ -1,8 +1,8 @@
 ghost use Rattle.std.specs.Prelude.{◌≡◌, IfSome};
-ghost use Rattle.ccan_map.specs.declared.flag_part.FlagPart.{FlagPart};
-ghost use Rattle.ccan_map.specs.declared.register.Register.{Register};
-ghost use Rattle.ccan_map.specs.FlagPart.{IsPlaceOf};
-ghost use Rattle.ccan_map.specs.Register.{IsAtFlag};
+ghost use Rattle.ccan_chip.specs.declared.flag_part.FlagPart.{FlagPart};
+ghost use Rattle.ccan_chip.specs.declared.register.Register.{Register};
+ghost use Rattle.ccan_chip.specs.FlagPart.{IsPlaceOf};
+ghost use Rattle.ccan_chip.specs.Register.{IsAtFlag};
 
 use crate::flag_part::FlagPart;
 use crate::register::Register;

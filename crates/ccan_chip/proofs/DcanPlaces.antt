@@ -4,13 +4,13 @@ use Rattle.ccan_object.specs.declared.profile.Profile.{Profile}
 use Rattle.ccan_object.specs.declared.register.Reg.{Reg}
 use Rattle.ccan_ram.specs.declared.flag.Flag.{Flag}
 use Rattle.ccan_ram.specs.declared.flag.Flag.TheVariants.{NewDat, MsgLst, IntPnd, TxRqst, MsgVal}
-use Rattle.ccan_map.specs.declared.interface.Interface.{Interface}
-use Rattle.ccan_map.specs.declared.interface.Interface.TheVariants.{One, Two}
-use Rattle.ccan_map.specs.declared.register.Register.{Register}
-use Rattle.ccan_map.specs.declared.register.Register.TheVariants.{Control, ControlUpper, Status, ErrorCounter, BitTiming, Interrupt, Test, Extension, Request, Buffer, Flags}
-use Rattle.ccan_map.specs.Dcan.{interface_base, buffer_place, flag_base, dcan_offset, IsAtInterface}
-use Rattle.ccan_map.specs.Register.{HasRegisters, IsInDcan, IsAtFlag}
-use Rattle.ccan_map.proofs.Parts.{index-within, index-apart}
+use Rattle.ccan_chip.specs.declared.interface.Interface.{Interface}
+use Rattle.ccan_chip.specs.declared.interface.Interface.TheVariants.{One, Two}
+use Rattle.ccan_chip.specs.declared.register.Register.{Register}
+use Rattle.ccan_chip.specs.declared.register.Register.TheVariants.{Control, ControlUpper, Status, ErrorCounter, BitTiming, Interrupt, Test, Extension, Request, Buffer, Flags}
+use Rattle.ccan_chip.specs.Dcan.{interface_base, buffer_place, flag_base, dcan_offset, IsAtInterface}
+use Rattle.ccan_chip.specs.Register.{HasRegisters, IsInDcan, IsAtFlag}
+use Rattle.ccan_chip.proofs.Parts.{index-within, index-apart}
 
 buffer-within : (register : Reg) → buffer_place register ≤ 0x16
 buffer-within register = grind arith

@@ -3,8 +3,8 @@
 use Rattle.std.specs.Prelude.{ℕ, ◌≡◌, ◌+◌, ◌*◌, ◌≤◌}
 use Rattle.ccan_object.specs.declared.profile.Profile.{Profile}
 use Rattle.ccan_object.specs.Profile.{objects_in}
-use Rattle.ccan_map.specs.declared.flag_part.FlagPart.{FlagPart}
-use Rattle.ccan_map.specs.declared.flag_part.FlagPart.TheVariants.{First, Second, Third, Fourth}
+use Rattle.ccan_chip.specs.declared.flag_part.FlagPart.{FlagPart}
+use Rattle.ccan_chip.specs.declared.flag_part.FlagPart.TheVariants.{First, Second, Third, Fourth}
 
 -- its index among the parts, from 0
 abbrev pub index_of : FlagPart → ℕ

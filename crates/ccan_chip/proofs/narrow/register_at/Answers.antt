@@ -1,8 +1,8 @@
 use Rattle.std.proofs.Common.{arith}
 use Rattle.ccan_ram.specs.declared.flag.Flag.TheVariants.{NewDat, IntPnd, TxRqst, MsgVal}
-use Rattle.ccan_map.specs.declared.interface.Interface.TheVariants.{One, Two}
-use Rattle.ccan_map.proofs.NarrowPlaces.{at_interface, at_flag}
-use Rattle.ccan_map.proofs.narrow.register_at.Goals as goal
+use Rattle.ccan_chip.specs.declared.interface.Interface.TheVariants.{One, Two}
+use Rattle.ccan_chip.proofs.NarrowPlaces.{at_interface, at_flag}
+use Rattle.ccan_chip.proofs.narrow.register_at.Goals as goal
 
 pub returns-in-16-to-36-clause-each : goal.returns-in-16-to-36-clause-each
 returns-in-16-to-36-clause-each c =

@@ -1,6 +1,6 @@
 ghost use Rattle.std.specs.Prelude.{◌≡◌, ◌*◌};
 ghost use Rattle.ccan_object.specs.Bits.{part};
-ghost use Rattle.ccan_map.specs.FlagPart.{index_of};
+ghost use Rattle.ccan_chip.specs.FlagPart.{index_of};
 
 /// Which 16 objects a register of a flag shows (User's Manual, section 3.4): object k in bit (k - 1) % 16.
 #[derive(Clone, Copy, PartialEq, Eq, PartialOrd, Ord, Hash, Debug)]

@@ -1,4 +1,0 @@
-pub mod Parts
-pub mod NarrowPlaces
-pub mod DcanPlaces
-pub mod MapPlaces
