@@ -23,9 +23,9 @@ use Rattle.ccan_registers.specs.InterfaceSet.{reset_set}
 use Rattle.ccan_chip.specs.declared.map.Map.{Map}
 use Rattle.ccan_registers.specs.Dcan.{reset_of}
 use Rattle.ccan_registers.specs.Resetting.{ResetsChip}
-use Rattle.ccan_saved.specs.declared.saved.Saved.{Saved}
-use Rattle.ccan_saved.specs.Format.{text_of}
-use Rattle.ccan_saved.specs.Looks.{LooksAtAll}
+use Rattle.ccan_registers.specs.declared.saved.chip.Saved.{Saved}
+use Rattle.ccan_registers.specs.Format.{text_of}
+use Rattle.ccan_registers.specs.Looks.{LooksAtAll}
 use Rattle.ccan_registers.proofs.Histories.{no_events, no_steps}
 use Rattle.ccan_c.specs.declared.chip.Chip.{Chip}
 use Rattle.ccan_c.specs.declared.held.Held.{Held}

@@ -7,10 +7,10 @@ use Rattle.ccan_endless.specs.Layout.{most}
 use Rattle.ccan_registers.specs.declared.interface_set.InterfaceSet.{InterfaceSet}
 use Rattle.ccan_registers.specs.ChipSteps.{ChipGoes}
 use Rattle.ccan_registers.specs.InterfaceSet.{reset_set}
-use Rattle.ccan_saved.specs.declared.saved.Saved.{Saved}
-use Rattle.ccan_saved.specs.Format.{text_of}
-use Rattle.ccan_saved.specs.Looks.{LooksAtAll}
-use Rattle.ccan_saved.specs.PutBack.{PutsBack}
+use Rattle.ccan_registers.specs.declared.saved.chip.Saved.{Saved}
+use Rattle.ccan_registers.specs.Format.{text_of}
+use Rattle.ccan_registers.specs.Looks.{LooksAtAll}
+use Rattle.ccan_registers.specs.PutBack.{PutsBack}
 use Rattle.ccan_c.specs.declared.chip.Chip.{Chip}
 use Rattle.ccan_c.specs.declared.held.Held.{Held}
 use Rattle.ccan_c.specs.Chip.{AllOpen}

@@ -20,10 +20,10 @@ use Rattle.ccan_registers.specs.InterfaceSet.{reset_set}
 use Rattle.ccan_chip.specs.Arrival.{unloaded}
 use Rattle.ccan_registers.specs.Dcan.{reset_of}
 use Rattle.ccan_registers.specs.Resetting.{ResetsChip}
-use Rattle.ccan_saved.specs.declared.saved.Saved.{Saved}
-use Rattle.ccan_saved.specs.Format.{text_of}
-use Rattle.ccan_saved.specs.Looks.{LooksAtAll}
-use Rattle.ccan_saved.specs.PutBack.{PutsBack}
+use Rattle.ccan_registers.specs.declared.saved.chip.Saved.{Saved}
+use Rattle.ccan_registers.specs.Format.{text_of}
+use Rattle.ccan_registers.specs.Looks.{LooksAtAll}
+use Rattle.ccan_registers.specs.PutBack.{PutsBack}
 use Rattle.ccan_c.specs.declared.chip.Chip.{Chip}
 use Rattle.ccan_c.specs.declared.shown_final.ShownFinal.{ShownFinal}
 use Rattle.ccan_c.specs.Bus.{held_on}

@@ -1,9 +1,9 @@
-use ccan_saved::LENGTH;
+use ccan_registers::saved::LENGTH;
 
 /// The text of a saved chip as C has it.
 #[repr(C)]
 #[derive(Clone, Copy, PartialEq, Eq, Debug)]
 pub struct SavedChip {
-    /// Its bytes, see `ccan_saved::to_bytes`.
+    /// Its bytes, see `ccan_registers::saved::to_bytes`.
     pub bytes: [u8; LENGTH],
 }

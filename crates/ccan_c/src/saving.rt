@@ -1,11 +1,11 @@
 //! Saving a chip, and opening one from what was saved.
 ghost use Rattle.std.specs.Prelude.{◌≡◌, ◌≢◌, ◌≤◌, ◌⊎◌, true, false, IfErr, IfOk};
 ghost use Rattle.ccan_line.specs.Limits.{most_nodes};
-ghost use Rattle.ccan_saved.specs.declared.saved.Saved.{Saved};
+ghost use Rattle.ccan_registers.specs.declared.saved.chip.Saved.{Saved};
 ghost use Rattle.ccan_confine.specs.Controller.{IsController};
 ghost use Rattle.ccan_registers.specs.ChipSteps.{ChipGoes};
-ghost use Rattle.ccan_saved.specs.Format.{AreUnused, AreWords, IsSaved, text_of, words_of};
-ghost use Rattle.ccan_saved.specs.Looks.{LooksAtAll};
+ghost use Rattle.ccan_registers.specs.Format.{AreUnused, AreWords, IsSaved, text_of, words_of};
+ghost use Rattle.ccan_registers.specs.Looks.{LooksAtAll};
 ghost use Rattle.ccan_c.specs.Chip.{are_open};
 ghost use Rattle.ccan_c.specs.Codes.{closed, done, no_saved_chip};
 ghost use Rattle.ccan_c.specs.Meeting.{AreThree};
@@ -25,7 +25,7 @@ use ccan_confine::Controller;
 use ccan_endless::{EndlessRam, MOST};
 use ccan_object::{MOST_OBJECTS, Record};
 use ccan_registers::InterfaceSet;
-use ccan_saved::{NotRestored, Saved, from_bytes, look_at_all, put_back, to_bytes};
+use ccan_registers::saved::{NotRestored, Saved, from_bytes, look_at_all, put_back, to_bytes};
 use std::alloc::Global;
 use std::mem::replace;
 

@@ -9,7 +9,7 @@ use Rattle.ccan_endless.specs.declared.chip.ControllerStep.TheVariants.{Look}
 use Rattle.ccan_endless.specs.Chip.{ChipHistory}
 use Rattle.ccan_registers.specs.ChipSteps.{AtController}
 use Rattle.ccan_registers.specs.Objects.{ShowsObject}
-use Rattle.ccan_saved.specs.Looks.{LooksAtAll, LooksThrough}
+use Rattle.ccan_registers.specs.Looks.{LooksAtAll, LooksThrough}
 use Rattle.ccan_calls.specs.ChipProcess.{ChipFound, found_with, looks_at_all, looks_through, record_first}
 use Rattle.ccan_calls.specs.Laws.{ResetsAreProcesses, SavesAreProcesses}
 use Rattle.ccan_calls.specs.Runs.{Runs}

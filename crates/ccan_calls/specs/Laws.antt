@@ -17,7 +17,7 @@ use Rattle.ccan_line.specs.Limits.{most_nodes}
 use Rattle.ccan_chip.specs.declared.map.Map.{Map}
 use Rattle.ccan_registers.specs.declared.interface_set.InterfaceSet.{InterfaceSet}
 use Rattle.ccan_registers.specs.Resetting.{ResetsChip}
-use Rattle.ccan_saved.specs.Looks.{LooksAtAll}
+use Rattle.ccan_registers.specs.Looks.{LooksAtAll}
 use Rattle.ccan_c.specs.BusCall.{BusCall, BusCallMeans, code_got as code_on}
 use Rattle.ccan_c.specs.FrameCall.{BusState, CallOnBus, CallOnBusMeans, FrameCall, FrameCallMeans, frame_code}
 use Rattle.ccan_c.specs.HostCall.{HostCall, HostCallMeans, code_got}

@@ -6,3 +6,6 @@ pub mod Changing
 pub mod Accesses
 pub mod Halves
 pub mod Sending
+pub mod GoingOn
+pub mod Records
+pub mod Texts

@@ -11,3 +11,7 @@ pub mod Rounds
 pub mod PowerDown
 pub mod Frames
 pub mod Notes
+pub mod Format
+pub mod FormatError
+pub mod Looks
+pub mod PutBack

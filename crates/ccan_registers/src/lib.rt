@@ -27,6 +27,8 @@
 //! Extension, and both halves of CAN Control are one access. A byte (`read_byte`, `write_byte`) is read by a read of its register,
 //! and its write leaves the other byte of the register. What a D_CAN does differently from a C_CAN is in `dcan`, the
 //! initialisation of its message RAM in `clearing`, and its local power down in `powering`.
+//!
+//! A chip at rest can be written as bytes, and put back from them ([`saved`]).
 #![tactic(auto)]
 
 mod access_error;
@@ -45,6 +47,7 @@ mod powering;
 mod registers;
 mod resetting;
 mod rounds;
+pub mod saved;
 mod transfer_answer;
 mod transferring;
 mod words;

@@ -13,7 +13,7 @@ use ccan_endless::{ControllerChanged, EndlessRam, Port};
 use ccan_object::{CommandMask, Iface, ObjectNo, Profile, Reg};
 use ccan_ram::{Change, SharedRam, Tries};
 use ccan_registers::InterfaceSet;
-use ccan_saved::{Saved, from_bytes, look_at_all, put_back, to_bytes};
+use ccan_registers::saved::{Saved, from_bytes, look_at_all, put_back, to_bytes};
 use std::alloc::Global;
 use std::process::Abort;
 

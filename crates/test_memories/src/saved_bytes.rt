@@ -3,7 +3,7 @@
 ghost use Rattle.std.specs.Prelude.{◌≤◌, ◌+◌};
 
 use crate::expect::holds;
-use ccan_saved::{Field, FormatError, LENGTH, from_bytes, to_bytes};
+use ccan_registers::saved::{Field, FormatError, LENGTH, from_bytes, to_bytes};
 use std::process::Abort;
 
 /// Puts a word at an index.

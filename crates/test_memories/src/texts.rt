@@ -5,8 +5,8 @@ use ccan_confine::NodeState;
 use ccan_handler::ScanRefused;
 use ccan_object::{ObjectNo, Profile};
 use ccan_ram::{CommitError, OpenError, PortName, Refused};
+use ccan_registers::saved::{Field, FormatError, NotRestored};
 use ccan_registers::{AccessError, OffsetError};
-use ccan_saved::{Field, FormatError, NotRestored};
 use std::alloc::Global;
 use std::fmt::Display;
 

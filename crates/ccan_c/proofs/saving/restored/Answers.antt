@@ -4,8 +4,8 @@ use Rattle.ccan_ram.specs.declared.port.PortName.TheVariants.{Bus, If1, If2}
 use Rattle.ccan_endless.specs.ChipPort.{ChipPass}
 use Rattle.ccan_registers.specs.declared.interface_set.InterfaceSet.{InterfaceSet}
 use Rattle.ccan_registers.specs.ChipSteps.{ChipGoes}
-use Rattle.ccan_saved.specs.declared.not_restored.NotRestored.{NotRestored}
-use Rattle.ccan_saved.specs.PutBack.{PutsBack}
+use Rattle.ccan_registers.specs.declared.saved.not_restored.NotRestored.{NotRestored}
+use Rattle.ccan_registers.specs.PutBack.{PutsBack}
 use Rattle.ccan_c.specs.Chip.{AllOpen}
 use Rattle.ccan_c.specs.Meeting.{HaveMet}
 use Rattle.ccan_c.specs.Opening.{after_reset, begins_as}

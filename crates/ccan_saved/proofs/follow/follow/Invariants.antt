@@ -1,6 +1,0 @@
-use Rattle.ccan_saved.specs.Looks.{GoesOn}
-use Rattle.ccan_saved.proofs.follow.follow.Given as goal
-
--- the port goes on from where it was
-abbrev pub invariant-loop-step : goal.invariant-loop-step
-invariant-loop-step l = GoesOn l.fn.port l.port

@@ -1,8 +1,0 @@
-use Rattle.ccan_saved.proofs.Going.{on_and_on}
-use Rattle.ccan_saved.proofs.follow.write_all.Goals as goal
-
-pub returns-in_err-write : goal.returns-in_err-write
-returns-in_err-write c = on_and_on c.args.port.now c.loop-k.port c.write.new.port c.loop-k.invariant c.write.ensures
-
-pub loop-k-preserved : goal.loop-k-preserved
-loop-k-preserved c = on_and_on c.args.port.now c.loop-k.port c.write.new.port c.loop-k.invariant c.write.ensures

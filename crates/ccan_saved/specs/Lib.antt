@@ -1,4 +1,0 @@
-pub mod Format
-pub mod FormatError
-pub mod Looks
-pub mod PutBack
