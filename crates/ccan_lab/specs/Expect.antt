@@ -2,7 +2,7 @@
 use Rattle.std.specs.Prelude.{ℕ, ◌≡◌, ◌≢◌, ◌<◌, ◌≤◌, List, [], Option, None, Some, length, slice_index, take}
 use Rattle.ccan_line.specs.Script.{ScriptFields}
 use Rattle.ccan_run.specs.Ordered.{HasText}
-use Rattle.ccan_check.specs.Print.{told_text}
+use Rattle.ccan_script.specs.RemarkText.{told_text}
 
 -- so many bytes are the same in both texts. If both have one more, it is not the same; if one ends, the other goes on
 pub record IsFirstDifference (expected printed : List ℕ) (offset : ℕ) : Type 0 where

@@ -6,9 +6,9 @@ ghost use Rattle.ccan_run.specs.Ordered.{HasText};
 ghost use Rattle.ccan_lab.specs.Expect.{ComparesRun, IsFirstDifference, TellsDifference, TellsOf};
 
 use crate::lab_error::LabError;
-use ccan_check::{Place, Remark, remark_line};
 use ccan_run::{RunError, run_ordered};
 use ccan_script::Script;
+use ccan_script::check::{Place, Remark, remark_line};
 use std::alloc::{AllocError, Global};
 
 /// The most bytes of a line that are shown.

@@ -23,3 +23,5 @@ pub mod ReadMeaning
 pub mod Befores
 pub mod Races
 pub mod RaceMeaning
+pub mod Checks
+pub mod Told

@@ -30,3 +30,9 @@ pub mod Race
 pub mod PrintedLine
 pub mod Print
 pub mod Laws
+pub mod TextPlace
+pub mod LinePath
+pub mod FirstFault
+pub mod ScriptCheck
+pub mod RemarkText
+pub mod CheckLaws

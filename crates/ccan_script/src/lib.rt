@@ -19,6 +19,7 @@
 
 pub mod bus_line;
 pub mod bus_op;
+pub mod check;
 pub mod fault_name;
 mod flag_line;
 pub mod flag_name;

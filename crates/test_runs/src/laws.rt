@@ -14,7 +14,7 @@ fn laws_of_runs_hold() {
     ccan_script::laws::one_race();
     ccan_script::laws::a_script_is_a_race();
     ccan_script::laws::lines_go_by_the_table();
-    ccan_check::laws::finds_what_is_refused();
+    ccan_script::check::laws::finds_what_is_refused();
     laws::one_text();
     laws::what_was_printed_is_the_text();
     laws::no_line_is_busy();
