@@ -33,6 +33,7 @@ pub mod side;
 mod transfer;
 
 pub use bus_line::BusLine;
+pub use bus_port::run_bus_line;
 pub use controller_line::ControllerLine;
 pub use gate::{FreeGate, Gate};
 pub use host_line::HostLine;
