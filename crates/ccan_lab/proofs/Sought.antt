@@ -18,7 +18,7 @@ use Rattle.ccan_ram.specs.declared.port.PortName.{PortName}
 use Rattle.ccan_ram.specs.declared.port.PortName.TheVariants.{If1, If2, Bus}
 use Rattle.ccan_line.specs.declared.line_end.LineEnd.{LineEnd}
 use Rattle.ccan_line.specs.LineEnd.{unframed}
-use Rattle.ccan_outcomes.specs.declared.answers.Answers.{Answers}
+use Rattle.ccan_outcomes.specs.Answers.{Answers}
 use Rattle.ccan_outcomes.specs.declared.ending.Ending.{Ending}
 use Rattle.ccan_outcomes.specs.declared.words.OutcomeWords.{OutcomeWords}
 use Rattle.ccan_outcomes.specs.Letters.{AreNumbers, lettered}

@@ -18,13 +18,14 @@ use crate::each_file::{write_below, write_piece};
 use crate::lab_error::LabError;
 use crate::list_end::ListEnd;
 use crate::outcome_words::all_endings;
-use crate::place::{LineCounts, add_place_name, place_kind};
+use crate::place::{add_place_name, counts_of, place_kind};
 use crate::progress_line::ProgressLine;
 use crate::report::add_outcome;
 use crate::rows::{Rows, all_rows};
 use crate::shown_texts::ShownTexts;
 use crate::telling::Telling;
 use crate::wording::{add_counted, add_number};
+use ccan_line::PerPort;
 use ccan_outcomes::all_ports::AllPorts;
 use ccan_outcomes::{Ending, OutcomeWords};
 use ccan_script::RaceScript;
@@ -46,19 +47,6 @@ fn is_named(names: &[&str], name: &str) -> bool
     names.iter().any(|word| *word == name)
 }
 
-/// How many lines the ports of a script have.
-fn counts_of(race: &RaceScript) -> LineCounts
-    ensures if1 { result.if1 ≡ length (fields_of race.now).if1 }
-    ensures if2 { result.if2 ≡ length (fields_of race.now).if2 }
-    ensures bus { result.bus ≡ length (fields_of race.now).bus }
-{
-    LineCounts {
-        if1: race.script.if1.len(),
-        if2: race.script.if2.len(),
-        bus: race.script.bus.len(),
-    }
-}
-
 /// How many places the outcomes of a script have: one for each line, and one for each object.
 fn places_of(race: &RaceScript) -> usize
     ensures { result ≡ places_of (fields_of race.now) }
@@ -74,7 +62,7 @@ fn places_of(race: &RaceScript) -> usize
 fn is_observed(
     alloc: Global,
     names: &[&str],
-    counts: &LineCounts,
+    counts: &PerPort<usize>,
     place: usize,
 ) -> Result<bool, AllocError>
     requires { place + 1 < 2 ^ 64 }
@@ -92,7 +80,7 @@ fn is_observed(
 fn marks_up_to(
     alloc: Global,
     names: &[&str],
-    counts: &LineCounts,
+    counts: &PerPort<usize>,
     places: usize,
 ) -> Result<Vec<bool>, AllocError>
     ensures { IfOk result (λ marks. marks.items
@@ -352,7 +340,7 @@ fn is_kind(word: &str) -> bool
 fn is_place(
     alloc: Global,
     word: &str,
-    counts: &LineCounts,
+    counts: &PerPort<usize>,
     places: usize,
 ) -> Result<bool, AllocError>
     ensures { IfOk result (λ is. is

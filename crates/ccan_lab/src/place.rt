@@ -1,22 +1,26 @@
 //! The places of an outcome's lines, by name: `if1[1]`, `bus[0]`, `final 01`. Lines are named from 0.
-ghost use Rattle.std.specs.Prelude.{◌≡◌, ◌+◌, ◌^◌, ◌<◌, ◌++◌, OnOk, string_bytes};
+ghost use Rattle.std.specs.Prelude.{◌≡◌, ◌+◌, ◌^◌, ◌<◌, ◌++◌, OnOk, length, string_bytes};
 ghost use Rattle.ccan_lab.specs.Place.{final_name, late_kind, late_name, place_kind, place_name};
 
 use crate::history::{add_line_name, port_word};
 use crate::wording::add_number;
+use ccan_line::PerPort;
 use ccan_ram::PortName;
+use ccan_script::RaceScript;
 use std::alloc::AllocError;
 
-/// How many lines each port has. The places of an outcome are those of IF1's lines, of IF2's, of the bus's, and then a place
-/// for each object.
-#[derive(Clone, Copy)]
-pub struct LineCounts {
-    /// The lines of IF1.
-    pub if1: usize,
-    /// The lines of IF2.
-    pub if2: usize,
-    /// The lines of the bus.
-    pub bus: usize,
+/// How many lines each port of a script has. The places of an outcome are those of IF1's lines, of IF2's, of the bus's, and then
+/// a place for each object.
+pub fn counts_of(race: &RaceScript) -> PerPort<usize>
+    ensures if1 { result.if1 ≡ length race.now.script.if1.items }
+    ensures if2 { result.if2 ≡ length race.now.script.if2.items }
+    ensures bus { result.bus ≡ length race.now.script.bus.items }
+{
+    PerPort {
+        if1: race.script.if1.len(),
+        if2: race.script.if2.len(),
+        bus: race.script.bus.len(),
+    }
 }
 
 /// Adds the name of an object at the end: `final 01`.
@@ -45,7 +49,7 @@ fn add_late_name(text: &mut String, bus: usize, place: usize) -> Result<(), Allo
 /// Adds the name of a place.
 pub fn add_place_name(
     text: &mut String,
-    counts: &LineCounts,
+    counts: &PerPort<usize>,
     place: usize,
 ) -> Result<(), AllocError>
     requires { place + 1 < 2 ^ 64 }
@@ -73,7 +77,7 @@ fn late_kind(bus: usize, place: usize) -> &'static str
 }
 
 /// Whose place it is: a port's, or `final`, if it is an object's.
-pub fn place_kind(counts: &LineCounts, place: usize) -> &'static str
+pub fn place_kind(counts: &PerPort<usize>, place: usize) -> &'static str
     ensures { result.now ≡ place_kind counts.now.if1 counts.now.if2 counts.now.bus place }
 {
     if place < counts.if1 {

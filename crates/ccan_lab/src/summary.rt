@@ -15,9 +15,10 @@ ghost use Rattle.ccan_lab.specs.Sorted.{AreAllInOrder, all_texts, texts_of};
 
 use crate::choices::all_choices;
 use crate::counting::count_text;
-use crate::place::{LineCounts, add_place_name};
+use crate::place::{add_place_name, counts_of};
 use crate::rows::Rows;
 use crate::wording::add_number;
+use ccan_line::PerPort;
 use ccan_outcomes::{ByLine, LineEnds, OutcomeWords};
 use ccan_script::RaceScript;
 use std::alloc::{AllocError, Global};
@@ -75,7 +76,7 @@ fn add_choice_lines(text: &mut String, lines: &[&str]) -> Result<(), AllocError>
 /// Adds the lines that may be in a place below its name, if they are several.
 fn add_choices(
     text: &mut String,
-    counts: &LineCounts,
+    counts: &PerPort<usize>,
     place: usize,
     lines: &[&str],
 ) -> Result<(), AllocError>
@@ -105,7 +106,7 @@ pub fn add_same_parts(text: &mut String, all: &[Vec<&str>]) -> Result<(), AllocE
 /// Adds what may be in each other place.
 fn add_choice_parts(
     text: &mut String,
-    counts: &LineCounts,
+    counts: &PerPort<usize>,
     all: &[Vec<&str>],
 ) -> Result<(), AllocError>
     ensures { OnOk result (string_bytes text.new ≡ string_bytes text.old ++ choice_parts
@@ -137,19 +138,6 @@ pub fn all_in_order<'a>(alloc: Global, all: &'a [Rows]) -> Result<Vec<Vec<&'a st
         sorted.push(rows.in_order(alloc)?)?;
     }
     Ok(sorted)
-}
-
-/// How many lines the ports of a script have.
-fn counts_of(race: &RaceScript) -> LineCounts
-    ensures if1 { result.if1 ≡ length race.now.script.if1.items }
-    ensures if2 { result.if2 ≡ length race.now.script.if2.items }
-    ensures bus { result.bus ≡ length race.now.script.bus.items }
-{
-    LineCounts {
-        if1: race.script.if1.len(),
-        if2: race.script.if2.len(),
-        bus: race.script.bus.len(),
-    }
 }
 
 /// Adds what is the same in all outcomes, and what may be in each other place.

@@ -26,6 +26,7 @@ pub mod limits;
 pub mod line_answer;
 pub mod line_end;
 pub mod line_process_laws;
+pub mod per_port;
 pub mod port;
 pub mod register_set;
 pub mod script;
@@ -43,6 +44,7 @@ pub use limits::{
 };
 pub use line_answer::LineAnswer;
 pub use line_end::LineEnd;
+pub use per_port::PerPort;
 pub use port::run_port;
 pub use register_set::RegisterSet;
 pub use script::Script;

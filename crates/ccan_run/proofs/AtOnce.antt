@@ -16,7 +16,7 @@ use Rattle.ccan_line.specs.Script.{ScriptFields}
 use Rattle.ccan_run.specs.declared.outcome.Outcome.{Outcome}
 use Rattle.ccan_run.specs.declared.run_error.RunError.{RunError}
 use Rattle.ccan_run.specs.declared.run_error.RunError.TheVariants as stop
-use Rattle.ccan_run.specs.declared.per_port.PerPort.{PerPort}
+use Rattle.ccan_line.specs.declared.per_port.PerPort.{PerPort}
 use Rattle.ccan_run.specs.declared.port_run.PortRun.{PortRun}
 use Rattle.ccan_line.specs.Gate.{IsHeldAt, WasAsked}
 use Rattle.ccan_line.specs.Port.{PortMeans, count_of}

@@ -35,7 +35,6 @@ pub mod ordered;
 pub mod outcome;
 mod outcome_text;
 mod output;
-mod per_port;
 mod port_run;
 mod ports;
 pub mod run_error;

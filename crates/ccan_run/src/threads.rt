@@ -6,10 +6,9 @@ ghost use Rattle.ccan_run.specs.Threads.{AllRan, AreOpened, HasRoom, HasRun, Hav
 ghost use Rattle.ccan_run.specs.Threads.{HaveAsked, IsFirstHeld, RunsAtOnce, StopsThreads, WereLet};
 
 use crate::outcome::Outcome;
-use crate::per_port::PerPort;
 use crate::port_run::{PortRun, run_opened};
 use crate::run_error::RunError;
-use ccan_line::{Gate, LineAnswer, Script};
+use ccan_line::{Gate, LineAnswer, PerPort, Script};
 use ccan_ram::{PortName, SharedRam};
 use std::alloc::{AllocError, Global};
 use std::sync::Wait;

@@ -10,7 +10,7 @@ use Rattle.ccan_ram.specs.Port.{most_quota, port_index}
 use Rattle.ccan_ram.specs.Tries.{most_tries}
 use Rattle.ccan_line.specs.declared.script.Script.{Script}
 use Rattle.ccan_script.specs.declared.script_error.ScriptError.{ScriptError}
-use Rattle.ccan_script.specs.declared.line_counts.LineCounts.{LineCounts}
+use Rattle.ccan_line.specs.declared.per_port.PerPort.{PerPort}
 use Rattle.ccan_line.specs.declared.host_line.HostLine.{HostLine}
 use Rattle.ccan_line.specs.declared.bus_line.BusLine.{BusLine}
 use Rattle.ccan_script.specs.Json.{lines_in}
@@ -61,12 +61,12 @@ module _ (known : List (List ℕ)) (d : Data) (number quota tries n : ℕ) where
 -- ---- the lists
 
 -- the counts are those of these lists
-abbrev pub AreCounts : LineCounts → List HostLine → List HostLine → List BusLine → Type 0
+abbrev pub AreCounts : PerPort ℕ → List HostLine → List HostLine → List BusLine → Type 0
 AreCounts counts if1 if2 bus = counts ≡ record { if1 = length if1; if2 = length if2; bus = length bus }
 
 -- no part before the order has a fault, and the ports have these lines, which are counted
 pub record ListsRead (known : List (List ℕ)) (d : Data) (if1 if2 : List HostLine) (bus : List BusLine)
-    (counts : LineCounts) : Type 0 where
+    (counts : PerPort ℕ) : Type 0 where
   pub passed : PassedBefore known d 8
   pub if1_lines : AreLines HostSays (lines_in (get (codes "if1") d)) if1
   pub if2_lines : AreLines HostSays (lines_in (get (codes "if2") d)) if2
@@ -112,7 +112,7 @@ module _ (known : List (List ℕ)) (d : Data) (p : Profile) (n : ℕ) (numbers :
       → HasGoodLines port.If1 × AreLines HostSays (lines_in (get (codes "if1") d)) if1
       → HasGoodLines port.If2 × AreLines HostSays (lines_in (get (codes "if2") d)) if2
       → HasGoodLines port.Bus × AreLines BusSays (lines_in (get (codes "bus") d)) bus
-      → (counts : LineCounts) (ls ms : List HostLine) (ns : List BusLine) → AreCounts counts ls ms ns
+      → (counts : PerPort ℕ) (ls ms : List HostLine) (ns : List BusLine) → AreCounts counts ls ms ns
       → ls ≡ if1 → ms ≡ if2 → ns ≡ bus → ListsRead known d if1 if2 bus counts
   lists_read if1 if2 bus of_if1 of_if2 of_bus counts ls ms ns are l m n = record {
     passed = good_port port.Bus (before_bus of_if1.0 of_if2.0) of_bus.0;
@@ -124,7 +124,7 @@ module _ (known : List (List ℕ)) (d : Data) (p : Profile) (n : ℕ) (numbers :
 
 -- ---- the order
 
-module _ (known : List (List ℕ)) (d : Data) (if1 if2 : List HostLine) (bus : List BusLine) (counts : LineCounts)
+module _ (known : List (List ℕ)) (d : Data) (if1 if2 : List HostLine) (bus : List BusLine) (counts : PerPort ℕ)
     (lists : ListsRead known d if1 if2 bus counts) where
   same : (name : PortName) → count_of counts name ≡ lines_of_port d name
   same port.If1 = ap (λ c. c.if1) lists.counted ∙ lines_length HostSays _ if1 lists.if1_lines

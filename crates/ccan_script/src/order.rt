@@ -10,11 +10,10 @@ ghost use Rattle.ccan_script.specs.Order.{default_order, ChecksTimes};
 ghost use Rattle.ccan_script.specs.Reader.{ReadsOrder};
 
 use crate::line_context::LineContext;
-use crate::line_counts::LineCounts;
 use crate::list_name::ListName;
 use crate::list_reader::lines_of;
 use crate::script_error::ScriptError;
-use ccan_line::MAX_NAMES;
+use ccan_line::{MAX_NAMES, PerPort};
 use ccan_ram::PortName;
 use serde_json::Value;
 use std::alloc::Global;
@@ -32,7 +31,7 @@ fn push_times(order: &mut Vec<PortName>, port: PortName, count: usize) -> Result
 }
 
 /// All lines of IF1, then all of IF2, then all of the bus.
-fn default_order(alloc: Global, counts: LineCounts) -> Result<Vec<PortName>, ScriptError>
+fn default_order(alloc: Global, counts: PerPort<usize>) -> Result<Vec<PortName>, ScriptError>
     ensures { MatchResult result (λ order. order.items ≡ default_order (count_of counts))
         (λ e. e ≡ ScriptError.Memory) }
 {
@@ -66,7 +65,7 @@ fn check_times(order: &[PortName], port: PortName, lines: usize) -> Result<(), S
 }
 
 /// Checks how often the order names each port.
-fn check_all_times(order: &[PortName], counts: LineCounts) -> Result<(), ScriptError>
+fn check_all_times(order: &[PortName], counts: PerPort<usize>) -> Result<(), ScriptError>
     ensures { ChecksTimes (count_of counts) order.now result }
 {
     check_times(order, PortName::If1, counts.if1)?;
@@ -78,7 +77,7 @@ fn check_all_times(order: &[PortName], counts: LineCounts) -> Result<(), ScriptE
 pub(crate) fn read_order(
     alloc: Global,
     script: &Value,
-    counts: LineCounts,
+    counts: PerPort<usize>,
     context: LineContext,
 ) -> Result<Vec<PortName>, ScriptError>
     requires { context.nodes ≤ most_nodes }

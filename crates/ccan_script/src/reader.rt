@@ -4,7 +4,7 @@ ghost use Rattle.ccan_script.specs.Reader.{ReadsAmong, ReadsScript};
 
 use crate::json::has_only;
 use crate::line_context::LineContext;
-use crate::line_counts::LineCounts;
+use crate::line_counts::counts_of;
 use crate::list_name::ListName;
 use crate::list_reader::port_lines;
 use crate::number::{TOP_SHAPE, number_member, profile_numbered, tries_of};
@@ -42,7 +42,7 @@ pub(crate) fn script_among(
     let if1 = port_lines(alloc, ListName::If1, value, "if1", context)?;
     let if2 = port_lines(alloc, ListName::If2, value, "if2", context)?;
     let bus = port_lines(alloc, ListName::Bus, value, "bus", context)?;
-    let counts = LineCounts::of(&if1, &if2, &bus);
+    let counts = counts_of(&if1, &if2, &bus);
     let order = read_order(alloc, value, counts, context)?;
     Ok(Script {
         profile: context.profile,
