@@ -1,11 +1,12 @@
 -- The nodes and numbers of the bus's lines are in their ranges. Source: this project's own.
-use Rattle.std.specs.Prelude.{ℕ, ◌≤◌, List, Option, Some, None}
+use Rattle.std.specs.Prelude.{ℕ, ◌≤◌, Bool, true, false, List, Option, Some, None}
 use Rattle.std.specs.Coded.{le_prop, ×_prop, Unit-prop}
 use Rattle.ccan_accept.specs.declared.frame.Frame.{Frame}
 use Rattle.ccan_bus.specs.declared.round_line.RoundLine.{RoundLine}
 use Rattle.ccan_bus.specs.RoundLine.{AreSenders}
 use Rattle.ccan_line.specs.declared.bus_line.BusLine.{BusLine}
 use Rattle.ccan_line.specs.declared.bus_line.BusLine.TheVariants.{Load, Round, Interrupt, Flags, Controller}
+use Rattle.ccan_line.specs.ControllerLine as controller
 use Rattle.ccan_line.specs.ControllerLine.{ControllerFits, ControllerFits-prop}
 use Rattle.ccan_line.specs.Lines.{All-prop}
 
@@ -13,6 +14,30 @@ use Rattle.ccan_line.specs.Lines.{All-prop}
 abbrev pub round_of : BusLine → Option RoundLine
 round_of (Round round) = Some round
 round_of other = None
+
+-- the line loads an object, or plays a round
+abbrev pub moves_messages : BusLine → Bool
+moves_messages Load = true
+moves_messages (Round round) = true
+moves_messages Interrupt = false
+moves_messages (Flags flag) = false
+moves_messages (Controller line) = false
+
+-- the line's answer has the Status register in it, or goes by its interrupt
+abbrev pub asks_status : BusLine → Bool
+asks_status Load = false
+asks_status (Round round) = false
+asks_status Interrupt = true
+asks_status (Flags flag) = false
+asks_status (Controller line) = controller.shows_status line
+
+-- the line's answer has error counters in it, or the state that they mean
+abbrev pub shows_counters : BusLine → Bool
+shows_counters Load = false
+shows_counters (Round round) = false
+shows_counters Interrupt = false
+shows_counters (Flags flag) = false
+shows_counters (Controller line) = controller.shows_counters line
 
 -- the nodes that a line names are among this many others and the controller, and its numbers are in their ranges
 abbrev pub BusFits : ℕ → BusLine → Type 0
