@@ -1,5 +1,5 @@
 -- Where the first fault of a line is, by the order of the checks. That a line has a fault is what its reader says
--- (`host_fault` and `bus_fault` of `ccan_script`). Source: this project's own.
+-- (`host_fault` and `bus_fault`). Source: this project's own.
 use Rattle.std.specs.Prelude.{ℕ, Bool, not, List, [], ◌∷◌, Option, Some, None, codes}
 use Rattle.std.specs.Prelude.{is_some, option_and_then, slice_get, unwrap_or, if◌then◌else◌}
 use Rattle.std.specs.List.{position}

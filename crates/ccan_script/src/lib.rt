@@ -14,7 +14,8 @@
 //!
 //! What a value means is defined apart from the reader, in `specs/`. Its faults are a set, each at a place, and the fault
 //! of the least place is reported. If there is none, the value says what the script is. A [`Script`] holds all that its
-//! lines have to keep as an invariant, so that a run checks none of it again.
+//! lines have to keep as an invariant, so that a run checks none of it again. The first fault of each line, with its place in
+//! the text and the remedy, is found by [`check`].
 #![tactic(auto)]
 
 pub mod bus_line;

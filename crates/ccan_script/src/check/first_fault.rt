@@ -1,5 +1,5 @@
-//! Where the first fault of a line is, by the order of the checks. Whether a line has a fault is what the readers of
-//! `ccan_script` say.
+//! Where the first fault of a line is, by the order of the checks. Whether a line has a fault is what the readers of lines
+//! say.
 
 ghost use Rattle.std.specs.Prelude.{◌≡◌, ◌≤◌, is_some, None, unwrap_or};
 ghost use Rattle.std.specs.List.{position};
