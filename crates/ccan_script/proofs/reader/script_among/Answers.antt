@@ -72,7 +72,7 @@ returns-in_err-order c =
     _ c.profile_numbered.ensures in
     let lists = lists_read _ _ _ _ numbers c.in_ok-if1.if1.items c.in_ok-if2.if2.items c.in_ok-bus.bus.items
     c.in_ok-if1.ensures.reads c.in_ok-if2.ensures.reads c.in_ok-bus.ensures.reads
-    _ _ _ _ c.of-counts.ensures c.deref.ensures.value c.deref-2.ensures.value c.deref-3.ensures.value in
+    _ _ _ _ c.counts_of-counts.ensures c.deref.ensures.value c.deref-2.ensures.value c.deref-3.ensures.value in
     told _ _ _ _ c.from_residual-in_err-order.ensures.1 (bad_order_of _ _ _ _ _ _ lists _ c.in_err-order.ensures.reads)
 
 pub returns : goal.returns
@@ -82,7 +82,7 @@ returns c =
     _ c.profile_numbered.ensures in
     let lists = lists_read _ _ _ _ numbers c.in_ok-if1.if1.items c.in_ok-if2.if2.items c.in_ok-bus.bus.items
     c.in_ok-if1.ensures.reads c.in_ok-if2.ensures.reads c.in_ok-bus.ensures.reads
-    _ _ _ _ c.of-counts.ensures c.deref.ensures.value c.deref-2.ensures.value c.deref-3.ensures.value in
+    _ _ _ _ c.counts_of-counts.ensures c.deref.ensures.value c.deref-2.ensures.value c.deref-3.ensures.value in
     let order = c.in_ok-order.ensures.reads in (
       no_fault_of _ _ _ _ _ _ lists order.0,
       record {
@@ -101,7 +101,7 @@ returns c =
 
 pub invariant_of-result : goal.invariant_of-result
 invariant_of-result c =
-    let counts = c.of-counts.ensures in
+    let counts = c.counts_of-counts.ensures in
     let times = c.in_ok-order.ensures.times in
     record {
       quota_range = record { least = c.in_ok-quota.ensures.within.0; greatest = c.in_ok-quota.ensures.within.1 };
