@@ -73,4 +73,6 @@ fn laws_of_outcomes_hold() {
     quiet_laws::hosts_leave_alone();
     quiet_laws::hosts_have_done();
     quiet_laws::bus_leaves_alone();
+    quiet_laws::hosts_leave_within();
+    quiet_laws::bus_leaves_within();
 }
