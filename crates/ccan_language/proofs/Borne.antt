@@ -19,7 +19,7 @@ use Rattle.ccan_language.specs.Signs.{AreVain, first_with, has_sign, has_signs, 
 use Rattle.ccan_language.specs.Words.{AreNormal}
 use Rattle.ccan_language.proofs.Counted.{min_is, sum_in_bits}
 use Rattle.ccan_language.proofs.Listed.{behind_edge, behind_long, words_end, words_fork}
-use Rattle.ccan_language.proofs.Same.{and_is}
+use Rattle.ccan_language.specs.Equal.{and_is}
 
 -- ---- the place of the first item that passes
 

@@ -10,7 +10,6 @@ pub mod Numbered
 pub mod Order
 pub mod Reached
 pub mod Said
-pub mod Same
 pub mod Union
 pub mod Ways
 pub mod With

@@ -11,10 +11,10 @@ use Rattle.ccan_language.specs.declared.node.Edge.{Edge}
 use Rattle.ccan_language.specs.declared.node.Node.{Node}
 use Rattle.ccan_language.specs.declared.node.Node.TheVariants.{End, Fork}
 use Rattle.ccan_language.specs.Images.{IsImageFrom, image_of, without_letter, word_image}
+use Rattle.ccan_language.specs.Equal.{letters}
 use Rattle.ccan_language.specs.Words.{AreNormal, IsWordFrom, with_letter, with_letters}
 use Rattle.ccan_language.proofs.Decided.{without_with}
 use Rattle.ccan_language.proofs.Grown.{from_end, from_fork}
-use Rattle.ccan_language.proofs.Order.{letters}
 use Rattle.ccan_language.proofs.Said.{letters_push, take_next}
 
 -- ---- what is said of equal letters and words

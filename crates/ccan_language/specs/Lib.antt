@@ -1,5 +1,7 @@
 pub mod Answers
 pub mod Count
+pub mod Equal
+pub mod Hashed
 pub mod Hashing
 pub mod Images
 pub mod Memo

@@ -7,6 +7,7 @@
 
 pub mod answers;
 pub mod graph;
+mod hashed;
 pub mod hashing;
 pub mod images;
 pub mod letter;

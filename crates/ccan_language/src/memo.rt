@@ -1,7 +1,7 @@
 use crate::letter::Letter;
 
 /// A call of `union`.
-#[derive(Clone, Copy, PartialEq, Eq, Hash, Debug, Drop)]
+#[derive(Clone, Copy, PartialEq, Eq, Debug, Drop)]
 pub struct Pair {
     /// The index of the first node.
     pub first: usize,
@@ -10,7 +10,7 @@ pub struct Pair {
 }
 
 /// A call of `with`.
-#[derive(Clone, Copy, PartialEq, Eq, Hash, Debug, Drop)]
+#[derive(Clone, Copy, PartialEq, Eq, Debug, Drop)]
 pub struct Longer {
     /// The index of the node.
     pub index: usize,

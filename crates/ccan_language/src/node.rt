@@ -3,7 +3,7 @@ ghost use Rattle.std.specs.Prelude.{true, ◌≡◌, ◌↔◌};
 use crate::letter::Letter;
 
 /// An edge from one node to another, which has a letter, and what is beside it.
-#[derive(Clone, Copy, PartialEq, Eq, Hash, Debug, Drop)]
+#[derive(Clone, Copy, PartialEq, Eq, Debug, Drop)]
 pub struct Edge {
     /// The letter.
     pub letter: Letter,
@@ -16,7 +16,7 @@ pub struct Edge {
 /// A node: a set of words.
 ///
 /// The edges of a fork are its own, that of the others' node if that is a fork, and so on, in the order of their letters.
-#[derive(Clone, Copy, PartialEq, Eq, Hash, Debug, Drop)]
+#[derive(Clone, Copy, PartialEq, Eq, Debug, Drop)]
 pub enum Node {
     /// No word.
     Nothing,

@@ -1,0 +1,91 @@
+//! The hash of what the tables of a graph find: one word of each.
+ghost use Rattle.std.specs.Prelude.{◌≡◌};
+ghost use Rattle.ccan_language.specs.Hashed.{edge_word, longer_word, node_word, pair_word};
+
+use crate::hashing::mixed;
+use crate::memo::{Longer, Pair};
+use crate::node::{Edge, Node};
+use std::hash::{Hash, Hasher};
+
+/// The word of an edge.
+#[inline(always)]
+fn edge_word(edge: &Edge) -> u64
+    ensures { result ≡ edge_word edge.now }
+{
+    let letter = mixed(
+        mixed(2, edge.letter.place as u64),
+        edge.letter.answer as u64,
+    );
+    mixed(mixed(letter, edge.to as u64), edge.others as u64)
+}
+
+/// The word of a node.
+#[inline(always)]
+fn node_word(node: &Node) -> u64
+    ensures { result ≡ node_word node.now }
+{
+    match node {
+        Node::Nothing => 0,
+        Node::End => 1,
+        Node::Fork(edge) => edge_word(edge),
+    }
+}
+
+/// The word of a call of `union`.
+#[inline(always)]
+fn pair_word(pair: &Pair) -> u64
+    ensures { result ≡ pair_word pair.now }
+{
+    mixed(mixed(0, pair.first as u64), pair.second as u64)
+}
+
+/// The word of a call of `with`.
+#[inline(always)]
+fn longer_word(longer: &Longer) -> u64
+    ensures { result ≡ longer_word longer.now }
+{
+    let node = mixed(0, longer.index as u64);
+    mixed(
+        mixed(node, longer.letter.place as u64),
+        longer.letter.answer as u64,
+    )
+}
+
+impl Hash for Node {
+    ghost use Rattle.ccan_language.specs.Hashed.{node_hashed, nodes_hashed_alike};
+
+    ghost hash_input = { node_hashed };
+
+    ghost respects_eq = { nodes_hashed_alike };
+
+    #[inline(always)]
+    fn hash<H: Hasher>(&self, state: &mut H) {
+        node_word(self).hash(state);
+    }
+}
+
+impl Hash for Pair {
+    ghost use Rattle.ccan_language.specs.Hashed.{pair_hashed, pairs_hashed_alike};
+
+    ghost hash_input = { pair_hashed };
+
+    ghost respects_eq = { pairs_hashed_alike };
+
+    #[inline(always)]
+    fn hash<H: Hasher>(&self, state: &mut H) {
+        pair_word(self).hash(state);
+    }
+}
+
+impl Hash for Longer {
+    ghost use Rattle.ccan_language.specs.Hashed.{longer_hashed, longer_hashed_alike};
+
+    ghost hash_input = { longer_hashed };
+
+    ghost respects_eq = { longer_hashed_alike };
+
+    #[inline(always)]
+    fn hash<H: Hasher>(&self, state: &mut H) {
+        longer_word(self).hash(state);
+    }
+}
