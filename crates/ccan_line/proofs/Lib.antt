@@ -1,5 +1,6 @@
 pub mod Rows
 pub mod ControllerLines
+pub mod LinesBuilt
 pub mod ScansApart
 pub mod ChoicesApart
 pub mod LoadsApart

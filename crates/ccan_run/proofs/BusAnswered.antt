@@ -44,10 +44,9 @@ use Rattle.ccan_line.specs.declared.line_answer.LineAnswer.TheVariants as answer
 use Rattle.ccan_line.specs.Lines.{LinesMean}
 use Rattle.ccan_line.specs.BusPort.{BusLineMeans}
 use Rattle.ccan_run.specs.Answered.{HasStep, NamesPending, WordWasShown, WasChanged, WasSent, WasStored, RoundShownBy}
-use Rattle.ccan_line.proofs.ControllerLines.{controller_keeps_loaded}
 use Rattle.ccan_run.proofs.ControllerAnswers.{quiet_part}
 use Rattle.ccan_run.specs.Answered.{BusShownBy, IsBusReplyTo, IsBusPart, BusInOrder, BusMakes, RoundMakes, IsAtMost, changes_in}
-use Rattle.ccan_line.proofs.InTurn.{ChoosesInTurn, line_keeps}
+use Rattle.ccan_line.proofs.InTurn.{ChoosesInTurn, line_keeps, still_stays}
 use Rattle.ccan_run.proofs.HostChanges.{changes_by-attempt, changes_by-interrupt, changes_by-flags}
 use Rattle.ccan_run.proofs.BusChanges.{changes_in-none, changes_in-one, changes_in-append, changes_by-choice, made_by}
 use Rattle.ccan_run.proofs.StepsShown.{in_newest, in_earlier, done_at, interrupt_shown, word_shown}
@@ -511,13 +510,8 @@ module _ (terms : Terms) (bus : terms.port ≡ Bus) (tries : ℕ) where
       load_carries seen added past after loading in_turn h carries
   line_carries (line.Round sends) past seen added reply after in_turn (ended, is, h) carries =
       round_carries sends seen added past after in_turn ended h carries
-  line_carries line.Interrupt past seen added reply after in_turn h carries =
-      carries_same past after seen added (ap (λ (p : BusPast). p.loaded) h.past_is) carries
-  line_carries (line.Flags flag) past seen added reply after in_turn h carries =
-      carries_same past after seen added (ap (λ (p : BusPast). p.loaded) h.past_is) carries
-  line_carries (line.Controller at) past seen added reply after in_turn h carries =
-      carries_same past after seen added
-      (ap (λ (p : BusPast). p.loaded) h.past_is ∙ controller_keeps_loaded at past) carries
+  line_carries other past seen added reply after in_turn h carries =
+      carries_same past after seen added (still_stays terms tries other past after seen added reply refl h).loaded carries
 
   -- ---- what a line is answered
 

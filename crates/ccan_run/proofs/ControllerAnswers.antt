@@ -1,4 +1,4 @@
--- The answer of a line at the controller: no step shows it and none makes it, and it is not busy.
+-- The answer of a line at the controller: no step shows it, and none makes it.
 use Rattle.std.proofs.Common.{◌≡◌, List, []}
 use Rattle.ccan_object.specs.declared.profile.Profile.{Profile}
 use Rattle.ccan_ram.specs.declared.event.Event.{Event}
@@ -9,7 +9,6 @@ use Rattle.ccan_line.specs.declared.controller_line.ControllerLine.{ControllerLi
 use Rattle.ccan_line.specs.declared.controller_line.ControllerLine.TheVariants.{Status, Control, Counters, Init, Recessive, LoopBack}
 use Rattle.ccan_line.specs.ControllerLine.{controller_end}
 use Rattle.ccan_run.specs.Answered.{IsBusPart, changes_in}
-use Rattle.ccan_run.specs.Laws.{IsNotBusy}
 
 module _ (profile : Profile) (of : BusLine) (before events : List Event) (none : changes_in Bus events ≡ []) where
   pub quiet_part : (line : ControllerLine) (past : BusPast) → IsBusPart profile of (controller_end line past).0 before events
@@ -19,11 +18,3 @@ module _ (profile : Profile) (of : BusLine) (before events : List Event) (none :
   quiet_part Init past = record { shown = tt; changes = none }
   quiet_part (Recessive groups) past = record { shown = tt; changes = none }
   quiet_part (LoopBack on) past = record { shown = tt; changes = none }
-
-pub never_busy : (line : ControllerLine) (past : BusPast) → IsNotBusy (controller_end line past).0
-never_busy Status past = tt
-never_busy (Control sie eie) past = tt
-never_busy (Counters node) past = tt
-never_busy Init past = tt
-never_busy (Recessive groups) past = tt
-never_busy (LoopBack on) past = tt

@@ -43,7 +43,8 @@ use Rattle.ccan_line.specs.BusPort.{BusLineMeans}
 use Rattle.ccan_line.specs.Lines.{LinesMean}
 use Rattle.ccan_line.specs.Turn.{PortLine, of_if1, of_if2, of_bus, Three, PortLineMeans, terms_of, opening}
 use Rattle.ccan_run.specs.Ordered.{lines_of}
-use Rattle.ccan_run.proofs.ControllerAnswers.{never_busy}
+use Rattle.ccan_line.proofs.ControllerLines.{IsStill}
+use Rattle.ccan_line.proofs.InTurn.{still_stays}
 use Rattle.ccan_run.specs.Laws.{IsNotBusy, HasNoBusyLine}
 
 module _ (terms : Terms) (alone : terms.alone ≡ true) (tries : ℕ) (some : 1 ≤ tries) where
@@ -165,13 +166,19 @@ module _ (terms : Terms) (alone : terms.alone ≡ true) (tries : ℕ) (some : 1 
       continues h.loading sends (h.first ++ seen) h.last h.between after ended
       (loads seen h.first past h.between h.loading h.loads) h.continues
 
+  -- nothing was moved
+  not_busy : (reply : LineAnswer) → IsStill reply → IsNotBusy reply
+  not_busy (answer.Busy object) still = absurd still
+  not_busy (answer.Load loading) still = absurd still
+  not_busy (answer.Round ended) still = absurd still
+  not_busy reply still = tt
+
   bus_line : (line : BusLine) (past : BusPast) (seen added : List Event) (reply : LineAnswer) (after : BusPast)
       → BusLineMeans terms tries line past seen added reply after → IsNotBusy reply
   bus_line line.Load past seen added reply after (loading, is, h) = rw is (loads seen added past after loading h)
   bus_line (line.Round sends) past seen added reply after (ended, is, h) = rw is (rounds sends seen added past after ended h)
-  bus_line line.Interrupt past seen added reply after h = rw h.answer_is tt
-  bus_line (line.Flags flag) past seen added reply after h = rw h.answer_is tt
-  bus_line (line.Controller at) past seen added reply after h = rw h.answer_is (never_busy at past)
+  bus_line other past seen added reply after h =
+      not_busy reply (still_stays terms tries other past after seen added reply refl h).still
 
 module _ (script : ScriptFields) (some : 1 ≤ script.tries) where
   port_line : (line : PortLine) (three : Three) (seen added : List Event) (reply : PortName × LineAnswer) (left : Three)
