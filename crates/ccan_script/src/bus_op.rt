@@ -1,6 +1,6 @@
 ghost use Rattle.std.specs.Prelude.{◌≡◌};
 ghost use Rattle.serde_json.specs.View.{view};
-ghost use Rattle.ccan_script.specs.BusOp.{bus_op};
+ghost use Rattle.ccan_script.specs.BusOp.{bus_op, bus_op_named};
 
 use serde_json::Value;
 
@@ -19,22 +19,30 @@ pub enum BusOp {
     LoopBack,
 }
 
+/// The operation of this name.
+#[tactic(auto, unfolding(crate::specs::BusOp::bus_op_named))]
+fn bus_op_named(word: &str) -> Option<BusOp>
+    ensures { result ≡ bus_op_named word.now }
+{
+    match word.as_bytes() {
+        b"load" => Some(BusOp::Load),
+        b"round" => Some(BusOp::Round),
+        b"status" => Some(BusOp::Status),
+        b"control" => Some(BusOp::Control),
+        b"interrupt" => Some(BusOp::Interrupt),
+        b"flags" => Some(BusOp::Flags),
+        b"counters" => Some(BusOp::Counters),
+        b"init" => Some(BusOp::Init),
+        b"recessive" => Some(BusOp::Recessive),
+        b"loopback" => Some(BusOp::LoopBack),
+        _ => None,
+    }
+}
+
 /// What the member `op` of a line names, `None` if it names nothing that the bus does.
-#[tactic(auto, unfolding(crate::specs::BusOp::bus_op, crate::specs::BusOp::bus_op_named))]
+#[tactic(auto, unfolding(crate::specs::BusOp::bus_op))]
 pub fn bus_op(line: &Value) -> Option<BusOp>
     ensures { result ≡ bus_op (view line.now) }
 {
-    match line.get("op")?.as_str()? {
-        "load" => Some(BusOp::Load),
-        "round" => Some(BusOp::Round),
-        "status" => Some(BusOp::Status),
-        "control" => Some(BusOp::Control),
-        "interrupt" => Some(BusOp::Interrupt),
-        "flags" => Some(BusOp::Flags),
-        "counters" => Some(BusOp::Counters),
-        "init" => Some(BusOp::Init),
-        "recessive" => Some(BusOp::Recessive),
-        "loopback" => Some(BusOp::LoopBack),
-        _ => None,
-    }
+    bus_op_named(line.get("op")?.as_str()?)
 }

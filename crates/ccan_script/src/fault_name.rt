@@ -10,13 +10,13 @@ use serde_json::Value;
 pub(crate) fn fault_named(word: &str) -> Option<Fault>
     ensures { result ≡ fault_named word.now }
 {
-    match word {
-        "none" => Some(Fault::Quiet),
-        "stuff" => Some(Fault::Stuff),
-        "form" => Some(Fault::Form),
-        "bit1" => Some(Fault::Bit1),
-        "bit0" => Some(Fault::Bit0),
-        "crc" => Some(Fault::Crc),
+    match word.as_bytes() {
+        b"none" => Some(Fault::Quiet),
+        b"stuff" => Some(Fault::Stuff),
+        b"form" => Some(Fault::Form),
+        b"bit1" => Some(Fault::Bit1),
+        b"bit0" => Some(Fault::Bit0),
+        b"crc" => Some(Fault::Crc),
         _ => None,
     }
 }

@@ -25,12 +25,12 @@ pub(crate) fn flag_name(flag: Flag) -> &'static str
 pub(crate) fn flag_named(word: &str) -> Option<Flag>
     ensures { result ≡ flag_named word.now }
 {
-    match word {
-        "newdat" => Some(Flag::NewDat),
-        "msglst" => Some(Flag::MsgLst),
-        "intpnd" => Some(Flag::IntPnd),
-        "txrqst" => Some(Flag::TxRqst),
-        "msgval" => Some(Flag::MsgVal),
+    match word.as_bytes() {
+        b"newdat" => Some(Flag::NewDat),
+        b"msglst" => Some(Flag::MsgLst),
+        b"intpnd" => Some(Flag::IntPnd),
+        b"txrqst" => Some(Flag::TxRqst),
+        b"msgval" => Some(Flag::MsgVal),
         _ => None,
     }
 }

@@ -1,6 +1,6 @@
 ghost use Rattle.std.specs.Prelude.{◌≡◌};
 ghost use Rattle.serde_json.specs.View.{view};
-ghost use Rattle.ccan_script.specs.HostOp.{host_op};
+ghost use Rattle.ccan_script.specs.HostOp.{host_op, host_op_named};
 
 use serde_json::Value;
 
@@ -13,16 +13,24 @@ pub enum HostOp {
     Flags,
 }
 
+/// The operation of this name.
+#[tactic(auto, unfolding(crate::specs::HostOp::host_op_named))]
+fn host_op_named(word: &str) -> Option<HostOp>
+    ensures { result ≡ host_op_named word.now }
+{
+    match word.as_bytes() {
+        b"transfer" => Some(HostOp::Transfer),
+        b"until" => Some(HostOp::Until),
+        b"interrupt" => Some(HostOp::Interrupt),
+        b"flags" => Some(HostOp::Flags),
+        _ => None,
+    }
+}
+
 /// What the member `op` of a line names, `None` if it names nothing that a host port does.
-#[tactic(auto, unfolding(crate::specs::HostOp::host_op, crate::specs::HostOp::host_op_named))]
+#[tactic(auto, unfolding(crate::specs::HostOp::host_op))]
 pub fn host_op(line: &Value) -> Option<HostOp>
     ensures { result ≡ host_op (view line.now) }
 {
-    match line.get("op")?.as_str()? {
-        "transfer" => Some(HostOp::Transfer),
-        "until" => Some(HostOp::Until),
-        "interrupt" => Some(HostOp::Interrupt),
-        "flags" => Some(HostOp::Flags),
-        _ => None,
-    }
+    host_op_named(line.get("op")?.as_str()?)
 }

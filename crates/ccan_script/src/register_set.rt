@@ -12,17 +12,18 @@ use serde_json::{Map, Value};
 pub fn register_named(name: &str) -> Option<Reg>
     ensures { result ≡ register_named name.now }
 {
-    match name {
-        "cmask" => Some(Reg::CMask),
-        "mask1" => Some(Reg::Mask1),
-        "mask2" => Some(Reg::Mask2),
-        "arb1" => Some(Reg::Arb1),
-        "arb2" => Some(Reg::Arb2),
-        "ctrl" => Some(Reg::Ctrl),
-        "dataa1" => Some(Reg::DataA1),
-        "dataa2" => Some(Reg::DataA2),
-        "datab1" => Some(Reg::DataB1),
-        "datab2" => Some(Reg::DataB2),
+    // Bytes go down one tree of tests; a text would be compared with each of the ten in turn.
+    match name.as_bytes() {
+        b"cmask" => Some(Reg::CMask),
+        b"mask1" => Some(Reg::Mask1),
+        b"mask2" => Some(Reg::Mask2),
+        b"arb1" => Some(Reg::Arb1),
+        b"arb2" => Some(Reg::Arb2),
+        b"ctrl" => Some(Reg::Ctrl),
+        b"dataa1" => Some(Reg::DataA1),
+        b"dataa2" => Some(Reg::DataA2),
+        b"datab1" => Some(Reg::DataB1),
+        b"datab2" => Some(Reg::DataB2),
         _ => None,
     }
 }
