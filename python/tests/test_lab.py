@@ -76,13 +76,13 @@ def test_the_whole_list() -> None:
 def test_the_whole_list_as_data() -> None:
     data = ccan.outcomes_data(LOST)
     assert (data["file"], data["count"], len(data["outcomes"])) == (str(LOST), 4, 4)
-    # MsgLst is set where the frame is stored before the host has cleared NewDat: in the first outcome and in the last.
+    # MsgLst is set where the frame is stored before the host has cleared NewDat: in the first two outcomes.
     losing = [
         outcome["number"]
         for outcome in data["outcomes"]
         if any(changed["after"]["msglst"] for step in outcome["history"] for changed in step["objects"])
     ]
-    assert losing == [1, 4]
+    assert losing == [1, 2]
     assert ccan.outcomes_data({}, most=10)["outcomes"][0]["order"] == []
 
 

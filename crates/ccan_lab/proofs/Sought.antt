@@ -1,13 +1,14 @@
--- The lines of an outcome are those that the letters of its word tell, so the first outcome with some lines is that of the first
--- word with their signs.
-use Rattle.std.proofs.Common.{ℕ, zero, suc, ◌+◌, ◌<◌, ◌≤◌, ◌≡◌, ◌||◌, ◌&&◌, not, cond, nat_lt, Bool, false, List, [], ◌∷◌, ◌++◌, Option, None, Some, Contains, length, map, position, slice_get, if◌then◌else◌, refl, sym, ap, ◌∙◌, arith, append-nil}
+-- A line is one of an outcome if a letter of its word tells it, so the first outcome with some lines is that of the first word with
+-- their signs.
+use Rattle.std.proofs.Common.{ℕ, zero, suc, ◌+◌, ◌≡◌, ◌==◌, ◌||◌, ◌&&◌, not, cond, nat_lt, Bool, List, [], ◌∷◌, ◌++◌, Option, None, Some, Contains, length, map, position, slice_get, if◌then◌else◌, refl, sym, ap, ◌∙◌, arith, append-nil}
 use Rattle.std.specs.List.{flat_map, list_any, prefix_len, range_with_len}
-use Rattle.std.proofs.lemmas.Bool.{lt-ltb}
 use Rattle.std.proofs.lemmas.List.Concat.{flat_map-append}
 use Rattle.std.proofs.lemmas.List.Folds.{list_any-append}
+use Rattle.std.proofs.lemmas.List.Sorted.{list_any-IsPermutation}
 use Rattle.std.proofs.lemmas.Option.{get_or_from_slice_get}
 use Rattle.ccan_language.specs.declared.letter.Letter.{Letter}
 use Rattle.ccan_language.specs.Count.{all_words}
+use Rattle.ccan_language.specs.Words.{with_letters}
 use Rattle.ccan_language.specs.Signs.{has_sign, has_signs, first_with as first_with_signs}
 use Rattle.ccan_language.proofs.Borne.{position_map}
 use Rattle.ccan_language.proofs.Grown.{first_in, later_in}
@@ -21,9 +22,10 @@ use Rattle.ccan_line.specs.LineEnd.{unframed}
 use Rattle.ccan_outcomes.specs.Answers.{Answers}
 use Rattle.ccan_outcomes.specs.declared.ending.Ending.{Ending}
 use Rattle.ccan_outcomes.specs.declared.words.OutcomeWords.{OutcomeWords}
-use Rattle.ccan_outcomes.specs.Letters.{AreNumbers, lettered}
-use Rattle.ccan_outcomes.specs.OutcomeWords.{AreOfLines, IsWordOf, ending_of_word, endings_in}
-use Rattle.ccan_outcomes.proofs.Worded.{lettered_append, shown_by}
+use Rattle.ccan_outcomes.specs.Letters.{AreNumbers, column_of, lettered, place_at, place_behind}
+use Rattle.ccan_outcomes.specs.OutcomeWords.{AreOfLines, IsWordOf, ending_of_word, endings_in, last_place}
+use Rattle.ccan_outcomes.proofs.LettersIn.{all_more, column_at, column_behind}
+use Rattle.ccan_outcomes.proofs.Worded.{shown_by}
 use Rattle.ccan_lab.specs.Answer.{first_with}
 use Rattle.ccan_lab.specs.LineSigns.{is_told, lines_of_letter, lines_told, port_at, tells_line}
 use Rattle.ccan_lab.specs.Rows.{end_lines, begins_so, final_rows, has_line, has_lines, lines_of}
@@ -63,108 +65,97 @@ any_of_each begin f (x ∷ xs) =
 
 -- ---- the lines of a word
 
+-- the port by the column of a place
+abbrev by_column : ℕ → Option PortName
+by_column column =
+    if column == column_of If1 then Some If1 else (if column == column_of If2 then Some If2
+    else (if column == column_of Bus then Some Bus else None))
+
+own_column : (port : PortName) → by_column (column_of port) ≡ Some port
+own_column If1 = refl
+own_column If2 = refl
+own_column Bus = refl
+
+at_line : (port : PortName) (line : ℕ) → port_at (place_at port line) ≡ Some port
+at_line port line = ap by_column (column_at port line) ∙ own_column port
+
+at_end : (lines : ℕ) → port_at (place_behind lines) ≡ None
+at_end lines = ap by_column (column_behind lines)
+
 module _ (words : OutcomeWords) where
   -- the letters of lines of one port
-  of_port : (port : PortName) (place : ℕ) (numbers : List ℕ) (ends : List LineEnd)
-      → ((k : ℕ) → place ≤ k → k < place + length numbers → port_at words k ≡ Some port)
+  of_port : (port : PortName) (line : ℕ) (numbers : List ℕ) (ends : List LineEnd)
       → AreNumbers words.numbers.answers.keys numbers ends
-      → flat_map (lines_of_letter words) (lettered place numbers) ≡ flat_map (end_lines port) ends
-  of_port port place [] [] at are = refl
-  of_port port place [] (a ∷ rest) at are = absurd are
-  of_port port place (n ∷ ns) [] at are = absurd are
-  of_port port place (n ∷ ns) (a ∷ rest) at are =
-      let later = flat_map (lines_of_letter words) (lettered (suc place) ns) in
-      ap (λ (o : Option PortName). lines_told words o n ++ later) (at place (omega arith) (omega arith))
+      → flat_map (lines_of_letter words) (lettered (place_at port line) numbers) ≡ flat_map (end_lines port) ends
+  of_port port line [] [] are = refl
+  of_port port line [] (a ∷ rest) are = absurd are
+  of_port port line (n ∷ ns) [] are = absurd are
+  of_port port line (n ∷ ns) (a ∷ rest) are =
+      let later = flat_map (lines_of_letter words) (lettered (place_at port line + 4) ns) in
+      let next : place_at port line + 4 ≡ place_at port (line + 1) = omega arith in
+      ap (λ (o : Option PortName). lines_told words o n ++ later) (at_line port line)
       ∙ ap (λ (x : LineEnd). end_lines port x ++ later)
       (get_or_from_slice_get words.numbers.answers.keys n a (unframed answer.Init) are.0)
       ∙ ap (λ (l : List (List ℕ)). end_lines port a ++ l)
-      (of_port port (suc place) ns rest (λ k low high. at k (omega (arith, low)) (omega (arith, high))) are.1)
+      (ap (λ (p : ℕ). flat_map (lines_of_letter words) (lettered p ns)) next ∙ of_port port (line + 1) ns rest are.1)
 
-  at_if1 : (k : ℕ) → k < words.if1 → port_at words k ≡ Some If1
-  at_if1 k low =
-      ap (λ (b : Bool). if b then Some If1 else (if nat_lt k (words.if1 + words.if2) then Some If2
-      else (if nat_lt k (words.if1 + words.if2 + words.bus) then Some Bus else None))) (lt-ltb k words.if1 low)
+  module _ (answers : Answers) (records : List Record) (word : List Letter) (is : IsWordOf words answers records word) where
+    abbrev one : List Letter
+    one = lettered (place_at If1 0) is.if1
 
-  past_if1 : (k : ℕ) → words.if1 ≤ k → port_at words k ≡ (if nat_lt k (words.if1 + words.if2) then Some If2
-      else (if nat_lt k (words.if1 + words.if2 + words.bus) then Some Bus else None))
-  past_if1 k high =
-      let not_less : nat_lt k words.if1 ≡ false = grind (arith, high) in
-      ap (λ (b : Bool). if b then Some If1 else (if nat_lt k (words.if1 + words.if2) then Some If2
-      else (if nat_lt k (words.if1 + words.if2 + words.bus) then Some Bus else None))) not_less
+    abbrev two : List Letter
+    two = lettered (place_at If2 0) is.if2
 
-  at_if2 : (k : ℕ) → words.if1 ≤ k → k < words.if1 + words.if2 → port_at words k ≡ Some If2
-  at_if2 k high low =
-      past_if1 k high
-      ∙ ap (λ (b : Bool). if b then Some If2
-      else (if nat_lt k (words.if1 + words.if2 + words.bus) then Some Bus else None)) (lt-ltb k (words.if1 + words.if2) low)
+    abbrev three : List Letter
+    three = lettered (place_at Bus 0) is.bus
 
-  past_if2 : (k : ℕ) → words.if1 + words.if2 ≤ k
-      → port_at words k ≡ (if nat_lt k (words.if1 + words.if2 + words.bus) then Some Bus else None)
-  past_if2 k high =
-      let not_less : nat_lt k (words.if1 + words.if2) ≡ false = grind (arith, high) in
-      past_if1 k (omega (arith, high))
-      ∙ ap (λ (b : Bool). if b then Some If2
-      else (if nat_lt k (words.if1 + words.if2 + words.bus) then Some Bus else None)) not_less
+    abbrev end : List Letter
+    end = lettered (last_place words) (is.memory ∷ [])
 
-  at_bus : (k : ℕ) → words.if1 + words.if2 ≤ k → k < words.if1 + words.if2 + words.bus → port_at words k ≡ Some Bus
-  at_bus k high low =
-      past_if2 k high
-      ∙ ap (λ (b : Bool). if b then Some Bus else None) (lt-ltb k (words.if1 + words.if2 + words.bus) low)
+    abbrev whole : List Letter
+    whole = one ++ (two ++ (three ++ end))
 
-  at_end : (k : ℕ) → words.if1 + words.if2 + words.bus ≤ k → port_at words k ≡ None
-  at_end k high =
-      let not_less : nat_lt k (words.if1 + words.if2 + words.bus) ≡ false = grind (arith, high) in
-      past_if2 k (omega (arith, high)) ∙ ap (λ (b : Bool). if b then Some Bus else None) not_less
+    -- the letters that are put into the word tell the lines of its outcome
+    of_letters : lines_of (ending_of_word words word) ≡ flat_map (lines_of_letter words) whole
+    unfolding lines_of
+    of_letters =
+        let f = lines_of_letter words in
+        let last : flat_map f end ≡ final_rows records =
+        ap (λ (o : Option PortName). lines_told words o is.memory ++ []) (at_end (words.if1 + words.if2 + words.bus))
+        ∙ append-nil (lines_told words None is.memory)
+        ∙ ap final_rows (get_or_from_slice_get words.numbers.memories.keys is.memory records [] is.memory_is) in
+        ap lines_of (shown_by words answers records word is)
+        ∙ sym (
+        flat_map-append f one (two ++ (three ++ end))
+        ∙ ap (λ (l : List (List ℕ)). l ++ flat_map f (two ++ (three ++ end))) (of_port If1 0 is.if1 answers.if1 is.if1_are)
+        ∙ ap (λ (l : List (List ℕ)). flat_map (end_lines If1) answers.if1 ++ l) (
+        flat_map-append f two (three ++ end)
+        ∙ ap (λ (l : List (List ℕ)). l ++ flat_map f (three ++ end)) (of_port If2 0 is.if2 answers.if2 is.if2_are)
+        ∙ ap (λ (l : List (List ℕ)). flat_map (end_lines If2) answers.if2 ++ l) (
+        flat_map-append f three end
+        ∙ ap (λ (l : List (List ℕ)). l ++ flat_map f end) (of_port Bus 0 is.bus answers.bus is.bus_are)
+        ∙ ap (λ (l : List (List ℕ)). flat_map (end_lines Bus) answers.bus ++ l) last
+        )
+        )
+        )
 
-  -- of a whole word
-  of_word : (answers : Answers) (records : List Record) (word : List Letter) → IsWordOf words answers records word
-      → lines_of (ending_of_word words word) ≡ flat_map (lines_of_letter words) word
-  unfolding lines_of
-  of_word answers records word is =
-      let f = lines_of_letter words in
-      let p2 = length is.if1 in
-      let p3 = length is.if1 + length is.if2 in
-      let p4 = length is.if1 + length is.if2 + length is.bus in
-      let l1 = is.if1_long in
-      let l2 = is.if2_long in
-      let l3 = is.bus_long in
-      let one = lettered 0 is.if1 in
-      let two = lettered p2 is.if2 in
-      let three = lettered p3 is.bus in
-      let end = lettered p4 (is.memory ∷ []) in
-      let parts : word ≡ one ++ (two ++ (three ++ end)) = is.word_is
-      ∙ lettered_append 0 p2 is.if1 (is.if2 ++ (is.bus ++ is.memory ∷ [])) (omega arith)
-      ∙ ap (λ (l : List Letter). one ++ l) (lettered_append p2 p3 is.if2 (is.bus ++ is.memory ∷ []) refl)
-      ∙ ap (λ (l : List Letter). one ++ (two ++ l)) (lettered_append p3 p4 is.bus (is.memory ∷ []) refl) in
-      let first = of_port If1 0 is.if1 answers.if1 (λ k low high. at_if1 k (omega (arith, high, l1))) is.if1_are in
-      let second = of_port If2 p2 is.if2 answers.if2
-      (λ k low high. at_if2 k (omega (arith, low, l1)) (omega (arith, high, l1, l2))) is.if2_are in
-      let third = of_port Bus p3 is.bus answers.bus
-      (λ k low high. at_bus k (omega (arith, low, l1, l2)) (omega (arith, high, l1, l2, l3))) is.bus_are in
-      let last : flat_map f end ≡ final_rows records =
-      ap (λ (o : Option PortName). lines_told words o is.memory ++ []) (at_end p4 (omega (arith, l1, l2, l3)))
-      ∙ append-nil (lines_told words None is.memory)
-      ∙ ap final_rows (get_or_from_slice_get words.numbers.memories.keys is.memory records [] is.memory_is) in
-      ap lines_of (shown_by words answers records word is)
-      ∙ sym (
-      ap (flat_map f) parts
-      ∙ flat_map-append f one (two ++ (three ++ end))
-      ∙ ap (λ (l : List (List ℕ)). l ++ flat_map f (two ++ (three ++ end))) first
-      ∙ ap (λ (l : List (List ℕ)). flat_map (end_lines If1) answers.if1 ++ l) (
-      flat_map-append f two (three ++ end)
-      ∙ ap (λ (l : List (List ℕ)). l ++ flat_map f (three ++ end)) second
-      ∙ ap (λ (l : List (List ℕ)). flat_map (end_lines If2) answers.if2 ++ l) (
-      flat_map-append f three end
-      ∙ ap (λ (l : List (List ℕ)). l ++ flat_map f end) third
-      ∙ ap (λ (l : List (List ℕ)). flat_map (end_lines Bus) answers.bus ++ l) last
-      )
-      )
-      )
+    -- so a line is one of the outcome if a letter of the word tells it
+    of_word : (begin : List ℕ) → has_line begin (lines_of (ending_of_word words word))
+        ≡ list_any (λ (letter : Letter). has_line begin (lines_of_letter words letter)) word
+    of_word begin =
+        let tells : Letter → Bool = λ letter. has_line begin (lines_of_letter words letter) in
+        ap (has_line begin) of_letters
+        ∙ any_of_each begin (lines_of_letter words) whole
+        ∙ ap (list_any tells) (sym (append-nil whole))
+        ∙ list_any-IsPermutation tells (whole ++ []) (with_letters whole []) (all_more whole [])
+        ∙ ap (list_any tells) (sym is.word_is)
 
   -- ---- the lines that are sought
 
   -- the word has the signs of the lines behind the first so many exactly if its outcome has those lines
-  has_rest : (word : List Letter) (rows : List (List ℕ)) → rows ≡ flat_map (lines_of_letter words) word
+  has_rest : (word : List Letter) (rows : List (List ℕ))
+      → ((begin : List ℕ) → has_line begin rows
+      ≡ list_any (λ (letter : Letter). has_line begin (lines_of_letter words letter)) word)
       → (all rest : List (List ℕ)) (n : ℕ) → ((k : ℕ) → slice_get all (n + k) ≡ slice_get rest k)
       → has_signs (tells_line words all) (range_with_len n (length rest)) word ≡ has_lines rest rows
   unfolding has_lines
@@ -173,8 +164,7 @@ module _ (words : OutcomeWords) where
       let here : n + 0 ≡ n = omega arith in
       let first : has_sign (tells_line words all) word n ≡ has_line begin rows =
       ap (λ (o : Option (List ℕ)). list_any (is_told words o) word) (ap (slice_get all) (sym here) ∙ at 0)
-      ∙ sym (any_of_each begin (lines_of_letter words) word)
-      ∙ ap (has_line begin) (sym is) in
+      ∙ sym (is begin) in
       ap (λ (b : Bool). b && has_signs (tells_line words all) (range_with_len (n + 1) (length rest)) word) first
       ∙ ap (λ (b : Bool). has_line begin rows && b) (has_rest word rows is all rest (n + 1) (λ k.
       let next : n + 1 + k ≡ n + suc k = omega arith in

@@ -1,18 +1,19 @@
 -- The lines that a letter of a word shows, and which of the lines that are sought are among them. Source: this project's own.
-use Rattle.std.specs.Prelude.{ℕ, ◌+◌, nat_lt, Bool, false, List, [], Option, Some, None, get_or, slice_get, if◌then◌else◌}
+use Rattle.std.specs.Prelude.{ℕ, ◌%◌, ◌==◌, Bool, false, List, [], Option, Some, None, get_or, slice_get, if◌then◌else◌}
 use Rattle.ccan_language.specs.declared.letter.Letter.{Letter}
 use Rattle.ccan_line.specs.declared.line_answer.LineAnswer.TheVariants as answer
 use Rattle.ccan_ram.specs.declared.port.PortName.{PortName}
 use Rattle.ccan_ram.specs.declared.port.PortName.TheVariants.{If1, If2, Bus}
 use Rattle.ccan_line.specs.LineEnd.{unframed}
+use Rattle.ccan_outcomes.specs.Letters.{column_of}
 use Rattle.ccan_outcomes.specs.declared.words.OutcomeWords.{OutcomeWords}
 use Rattle.ccan_lab.specs.Rows.{end_lines, final_rows, has_line}
 
--- the port whose line the letter at this place is about; after the lines it is about the objects at the end
-abbrev pub port_at : OutcomeWords → ℕ → Option PortName
-port_at words place =
-    if nat_lt place words.if1 then Some If1 else (if nat_lt place (words.if1 + words.if2) then Some If2
-    else (if nat_lt place (words.if1 + words.if2 + words.bus) then Some Bus else None))
+-- the port whose line the letter at this place is about; in the last column it is about the objects at the end
+abbrev pub port_at : ℕ → Option PortName
+port_at place =
+    if place % 4 == column_of If1 then Some If1 else (if place % 4 == column_of If2 then Some If2
+    else (if place % 4 == column_of Bus then Some Bus else None))
 
 -- the printed lines for a line that ended so, or for the objects
 abbrev pub lines_told : OutcomeWords → Option PortName → ℕ → List (List ℕ)
@@ -21,7 +22,7 @@ lines_told words None number = final_rows (get_or words.numbers.memories.keys nu
 
 -- the printed lines that a letter shows
 abbrev pub lines_of_letter : OutcomeWords → Letter → List (List ℕ)
-lines_of_letter words letter = lines_told words (port_at words letter.place) letter.answer
+lines_of_letter words letter = lines_told words (port_at letter.place) letter.answer
 
 -- the line that is sought, if it is one, is among those of the letter
 abbrev pub is_told : OutcomeWords → Option (List ℕ) → Letter → Bool

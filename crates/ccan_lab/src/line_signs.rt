@@ -14,6 +14,7 @@ use ccan_language::{Letter, Signs};
 use ccan_line::LineEnd;
 use ccan_object::{ObjectNo, Record};
 use ccan_outcomes::OutcomeWords;
+use ccan_outcomes::letters::COLUMNS;
 use ccan_ram::PortName;
 use ccan_script::{LineAnswer, print_line};
 use std::alloc::{AllocError, Global};
@@ -30,18 +31,15 @@ struct LineSigns<'a> {
     ghost frames_are: { map string_bytes frames.now ≡ map told_frame words.now.numbers.answers.keys },
 }
 
-/// The port to whose line the letter at this place is an answer. After the lines it says what the objects are at the end.
-fn port_at(words: &OutcomeWords, place: usize) -> Option<PortName>
-    ensures { result ≡ port_at words.now place }
+/// The port to whose line the letter at this place is an answer. In the last column it says what the objects are at the end.
+fn port_at(place: usize) -> Option<PortName>
+    ensures { result ≡ port_at place }
 {
-    if place < words.if1 {
-        Some(PortName::If1)
-    } else if place < words.if1 + words.if2 {
-        Some(PortName::If2)
-    } else if place < words.if1 + words.if2 + words.bus {
-        Some(PortName::Bus)
-    } else {
-        None
+    match place % COLUMNS {
+        0 => Some(PortName::If1),
+        1 => Some(PortName::If2),
+        2 => Some(PortName::Bus),
+        _ => None,
     }
 }
 
@@ -118,7 +116,7 @@ fn letter_has_line(words: &OutcomeWords, frames: &[String], letter: Letter, begi
     requires { map string_bytes frames.now ≡ map told_frame words.now.numbers.answers.keys }
     ensures { result ≡ has_line begin.now (lines_of_letter words.now letter) }
 {
-    match port_at(words, letter.place) {
+    match port_at(letter.place) {
         Some(port) => {
             let end = end_named(words, letter.answer);
             begins_so(print_line(port, &end.answer).as_str(), begin)

@@ -15,7 +15,7 @@ returns-then-begins_so c =
     let port = c.in-Some.port in
     let begin = c.args.begin.now in
     let end = get_or words.numbers.answers.keys letter.answer (unframed Init) in
-    let at : port_at words letter.place ≡ Some port = search rules in
+    let at : port_at letter.place ≡ Some port = search rules in
     let first : begins_so begin (line_text port end.answer) ≡ true = search rules in
     let is : c.begins_so.result ≡ true = search rules in
     is
@@ -30,7 +30,7 @@ returns-else-begins_so c =
     let port = c.in-Some.port in
     let begin = c.args.begin.now in
     let end = get_or words.numbers.answers.keys letter.answer (unframed Init) in
-    let at : port_at words letter.place ≡ Some port = search rules in
+    let at : port_at letter.place ≡ Some port = search rules in
     let first : begins_so begin (line_text port end.answer) ≡ false = search rules in
     c.frame_begins.ensures
     ∙ sym (ap (λ (o : Option PortName). has_line begin (lines_told words o letter.answer)) at
