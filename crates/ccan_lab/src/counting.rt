@@ -14,7 +14,7 @@ use crate::command_words::{command, files_named, scripts, with};
 use crate::each_file::{FileAnswer, answer_each};
 use crate::input::{bytes_asked, searched_script, tell_terminal};
 use crate::lab_error::LabError;
-use crate::outcome_words::words_of;
+use crate::outcome_words::list_of;
 use crate::outcomes::{frames_flag, most_of, most_option};
 use crate::progress_line::ProgressLine;
 use crate::wording::add_counted;
@@ -26,6 +26,7 @@ use clap::{ArgMatches, Command};
 use std::alloc::{AllocError, Global};
 use std::fs::Files;
 use std::io::{Input, IsTerminal, Write};
+use std::mem;
 
 /// The scripts whose outcomes are counted.
 #[derive(Drop)]
@@ -80,12 +81,14 @@ pub fn count_text(alloc: Global, number: u64) -> Result<String, AllocError>
     Ok(text)
 }
 
-/// How many outcomes a script has.
+/// How many outcomes a script has. If no other script comes after it, the memory is not given back piece by piece: the end of the
+/// program does that at once.
 fn outcome_count<P: Progress>(
     alloc: Global,
     race: &RaceScript,
     frames: bool,
     most: usize,
+    is_last: bool,
     progress: &P,
 ) -> Result<u64, LabError>
     ensures count { IfOk result
@@ -93,8 +96,12 @@ fn outcome_count<P: Progress>(
     ensures without { IfErr result
         (HasNoWords frames (fields_of race.now) ⟦<AllPorts as PartialEq>⟧.eq most) }
 {
-    let words = words_of(alloc, race, frames, most, progress)?;
-    Ok(words.count())
+    let list = list_of(alloc, race, frames, most, progress)?;
+    let count = list.words.count();
+    if is_last {
+        mem::forget(list);
+    }
+    Ok(count)
 }
 
 /// The line with the number of outcomes of a script.
@@ -103,6 +110,7 @@ fn counted<P: Progress>(
     race: &RaceScript,
     frames: bool,
     most: usize,
+    is_last: bool,
     progress: &P,
 ) -> Result<String, LabError>
     ensures counted { IfOk result (λ text. TellsCount frames (fields_of race.now)
@@ -110,7 +118,7 @@ fn counted<P: Progress>(
     ensures without { IfErr result
         (HasNoWords frames (fields_of race.now) ⟦<AllPorts as PartialEq>⟧.eq most) }
 {
-    let number = outcome_count(alloc, race, frames, most, progress)?;
+    let number = outcome_count(alloc, race, frames, most, is_last, progress)?;
     Ok(count_text(alloc, number)?)
 }
 
@@ -120,13 +128,14 @@ fn count_bytes<P: Progress>(
     bytes: &[u8],
     frames: bool,
     most: usize,
+    is_last: bool,
     progress: &P,
 ) -> Result<FileAnswer, LabError>
     ensures counted { IfOk result (AnswersCount frames bytes.now) }
     ensures refused { IfErr result (RefusesCount frames most bytes.now) }
 {
     let race = searched_script(alloc, bytes)?;
-    let text = counted(alloc, &race, frames, most, progress)?;
+    let text = counted(alloc, &race, frames, most, is_last, progress)?;
     Ok(FileAnswer {
         text: text.into_bytes(),
         status: 0,
@@ -140,6 +149,7 @@ fn count_file<T: AllocGlobal + Input + Files + Eprint>(
     file: &str,
     frames: bool,
     most: usize,
+    is_last: bool,
     progress: &ProgressLine<'_, T>,
 ) -> Result<FileAnswer, LabError>
 where
@@ -148,7 +158,14 @@ where
 {
     tell_terminal(rt, "a script", Some(file));
     let bytes = bytes_asked(rt, Some(file))?;
-    let answered = count_bytes(rt.alloc(), bytes.as_slice(), frames, most, progress);
+    let answered = count_bytes(
+        rt.alloc(),
+        bytes.as_slice(),
+        frames,
+        most,
+        is_last,
+        progress,
+    );
     progress.clear();
     answered
 }
@@ -171,7 +188,8 @@ where
     ensures fault { IfErr result (λ e. e ≡ LabError.Write) }
 {
     let files = question.files.as_slice();
+    let is_last = files.len() == 1;
     answer_each(rt, writer, files, false, |file| {
-        count_file(rt, file, question.frames, question.most, progress)
+        count_file(rt, file, question.frames, question.most, is_last, progress)
     })
 }

@@ -54,30 +54,6 @@ pub fn list_of<P: Progress>(
     }
 }
 
-/// The outcomes of a script as words, with the frames that won the bus or without, for what is answered without a history.
-pub fn words_of<P: Progress>(
-    alloc: Global,
-    race: &RaceScript,
-    frames: bool,
-    most: usize,
-    progress: &P,
-) -> Result<OutcomeWords, LabError>
-    ensures ends { IfOk result (λ words.
-        AreAllEnds frames (fields_of race.now) (endings_in words)) }
-    ensures all { IfOk result (λ words. AreOutcomes (fields_of race.now) (endings_in words)) }
-    ensures runs { IfOk result (λ words. AreOfRuns (fields_of race.now) (endings_in words)) }
-    ensures distinct { IfOk result (λ words.
-        IsDistinct ⟦<Ending as PartialEq>⟧.eq (endings_in words)) }
-    ensures complete { IfOk result (λ words.
-        AreComplete (fields_of race.now) (endings_in words)) }
-    ensures letters { IfOk result AreOfLines }
-    ensures without { IfErr result
-        (HasNoWords frames (fields_of race.now) ⟦<AllPorts as PartialEq>⟧.eq most) }
-{
-    let OutcomeList { words, graph: _ } = list_of(alloc, race, frames, most, progress)?;
-    Ok(words)
-}
-
 /// The outcomes of a script, as they are gathered for the short list, and for a search for lines.
 #[derive(Drop)]
 pub enum Gathered {
