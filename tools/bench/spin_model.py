@@ -216,24 +216,39 @@ def promela(script):
     return text + f"active proctype end() {{ ended == 3; c_code {{ {shown} }} }}\n", "".join(tables.texts)
 
 
-def searched(script, folder, seconds=120):
-    """What SPIN says of a script: outcomes, states, seconds of the processor and bytes; None if it takes longer."""
-    for name, text in zip(("script.pml", "tables.h"), promela(script)):
-        with open(f"{folder}/{name}", "w", encoding="utf-8") as file:
-            file.write(text)
-    run = lambda *words: subprocess.run(words, cwd=folder, check=True, stdout=subprocess.DEVNULL)
-    run("spin", "-a", "script.pml")
-    run("cc", "-O2", "-w", "-DSAFETY", "-DNOFAIR", "-DMEMLIM=8000", "-o", "pan", "pan.c")
+# How many bits the hash of SPIN's table has: a small script takes longest to clear a large one.
+TABLE_BITS = (18, 20, 22)
+
+
+def found_in(folder, bits, seconds):
+    """What one search with a table of this size says, and what it took: lines, seconds of the processor and bytes; None if it takes
+    longer."""
     with open(f"{folder}/told", "w+b") as told:
-        pan = subprocess.Popen(["timeout", str(seconds), "./pan", "-m200000", "-w22"], cwd=folder, stdout=told)
+        pan = subprocess.Popen(["timeout", str(seconds), "./pan", "-m200000", f"-w{bits}"], cwd=folder, stdout=told)
         _, status, used = os.wait4(pan.pid, 0)
         pan.returncode = os.waitstatus_to_exitcode(status)
         if pan.returncode != 0:
             return None
         told.seek(0)
         lines = told.read().decode().splitlines()
+    return lines, used.ru_utime + used.ru_stime, used.ru_maxrss * 1024
+
+
+def searched(script, folder, seconds=120):
+    """What SPIN says of a script, by the quickest of its searches with tables of several sizes: outcomes, states, seconds of the
+    processor and bytes; None if each takes longer."""
+    for name, text in zip(("script.pml", "tables.h"), promela(script)):
+        with open(f"{folder}/{name}", "w", encoding="utf-8") as file:
+            file.write(text)
+    run = lambda *words: subprocess.run(words, cwd=folder, check=True, stdout=subprocess.DEVNULL)
+    run("spin", "-a", "script.pml")
+    run("cc", "-O2", "-w", "-DSAFETY", "-DNOFAIR", "-DMEMLIM=8000", "-o", "pan", "pan.c")
+    tried = [found for bits in TABLE_BITS if (found := found_in(folder, bits, seconds)) is not None]
+    if not tried:
+        return None
+    lines, taken, memory = min(tried, key=lambda it: it[1])
     outcomes = {line for line in lines if line.startswith("= ")}
     states = next(int(float(found[1])) for line in lines if (found := re.match(r"\s*(\S+) states, stored", line)))
     if any("errors: " in line and "errors: 0" not in line for line in lines):
         raise ValueError("SPIN found an error in the model")
-    return len(outcomes), states, used.ru_utime + used.ru_stime, used.ru_maxrss * 1024
+    return len(outcomes), states, taken, memory
