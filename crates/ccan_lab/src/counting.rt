@@ -81,14 +81,14 @@ pub fn count_text(alloc: Global, number: u64) -> Result<String, AllocError>
     Ok(text)
 }
 
-/// How many outcomes a script has. If no other script comes after it, the memory is not given back piece by piece: the end of the
-/// program does that at once.
+/// How many outcomes a script has. If it is the only one, the memory is not given back piece by piece: the end of the program does
+/// that at once.
 fn outcome_count<P: Progress>(
     alloc: Global,
     race: &RaceScript,
     frames: bool,
     most: usize,
-    is_last: bool,
+    is_only: bool,
     progress: &P,
 ) -> Result<u64, LabError>
     ensures count { IfOk result
@@ -98,7 +98,7 @@ fn outcome_count<P: Progress>(
 {
     let list = list_of(alloc, race, frames, most, progress)?;
     let count = list.words.count();
-    if is_last {
+    if is_only {
         mem::forget(list);
     }
     Ok(count)
@@ -110,7 +110,7 @@ fn counted<P: Progress>(
     race: &RaceScript,
     frames: bool,
     most: usize,
-    is_last: bool,
+    is_only: bool,
     progress: &P,
 ) -> Result<String, LabError>
     ensures counted { IfOk result (λ text. TellsCount frames (fields_of race.now)
@@ -118,7 +118,7 @@ fn counted<P: Progress>(
     ensures without { IfErr result
         (HasNoWords frames (fields_of race.now) ⟦<AllPorts as PartialEq>⟧.eq most) }
 {
-    let number = outcome_count(alloc, race, frames, most, is_last, progress)?;
+    let number = outcome_count(alloc, race, frames, most, is_only, progress)?;
     Ok(count_text(alloc, number)?)
 }
 
@@ -128,14 +128,14 @@ fn count_bytes<P: Progress>(
     bytes: &[u8],
     frames: bool,
     most: usize,
-    is_last: bool,
+    is_only: bool,
     progress: &P,
 ) -> Result<FileAnswer, LabError>
     ensures counted { IfOk result (AnswersCount frames bytes.now) }
     ensures refused { IfErr result (RefusesCount frames most bytes.now) }
 {
     let race = searched_script(alloc, bytes)?;
-    let text = counted(alloc, &race, frames, most, is_last, progress)?;
+    let text = counted(alloc, &race, frames, most, is_only, progress)?;
     Ok(FileAnswer {
         text: text.into_bytes(),
         status: 0,
@@ -149,7 +149,7 @@ fn count_file<T: AllocGlobal + Input + Files + Eprint>(
     file: &str,
     frames: bool,
     most: usize,
-    is_last: bool,
+    is_only: bool,
     progress: &ProgressLine<'_, T>,
 ) -> Result<FileAnswer, LabError>
 where
@@ -163,7 +163,7 @@ where
         bytes.as_slice(),
         frames,
         most,
-        is_last,
+        is_only,
         progress,
     );
     progress.clear();
@@ -188,8 +188,8 @@ where
     ensures fault { IfErr result (λ e. e ≡ LabError.Write) }
 {
     let files = question.files.as_slice();
-    let is_last = files.len() == 1;
+    let is_only = files.len() == 1;
     answer_each(rt, writer, files, false, |file| {
-        count_file(rt, file, question.frames, question.most, is_last, progress)
+        count_file(rt, file, question.frames, question.most, is_only, progress)
     })
 }
