@@ -116,13 +116,14 @@ fn letter_has_line(words: &OutcomeWords, frames: &[String], letter: Letter, begi
     requires { map string_bytes frames.now ≡ map told_frame words.now.numbers.answers.keys }
     ensures { result ≡ has_line begin.now (lines_of_letter words.now letter) }
 {
-    match port_at(letter.place) {
+    let number = letter.answer as usize;
+    match port_at(letter.place as usize) {
         Some(port) => {
-            let end = end_named(words, letter.answer);
+            let end = end_named(words, number);
             begins_so(print_line(port, &end.answer).as_str(), begin)
-                || frame_begins(words, frames, letter.answer, begin)
+                || frame_begins(words, frames, number, begin)
         }
-        None => finals_have_line(records_named(words, letter.answer), begin),
+        None => finals_have_line(records_named(words, number), begin),
     }
 }
 

@@ -1,21 +1,31 @@
--- What is hashed of what the tables of a graph find: one word of each. Equal ones have the same. Source: this project's own.
-use Rattle.std.specs.Prelude.{ℕ, ◌≡◌, true}
+-- What is hashed of letters, and of what the tables of a graph find: one word of each. Equal ones have the same. Source: this
+-- project's own.
+use Rattle.std.specs.Prelude.{ℕ, ◌+◌, ◌*◌, ◌^◌, ◌≡◌, true}
 use Rattle.std.proofs.Common.{ap}
 use Rattle.std.specs.Hash as fed
+use Rattle.ccan_language.specs.declared.letter.Letter.{Letter}
 use Rattle.ccan_language.specs.declared.memo.Longer.{Longer}
 use Rattle.ccan_language.specs.declared.memo.Pair.{Pair}
 use Rattle.ccan_language.specs.declared.node.Edge.{Edge}
 use Rattle.ccan_language.specs.declared.node.Node.{Node}
 use Rattle.ccan_language.specs.declared.node.Node.TheVariants.{Nothing, End, Fork}
+use Rattle.ccan_language.specs.contracts.letter.LetterPartialEq.TheImpl.{ghosts as letter_is}
 use Rattle.ccan_language.specs.contracts.memo.LongerPartialEq.TheImpl.{ghosts as longer_is}
 use Rattle.ccan_language.specs.contracts.memo.PairPartialEq.TheImpl.{ghosts as pair_is}
 use Rattle.ccan_language.specs.contracts.node.NodePartialEq.TheImpl.{ghosts as node_is}
-use Rattle.ccan_language.specs.Equal.{same_longer, same_node, same_pair}
+use Rattle.ccan_language.specs.Equal.{same_letter, same_longer, same_node, same_pair}
 use Rattle.ccan_language.specs.Hashing.{mixed}
+
+-- two numbers of 32 bits as one word
+abbrev pub joined : ℕ → ℕ → ℕ
+joined high low = high * 2 ^ 32 + low
+
+abbrev pub letter_word : Letter → ℕ
+letter_word letter = joined letter.place letter.answer
 
 -- of an edge its letter, and where it leads
 abbrev pub edge_word : Edge → ℕ
-edge_word edge = mixed (mixed (mixed (mixed 2 edge.letter.place) edge.letter.answer) edge.to) edge.others
+edge_word edge = mixed (mixed 2 (letter_word edge.letter)) (joined edge.to edge.others)
 
 abbrev pub node_word : Node → ℕ
 node_word Nothing = 0
@@ -23,10 +33,13 @@ node_word End = 1
 node_word (Fork edge) = edge_word edge
 
 abbrev pub pair_word : Pair → ℕ
-pair_word pair = mixed (mixed 0 pair.first) pair.second
+pair_word pair = mixed 0 (joined pair.first pair.second)
 
 abbrev pub longer_word : Longer → ℕ
-longer_word longer = mixed (mixed (mixed 0 longer.index) longer.letter.place) longer.letter.answer
+longer_word longer = mixed (mixed 0 longer.index) (letter_word longer.letter)
+
+abbrev pub letter_hashed : Letter → fed.HashWrites
+letter_hashed letter = fed.u64 (letter_word letter)
 
 abbrev pub node_hashed : Node → fed.HashWrites
 node_hashed node = fed.u64 (node_word node)
@@ -36,6 +49,9 @@ pair_hashed pair = fed.u64 (pair_word pair)
 
 abbrev pub longer_hashed : Longer → fed.HashWrites
 longer_hashed longer = fed.u64 (longer_word longer)
+
+pub letters_hashed_alike : (a b : Letter) → letter_is.eq a b ≡ true → letter_hashed a ≡ letter_hashed b
+letters_hashed_alike a b equal = ap letter_hashed (same_letter a b equal)
 
 pub nodes_hashed_alike : (a b : Node) → node_is.eq a b ≡ true → node_hashed a ≡ node_hashed b
 nodes_hashed_alike a b equal = ap node_hashed (same_node a b equal)

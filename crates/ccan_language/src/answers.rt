@@ -39,10 +39,10 @@ impl Graph {
                 continue;
             }
             if let Node::Fork(edge) = self.nodes[left] {
-                marks[edge.to] = true;
-                marks[edge.others] = true;
-                if edge.letter.place == place {
-                    answers.insert(edge.letter.answer)?;
+                marks[edge.to as usize] = true;
+                marks[edge.others as usize] = true;
+                if edge.letter.place as usize == place {
+                    answers.insert(edge.letter.answer as usize)?;
                 }
             }
         }

@@ -1,22 +1,36 @@
-//! The hash of what the tables of a graph find: one word of each.
+//! The hash of letters, and of what the tables of a graph find: one word of each.
 ghost use Rattle.std.specs.Prelude.{◌≡◌};
-ghost use Rattle.ccan_language.specs.Hashed.{edge_word, longer_word, node_word, pair_word};
+ghost use Rattle.ccan_language.specs.Hashed.{edge_word, joined, letter_word, longer_word, node_word, pair_word};
 
 use crate::hashing::mixed;
+use crate::letter::Letter;
 use crate::memo::{Longer, Pair};
 use crate::node::{Edge, Node};
 use std::hash::{Hash, Hasher};
+
+/// Two numbers as one word.
+#[inline(always)]
+fn joined(high: u32, low: u32) -> u64
+    ensures { result ≡ joined high low }
+{
+    high as u64 * 0x1_0000_0000 + low as u64
+}
+
+/// The word of a letter.
+#[inline(always)]
+fn letter_word(letter: Letter) -> u64
+    ensures { result ≡ letter_word letter }
+{
+    joined(letter.place, letter.answer)
+}
 
 /// The word of an edge.
 #[inline(always)]
 fn edge_word(edge: &Edge) -> u64
     ensures { result ≡ edge_word edge.now }
 {
-    let letter = mixed(
-        mixed(2, edge.letter.place as u64),
-        edge.letter.answer as u64,
-    );
-    mixed(mixed(letter, edge.to as u64), edge.others as u64)
+    let letter = mixed(2, letter_word(edge.letter));
+    mixed(letter, joined(edge.to, edge.others))
 }
 
 /// The word of a node.
@@ -36,7 +50,7 @@ fn node_word(node: &Node) -> u64
 fn pair_word(pair: &Pair) -> u64
     ensures { result ≡ pair_word pair.now }
 {
-    mixed(mixed(0, pair.first as u64), pair.second as u64)
+    mixed(0, joined(pair.first, pair.second))
 }
 
 /// The word of a call of `with`.
@@ -44,11 +58,20 @@ fn pair_word(pair: &Pair) -> u64
 fn longer_word(longer: &Longer) -> u64
     ensures { result ≡ longer_word longer.now }
 {
-    let node = mixed(0, longer.index as u64);
-    mixed(
-        mixed(node, longer.letter.place as u64),
-        longer.letter.answer as u64,
-    )
+    mixed(mixed(0, longer.index as u64), letter_word(longer.letter))
+}
+
+impl Hash for Letter {
+    ghost use Rattle.ccan_language.specs.Hashed.{letter_hashed, letters_hashed_alike};
+
+    ghost hash_input = { letter_hashed };
+
+    ghost respects_eq = { letters_hashed_alike };
+
+    #[inline(always)]
+    fn hash<H: Hasher>(&self, state: &mut H) {
+        letter_word(*self).hash(state);
+    }
 }
 
 impl Hash for Node {

@@ -24,8 +24,8 @@ impl Images {
     pub fn of(&self, letter: Letter) -> &[Letter]
         ensures { result.now ≡ image_of self.now letter }
     {
-        match self.letters.get(letter.place) {
-            Some(answers) => match answers.get(letter.answer) {
+        match self.letters.get(letter.place as usize) {
+            Some(answers) => match answers.get(letter.answer as usize) {
                 Some(letters) => letters.as_slice(),
                 None => &[],
             },
@@ -49,11 +49,11 @@ fn steps_of(alloc: Global, images: &Images, edge: Edge) -> Result<Vec<Step>, All
     let mut steps = Vec::new(alloc);
     steps.push(Step {
         letters,
-        to: edge.to,
+        to: edge.to as usize,
     })?;
     steps.push(Step {
         letters: Vec::new(alloc),
-        to: edge.others,
+        to: edge.others as usize,
     })?;
     Ok(steps)
 }

@@ -8,9 +8,9 @@ pub struct Edge {
     /// The letter.
     pub letter: Letter,
     /// The index of the node that it leads to.
-    pub to: usize,
+    pub to: u32,
     /// The index of the node of the other words: those that begin with later letters, and the empty word.
-    pub others: usize,
+    pub others: u32,
 }
 
 /// A node: a set of words.

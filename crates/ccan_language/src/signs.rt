@@ -108,13 +108,13 @@ fn first_from<S: Signs>(
         Node::End => Ok(if sought.is_empty() { Some(0) } else { None }),
         Node::Fork(edge) => {
             let left = signs_left(alloc, signs, sought, edge.letter)?;
-            let by_edge = first_from(graph, alloc, signs, vain, edge.to, left.as_slice())?;
+            let by_edge = first_from(graph, alloc, signs, vain, edge.to as usize, left.as_slice())?;
             if let Some(number) = by_edge {
                 return Ok(Some(number));
             }
-            let beside = first_from(graph, alloc, signs, vain, edge.others, sought)?;
+            let beside = first_from(graph, alloc, signs, vain, edge.others as usize, sought)?;
             if let Some(number) = beside {
-                return Ok(Some(graph.counts[edge.to].saturating_add(number)));
+                return Ok(Some(graph.counts[edge.to as usize].saturating_add(number)));
             }
             keep_vain(graph, alloc, signs, vain, index, sought)?;
             Ok(None)

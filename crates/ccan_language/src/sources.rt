@@ -112,7 +112,7 @@ fn left_behind(
     let Some(left) = shorter_by(alloc, word, images.of(edge.letter))? else {
         return Ok(None);
     };
-    if into.contains(made[edge.to], left.as_slice()) {
+    if into.contains(made[edge.to as usize], left.as_slice()) {
         Ok(Some(left))
     } else {
         Ok(None)
@@ -149,9 +149,9 @@ pub fn source_of(
                     Some(later) => {
                         source.push(edge.letter)?;
                         left = later;
-                        at = edge.to;
+                        at = edge.to as usize;
                     }
-                    None => at = edge.others,
+                    None => at = edge.others as usize,
                 }
             }
         }

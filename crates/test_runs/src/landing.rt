@@ -60,9 +60,5 @@ impl Labelled for Landing {
         Ok(true)
     }
 
-    fn copy(&self, _alloc: Global, state: &u64) -> Result<u64, AllocError> {
-        Ok(*state)
-    }
-
     ghost same = { eqb-true };
 }

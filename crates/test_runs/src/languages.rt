@@ -13,7 +13,7 @@ use std::process::Abort;
 const MOST: usize = 100;
 
 /// A letter.
-fn letter(place: usize, answer: usize) -> Letter {
+fn letter(place: u32, answer: u32) -> Letter {
     Letter { place, answer }
 }
 

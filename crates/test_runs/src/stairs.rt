@@ -48,9 +48,5 @@ impl Labelled for Stairs {
         Ok(false)
     }
 
-    fn copy(&self, _alloc: Global, state: &u64) -> Result<u64, AllocError> {
-        Ok(*state)
-    }
-
     ghost same = { eqb-true };
 }
