@@ -10,10 +10,8 @@ use Rattle.ccan_language.specs.declared.node.Edge.{Edge}
 use Rattle.ccan_language.specs.declared.node.Node.{Node}
 use Rattle.ccan_language.specs.declared.node.Node.TheVariants.{Nothing, End, Fork}
 use Rattle.ccan_language.specs.contracts.letter.LetterPartialEq.TheImpl.{ghosts as letter_is}
-use Rattle.ccan_language.specs.contracts.memo.LongerPartialEq.TheImpl.{ghosts as longer_is}
-use Rattle.ccan_language.specs.contracts.memo.PairPartialEq.TheImpl.{ghosts as pair_is}
 use Rattle.ccan_language.specs.contracts.node.NodePartialEq.TheImpl.{ghosts as node_is}
-use Rattle.ccan_language.specs.Equal.{same_letter, same_longer, same_node, same_pair}
+use Rattle.ccan_language.specs.Equal.{same_letter, same_node}
 use Rattle.ccan_language.specs.Hashing.{mixed}
 
 -- two numbers of 32 bits as one word
@@ -44,20 +42,8 @@ letter_hashed letter = fed.u64 (letter_word letter)
 abbrev pub node_hashed : Node → fed.HashWrites
 node_hashed node = fed.u64 (node_word node)
 
-abbrev pub pair_hashed : Pair → fed.HashWrites
-pair_hashed pair = fed.u64 (pair_word pair)
-
-abbrev pub longer_hashed : Longer → fed.HashWrites
-longer_hashed longer = fed.u64 (longer_word longer)
-
 pub letters_hashed_alike : (a b : Letter) → letter_is.eq a b ≡ true → letter_hashed a ≡ letter_hashed b
 letters_hashed_alike a b equal = ap letter_hashed (same_letter a b equal)
 
 pub nodes_hashed_alike : (a b : Node) → node_is.eq a b ≡ true → node_hashed a ≡ node_hashed b
 nodes_hashed_alike a b equal = ap node_hashed (same_node a b equal)
-
-pub pairs_hashed_alike : (a b : Pair) → pair_is.eq a b ≡ true → pair_hashed a ≡ pair_hashed b
-pairs_hashed_alike a b equal = ap pair_hashed (same_pair a b equal)
-
-pub longer_hashed_alike : (a b : Longer) → longer_is.eq a b ≡ true → longer_hashed a ≡ longer_hashed b
-longer_hashed_alike a b equal = ap longer_hashed (same_longer a b equal)

@@ -47,7 +47,7 @@ fn node_word(node: &Node) -> u64
 
 /// The word of a call of `union`.
 #[inline(always)]
-fn pair_word(pair: &Pair) -> u64
+pub(crate) fn pair_word(pair: &Pair) -> u64
     ensures { result ≡ pair_word pair.now }
 {
     mixed(0, joined(pair.first, pair.second))
@@ -55,7 +55,7 @@ fn pair_word(pair: &Pair) -> u64
 
 /// The word of a call of `with`.
 #[inline(always)]
-fn longer_word(longer: &Longer) -> u64
+pub(crate) fn longer_word(longer: &Longer) -> u64
     ensures { result ≡ longer_word longer.now }
 {
     mixed(mixed(0, longer.index as u64), letter_word(longer.letter))
@@ -84,31 +84,5 @@ impl Hash for Node {
     #[inline(always)]
     fn hash<H: Hasher>(&self, state: &mut H) {
         node_word(self).hash(state);
-    }
-}
-
-impl Hash for Pair {
-    ghost use Rattle.ccan_language.specs.Hashed.{pair_hashed, pairs_hashed_alike};
-
-    ghost hash_input = { pair_hashed };
-
-    ghost respects_eq = { pairs_hashed_alike };
-
-    #[inline(always)]
-    fn hash<H: Hasher>(&self, state: &mut H) {
-        pair_word(self).hash(state);
-    }
-}
-
-impl Hash for Longer {
-    ghost use Rattle.ccan_language.specs.Hashed.{longer_hashed, longer_hashed_alike};
-
-    ghost hash_input = { longer_hashed };
-
-    ghost respects_eq = { longer_hashed_alike };
-
-    #[inline(always)]
-    fn hash<H: Hasher>(&self, state: &mut H) {
-        longer_word(self).hash(state);
     }
 }
