@@ -44,7 +44,7 @@ pub struct Kept<K> {
 
 impl<K: Copy + Drop> Kept<K> {
     /// No places.
-    pub fn new(alloc: Global) -> Self
+    pub(crate) fn new(alloc: Global) -> Self
         ensures { result.places.items ≡ [] }
     {
         Kept {
@@ -53,7 +53,7 @@ impl<K: Copy + Drop> Kept<K> {
     }
 
     /// Takes as many places as this, unless it has as many. Of what was kept some is not found again.
-    pub fn grow(&mut self, count: usize) -> Result<(), AllocError>
+    pub(crate) fn grow(&mut self, count: usize) -> Result<(), AllocError>
         ensures { KeepsNoMore self.old.places.items self.new.places.items }
     {
         if count > self.places.len() {
@@ -63,7 +63,7 @@ impl<K: Copy + Drop> Kept<K> {
     }
 
     /// Takes more places if there are too few for what a graph of so many nodes keeps.
-    pub fn keep_pace(&mut self, nodes: usize) -> Result<(), AllocError>
+    pub(crate) fn keep_pace(&mut self, nodes: usize) -> Result<(), AllocError>
         ensures { KeepsNoMore self.old.places.items self.new.places.items }
     {
         let count = self.places.len();
@@ -83,7 +83,7 @@ impl<K: Copy + Drop> Kept<K> {
 
     /// The call that is kept at the place of this hash. It may be another with the same place.
     #[inline(always)]
-    pub fn at(&self, word: u64) -> Option<Made<K>>
+    pub(crate) fn at(&self, word: u64) -> Option<Made<K>>
         ensures { IfSome result (λ kept. Contains self.now.places.items (Some kept)) }
     {
         match self.places.get(self.place(word)) {
@@ -94,7 +94,7 @@ impl<K: Copy + Drop> Kept<K> {
 
     /// Keeps this call at the place of this hash, if there are places.
     #[inline(always)]
-    pub fn put(&mut self, word: u64, kept: Made<K>)
+    pub(crate) fn put(&mut self, word: u64, kept: Made<K>)
         ensures no_other { KeepsOneMore self.old.places.items self.new.places.items kept }
         ensures this { 0 < length self.old.places.items
             → Contains self.new.places.items (Some kept) }

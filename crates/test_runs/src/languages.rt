@@ -53,7 +53,7 @@ fn states(alloc: Global) -> Result<Vec<State>, AllocError> {
 }
 
 /// Holds whether the word of these answers, in the order of the places, is one from the state of this index.
-fn says(rt: &impl Abort, alloc: Global, index: usize, answers: (usize, usize), want: bool) {
+fn says(rt: &impl Abort, alloc: Global, index: usize, answers: (u32, u32), want: bool) {
     let Ok(all) = states(alloc) else {
         panic!(rt; "no memory")
     };
@@ -164,6 +164,34 @@ fn unites_the_words_of_two_nodes(rt: HostRuntime) {
     holds(&rt, !graph.contains(both, &[letter(0, 0)]));
 }
 
+/// Room makes no node, and what is made afterwards is the same.
+#[test]
+fn takes_room_before_it_makes_nodes(rt: HostRuntime) {
+    let mut graph = Graph::new(rt.alloc(), MOST);
+    let Ok(()) = graph.reserve(MOST) else {
+        panic!(&rt; "no memory")
+    };
+    holds(&rt, graph.len() == 0);
+    let Ok(end) = graph.only(true) else {
+        panic!(&rt; "no memory")
+    };
+    if end >= graph.len() {
+        panic!(&rt; "no such node")
+    }
+    holds(&rt, graph.contains(end, &[]));
+}
+
+/// A letter has 32 bits for its place and 32 for its answer.
+#[test]
+fn makes_letters_of_numbers(rt: HostRuntime) {
+    let Ok(made) = Letter::at(1, 0xffff_ffff) else {
+        panic!(&rt; "no memory")
+    };
+    holds(&rt, made == letter(1, 0xffff_ffff));
+    holds(&rt, Letter::at(1, 0x1_0000_0000).is_err());
+    holds(&rt, Letter::at(0x1_0000_0000, 1).is_err());
+}
+
 /// Holds whether the answers of the word with this number, in the order of the places, are these, or there is none.
 fn has_word(
     rt: &impl Abort,
@@ -171,7 +199,7 @@ fn has_word(
     graph: &Graph,
     node: usize,
     number: u64,
-    want: Option<(usize, usize)>,
+    want: Option<(u32, u32)>,
 ) {
     if node >= graph.len() {
         panic!(rt; "no such node")
