@@ -2,8 +2,8 @@
 
 The model is made for speed. Records of objects, registers of the interfaces and answers are numbers; what a step makes of them was
 worked out before, by the second model of the rules. A transfer is one step; a wait, an interrupt value and a flag word are their
-looks; a round is its looks, its attempts and its finish or store. It takes hosts' lines, and rounds without faults, beside one other
-node, if no attempt loses all its tries, and no object sends with the identifier of a frame of that node: it knows no collision."""
+looks; a round is its looks, its attempts and its finish or store, or a collision. It takes hosts' lines, and rounds without faults,
+beside one other node, if no attempt loses all its tries."""
 import os
 import re
 import subprocess
@@ -178,7 +178,8 @@ def promela_of_round(made, tables, line, answers, loads):
     text = "loaded = 0; frame = 0;\n" + scan(made, tables, model.ready, model.started, loaded, f"l{line}") + f"l{line}: skip;\n"
     best = min(offered, key=model.arbitration, default=None)
     wins = [number for frame, number in loads.items() if best is None or model.arbitration(frame) < model.arbitration(best)]
-    won = "loaded != 0 && (" + (" || ".join(f"frame == {it}" for it in wins) or "false") + ")"
+    ties = [number for frame, number in loads.items() if best and model.arbitration(frame) == model.arbitration(best)]
+    has = lambda numbers: "loaded != 0 && (" + (" || ".join(f"frame == {it}" for it in numbers) or "false") + ")"
     finish = ""
     for place in made.touched:
         to = tables.of(made.records[place][model.finished(record)] for record in made.records[place])
@@ -194,7 +195,9 @@ def promela_of_round(made, tables, line, answers, loads):
         answered = lambda place: f"{answer} = {left(place, 'stored', kept)}[now.r{place}];"
         other = scan(made, tables, lambda it: model.accepts(it, best), kept, answered, f"e{line}")
         other += f"a_bus_{line} = {answers['none', 0, 0]}"
-    return text + f"if\n:: {won} -> atomic {{ if\n{finish}fi }}; goto e{line}\n:: else -> skip\nfi;\n{other};\ne{line}: skip"
+    collided = f":: {has(ties)} -> a_bus_{line} = {answers['collision', 0, 0]}; goto e{line}\n" if ties else ""
+    sent = f"if\n:: {has(wins)} -> atomic {{ if\n{finish}fi }}; goto e{line}\n{collided}:: else -> skip\nfi;\n"
+    return f"{text}{sent}{other};\ne{line}: skip"
 
 
 def promela(script):
