@@ -11,6 +11,14 @@ pub mod ScansRun
 pub mod LoadsRun
 pub mod RoundsRun
 pub mod Pending
+pub mod Asked
+pub mod Heads
+pub mod AskedOn
+pub mod Courses
+pub mod BusKinds
+pub mod BusEnters
+pub mod SameBus
+pub mod Leading
 pub mod BusLinesRun
 pub mod InTurn
 pub mod PortsRun

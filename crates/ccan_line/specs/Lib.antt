@@ -14,4 +14,8 @@ pub mod Port
 pub mod Turn
 pub mod LineEnd
 pub mod LineProcess
+pub mod Asking
+pub mod Engine
+pub mod HostEngine
+pub mod BusEngine
 pub mod LineProcessLaws

@@ -5,12 +5,11 @@ ghost use Rattle.ccan_line.specs.HostLine.{HostFits};
 ghost use Rattle.ccan_line.specs.Host.{HostLineMeans};
 ghost use Rattle.ccan_line.specs.Side.{GoesOn};
 
+use crate::driver::drive;
 use crate::host_line::HostLine;
 use crate::line_answer::LineAnswer;
 use crate::side::Side;
-use crate::transfer::{set_registers, transfer};
-use ccan_handler::{flags, interrupt, until};
-use ccan_object::{Iface, ObjectNo};
+use ccan_object::Iface;
 use ccan_ram::{Access, Tries};
 
 /// Runs one line of a host port.
@@ -24,26 +23,7 @@ fn run_host_line<A: Access>(
     ensures { Goes (A.passes access.old) (A.passes access.new) (λ terms seen added.
         HostLineMeans terms tries line.now registers.old seen added result registers.new) }
 {
-    match line {
-        HostLine::Transfer { request, set } => {
-            set_registers(registers, set.as_slice());
-            let object = ObjectNo::from_request(access.profile(), *request);
-            transfer(access, object, registers, tries)
-        }
-        HostLine::Until {
-            object,
-            flag,
-            turns,
-        } => {
-            let shown = until(access, *object, *flag, *turns);
-            LineAnswer::Until(*object, *flag, shown)
-        }
-        HostLine::Interrupt => LineAnswer::Interrupt(interrupt(access, false)),
-        HostLine::Flags(flag) => {
-            let word = flags(access, *flag);
-            LineAnswer::Flags(*flag, word, access.profile())
-        }
-    }
+    drive(registers, access, line, tries)
 }
 
 impl Side for Iface {

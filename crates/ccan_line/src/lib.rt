@@ -16,27 +16,43 @@
 //! `ccan_script` reads lines from JSON and prints answers, `ccan_run` runs the lines of three ports in an order or at once.
 #![tactic(auto)]
 
+pub mod asking;
+pub mod attempt_end;
+pub mod bus_course;
+pub mod bus_engine;
+pub mod bus_enter;
 pub mod bus_line;
+pub mod bus_point;
 pub mod bus_port;
 pub mod controller_line;
+pub mod course;
+pub mod driver;
+pub mod engine;
 pub mod gate;
 pub mod host;
+pub mod host_engine;
 pub mod host_line;
 pub mod limits;
 pub mod line_answer;
 pub mod line_end;
 pub mod line_process_laws;
+pub mod next_act;
 pub mod per_port;
 pub mod port;
 pub mod register_set;
 pub mod script;
 pub mod side;
-mod transfer;
 
+pub use attempt_end::AttemptEnd;
 pub use bus_line::BusLine;
+pub use bus_point::{Aim, BusCourse, BusPoint, Job, ScanEnd};
 pub use bus_port::run_bus_line;
 pub use controller_line::ControllerLine;
+pub use course::Course;
+pub use driver::drive;
+pub use engine::Engine;
 pub use gate::{FreeGate, Gate};
+pub use host_engine::HostPoint;
 pub use host_line::HostLine;
 pub use limits::{
     DEFAULT_NODES, DEFAULT_PROFILE, DEFAULT_QUOTA, DEFAULT_TRIES, MAX_FRAMES, MAX_GROUPS,
@@ -44,6 +60,7 @@ pub use limits::{
 };
 pub use line_answer::LineAnswer;
 pub use line_end::LineEnd;
+pub use next_act::NextAct;
 pub use per_port::PerPort;
 pub use port::run_port;
 pub use register_set::RegisterSet;

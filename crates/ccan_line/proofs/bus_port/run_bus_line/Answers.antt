@@ -1,31 +1,22 @@
--- One return for each kind of line: what the bus promises of its call is what the line means.
-use Rattle.std.proofs.Common.{refl, sym, ap}
-use Rattle.ccan_ram.proofs.Calls.{Goes-none, Goes-weaker}
-use Rattle.ccan_bus.specs.Past.{BusPast}
-use Rattle.ccan_line.specs.declared.line_answer.LineAnswer.{LineAnswer}
+-- The engine runs the line's process, which is what the line means.
+use Rattle.std.proofs.Common.{refl, sym, ◌∙◌}
+use Rattle.ccan_ram.proofs.Calls.{Goes-weaker}
+use Rattle.ccan_line.proofs.BusLinesRun.{bus_lines}
+use Rattle.ccan_line.proofs.SameBus.{same_fixed}
 use Rattle.ccan_line.proofs.bus_port.run_bus_line.Goals as goal
 
-pub returns-in-Load-clause-runs : goal.returns-in-Load-clause-runs
-returns-in-Load-clause-runs g c =
-    rw c.in-Load.is (Goes-weaker c.load.ensures.goes_on
-    (λ seen added _ _ f. record { each = λ past led. let a = f.each past led in (a.0, a.1, (_, refl, a.2)) }))
+pub returns-in-InTurn-clause-same : goal.returns-in-InTurn-clause-same
+returns-in-InTurn-clause-same g c = same_fixed c.drive.ensures.fixed
 
-pub returns-in-Round-clause-runs : goal.returns-in-Round-clause-runs
-returns-in-Round-clause-runs g c =
-    rw c.in-Round.is (Goes-weaker c.round.ensures.goes_on
-    (λ seen added _ _ f. record { each = λ past led. let a = f.each past led in (a.0, a.1, (_, refl, a.2)) }))
-
-pub returns-in-Controller-clause-runs : goal.returns-in-Controller-clause-runs
-returns-in-Controller-clause-runs g c =
-    rw c.in-Controller.is (Goes-none (λ seen _. record {
-      each = λ past led.
-          let a = c.run.ensures.ends.each past led in (
-            a.0,
-            a.1,
-            record {
-              quiet = refl;
-              answer_is = ap (λ (end : LineAnswer × BusPast). end.0) (sym a.2);
-              past_is = ap (λ (end : LineAnswer × BusPast). end.1) (sym a.2);
-            },
-          );
-    }))
+pub returns-in-InTurn-clause-runs : goal.returns-in-InTurn-clause-runs
+returns-in-InTurn-clause-runs g c =
+    let terms = (g.A.Access.passes c.args.access.now).terms in
+    let line = c.args.line.now in
+    Goes-weaker c.drive.ensures.runs (λ seen added _ _ f. record {
+      each = λ past led. let a = f.each past led in (
+        a.0,
+        a.1,
+        (bus_lines terms c.args.tries line past a.0 seen added c.drive.result.answer
+            (sym led.choice ∙ (sym c.choice.ensures ∙ c.in-InTurn.is))).1 (c.drive.result, refl, a.2),
+      );
+    })
