@@ -7,13 +7,13 @@ pub mod Script
 pub mod Side
 pub mod Lines
 pub mod Transfer
+pub mod LineEnd
+pub mod LineProcess
 pub mod Host
 pub mod BusPort
 pub mod Gate
 pub mod Port
 pub mod Turn
-pub mod LineEnd
-pub mod LineProcess
 pub mod Asking
 pub mod Engine
 pub mod HostEngine

@@ -7,12 +7,15 @@
 //!        |                                   |
 //!   IF1, IF2: registers                 Side::run_line --> Access --> events in the history of the message RAM
 //!   bus: ccan_bus::Bus                       |
-//!                                       LineAnswer
+//!        |                              LineAnswer
+//!     Engine: enter, next, after_look, after_attempt, decide
 //! ```
 //!
-//! What a line stands for is said once, for hosts and for the bus, over any access: which events it adds, what it answers,
-//! and how it leaves what the next line of its port finds ([`Side`], [`run_lines`]). Each line is also a process of
-//! `ccan_process`, and a port the processes of its lines ([`line_process_laws`]). There is neither text nor thread here:
+//! A line stands for the runs of its process: which events it adds, what it answers, and how it leaves what the next line of its
+//! port finds ([`Side`], [`run_lines`]). Its code is an [`Engine`]: a line is entered, says what it does next, and learns what
+//! came of that, up to its end. [`drive`] runs it so over any access, and a search of all outcomes goes from point to point of
+//! the same engine. What a line adds is also said as the memory handler and the bus have it, and that both are the same is
+//! proved ([`line_process_laws`]). There is neither text nor thread here:
 //! `ccan_script` reads lines from JSON and prints answers, `ccan_run` runs the lines of three ports in an order or at once.
 #![tactic(auto)]
 

@@ -3,15 +3,13 @@ use Rattle.std.proofs.Common.{refl, subst}
 use Rattle.ccan_object.specs.Interface.{Registers}
 use Rattle.ccan_ram.proofs.Calls.{Goes-weaker}
 use Rattle.ccan_line.specs.Host.{HostLineMeans}
-use Rattle.ccan_line.proofs.HostLinesRun.{host_lines}
 use Rattle.ccan_line.proofs.host.run_host_line.Goals as goal
 
 pub returns : goal.returns
 returns g c =
     let terms = (g.A.Access.passes c.args.access.now).terms in
-    let line = c.args.line.now in
     let registers = c.args.registers.now in
     Goes-weaker c.drive.ensures.runs (λ seen added _ _ f.
     let a = f.each registers refl in
-    subst (λ (left : Registers). HostLineMeans terms c.args.tries line registers seen added c.drive.result left) a.1
-    ((host_lines terms c.args.tries line registers a.0 seen added c.drive.result).1 a.2))
+    subst (λ (left : Registers). HostLineMeans terms c.args.tries c.args.line.now registers seen added c.drive.result left)
+    a.1 a.2)
