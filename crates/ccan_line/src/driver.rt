@@ -1,15 +1,51 @@
-ghost use Rattle.std.specs.Prelude.{◌≡◌, ◌<◌};
+ghost use Rattle.std.specs.Prelude.{ℕ, ◌≡◌, ◌<◌};
+ghost use Rattle.ccan_object.specs.Profile.{Holds};
 ghost use Rattle.ccan_ram.specs.Access.{Goes};
 ghost use Rattle.ccan_process.specs.Act.{Runs};
 ghost use Rattle.ccan_line.specs.Side.{GoesOn};
-ghost use Rattle.ccan_line.specs.Engine.{CourseIs, Leads, course_rest};
+ghost use Rattle.ccan_line.specs.Engine.{Asks, CourseIs, Leads, course_rest};
 
 use crate::attempt_end::attempted;
 use crate::course::Course;
 use crate::engine::Engine;
 use crate::next_act::NextAct;
-use ccan_object::Profile;
+use ccan_object::{ObjectNo, Profile};
 use ccan_ram::{Access, Tries};
+
+/// Makes looks of a line from this one on, up to one that no look follows at once.
+#[inline(always)]
+fn look_on<E: Engine, A: Access>(
+    engine: &mut E,
+    access: &mut A,
+    profile: Profile,
+    line: &E::Line,
+    point: &E::Point,
+    object: ObjectNo,
+) -> Course<E::Point, E::End>
+    requires profile { (A.passes access.old).terms.profile ≡ profile }
+    requires within { E.within profile (E.fixed engine.old) line.now point.now }
+    requires held { Holds profile object }
+    requires is { E.act profile engine.old line.now point.now ≡ NextAct.Look object }
+    requires asks { (state : E.State) → E.led_to state engine.old
+        → Asks (E.rest profile line.now state point.now) (NextAct.Look object) }
+    ensures leads { Goes (A.passes access.old) (A.passes access.new) (λ terms seen added.
+        GoesOn E.led_to engine.old engine.new (λ state after.
+        (tries : ℕ) → Leads terms tries (E.rest profile line.now state point.now)
+        (course_rest (E.rest profile line.now) after result) seen added)) }
+    ensures within { CourseIs (λ next. E.within profile (E.fixed engine.new) line.now next
+        × (E.left profile line.now next < E.left profile line.now point.now)) result }
+    ensures fixed { E.fixed engine.new ≡ E.fixed engine.old }
+{
+    let mut here = *point;
+    let mut object = object;
+    loop {
+        let shown = access.look(object);
+        match engine.look_again(profile, line, &mut here, &shown) {
+            Some(next) => object = next,
+            None => return engine.after_look(profile, line, &here, object, &shown),
+        }
+    }
+}
 
 /// Makes the next act of a line over an access.
 #[inline(always)]
@@ -32,10 +68,7 @@ fn go_on<E: Engine, A: Access>(
     ensures fixed { E.fixed engine.new ≡ E.fixed engine.old }
 {
     match engine.next(profile, line, point) {
-        NextAct::Look(object) => {
-            let shown = access.look(object);
-            engine.after_look(profile, line, point, object, &shown)
-        }
+        NextAct::Look(object) => look_on(engine, access, profile, line, point, object),
         NextAct::Attempt(object, change) => {
             let outcome = access.change(object, &change, tries);
             let end = attempted(&outcome);

@@ -1,4 +1,5 @@
-ghost use Rattle.std.specs.Prelude.{◌≡◌, ◌<◌};
+ghost use Rattle.std.specs.Prelude.{◌≡◌, ◌<◌, IfNone, IfSome};
+ghost use Rattle.ccan_object.specs.Profile.{Holds};
 ghost use Rattle.ccan_line.specs.Side.{GoesOn};
 ghost use Rattle.ccan_line.specs.Engine.{Asks, CourseIs, DecidesTo, NamesHeld, after_attempt};
 ghost use Rattle.ccan_line.specs.Engine.{after_look, attempted_of, course_rest};
@@ -73,6 +74,27 @@ pub trait Engine {
             → Asks (rest profile line.now state point.now) result }
         ensures held { NamesHeld profile result };
 
+    /// Whether a look that shows this record is followed by another one at once: then the point is that look's, and its
+    /// object is answered. Otherwise the point stays, and [`Engine::after_look`] says what follows.
+    fn look_again(
+        &self,
+        profile: Profile,
+        line: &Self::Line,
+        point: &mut Self::Point,
+        shown: &Record,
+    ) -> Option<ObjectNo>
+        requires within { within profile (fixed self.now) line.now point.old }
+        ensures none { IfNone result (point.new ≡ point.old) }
+        ensures is { IfSome result (λ object. act profile self.now line.now point.new ≡ kind.Look object) }
+        ensures asks { IfSome result (λ object. (state : State) → led_to state self.now
+            → Asks (rest profile line.now state point.new) (kind.Look object)) }
+        ensures held { IfSome result (Holds profile) }
+        ensures comes { IfSome result (λ object. (state : State) → led_to state self.now
+            → after_look shown.now (rest profile line.now state point.old)
+            ≡ rest profile line.now state point.new) }
+        ensures within { IfSome result (λ object. within profile (fixed self.now) line.now point.new
+            × (left profile line.now point.new < left profile line.now point.old)) };
+
     /// What follows a look that shows this record.
     fn after_look(
         &mut self,
@@ -110,7 +132,7 @@ pub trait Engine {
             × (left profile line.now next < left profile line.now point.now)) result }
         ensures fixed { fixed self.new ≡ fixed self.old };
 
-    /// Decides what a round comes to, and what follows.
+    /// If the line decides a round next: decides it, and what follows.
     fn decide(
         &mut self,
         profile: Profile,
@@ -118,11 +140,12 @@ pub trait Engine {
         point: &Self::Point,
     ) -> Course<Self::Point, Self::End>
         requires within { within profile (fixed self.old) line.now point.now }
-        requires is { act profile self.old line.now point.now ≡ kind.Decide }
-        ensures comes { GoesOn led_to self.old self.new (λ state after.
+        ensures comes { act profile self.old line.now point.now ≡ kind.Decide
+            → GoesOn led_to self.old self.new (λ state after.
             DecidesTo (rest profile line.now state point.now)
             (course_rest (rest profile line.now) after result)) }
-        ensures within { CourseIs (λ next. within profile (fixed self.new) line.now next
+        ensures within { act profile self.old line.now point.now ≡ kind.Decide
+            → CourseIs (λ next. within profile (fixed self.new) line.now next
             × (left profile line.now next < left profile line.now point.now)) result }
         ensures fixed { fixed self.new ≡ fixed self.old };
 }

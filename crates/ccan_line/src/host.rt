@@ -9,10 +9,12 @@ use crate::driver::drive;
 use crate::host_line::HostLine;
 use crate::line_answer::LineAnswer;
 use crate::side::Side;
+use ccan_handler::{flags, interrupt, until};
 use ccan_object::Iface;
 use ccan_ram::{Access, Tries};
 
-/// Runs one line of a host port.
+/// Runs one line of a host port: a transfer act by act, and a line that asks by one call of the memory handler, whose loop
+/// makes the same looks in fewer instructions.
 fn run_host_line<A: Access>(
     registers: &mut Iface,
     access: &mut A,
@@ -23,7 +25,22 @@ fn run_host_line<A: Access>(
     ensures { Goes (A.passes access.old) (A.passes access.new) (λ terms seen added.
         HostLineMeans terms tries line.now registers.old seen added result registers.new) }
 {
-    drive(registers, access, line, tries)
+    match line {
+        HostLine::Transfer { .. } => drive(registers, access, line, tries),
+        HostLine::Until {
+            object,
+            flag,
+            turns,
+        } => {
+            let shown = until(access, *object, *flag, *turns);
+            LineAnswer::Until(*object, *flag, shown)
+        }
+        HostLine::Interrupt => LineAnswer::Interrupt(interrupt(access, false)),
+        HostLine::Flags(flag) => {
+            let word = flags(access, *flag);
+            LineAnswer::Flags(*flag, word, access.profile())
+        }
+    }
 }
 
 impl Side for Iface {

@@ -5,8 +5,8 @@ use Rattle.ccan_line.specs.Engine.{DecidesTo}
 use Rattle.ccan_line.proofs.SameBus.{fixed_same}
 use Rattle.ccan_line.proofs.bus_engine.BusEngine.decide.Goals as goal
 
-pub returns-clause-comes : goal.returns-clause-comes
-returns-clause-comes c =
+pub returns-in-Deciding-clause-comes : goal.returns-in-Deciding-clause-comes
+returns-in-Deciding-clause-comes c decides =
     let profile = c.args.profile in
     let line = c.args.line.now in
     record {
@@ -18,5 +18,5 @@ returns-clause-comes c =
       );
     }
 
-pub returns-clause-fixed : goal.returns-clause-fixed
-returns-clause-fixed c = fixed_same c.decided.ensures.same
+pub returns-in-Deciding-clause-fixed : goal.returns-in-Deciding-clause-fixed
+returns-in-Deciding-clause-fixed c = fixed_same c.decided.ensures.same

@@ -3,7 +3,7 @@ use Rattle.std.proofs.Common.{refl, sym, ap}
 use Rattle.ccan_ram.proofs.Calls.{Goes-none, Goes-weaker}
 use Rattle.ccan_bus.specs.Past.{BusPast}
 use Rattle.ccan_line.specs.declared.line_answer.LineAnswer.{LineAnswer}
-use Rattle.ccan_line.proofs.bus_port.run_at_once.Goals as goal
+use Rattle.ccan_line.proofs.bus_port.run_by_calls.Goals as goal
 
 pub returns-in-Load-clause-runs : goal.returns-in-Load-clause-runs
 returns-in-Load-clause-runs g c =
