@@ -1,7 +1,7 @@
 -- Steps at objects and accesses to registers during which nobody else acts are those over a memory of one thread. What is done at
 -- objects stands in the part of the history that is the message RAM's, of which that is known already; a step at the controller is
 -- the same under all terms of one port.
-use Rattle.std.proofs.Common.{◌≤◌, zero, suc, inl, inr, ℕ, Bool, true, false, List, ◌++◌, Some, None, Ok, Err, ◌+◌, ◌/◌, ◌%◌, ◌^◌, ◌==◌}
+use Rattle.std.proofs.Common.{◌≤◌, zero, suc, inl, inr, ℕ, Bool, true, false, List, [], ◌++◌, Some, None, Ok, Err, ◌+◌, ◌/◌, ◌%◌, ◌^◌, ◌==◌}
 use Rattle.std.specs.Prelude.{◌⊎◌, MatchBool, MatchOption}
 use Rattle.std.specs.declared.option.Option.{Option}
 use Rattle.std.specs.declared.result.Result.{Result}
@@ -45,7 +45,8 @@ use Rattle.ccan_bus.specs.RoundReport.{RunsOn, RunsSteps}
 use Rattle.ccan_endless.specs.declared.chip.ControllerStep.TheVariants.{Look}
 use Rattle.ccan_endless.specs.Chip.{ChipHistory, ram_of}
 use Rattle.ccan_line.specs.declared.line_answer.LineAnswer.{LineAnswer}
-use Rattle.ccan_line.proofs.LinesApart.{host_apart}
+use Rattle.ccan_line.specs.declared.host_line.HostLine.TheVariants as line
+use Rattle.ccan_line.proofs.LinesApart.{host_adds_apart}
 use Rattle.ccan_line.proofs.LoadsApart.{loads_apart}
 use Rattle.ccan_line.proofs.ScansApart.{apart, scans_apart}
 use Rattle.ccan_chip.specs.declared.map.Map.{Map}
@@ -60,7 +61,7 @@ use Rattle.ccan_registers.specs.Bytes.{ReadsByte, ResetsInInit, WritesByte, Writ
 use Rattle.ccan_registers.specs.Bytes.{byte_in, has_reset, start_of as start_of_register, with_byte}
 use Rattle.ccan_registers.specs.ChipSteps.{AtController, OnObjects, Then}
 use Rattle.ccan_registers.specs.InterfaceSet.{Transferred}
-use Rattle.ccan_registers.specs.Objects.{ShowsFlags, ShowsInterrupt, transfer}
+use Rattle.ccan_registers.specs.Objects.{ShowsFlags, ShowsInterrupt}
 use Rattle.ccan_registers.specs.Register as access
 use Rattle.ccan_registers.specs.Register.{InterruptValue, PullsLine, Reads, ReadsApart, ReadsAt, ReadsControl, ReadsFlags, ReadsHalves, ReadsTiming, ReadsWord, Writes, WritesApart, WritesAt, WritesControl, WritesControlWord, WritesHalves, WritesRest, WritesTiming, WritesWord, is_refused}
 use Rattle.ccan_registers.specs.Register.{RequestsBy, change_by, is_own}
@@ -221,7 +222,8 @@ module _ (terms : Terms) (tries : ℕ) (some : 1 ≤ tries) where
   transferred_apart request own left seen added reply alone h = record {
     transfers =
         objects_apart _ _ seen added alone
-        (λ s a only. host_apart terms tries some s a only (transfer request) own.registers reply left.registers) h.transfers;
+        (λ s a only. host_adds_apart terms tries some s a only (line.Transfer request (record { items = [] })) own.registers reply
+        left.registers) h.transfers;
     asked = h.asked;
   }
 

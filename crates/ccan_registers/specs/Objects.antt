@@ -1,26 +1,21 @@
--- What the steps of a port at the objects of a chip come to. Source: this project's own, over the definitions of the lines of
--- a host port and of looks of one moment (C_CAN User's Manual 1.2, sections 3.3 and 3.4).
-use Rattle.std.specs.Prelude.{ℕ, Bool, []}
+-- What the steps of a port at the objects of a chip come to. Source: this project's own, over the definitions of
+-- transfers and of looks of one moment (C_CAN User's Manual 1.2, sections 3.3 and 3.4).
+use Rattle.std.specs.Prelude.{ℕ, Bool}
 use Rattle.ccan_object.specs.declared.record.Record.{Record}
 use Rattle.ccan_object.specs.Interface.{Registers}
+use Rattle.ccan_object.specs.Number.{requested}
 use Rattle.ccan_ram.specs.declared.flag.Flag.{Flag}
 use Rattle.ccan_ram.specs.Attempt.{IsLook}
 use Rattle.ccan_ram.specs.Terms.{Terms}
 use Rattle.ccan_handler.specs.Moment.{FlagsAtOnce, InterruptAtOnce}
 use Rattle.ccan_handler.specs.Watch.{Watches}
-use Rattle.ccan_line.specs.declared.host_line.HostLine.{HostLine}
-use Rattle.ccan_line.specs.declared.host_line.HostLine.TheVariants as line
 use Rattle.ccan_line.specs.declared.line_answer.LineAnswer.{LineAnswer}
 use Rattle.ccan_line.specs.declared.line_answer.LineAnswer.TheVariants as answer
-use Rattle.ccan_line.specs.Host.{HostLineMeans}
+use Rattle.ccan_line.specs.Transfer.{IsTransfer}
 use Rattle.ccan_endless.specs.Chip.{ChipHistory}
 use Rattle.ccan_registers.specs.declared.transfer_answer.TransferAnswer.{TransferAnswer}
 use Rattle.ccan_registers.specs.declared.transfer_answer.TransferAnswer.TheVariants as told
 use Rattle.ccan_registers.specs.ChipSteps.{OnObjects}
-
--- a transfer with the registers as they are
-abbrev pub transfer : ℕ → HostLine
-transfer request = line.Transfer request (record { items = [] })
 
 -- what a transfer answers, as a line of a script does
 abbrev pub as_line : TransferAnswer → LineAnswer
@@ -32,7 +27,7 @@ as_line (told.Spent object) = answer.Spent object
 -- the transfer of a Command Request, between these interface registers and the object that it names
 abbrev pub Transfers : Terms → ℕ → ℕ → Registers → ChipHistory → ChipHistory → LineAnswer → Registers → Type 0
 Transfers terms tries request registers seen added reply left =
-    OnObjects terms.port (λ s a. HostLineMeans terms tries (transfer request) registers s a reply left) seen added
+    OnObjects terms.port (λ s a. IsTransfer terms tries (requested terms.profile request) registers s a reply left) seen added
 
 -- a flag of all objects in one moment
 abbrev pub ShowsFlags : Terms → Flag → ChipHistory → ChipHistory → ℕ → Type 0

@@ -42,7 +42,8 @@ use Rattle.ccan_line.specs.declared.bus_line.BusLine.TheVariants as line
 use Rattle.ccan_line.specs.declared.line_answer.LineAnswer.{LineAnswer}
 use Rattle.ccan_line.specs.declared.line_answer.LineAnswer.TheVariants as answer
 use Rattle.ccan_line.specs.Lines.{LinesMean}
-use Rattle.ccan_line.specs.BusPort.{BusLineMeans}
+use Rattle.ccan_line.specs.BusPort.{BusLineAdds, BusLineMeans}
+use Rattle.ccan_line.proofs.BusLinesRun.{bus_adds}
 use Rattle.ccan_run.specs.Answered.{HasStep, NamesPending, WordWasShown, WasChanged, WasSent, WasStored, RoundShownBy}
 use Rattle.ccan_run.proofs.ControllerAnswers.{quiet_part}
 use Rattle.ccan_run.specs.Answered.{BusShownBy, IsBusReplyTo, IsBusPart, BusInOrder, BusMakes, RoundMakes, IsAtMost, changes_in}
@@ -487,7 +488,7 @@ module _ (terms : Terms) (bus : terms.port ≡ Bus) (tries : ℕ) where
       }
 
   bus_line : (line : BusLine) (past : BusPast) (seen added : List Event) (reply : LineAnswer) (after : BusPast)
-      → ChoosesInTurn past → Carries past seen → BusLineMeans terms tries line past seen added reply after
+      → ChoosesInTurn past → Carries past seen → BusLineAdds terms tries line past seen added reply after
       → IsBusPart terms.profile line reply seen added
   bus_line line.Load past seen added reply after in_turn carries (loading, is, h) =
       rw is (record {
@@ -504,19 +505,20 @@ module _ (terms : Terms) (bus : terms.port ≡ Bus) (tries : ℕ) where
       (quiet_part terms.profile (line.Controller at) seen added (ap (changes_in Bus) h.quiet) at past)
 
   line_carries : (line : BusLine) (past : BusPast) (seen added : List Event) (reply : LineAnswer) (after : BusPast)
-      → ChoosesInTurn past → BusLineMeans terms tries line past seen added reply after → Carries past seen
+      → ChoosesInTurn past → BusLineMeans terms tries line past seen added reply after
+      → BusLineAdds terms tries line past seen added reply after → Carries past seen
       → Carries after (added ++ seen)
-  line_carries line.Load past seen added reply after in_turn (loading, is, h) carries =
+  line_carries line.Load past seen added reply after in_turn means (loading, is, h) carries =
       load_carries seen added past after loading in_turn h carries
-  line_carries (line.Round sends) past seen added reply after in_turn (ended, is, h) carries =
+  line_carries (line.Round sends) past seen added reply after in_turn means (ended, is, h) carries =
       round_carries sends seen added past after in_turn ended h carries
-  line_carries other past seen added reply after in_turn h carries =
-      carries_same past after seen added (still_stays terms tries other past after seen added reply refl h).loaded carries
+  line_carries other past seen added reply after in_turn means adds carries =
+      carries_same past after seen added (still_stays terms tries other past after seen added reply refl means).loaded carries
 
   -- ---- what a line is answered
 
   replies_to : (line : BusLine) (past : BusPast) (seen added : List Event) (reply : LineAnswer) (after : BusPast)
-      → BusLineMeans terms tries line past seen added reply after → IsBusReplyTo terms.profile line reply
+      → BusLineAdds terms tries line past seen added reply after → IsBusReplyTo terms.profile line reply
   replies_to line.Load past seen added reply after means = rw means.1 tt
   replies_to (line.Round sends) past seen added reply after means = rw means.1 tt
   replies_to line.Interrupt past seen added reply after means = rw means.answer_is tt
@@ -533,14 +535,15 @@ module _ (terms : Terms) (bus : terms.port ≡ Bus) (tries : ℕ) where
       subst (λ (l : List LineAnswer). BusInOrder terms.profile [] l seen (more ++ added)) (sym empty) last
   bus_lines (line ∷ lines) past seen added answers left in_turn carries
       (later, first, reply, replies, between, whole, all, means, rest) more foreign =
-      let kept = line_carries line past seen first reply between in_turn means carries in
+      let adds = (bus_adds terms tries line past between seen first reply).0 means in
+      let kept = line_carries line past seen first reply between in_turn means adds carries in
       let still = line_keeps terms tries line past between seen first reply in_turn means in
       let there : BusInOrder terms.profile (line ∷ lines) (reply ∷ replies) seen (more ++ added) = (
         more ++ later,
         first,
         ap (λ (es : List Event). more ++ es) whole ∙ sym (append_assoc more later first),
-        replies_to line past seen first reply between means,
-        bus_line line past seen first reply between in_turn carries means,
+        replies_to line past seen first reply between adds,
+        bus_line line past seen first reply between in_turn carries adds,
         bus_lines lines between (first ++ seen) later replies left still kept rest more foreign,
       ) in
       subst (λ (l : List LineAnswer). BusInOrder terms.profile (line ∷ lines) l seen (more ++ added)) (sym all) there

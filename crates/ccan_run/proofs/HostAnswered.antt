@@ -26,7 +26,8 @@ use Rattle.ccan_line.specs.declared.line_answer.LineAnswer.{LineAnswer}
 use Rattle.ccan_line.specs.declared.line_answer.LineAnswer.TheVariants as answer
 use Rattle.ccan_line.specs.Lines.{LinesMean}
 use Rattle.ccan_line.specs.Transfer.{Answers, Ends, change_of, with_settings}
-use Rattle.ccan_line.specs.Host.{HostLineMeans}
+use Rattle.ccan_line.specs.Host.{HostLineAdds, HostLineMeans}
+use Rattle.ccan_line.proofs.HostLinesRun.{host_lines as lines_run}
 use Rattle.ccan_run.specs.Answered.{HasStep, HostShownBy, IsHostPart, IsOfTransfer, IsReplyTo, HostInOrder, changes_told, reading, registers_set, registers_after}
 use Rattle.ccan_run.proofs.StepsShown.{looked_at, done_at, watch_shown, watch_in_vain, interrupt_shown, word_shown}
 use Rattle.ccan_run.proofs.HostChanges.{changes_by-look, changes_by-attempt, changes_by-watch, changes_by-interrupt, changes_by-flags}
@@ -151,7 +152,7 @@ module _ (terms : Terms) (tries : ℕ) where
   Shows line registers added reply left = IsShown terms line (registers_set line registers) reply left added
 
   host_line : (line : HostLine) (registers : Registers) (seen added : List Event) (reply : LineAnswer) (left : Registers)
-      → HostLineMeans terms tries line registers seen added reply left → Shows line registers added reply left
+      → HostLineAdds terms tries line registers seen added reply left → Shows line registers added reply left
   host_line (host.Transfer request set) registers seen added reply left means =
       let now = with_settings set.items registers in
       let object = requested terms.profile request in
@@ -195,7 +196,7 @@ module _ (terms : Terms) (tries : ℕ) where
       transferred object registers reply left outcome answers
 
   replies_to : (line : HostLine) (registers : Registers) (seen added : List Event) (reply : LineAnswer) (left : Registers)
-      → HostLineMeans terms tries line registers seen added reply left → IsReplyTo terms.profile line reply
+      → HostLineAdds terms tries line registers seen added reply left → IsReplyTo terms.profile line reply
   replies_to (host.Transfer request set) registers seen added reply left means =
       let now = with_settings set.items registers in
       of_transfer (is_pure_read now.command) (requested terms.profile request) now seen added reply left means
@@ -212,14 +213,15 @@ module _ (terms : Terms) (tries : ℕ) where
       subst (λ (l : List LineAnswer). HostInOrder terms.profile terms.port [] registers l (more ++ added)) (sym empty) last
   host_lines (line ∷ lines) registers seen added answers left
       (later, first, reply, replies, between, whole, all, means, rest) more foreign =
-      let shows = host_line line registers seen first reply between means in
+      let adds = (lines_run terms tries line registers between seen first reply).1 means in
+      let shows = host_line line registers seen first reply between adds in
       let all_later = host_lines lines between (first ++ seen) later replies left rest more foreign in
       let now = registers_set line registers in
       let there : HostInOrder terms.profile terms.port (line ∷ lines) registers (reply ∷ replies) (more ++ added) = (
         more ++ later,
         first,
         ap (λ (es : List Event). more ++ es) whole ∙ sym (append_assoc more later first),
-        replies_to line registers seen first reply between means,
+        replies_to line registers seen first reply between adds,
         shows.0,
         subst (λ (i : Registers). HostInOrder terms.profile terms.port lines i replies (more ++ later)) shows.1 all_later,
       ) in

@@ -38,8 +38,10 @@ use Rattle.ccan_line.specs.declared.line_answer.LineAnswer.{LineAnswer}
 use Rattle.ccan_line.specs.declared.line_answer.LineAnswer.TheVariants as answer
 use Rattle.ccan_line.specs.Script.{ScriptFields}
 use Rattle.ccan_line.specs.Transfer.{Answers, Ends, change_of, with_settings}
-use Rattle.ccan_line.specs.Host.{HostLineMeans}
-use Rattle.ccan_line.specs.BusPort.{BusLineMeans}
+use Rattle.ccan_line.specs.Host.{HostLineAdds}
+use Rattle.ccan_line.specs.BusPort.{BusLineAdds, BusLineMeans}
+use Rattle.ccan_line.proofs.HostLinesRun.{host_lines}
+use Rattle.ccan_line.proofs.BusLinesRun.{bus_adds}
 use Rattle.ccan_line.specs.Lines.{LinesMean}
 use Rattle.ccan_line.specs.Turn.{PortLine, of_if1, of_if2, of_bus, Three, PortLineMeans, terms_of, opening}
 use Rattle.ccan_run.specs.Ordered.{lines_of}
@@ -99,7 +101,7 @@ module _ (terms : Terms) (alone : terms.alone ≡ true) (tries : ℕ) (some : 1 
       by_outcome object registers seen added reply left outcome attempt answers
 
   host_line : (line : HostLine) (registers : Registers) (seen added : List Event) (reply : LineAnswer) (left : Registers)
-      → HostLineMeans terms tries line registers seen added reply left → IsNotBusy reply
+      → HostLineAdds terms tries line registers seen added reply left → IsNotBusy reply
   host_line (host.Transfer request set) registers seen added reply left means =
       by_command (is_pure_read (with_settings set.items registers).command) (requested terms.profile request)
       (with_settings set.items registers) seen added reply left means
@@ -174,21 +176,26 @@ module _ (terms : Terms) (alone : terms.alone ≡ true) (tries : ℕ) (some : 1 
   not_busy reply still = tt
 
   bus_line : (line : BusLine) (past : BusPast) (seen added : List Event) (reply : LineAnswer) (after : BusPast)
-      → BusLineMeans terms tries line past seen added reply after → IsNotBusy reply
-  bus_line line.Load past seen added reply after (loading, is, h) = rw is (loads seen added past after loading h)
-  bus_line (line.Round sends) past seen added reply after (ended, is, h) = rw is (rounds sends seen added past after ended h)
-  bus_line other past seen added reply after h =
-      not_busy reply (still_stays terms tries other past after seen added reply refl h).still
+      → BusLineMeans terms tries line past seen added reply after → BusLineAdds terms tries line past seen added reply after
+      → IsNotBusy reply
+  bus_line line.Load past seen added reply after means (loading, is, h) = rw is (loads seen added past after loading h)
+  bus_line (line.Round sends) past seen added reply after means (ended, is, h) =
+      rw is (rounds sends seen added past after ended h)
+  bus_line other past seen added reply after means adds =
+      not_busy reply (still_stays terms tries other past after seen added reply refl means).still
 
 module _ (script : ScriptFields) (some : 1 ≤ script.tries) where
   port_line : (line : PortLine) (three : Three) (seen added : List Event) (reply : PortName × LineAnswer) (left : Three)
       → PortLineMeans (terms_of script) script.tries line three seen added reply left → IsNotBusy reply.1
   port_line (of_if1 line) three seen added reply left (after, port, means, is) =
-      host_line (terms_of script If1) refl script.tries some line three.first seen added reply.1 after means
+      host_line (terms_of script If1) refl script.tries some line three.first seen added reply.1 after
+      ((host_lines (terms_of script If1) script.tries line three.first after seen added reply.1).1 means)
   port_line (of_if2 line) three seen added reply left (after, port, means, is) =
-      host_line (terms_of script If2) refl script.tries some line three.second seen added reply.1 after means
+      host_line (terms_of script If2) refl script.tries some line three.second seen added reply.1 after
+      ((host_lines (terms_of script If2) script.tries line three.second after seen added reply.1).1 means)
   port_line (of_bus line) three seen added reply left (after, port, means, is) =
       bus_line (terms_of script Bus) refl script.tries some line three.bus seen added reply.1 after means
+      ((bus_adds (terms_of script Bus) script.tries line three.bus after seen added reply.1).0 means)
 
   port_lines : (lines : List PortLine) (three : Three) (seen added : List Event) (answers : List (PortName × LineAnswer))
       (left : Three)

@@ -1,4 +1,4 @@
--- A script has one text. Where nobody else acts, the process of each line has one run, and the line is its process: so its events,
+-- A script has one text. Where nobody else acts, the process of each line has one run, and the line stands for it: so its events,
 -- its answer and what it leaves are determined.
 use Rattle.std.proofs.Common.{ℕ, ◌≡◌, ◌≤◌, true, List, [], ◌∷◌, ◌++◌, refl, sym, ap, ap₂, subst, ◌∙◌, append_assoc}
 use Rattle.std.proofs.lemmas.List.{append-nil}
@@ -10,6 +10,7 @@ use Rattle.ccan_ram.specs.declared.event.Event.{Event}
 use Rattle.ccan_ram.specs.History.{IsLegal}
 use Rattle.ccan_ram.specs.Terms.{Terms}
 use Rattle.ccan_ram.proofs.Histories.{IsLegal-older}
+use Rattle.ccan_bus.specs.declared.choice.Choice.TheVariants.{InTurn}
 use Rattle.ccan_bus.specs.Past.{BusPast}
 use Rattle.ccan_process.proofs.RunsOnce.{runs_once}
 use Rattle.ccan_line.specs.declared.host_line.HostLine.{HostLine}
@@ -22,8 +23,7 @@ use Rattle.ccan_line.specs.BusPort.{BusLineMeans}
 use Rattle.ccan_line.specs.Lines.{LinesMean}
 use Rattle.ccan_line.specs.LineProcess.{host_process, bus_process}
 use Rattle.ccan_line.specs.Turn.{PortLine, of_if1, of_if2, of_bus, Three, PortLineMeans, terms_of, opening}
-use Rattle.ccan_line.proofs.HostLinesRun.{host_lines}
-use Rattle.ccan_line.proofs.BusLinesRun.{bus_lines}
+use Rattle.ccan_line.proofs.BusLinesRun.{means_by}
 use Rattle.ccan_line.proofs.InTurn.{ChoosesInTurn, ThreeInTurn, port_line_keeps}
 use Rattle.ccan_run.specs.Ordered.{lines_of, answers_text, finals_text}
 use Rattle.ccan_run.specs.Laws.{HasOneText, WhatWasPrintedIsTheText}
@@ -73,8 +73,7 @@ module _ (terms : Terms) (alone : terms.alone ≡ true) (tries : ℕ) (some : 1 
       → HostLineMeans terms tries line registers seen added' reply' left' → (added ≡ added') × (reply ≡ reply') × (left ≡ left')
   host_once line registers left left' m m' =
       let one = runs_once terms alone tries some (host_process terms.profile line registers) seen added added'
-      (reply, left) (reply', left') legal legal' ((host_lines terms tries line registers left seen added reply).0 m)
-      ((host_lines terms tries line registers left' seen added' reply').0 m') in (
+      (reply, left) (reply', left') legal legal' m m' in (
         one.0,
         ap (λ (end : LineAnswer × Registers). end.0) one.1,
         ap (λ (end : LineAnswer × Registers). end.1) one.1,
@@ -84,8 +83,8 @@ module _ (terms : Terms) (alone : terms.alone ≡ true) (tries : ℕ) (some : 1 
       → BusLineMeans terms tries line past seen added reply after
       → BusLineMeans terms tries line past seen added' reply' after' → (added ≡ added') × (reply ≡ reply') × (after ≡ after')
   bus_once line past after after' in_turn m m' =
-      let ran = (bus_lines terms tries line past after seen added reply in_turn).0 m in
-      let ran' = (bus_lines terms tries line past after' seen added' reply' in_turn).0 m' in
+      let ran = (means_by terms tries line past after seen added reply InTurn in_turn).0 m in
+      let ran' = (means_by terms tries line past after' seen added' reply' InTurn in_turn).0 m' in
       let one = runs_once terms alone tries some (bus_process terms.profile line past) seen added added'
       (ran.0, after) (ran'.0, after') legal legal' ran.2 ran'.2 in (
         one.0,

@@ -1,7 +1,9 @@
 use Rattle.std.proofs.Common.{refl, sym, subst, ◌∙◌}
 use Rattle.ccan_ram.proofs.Calls.{Goes-weaker}
 use Rattle.ccan_bus.proofs.Steps.{round_of}
+use Rattle.ccan_line.specs.declared.bus_line.BusLine.TheVariants as line
 use Rattle.ccan_line.specs.BusLine.{BusFits}
+use Rattle.ccan_line.proofs.BusLinesRun.{bus_adds}
 use Rattle.ccan_explain.proofs.reported.run_reported.Goals as goal
 
 pub returns-in-Some-clause-runs : goal.returns-in-Some-clause-runs
@@ -16,7 +18,7 @@ returns-in-Some-clause-runs g c =
             a.0,
             a.1,
             record {
-              means = (_, refl, round_of _ round _ _ _ _ _ _ a.2);
+              means = (bus_adds _ _ (line.Round round) past a.0 seen added _).1 (_, refl, round_of _ round _ _ _ _ _ _ a.2);
               reports = record { of_round = λ _ _. refl; its_own = record { round = round; is = refl; told = refl; steps = a.2 } };
             },
           );

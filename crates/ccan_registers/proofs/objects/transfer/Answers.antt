@@ -3,7 +3,6 @@ use Rattle.ccan_object.specs.declared.profile.Profile.{Profile}
 use Rattle.ccan_object.specs.Number.{requested}
 use Rattle.ccan_ram.specs.SharedRam.{terms_of}
 use Rattle.ccan_ram.proofs.Calls.{Goes-weaker}
-use Rattle.ccan_line.specs.Host.{HostLineMeans}
 use Rattle.ccan_line.specs.Transfer.{IsTransfer}
 use Rattle.ccan_endless.specs.Layout.{same_object}
 use Rattle.ccan_registers.specs.Objects as objects
@@ -20,8 +19,8 @@ returns-clause-goes c =
     let object : c.from_request-object.result ≡ requested port.pass.memory.profile request =
     c.from_request-object.ensures.number ∙ ap (λ (p : Profile). requested p request) c.profile.ensures in
     on_objects port new
-    (λ terms s a. HostLineMeans terms tries (objects.transfer request) c.args.registers.now s a (objects.as_line c.transferred.result)
-    left)
+    (λ terms s a. IsTransfer terms tries (requested terms.profile request) c.args.registers.now s a
+    (objects.as_line c.transferred.result) left)
     c.transferred.ensures.none
     (Goes-weaker c.transferred.ensures.goes
     (λ seen added here after p. subst
