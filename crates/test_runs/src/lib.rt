@@ -26,6 +26,8 @@ mod laws;
 #[cfg(test)]
 mod limits;
 #[cfg(test)]
+mod lines;
+#[cfg(test)]
 mod members;
 #[cfg(test)]
 mod outcomes;
