@@ -6,14 +6,15 @@ ghost use Rattle.ccan_line.specs.HostLine.{HostFits};
 use crate::expect::{holds, same};
 use arrayvec::ArrayVec;
 use ccan_accept::Frame;
-use ccan_bus::{Bus, Fault, LoadAnswer, RoundAnswer, RoundLine};
+use ccan_bus::{Bus, Decision, Fault, LoadAnswer, RoundAnswer, RoundLine};
 use ccan_line::asking::{answer_with, goes_on, most_looks, place_of, word_fits, word_with};
-use ccan_line::bus_engine::{ask_course, change_of_aim, change_of_job};
+use ccan_line::bus_course::{after_attempt, after_decision};
+use ccan_line::bus_engine::{ask_course, change_of_aim, change_of_job, seek_course};
 use ccan_line::bus_enter::enter;
 use ccan_line::host_engine::{change_of, moved, set_registers};
 use ccan_line::{
-    Aim, BusLine, BusPoint, Course, Engine, HostLine, HostPoint, Job, LineAnswer, LineEnd, NextAct,
-    RegisterSet, Side, drive, run_bus_line,
+    Aim, AttemptEnd, BusLine, BusPoint, Course, Engine, HostLine, HostPoint, Job, LineAnswer,
+    LineEnd, NextAct, RegisterSet, Side, drive, run_bus_line,
 };
 use ccan_object::{Iface, ObjectNo, Profile, Record, Reg};
 use ccan_ram::{Array, Change, Flag, Tries};
@@ -204,4 +205,42 @@ fn a_look_that_shows_an_interrupt_ends_the_line(rt: HostRuntime) {
     let course = ask_course(Profile::One, &BusLine::Interrupt, 2, 0, &shown);
     let third = LineEnd::unframed(LineAnswer::Interrupt(3));
     holds(&rt, course == Course::Ended(third));
+}
+
+#[test]
+fn a_scan_goes_on_from_an_object_that_does_not_fit(rt: HostRuntime) {
+    let mut bus = Bus::new(Profile::One, 1);
+    let first = ObjectNo::from_request(Profile::One, 1);
+    let none = Record::zero();
+    let course = seek_course(
+        &mut bus,
+        Profile::One,
+        &BusLine::Load,
+        &Aim::Start,
+        first,
+        &none,
+    );
+    let Course::At(BusPoint::Seeking { aim, object }) = course else {
+        panic!(&rt; "no scan")
+    };
+    same(&rt, aim, Aim::Start);
+    same(&rt, object.get(), 2);
+}
+
+#[test]
+fn a_scan_that_gives_up_ends_the_load(rt: HostRuntime) {
+    let mut bus = Bus::new(Profile::One, 1);
+    let object = ObjectNo::from_request(Profile::One, 1);
+    let job = Job::Scan(Aim::Start);
+    let end = AttemptEnd::GaveUp;
+    let course = after_attempt(&mut bus, Profile::One, &BusLine::Load, job, object, end);
+    let busy = LineEnd::unframed(LineAnswer::Load(LoadAnswer::Busy(object)));
+    holds(&rt, course == Course::Ended(busy));
+}
+
+#[test]
+fn a_round_without_a_sender_is_idle(rt: HostRuntime) {
+    let course = after_decision(Profile::One, &BusLine::Load, &Decision::Idle);
+    let idle = LineEnd::unframed(LineAnswer::Round(RoundAnswer::Idle));
+    holds(&rt, course == Course::Ended(idle));
 }
