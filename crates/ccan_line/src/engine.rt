@@ -11,8 +11,9 @@ use crate::next_act::NextAct;
 use ccan_object::{ObjectNo, Profile, Record};
 use ccan_ram::Change;
 
-/// What the lines of a port work on, and the only code of them: a line is entered, and from then on it says what it does
-/// next and learns what came of that, up to its end. Each method says how what is left of the line's process changes.
+/// What the lines of a port work on, act by act: a line is entered, and from then on it says what it does next and learns
+/// what came of that, up to its end. Each method says how what is left of the line's process changes. A search goes by
+/// it, and so does an ordered run, except at a line that only asks: there the run calls the message handler.
 pub trait Engine {
     ghost use Rattle.std.specs.Prelude.{ℕ};
     ghost use Rattle.ccan_object.specs.declared.profile.Profile.{Profile};
@@ -85,7 +86,8 @@ pub trait Engine {
     ) -> Option<ObjectNo>
         requires within { within profile (fixed self.now) line.now point.old }
         ensures none { IfNone result (point.new ≡ point.old) }
-        ensures is { IfSome result (λ object. act profile self.now line.now point.new ≡ kind.Look object) }
+        ensures is { IfSome result (λ object.
+            act profile self.now line.now point.new ≡ kind.Look object) }
         ensures asks { IfSome result (λ object. (state : State) → led_to state self.now
             → Asks (rest profile line.now state point.new) (kind.Look object)) }
         ensures held { IfSome result (Holds profile) }

@@ -33,6 +33,7 @@ fn laws_of_processes_hold() {
     line_process_laws::host_lines_are_processes();
     line_process_laws::bus_lines_are_processes();
     line_process_laws::bus_line_ends_are_processes();
+    line_process_laws::ports_add_as_processes();
     line_process_laws::ports_are_processes();
 }
 
