@@ -12,8 +12,9 @@ use ccan_object::{ObjectNo, Profile, Record};
 use ccan_ram::Change;
 
 /// What the lines of a port work on, act by act: a line is entered, and from then on it says what it does next and learns
-/// what came of that, up to its end. Each method says how what is left of the line's process changes. A search goes by
-/// it, and so does an ordered run, except at a line that only asks: there the run calls the message handler.
+/// what came of that, up to its end. Each method says how what is left of the line's process changes. An ordered run goes
+/// by it, but a line that only asks is one call of the message handler there. A search takes its steps by the same
+/// functions.
 pub trait Engine {
     ghost use Rattle.std.specs.Prelude.{ℕ};
     ghost use Rattle.ccan_object.specs.declared.profile.Profile.{Profile};
