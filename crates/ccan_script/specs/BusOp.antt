@@ -1,5 +1,6 @@
 -- What a line of the bus does, by its member `op`. Source: this project's own.
-use Rattle.std.specs.Prelude.{ℕ, codes, List, Option, Some, None, option_and_then, if◌then◌else◌}
+use Rattle.std.specs.Prelude.{ℕ, codes, List, [], ◌∷◌, Option, option_and_then}
+use Rattle.std.specs.List.{find}
 use Rattle.std.specs.Str.{bytes_eq}
 use Rattle.serde_json.specs.Data.{Data}
 use Rattle.serde_json.specs.Find.{as_str, get}
@@ -7,18 +8,27 @@ use Rattle.ccan_script.specs.declared.bus_op.BusOp.{BusOp}
 use Rattle.ccan_script.specs.declared.bus_op.BusOp.TheVariants.{Load, Round, Status, Control, Interrupt, Flags}
 use Rattle.ccan_script.specs.declared.bus_op.BusOp.TheVariants.{Counters, Init, Recessive, LoopBack}
 
+-- the name of an operation as a script has it
+abbrev pub bus_op_name : BusOp → List ℕ
+bus_op_name Load = codes "load"
+bus_op_name Round = codes "round"
+bus_op_name Status = codes "status"
+bus_op_name Control = codes "control"
+bus_op_name Interrupt = codes "interrupt"
+bus_op_name Flags = codes "flags"
+bus_op_name Counters = codes "counters"
+bus_op_name Init = codes "init"
+bus_op_name Recessive = codes "recessive"
+bus_op_name LoopBack = codes "loopback"
+
+-- all operations
+abbrev pub bus_ops : List BusOp
+bus_ops =
+    Load ∷ Round ∷ Status ∷ Control ∷ Interrupt ∷ Flags ∷ Counters ∷ Init ∷ Recessive ∷ LoopBack ∷ []
+
+-- the operation of a name
 unfoldable pub bus_op_named : List ℕ → Option BusOp
-bus_op_named word =
-    if bytes_eq word (codes "load") then Some Load
-    else (if bytes_eq word (codes "round") then Some Round
-    else (if bytes_eq word (codes "status") then Some Status
-    else (if bytes_eq word (codes "control") then Some Control
-    else (if bytes_eq word (codes "interrupt") then Some Interrupt
-    else (if bytes_eq word (codes "flags") then Some Flags
-    else (if bytes_eq word (codes "counters") then Some Counters
-    else (if bytes_eq word (codes "init") then Some Init
-    else (if bytes_eq word (codes "recessive") then Some Recessive
-    else (if bytes_eq word (codes "loopback") then Some LoopBack else None)))))))))
+bus_op_named word = find (λ op. bytes_eq (bus_op_name op) word) bus_ops
 
 -- what the member `op` names
 unfoldable pub bus_op : Data → Option BusOp

@@ -68,16 +68,14 @@ host_row host.Interrupt = operation_member ∷ []
 host_row host.Flags = operation_member ∷ flag_member ∷ []
 
 abbrev pub bus_row : BusOp → List Member
-bus_row bus.Load = operation_member ∷ []
 bus_row bus.Round = operation_member ∷ Optional Fault kind.FaultName ∷ Optional Send kind.Frames ∷ []
-bus_row bus.Status = operation_member ∷ []
 bus_row bus.Control = operation_member ∷ switch Sie ∷ switch Eie ∷ []
-bus_row bus.Interrupt = operation_member ∷ []
 bus_row bus.Flags = operation_member ∷ flag_member ∷ []
 bus_row bus.Counters = operation_member ∷ Needed Node (kind.Number range.Node) ∷ []
-bus_row bus.Init = operation_member ∷ []
 bus_row bus.Recessive = operation_member ∷ Needed Groups (kind.Number (range.Between 1 most_groups)) ∷ []
 bus_row bus.LoopBack = operation_member ∷ switch On ∷ []
+-- a line of each other operation has no other member
+bus_row other = operation_member ∷ []
 
 -- the members of a frame, as their shapes are checked
 abbrev pub frame_row : List Member

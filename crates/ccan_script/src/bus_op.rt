@@ -1,6 +1,6 @@
 ghost use Rattle.std.specs.Prelude.{◌≡◌};
 ghost use Rattle.serde_json.specs.View.{view};
-ghost use Rattle.ccan_script.specs.BusOp.{bus_op, bus_op_named};
+ghost use Rattle.ccan_script.specs.BusOp.{bus_op, bus_op_name, bus_op_named};
 
 use serde_json::Value;
 
@@ -19,24 +19,46 @@ pub enum BusOp {
     LoopBack,
 }
 
+impl BusOp {
+    /// All operations, in the order in which a remark names them.
+    pub const ALL: [BusOp; 10] = [
+        BusOp::Load,
+        BusOp::Round,
+        BusOp::Status,
+        BusOp::Control,
+        BusOp::Interrupt,
+        BusOp::Flags,
+        BusOp::Counters,
+        BusOp::Init,
+        BusOp::Recessive,
+        BusOp::LoopBack,
+    ];
+
+    /// The name of the operation, as a script has it.
+    pub fn name(self) -> &'static str
+        ensures { result.now ≡ bus_op_name self }
+    {
+        match self {
+            BusOp::Load => "load",
+            BusOp::Round => "round",
+            BusOp::Status => "status",
+            BusOp::Control => "control",
+            BusOp::Interrupt => "interrupt",
+            BusOp::Flags => "flags",
+            BusOp::Counters => "counters",
+            BusOp::Init => "init",
+            BusOp::Recessive => "recessive",
+            BusOp::LoopBack => "loopback",
+        }
+    }
+}
+
 /// The operation of this name.
 #[tactic(auto, unfolding(crate::specs::BusOp::bus_op_named))]
 fn bus_op_named(word: &str) -> Option<BusOp>
     ensures { result ≡ bus_op_named word.now }
 {
-    match word.as_bytes() {
-        b"load" => Some(BusOp::Load),
-        b"round" => Some(BusOp::Round),
-        b"status" => Some(BusOp::Status),
-        b"control" => Some(BusOp::Control),
-        b"interrupt" => Some(BusOp::Interrupt),
-        b"flags" => Some(BusOp::Flags),
-        b"counters" => Some(BusOp::Counters),
-        b"init" => Some(BusOp::Init),
-        b"recessive" => Some(BusOp::Recessive),
-        b"loopback" => Some(BusOp::LoopBack),
-        _ => None,
-    }
+    BusOp::ALL.iter().copied().find(|op| op.name() == word)
 }
 
 /// What the member `op` of a line names, `None` if it names nothing that the bus does.

@@ -1,6 +1,6 @@
 ghost use Rattle.std.specs.Prelude.{◌≡◌};
 ghost use Rattle.serde_json.specs.View.{view};
-ghost use Rattle.ccan_script.specs.HostOp.{host_op, host_op_named};
+ghost use Rattle.ccan_script.specs.HostOp.{host_op, host_op_name, host_op_named};
 
 use serde_json::Value;
 
@@ -13,18 +13,34 @@ pub enum HostOp {
     Flags,
 }
 
+impl HostOp {
+    /// All operations, in the order in which a remark names them.
+    pub const ALL: [HostOp; 4] = [
+        HostOp::Transfer,
+        HostOp::Until,
+        HostOp::Interrupt,
+        HostOp::Flags,
+    ];
+
+    /// The name of the operation, as a script has it.
+    pub fn name(self) -> &'static str
+        ensures { result.now ≡ host_op_name self }
+    {
+        match self {
+            HostOp::Transfer => "transfer",
+            HostOp::Until => "until",
+            HostOp::Interrupt => "interrupt",
+            HostOp::Flags => "flags",
+        }
+    }
+}
+
 /// The operation of this name.
 #[tactic(auto, unfolding(crate::specs::HostOp::host_op_named))]
 fn host_op_named(word: &str) -> Option<HostOp>
     ensures { result ≡ host_op_named word.now }
 {
-    match word.as_bytes() {
-        b"transfer" => Some(HostOp::Transfer),
-        b"until" => Some(HostOp::Until),
-        b"interrupt" => Some(HostOp::Interrupt),
-        b"flags" => Some(HostOp::Flags),
-        _ => None,
-    }
+    HostOp::ALL.iter().copied().find(|op| op.name() == word)
 }
 
 /// What the member `op` of a line names, `None` if it names nothing that a host port does.

@@ -18,6 +18,12 @@ fn rows_have_as_many_members_as_the_formats(rt: HostRuntime) {
 }
 
 #[test]
+fn an_operation_has_its_name(rt: HostRuntime) {
+    same(&rt, HostOp::Until.name(), "until");
+    same(&rt, BusOp::LoopBack.name(), "loopback");
+}
+
+#[test]
 fn a_member_has_its_name_and_its_range(rt: HostRuntime) {
     let groups = Member::Needed(MemberName::Groups, Kind::Number(Range::Between(1, 10000)));
     holds(&rt, groups.is_needed());

@@ -188,26 +188,21 @@ impl ScriptImage {
 
     /// A line at the controller.
     fn controller_line(&mut self, line: &ControllerLine) {
-        match line {
-            ControllerLine::LoopBack(on) => self.loop_back = *on,
-            ControllerLine::Status
-            | ControllerLine::Control { .. }
-            | ControllerLine::Counters(_)
-            | ControllerLine::Init
-            | ControllerLine::Recessive(_) => {}
+        if let ControllerLine::LoopBack(on) = line {
+            self.loop_back = *on;
         }
     }
 
     /// A line of the bus.
     pub(crate) fn bus_line(&mut self, line: &BusLine) {
-        match line {
-            BusLine::Load => self.meet_requests(),
-            BusLine::Round(round) => {
-                self.round(round);
-                self.meet_requests();
-            }
-            BusLine::Controller(line) => self.controller_line(line),
-            BusLine::Interrupt | BusLine::Flags(_) => {}
+        if let Some(round) = line.round() {
+            self.round(round);
+        }
+        if line.moves_messages() {
+            self.meet_requests();
+        }
+        if let BusLine::Controller(line) = line {
+            self.controller_line(line);
         }
     }
 }

@@ -77,3 +77,21 @@ pub(crate) fn joined(alloc: Global, parts: &[&str]) -> Result<String, AllocError
     }
     Ok(text)
 }
+
+/// A text with these names behind it, the last of them after "or".
+pub(crate) fn with_names(
+    alloc: Global,
+    beginning: &str,
+    names: &[&str],
+) -> Result<String, AllocError> {
+    let mut text = String::new(alloc);
+    text.push_str(beginning)?;
+    for (index, name) in names.iter().enumerate() {
+        if index > 0 {
+            let is_last = index == names.len().saturating_sub(1);
+            text.push_str(if is_last { " or " } else { ", " })?;
+        }
+        text.push_str(name)?;
+    }
+    Ok(text)
+}

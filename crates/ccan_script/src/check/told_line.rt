@@ -1,14 +1,14 @@
 ghost use Rattle.std.specs.Prelude.{◌≤◌};
 ghost use Rattle.ccan_line.specs.Limits.{most_nodes};
 
-use crate::bus_op::bus_op;
+use crate::bus_op::{BusOp, bus_op};
 use crate::check::first_fault::{bus_place, host_place};
 use crate::check::line_remark::{line_remark, operation_remark};
 use crate::check::member_remark::remark_on;
 use crate::check::report::Remark;
-use crate::check::spot::Spot;
+use crate::check::spot::{Spot, with_names};
 use crate::check::warning::warn_of_transfer;
-use crate::host_op::host_op;
+use crate::host_op::{HostOp, host_op};
 use crate::line_context::LineContext;
 use crate::member::{bus_row, host_row};
 use crate::script_line::ScriptLine;
@@ -58,12 +58,11 @@ impl ToldLine for HostLine {
                     "is an operation of the bus, not of a host",
                 )
             }
-            None => operation_remark(
-                alloc,
-                path,
-                line,
-                "is no operation of a host: transfer, until, interrupt or flags",
-            ),
+            None => {
+                let names = HostOp::ALL.map(HostOp::name);
+                let wrong = with_names(alloc, "is no operation of a host: ", &names)?;
+                operation_remark(alloc, path, line, wrong.as_str())
+            }
         }
     }
 
@@ -104,13 +103,11 @@ impl ToldLine for BusLine {
                     "is an operation of a host, not of the bus",
                 )
             }
-            None => operation_remark(
-                alloc,
-                path,
-                line,
-                "is no operation of the bus: load, round, status, control, interrupt, flags, \
-                 counters, init, recessive or loopback",
-            ),
+            None => {
+                let names = BusOp::ALL.map(BusOp::name);
+                let wrong = with_names(alloc, "is no operation of the bus: ", &names)?;
+                operation_remark(alloc, path, line, wrong.as_str())
+            }
         }
     }
 
