@@ -25,11 +25,6 @@ def texts(name, definition):
     return dict(re.findall(rf'^{definition} (?:\w+\.)?(\w+) = codes "(\w+)"$', source(name), re.MULTILINE))
 
 
-def operations(name):
-    """The texts of the operations of a list, by their variants."""
-    return {variant: text for text, variant in re.findall(r'\(codes "(\w+)"\) then Some (\w+)', source(name))}
-
-
 def ranges():
     """The ranges that depend on a script, each the widest that one may have."""
     nodes = limits()["most_nodes"]
@@ -50,14 +45,16 @@ def members(row):
 
 
 def rows():
-    """The rows of the lines of hosts and of the bus, by operation, and that of a frame."""
+    """The rows of the lines of hosts and of the bus, by operation, and that of a frame. A row of `other` is that of each operation
+    without a row."""
     text = source("ccan_script/Member")
     found = {}
     for port, name in (("host", "ccan_script/HostOp"), ("bus", "ccan_script/BusOp")):
-        written = re.findall(rf"^{port}_row {port}\.(\w+) =\s(.*?\[\])$", text, re.MULTILINE | re.DOTALL)
-        named = operations(name)
-        assert sorted(variant for variant, _ in written) == sorted(named), port
-        found[port] = {named[variant]: members(row) for variant, row in written}
+        written = dict(re.findall(rf"^{port}_row (?:{port}\.)?(\w+) =\s(.*?\[\])$", text, re.MULTILINE | re.DOTALL))
+        named = texts(name, f"{port}_op_name")
+        other = written.pop("other", None)
+        assert named and set(written) <= set(named) and (other or len(written) == len(named)), port
+        found[port] = {word: members(written.get(variant, other)) for variant, word in named.items()}
     found["frame"] = members(re.search(r"^frame_row =\s(.*?\[\])$", text, re.MULTILINE | re.DOTALL)[1])
     return found
 
