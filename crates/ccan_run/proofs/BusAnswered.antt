@@ -16,6 +16,7 @@ use Rattle.ccan_ram.specs.declared.change.Refused.TheVariants as refused
 use Rattle.ccan_ram.specs.declared.event.Event.{Event}
 use Rattle.ccan_ram.specs.declared.event.Operation.TheVariants.{Make}
 use Rattle.ccan_ram.specs.declared.flag.Flag.{Flag}
+use Rattle.ccan_ram.specs.declared.flag.Flag.TheVariants.{IntPnd}
 use Rattle.ccan_ram.specs.History.{changes_by, events_of}
 use Rattle.ccan_ram.specs.Terms.{Terms}
 use Rattle.ccan_ram.specs.Attempt.{Attempt}
@@ -48,9 +49,9 @@ use Rattle.ccan_run.specs.Answered.{HasStep, NamesPending, WordWasShown, WasChan
 use Rattle.ccan_run.proofs.ControllerAnswers.{quiet_part}
 use Rattle.ccan_run.specs.Answered.{BusShownBy, IsBusReplyTo, IsBusPart, BusInOrder, BusMakes, RoundMakes, IsAtMost, changes_in}
 use Rattle.ccan_line.proofs.InTurn.{ChoosesInTurn, line_keeps, still_stays}
-use Rattle.ccan_run.proofs.HostChanges.{changes_by-attempt, changes_by-interrupt, changes_by-flags}
+use Rattle.ccan_run.proofs.HostChanges.{changes_by-attempt, changes_by-number, changes_by-flags}
 use Rattle.ccan_run.proofs.BusChanges.{changes_in-none, changes_in-one, changes_in-append, changes_by-choice, made_by}
-use Rattle.ccan_run.proofs.StepsShown.{in_newest, in_earlier, done_at, interrupt_shown, word_shown}
+use Rattle.ccan_run.proofs.StepsShown.{in_newest, in_earlier, done_at, number_shown, word_shown}
 
 -- ---- what stands in a part of the history stands in it
 
@@ -474,8 +475,8 @@ module _ (terms : Terms) (bus : terms.port ≡ Bus) (tries : ℕ) where
       record {
         shown =
             inr (subst (λ (port : PortName). NamesPending port terms.profile value added) bus
-            (interrupt_shown terms value added h));
-        changes = none added (changes_by-interrupt terms value added h);
+            (number_shown terms IntPnd value added h));
+        changes = none added (changes_by-number terms IntPnd value added h);
       }
 
   flags : (flag : Flag) (word : ℕ) (seen added : List Event) → ReadsFlags terms flag added word

@@ -6,15 +6,11 @@ use Rattle.ccan_ram.specs.declared.port.PortName.TheVariants.{Bus}
 use Rattle.ccan_bus.specs.Past.{BusPast}
 use Rattle.ccan_line.specs.declared.bus_line.BusLine.{BusLine}
 use Rattle.ccan_line.specs.declared.controller_line.ControllerLine.{ControllerLine}
-use Rattle.ccan_line.specs.declared.controller_line.ControllerLine.TheVariants.{Status, Control, Counters, Init, Recessive, LoopBack}
+use Rattle.ccan_line.specs.declared.controller_line.ControllerLine.TheVariants.{Status}
 use Rattle.ccan_line.specs.ControllerLine.{controller_end}
 use Rattle.ccan_run.specs.Answered.{IsBusPart, changes_in}
 
 module _ (profile : Profile) (of : BusLine) (before events : List Event) (none : changes_in Bus events ≡ []) where
   pub quiet_part : (line : ControllerLine) (past : BusPast) → IsBusPart profile of (controller_end line past).0 before events
   quiet_part Status past = record { shown = tt; changes = none }
-  quiet_part (Control sie eie) past = record { shown = tt; changes = none }
-  quiet_part (Counters node) past = record { shown = tt; changes = none }
-  quiet_part Init past = record { shown = tt; changes = none }
-  quiet_part (Recessive groups) past = record { shown = tt; changes = none }
-  quiet_part (LoopBack on) past = record { shown = tt; changes = none }
+  quiet_part other past = record { shown = tt; changes = none }

@@ -16,6 +16,7 @@ use Rattle.ccan_ram.specs.declared.change.Refused.TheVariants as refused
 use Rattle.ccan_ram.specs.declared.event.Event.{Event}
 use Rattle.ccan_ram.specs.declared.event.Operation.TheVariants.{Look, Make}
 use Rattle.ccan_ram.specs.declared.flag.Flag.{Flag}
+use Rattle.ccan_ram.specs.declared.flag.Flag.TheVariants.{IntPnd}
 use Rattle.ccan_ram.specs.History.{changes_by, events_of}
 use Rattle.ccan_ram.specs.Terms.{Terms}
 use Rattle.ccan_ram.specs.Attempt.{Attempt, IsLook}
@@ -29,8 +30,8 @@ use Rattle.ccan_line.specs.Transfer.{Answers, Ends, change_of, with_settings}
 use Rattle.ccan_line.specs.Host.{HostLineAdds, HostLineMeans}
 use Rattle.ccan_line.proofs.HostLinesRun.{host_lines as lines_run}
 use Rattle.ccan_run.specs.Answered.{HasStep, HostShownBy, IsHostPart, IsOfTransfer, IsReplyTo, HostInOrder, changes_told, reading, registers_set, registers_after}
-use Rattle.ccan_run.proofs.StepsShown.{looked_at, done_at, watch_shown, watch_in_vain, interrupt_shown, word_shown}
-use Rattle.ccan_run.proofs.HostChanges.{changes_by-look, changes_by-attempt, changes_by-watch, changes_by-interrupt, changes_by-flags}
+use Rattle.ccan_run.proofs.StepsShown.{looked_at, done_at, watch_shown, watch_in_vain, number_shown, word_shown}
+use Rattle.ccan_run.proofs.HostChanges.{changes_by-look, changes_by-attempt, changes_by-watch, changes_by-number, changes_by-flags}
 
 -- ---- a transfer
 
@@ -163,7 +164,7 @@ module _ (terms : Terms) (tries : ℕ) where
       (changes_by-watch terms object flag turns added shown h)
   host_line host.Interrupt registers seen added reply left (value, is, h, same) =
       tells terms host.Interrupt registers reply left added (answer.Interrupt value) registers is same refl
-      (interrupt_shown terms value added h) (changes_by-interrupt terms value added h)
+      (number_shown terms IntPnd value added h) (changes_by-number terms IntPnd value added h)
   host_line (host.Flags flag) registers seen added reply left (word, is, h, same) =
       tells terms (host.Flags flag) registers reply left added (answer.Flags flag word terms.profile) registers is same refl
       (word_shown terms flag word added h) (changes_by-flags terms flag added word h)

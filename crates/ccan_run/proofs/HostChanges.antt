@@ -1,6 +1,8 @@
 -- How many changes a host makes in the parts of the history in which its lines run.
-use Rattle.std.proofs.Common.{◌≡◌, ◌+◌, ℕ, Bool, true, false, List, [], ◌∷◌, ◌++◌, inl, inr, Result, Ok, Err, refl, ap, ◌∙◌, arith, length}
+use Rattle.std.proofs.Common.{◌≡◌, ◌<◌, ◌+◌, ℕ, Bool, true, false, List, [], ◌∷◌, ◌++◌, inl, inr, Result, Ok, Err, refl, ap, ◌∙◌, arith, length}
+use Rattle.std.specs.Prelude.{◌⊎◌}
 use Rattle.ccan_object.specs.declared.record.Record.{Record}
+use Rattle.ccan_object.specs.Profile.{objects_in}
 use Rattle.ccan_ram.specs.declared.port.PortName.{PortName}
 use Rattle.ccan_ram.specs.declared.change.Change.{Change}
 use Rattle.ccan_ram.specs.declared.change.Changed.{Changed}
@@ -14,13 +16,20 @@ use Rattle.ccan_ram.specs.Terms.{Terms}
 use Rattle.ccan_ram.specs.Attempt.{Attempt, EndsIn, IsLook, change_at}
 use Rattle.ccan_ram.proofs.Attempts.{changes_by-lost}
 use Rattle.ccan_ram.proofs.Histories.{changes_by-append, changes_by-foreign}
-use Rattle.ccan_handler.specs.Watch.{Looks, Watches, Interrupts, ReadsFlags}
+use Rattle.ccan_handler.specs.Watch.{FirstShows, Looks, NoneShows, Watches, ReadsFlags, in_turn}
 use Rattle.ccan_handler.proofs.Own.{its_own}
 
 in_two : (port : PortName) (added newest earlier : List Event) (m n : ℕ) → added ≡ newest ++ earlier → changes_by port newest ≡ m
     → changes_by port earlier ≡ n → changes_by port added ≡ m + n
 in_two port added newest earlier m n whole first last =
     omega (arith, ap (changes_by port) whole, changes_by-append port newest earlier, first, last)
+
+-- the value is the number of the first object whose look shows the flag, 0 if none does. The interrupt value without the status
+-- interrupt is that of IntPnd
+abbrev pub FirstShown : Terms → Flag → ℕ → List Event → Type 0
+FirstShown terms flag value added =
+    ((value ≡ 0) × NoneShows terms in_turn flag (objects_in terms.profile) added)
+    ⊎ ((count : ℕ) × (count < objects_in terms.profile) × (value ≡ count + 1) × FirstShows terms in_turn flag count added)
 
 module _ (terms : Terms) where
   pub changes_by-look : (object : ℕ) (shown : Record) (added : List Event) → IsLook terms object shown added
@@ -72,11 +81,11 @@ module _ (terms : Terms) where
       changes_by-looks (λ before. object) (h.last ∷ h.before) added h.looks
   changes_by-watch object flag turns added false h = changes_by-looks (λ before. object) h.shown added h.looks
 
-  pub changes_by-interrupt : (value : ℕ) (added : List Event) → Interrupts terms false added value
+  pub changes_by-number : (flag : Flag) (value : ℕ) (added : List Event) → FirstShown terms flag value added
       → changes_by terms.port added ≡ 0
-  changes_by-interrupt value added (inl (is, h)) = changes_by-looks (λ before. before + 1) h.shown added h.looks
-  changes_by-interrupt value added (inr (count, less, is, h)) =
-      changes_by-looks (λ before. before + 1) (h.last ∷ h.before) added h.looks
+  changes_by-number flag value added (inl (is, h)) = changes_by-looks in_turn h.shown added h.looks
+  changes_by-number flag value added (inr (count, less, is, h)) =
+      changes_by-looks in_turn (h.last ∷ h.before) added h.looks
 
   pub changes_by-flags : (flag : Flag) (added : List Event) (word : ℕ) → ReadsFlags terms flag added word
       → changes_by terms.port added ≡ 0

@@ -13,16 +13,16 @@ use Rattle.ccan_ram.specs.declared.change.Changed.TheVariants.{Done}
 use Rattle.ccan_ram.specs.declared.event.Event.{Event}
 use Rattle.ccan_ram.specs.declared.event.Operation.TheVariants.{Look, Make}
 use Rattle.ccan_ram.specs.declared.flag.Flag.{Flag}
-use Rattle.ccan_ram.specs.declared.flag.Flag.TheVariants.{IntPnd}
 use Rattle.ccan_ram.specs.Flags.{flag_of}
 use Rattle.ccan_ram.specs.Port.{same_port}
 use Rattle.ccan_ram.specs.History.{events_of}
 use Rattle.ccan_ram.specs.Terms.{Terms}
 use Rattle.ccan_ram.specs.Attempt.{Attempt, EndsIn, IsLook, look_at, change_at}
-use Rattle.ccan_handler.specs.Watch.{Looks, FirstShows, Watches, Interrupts, ReadsFlags, in_turn}
+use Rattle.ccan_handler.specs.Watch.{Looks, FirstShows, Watches, ReadsFlags, in_turn}
 use Rattle.ccan_handler.specs.Laws.{IsLookWithout}
 use Rattle.ccan_handler.proofs.Rows.{no_law, shown_law}
-use Rattle.ccan_run.specs.Answered.{HasStep, FlagWasShown, FindsUnset, WasNeverShown, NamesPending, WordWasShown}
+use Rattle.ccan_run.proofs.HostChanges.{FirstShown}
+use Rattle.ccan_run.specs.Answered.{HasStep, FlagWasShown, FindsUnset, WasNeverShown, NamesLowest, WordWasShown}
 
 -- ---- steps in a part of the history
 
@@ -135,18 +135,18 @@ module _ (terms : Terms) where
         counted = all.0;
       }
 
-  pub interrupt_shown : (value : ℕ) (added : List Event) → Interrupts terms false added value
-      → NamesPending terms.port terms.profile value added
-  interrupt_shown value added (inl (is, h)) = inl (
+  pub number_shown : (flag : Flag) (value : ℕ) (added : List Event) → FirstShown terms flag value added
+      → NamesLowest terms.port terms.profile flag value added
+  number_shown flag value added (inl (is, h)) = inl (
     is,
-    λ object held. none_in_turn IntPnd h.shown added h.looks h.none object held.least (omega (arith, h.counted, held.greatest)),
+    λ object held. none_in_turn flag h.shown added h.looks h.none object held.least (omega (arith, h.counted, held.greatest)),
   )
-  interrupt_shown value added (inr (count, less, is, h)) =
+  number_shown flag value added (inr (count, less, is, h)) =
       let look = h.looks in inr (
         record { least = omega (arith, is); greatest = omega (arith, is, less) },
-        subst (λ (n : ℕ). FlagWasShown terms.port n IntPnd true added) (sym is) (first_shown in_turn IntPnd count added h),
-        λ object held below. earlier_shown object IntPnd false added look.0 look.1 look.2
-            (none_in_turn IntPnd h.before look.1 look.4 h.none object held.least (omega (arith, h.counted, is, below))),
+        subst (λ (n : ℕ). FlagWasShown terms.port n flag true added) (sym is) (first_shown in_turn flag count added h),
+        λ object held below. earlier_shown object flag false added look.0 look.1 look.2
+            (none_in_turn flag h.before look.1 look.4 h.none object held.least (omega (arith, h.counted, is, below))),
       )
 
   pub word_shown : (flag : Flag) (word : ℕ) (added : List Event) → ReadsFlags terms flag added word

@@ -68,13 +68,17 @@ pub record WasNeverShown (port : PortName) (object : ℕ) (flag : Flag) (turns :
   pub each : All (FindsUnset object flag) (events_of port events)
   pub counted : length (events_of port events) ≡ turns
 
--- the interrupt value is the number of the lowest object that showed IntPnd: a look at it showed the flag, and of each
--- object below it a look did not; or the value is 0, and of each object a look did not
+-- the value is the number of the lowest object that showed the flag: a look at it showed the flag, and of each object
+-- below it a look did not; or the value is 0, and of each object a look did not
+abbrev pub NamesLowest : PortName → Profile → Flag → ℕ → List Event → Type 0
+NamesLowest port profile flag value events =
+    ((value ≡ 0) × ((object : ℕ) → Holds profile object → FlagWasShown port object flag false events))
+    ⊎ (Holds profile value × FlagWasShown port value flag true events
+    × ((object : ℕ) → Holds profile object → object < value → FlagWasShown port object flag false events))
+
+-- the interrupt value names the lowest object that showed IntPnd
 abbrev pub NamesPending : PortName → Profile → ℕ → List Event → Type 0
-NamesPending port profile value events =
-    ((value ≡ 0) × ((object : ℕ) → Holds profile object → FlagWasShown port object IntPnd false events))
-    ⊎ (Holds profile value × FlagWasShown port value IntPnd true events
-    × ((object : ℕ) → Holds profile object → object < value → FlagWasShown port object IntPnd false events))
+NamesPending port profile value events = NamesLowest port profile IntPnd value events
 
 -- bit k - 1 of the word is the flag of object k, as a look at it showed it
 abbrev pub WordWasShown : PortName → Profile → Flag → ℕ → List Event → Type 0
