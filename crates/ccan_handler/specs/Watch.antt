@@ -50,13 +50,17 @@ abbrev pub Watches : Terms → ℕ → Flag → ℕ → List Event → Bool → 
 Watches terms object flag turns added true = (count : ℕ) × (count < turns) × FirstShows terms (λ before. object) flag count added
 Watches terms object flag turns added false = NoneShows terms (λ before. object) flag turns added
 
+-- the number of the first object whose look shows the flag, 0 if none does
+abbrev pub NumbersFirst : Terms → Flag → List Event → ℕ → Type 0
+NumbersFirst terms flag added number =
+    ((number ≡ 0) × NoneShows terms in_turn flag (objects_in terms.profile) added)
+    ⊎ ((count : ℕ) × (count < objects_in terms.profile) × (number ≡ count + 1) × FirstShows terms in_turn flag count added)
+
 -- the interrupt value: 0x8000 for the status interrupt, which comes first; else the number of the first object whose look
 -- shows IntPnd, 0 if none does
 abbrev pub Interrupts : Terms → Bool → List Event → ℕ → Type 0
 Interrupts terms true added value = (value ≡ 0x8000) × (added ≡ [])
-Interrupts terms false added value =
-    ((value ≡ 0) × NoneShows terms in_turn IntPnd (objects_in terms.profile) added)
-    ⊎ ((count : ℕ) × (count < objects_in terms.profile) × (value ≡ count + 1) × FirstShows terms in_turn IntPnd count added)
+Interrupts terms false added value = NumbersFirst terms IntPnd added value
 
 -- what the value says by itself
 abbrev pub InterruptTells : Profile → Bool → ℕ → Type 0

@@ -1,4 +1,4 @@
-ghost use Rattle.std.specs.Prelude.{◌≡◌, IfOk};
+ghost use Rattle.std.specs.Prelude.{◌≡◌, ◌<◌, IfOk, IsOk};
 ghost use Rattle.ccan_language.specs.Words.{letter_at, precedes};
 
 use std::alloc::AllocError;
@@ -15,9 +15,11 @@ pub struct Letter {
 }
 
 impl Letter {
-    /// The letter of this answer at this place. A number that 32 bits can't hold is answered as if memory was refused.
+    /// The letter of this answer at this place. A number that 32 bits can't hold, and no other, is answered as if memory was
+    /// refused.
     pub fn at(place: usize, answer: usize) -> Result<Self, AllocError>
-        ensures { IfOk result (λ letter. letter ≡ letter_at place answer) }
+        ensures is { IfOk result (λ letter. letter ≡ letter_at place answer) }
+        ensures held { place < 0x100000000 → answer < 0x100000000 → IsOk result }
     {
         if place > u32::MAX as usize || answer > u32::MAX as usize {
             return Err(AllocError);

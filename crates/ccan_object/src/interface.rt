@@ -51,7 +51,15 @@ impl Iface {
     {
         match register {
             Reg::CMask => self.command = CommandMask::of(value),
-            _ => self.buffer = with_register(&self.buffer, register, value),
+            Reg::Mask1
+            | Reg::Mask2
+            | Reg::Arb1
+            | Reg::Arb2
+            | Reg::Ctrl
+            | Reg::DataA1
+            | Reg::DataA2
+            | Reg::DataB1
+            | Reg::DataB2 => self.buffer = with_register(&self.buffer, register, value),
         }
     }
 

@@ -16,20 +16,13 @@ use Rattle.ccan_ram.specs.Terms.{Terms}
 use Rattle.ccan_ram.specs.Attempt.{Attempt, EndsIn, IsLook, change_at}
 use Rattle.ccan_ram.proofs.Attempts.{changes_by-lost}
 use Rattle.ccan_ram.proofs.Histories.{changes_by-append, changes_by-foreign}
-use Rattle.ccan_handler.specs.Watch.{FirstShows, Looks, NoneShows, Watches, ReadsFlags, in_turn}
+use Rattle.ccan_handler.specs.Watch.{Looks, NumbersFirst, Watches, ReadsFlags, in_turn}
 use Rattle.ccan_handler.proofs.Own.{its_own}
 
 in_two : (port : PortName) (added newest earlier : List Event) (m n : ℕ) → added ≡ newest ++ earlier → changes_by port newest ≡ m
     → changes_by port earlier ≡ n → changes_by port added ≡ m + n
 in_two port added newest earlier m n whole first last =
     omega (arith, ap (changes_by port) whole, changes_by-append port newest earlier, first, last)
-
--- the value is the number of the first object whose look shows the flag, 0 if none does. The interrupt value without the status
--- interrupt is that of IntPnd
-abbrev pub FirstShown : Terms → Flag → ℕ → List Event → Type 0
-FirstShown terms flag value added =
-    ((value ≡ 0) × NoneShows terms in_turn flag (objects_in terms.profile) added)
-    ⊎ ((count : ℕ) × (count < objects_in terms.profile) × (value ≡ count + 1) × FirstShows terms in_turn flag count added)
 
 module _ (terms : Terms) where
   pub changes_by-look : (object : ℕ) (shown : Record) (added : List Event) → IsLook terms object shown added
@@ -81,7 +74,7 @@ module _ (terms : Terms) where
       changes_by-looks (λ before. object) (h.last ∷ h.before) added h.looks
   changes_by-watch object flag turns added false h = changes_by-looks (λ before. object) h.shown added h.looks
 
-  pub changes_by-number : (flag : Flag) (value : ℕ) (added : List Event) → FirstShown terms flag value added
+  pub changes_by-number : (flag : Flag) (value : ℕ) (added : List Event) → NumbersFirst terms flag added value
       → changes_by terms.port added ≡ 0
   changes_by-number flag value added (inl (is, h)) = changes_by-looks in_turn h.shown added h.looks
   changes_by-number flag value added (inr (count, less, is, h)) =

@@ -18,10 +18,9 @@ use Rattle.ccan_ram.specs.Port.{same_port}
 use Rattle.ccan_ram.specs.History.{events_of}
 use Rattle.ccan_ram.specs.Terms.{Terms}
 use Rattle.ccan_ram.specs.Attempt.{Attempt, EndsIn, IsLook, look_at, change_at}
-use Rattle.ccan_handler.specs.Watch.{Looks, FirstShows, Watches, ReadsFlags, in_turn}
+use Rattle.ccan_handler.specs.Watch.{Looks, FirstShows, NumbersFirst, Watches, ReadsFlags, in_turn}
 use Rattle.ccan_handler.specs.Laws.{IsLookWithout}
 use Rattle.ccan_handler.proofs.Rows.{no_law, shown_law}
-use Rattle.ccan_run.proofs.HostChanges.{FirstShown}
 use Rattle.ccan_run.specs.Answered.{HasStep, FlagWasShown, FindsUnset, WasNeverShown, NamesLowest, WordWasShown}
 
 -- ---- steps in a part of the history
@@ -135,7 +134,7 @@ module _ (terms : Terms) where
         counted = all.0;
       }
 
-  pub number_shown : (flag : Flag) (value : ℕ) (added : List Event) → FirstShown terms flag value added
+  pub number_shown : (flag : Flag) (value : ℕ) (added : List Event) → NumbersFirst terms flag added value
       → NamesLowest terms.port terms.profile flag value added
   number_shown flag value added (inl (is, h)) = inl (
     is,

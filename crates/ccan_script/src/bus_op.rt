@@ -1,4 +1,4 @@
-ghost use Rattle.std.specs.Prelude.{◌≡◌};
+ghost use Rattle.std.specs.Prelude.{◌≡◌, Some};
 ghost use Rattle.serde_json.specs.View.{view};
 ghost use Rattle.ccan_script.specs.BusOp.{bus_op, bus_op_name, bus_op_named};
 
@@ -34,9 +34,11 @@ impl BusOp {
         BusOp::LoopBack,
     ];
 
-    /// The name of the operation, as a script has it.
+    /// The name of the operation, as a script has it. No other operation has it, and the reader finds this one by it.
+    #[tactic(auto, unfolding(crate::specs::BusOp::bus_op_named))]
     pub fn name(self) -> &'static str
-        ensures { result.now ≡ bus_op_name self }
+        ensures is { result.now ≡ bus_op_name self }
+        ensures found { bus_op_named (bus_op_name self) ≡ Some self }
     {
         match self {
             BusOp::Load => "load",

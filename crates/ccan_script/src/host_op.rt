@@ -1,4 +1,4 @@
-ghost use Rattle.std.specs.Prelude.{◌≡◌};
+ghost use Rattle.std.specs.Prelude.{◌≡◌, Some};
 ghost use Rattle.serde_json.specs.View.{view};
 ghost use Rattle.ccan_script.specs.HostOp.{host_op, host_op_name, host_op_named};
 
@@ -22,9 +22,11 @@ impl HostOp {
         HostOp::Flags,
     ];
 
-    /// The name of the operation, as a script has it.
+    /// The name of the operation, as a script has it. No other operation has it, and the reader finds this one by it.
+    #[tactic(auto, unfolding(crate::specs::HostOp::host_op_named))]
     pub fn name(self) -> &'static str
-        ensures { result.now ≡ host_op_name self }
+        ensures is { result.now ≡ host_op_name self }
+        ensures found { host_op_named (host_op_name self) ≡ Some self }
     {
         match self {
             HostOp::Transfer => "transfer",
