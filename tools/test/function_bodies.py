@@ -84,6 +84,13 @@ def module_of(file):
     return [] if path in (["lib"], ["main"]) else path
 
 
+def bodies_in(text, module=()):
+    """The bodies of the functions in the text of a module, except those of traits and of their methods."""
+    reader = Reader(text)
+    reader.read_items([*module])
+    return reader.found
+
+
 def bodies_of(source):
     """The bodies of the functions in the files below this folder, by file, except those of traits and of their methods."""
     found, types = {}, {}
@@ -92,9 +99,8 @@ def bodies_of(source):
             path = f"{place}/{file}"
             with open(path, encoding="utf-8") as whole:
                 text = whole.read()
-            module, reader = module_of(os.path.relpath(path, source)), Reader(text)
-            reader.read_items(module)
-            found[path] = reader.found
+            module = module_of(os.path.relpath(path, source))
+            found[path] = bodies_in(text, module)
             for name in TYPE.findall(text):
                 types.setdefault(name, []).append(module)
     for body in (it for bodies in found.values() for it in bodies):
