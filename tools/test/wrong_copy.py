@@ -63,15 +63,14 @@ def make_holes(name, folder, functions):
         write_hole(name, folder, path)
 
 
-def twin_of(file, right, wrong, function):
-    """The text of a function with a wrong body, by those of its file with the right body and with the wrong one; None if it is a trait's,
-    in a cycle of calls, or not all that differs."""
-    named = function.rpartition("::")[2]
-    pairs = zip(bodies_in(right), bodies_in(wrong))
-    for old, new in pairs:
-        is_it = old.name == named and right[old.item : old.end] != wrong[new.item : new.end]
-        if is_it and (right[: old.item], right[old.end :]) == (wrong[: new.item], wrong[new.end :]):
-            return wrong[new.item : new.end]
+def texts_of_function(right, wrong, function):
+    """The texts of a function, with the right body and with the wrong one, by those of its file; None if the function is a trait's, or not
+    all that differs."""
+    for old, new in zip(bodies_in(right), bodies_in(wrong)):
+        texts = right[old.item : old.end], wrong[new.item : new.end]
+        is_all = (right[: old.item], right[old.end :]) == (wrong[: new.item], wrong[new.end :])
+        if is_all and old.name == function.rpartition("::")[2] and texts[0] != texts[1]:
+            return texts
     return None
 
 
