@@ -18,11 +18,11 @@ TYPE = re.compile(r"^ *(?:pub(?:\([a-z]+\))? )?(?:struct|enum) (\w+)", re.MULTIL
 
 
 class Body:
-    """The body of a function. `path` is the function's, as the prover names it; `type` is the type whose method it is, or None; `head` is
+    """The body of a function. `path` is the function's, as the prover names it; `owner` is the type whose method it is, or None; `head` is
     its text up to the body. `item`, `start` and `end` are places in the file: of the head, of the body's first brace, and past its last."""
 
-    def __init__(self, path, type, head, item, start, end):
-        self.path, self.name, self.type, self.head = "::".join(path), path[-1], type, head
+    def __init__(self, path, owner, head, item, start, end):
+        self.path, self.name, self.owner, self.head = "::".join(path), path[-1], owner, head
         self.item, self.start, self.end = item, start, end
 
     def is_const(self):
@@ -45,7 +45,7 @@ class Reader:
             self.next += 1
         return self.tokens[self.next - 1].end()
 
-    def read_items(self, path, type=None):
+    def read_items(self, path, owner=None):
         """Reads items up to the brace that ends them, or to the end of the file."""
         item = self.tokens[self.next].start() if self.next < len(self.tokens) else 0
         while self.next < len(self.tokens):
@@ -57,10 +57,10 @@ class Reader:
                 item = token.end()
             elif token[0] in ("(", "["):
                 self.past_brackets()
-            elif token[0] == "{" and self.read_braces(path, type, item, token.start()):
+            elif token[0] == "{" and self.read_braces(path, owner, item, token.start()):
                 item = self.tokens[self.next - 1].end()
 
-    def read_braces(self, path, type, item, start):
+    def read_braces(self, path, owner, item, start):
         """Reads what is in the braces that begin here, and answers whether the item ends with them."""
         head = COMMENT.sub("", self.text[item:start])
         function = FUNCTION.search(head)
@@ -68,7 +68,7 @@ class Reader:
             self.past_brackets()
             return False
         if function:
-            self.found.append(Body([*path, function[1]], type, head, item, start, self.past_brackets()))
+            self.found.append(Body([*path, function[1]], owner, head, item, start, self.past_brackets()))
         elif module := MODULE.search(head):
             self.read_items([*path, module[1]])
         elif " for " not in head and (methods := METHODS.search(head)):
@@ -105,6 +105,6 @@ def bodies_of(source):
                 types.setdefault(name, []).append(module)
     for body in (it for bodies in found.values() for it in bodies):
         # methods that stand in another module than their type are named by the type's
-        if body.type and len(types.get(body.type, [])) == 1:
-            body.path = "::".join([*types[body.type][0], body.type, body.name])
+        if body.owner and len(types.get(body.owner, [])) == 1:
+            body.path = "::".join([*types[body.owner][0], body.owner, body.name])
     return found

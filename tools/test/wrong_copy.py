@@ -42,7 +42,7 @@ def without_body(name, folder, text, body):
 
 
 def empty_bodies(name, folder, functions):
-    """Empties the bodies of all functions of a crate in this folder, but for these and those that have to keep theirs."""
+    """Empties the bodies of all functions of a crate in this folder, except these and those that have to keep theirs."""
     for file, bodies in bodies_of(f"{folder}/src").items():
         text = text_in(file)
         for body in reversed(bodies):
@@ -52,7 +52,7 @@ def empty_bodies(name, folder, functions):
 
 
 def make_holes(name, folder, functions):
-    """Puts a hole in place of the proof files of each function of a crate in this folder, but for these."""
+    """Puts a hole in place of the proof files of each function of a crate in this folder, except these."""
     for place, _, files in os.walk(f"{folder}/proofs"):
         proofs = PROOFS.intersection(files)
         path = os.path.relpath(place, f"{folder}/proofs").split("/")
