@@ -69,7 +69,8 @@ fn interface_at(interface: Interface, place: u32) -> Option<Register>
 #[inline(always)]
 pub fn register_at(profile: Profile, offset: u32) -> Option<Register>
     ensures some { IfSome result (λ r. (narrow_offset r ≡ offset) × IsInCcan profile r) }
-    ensures each { (r : Register) → IsInCcan profile r → narrow_offset r ≡ offset → result ≡ Some r }
+    ensures each { (r : Register) → IsInCcan profile r → narrow_offset r ≡ offset
+        → result ≡ Some r }
 {
     match offset {
         0x00..=0x0c => general_at(offset),

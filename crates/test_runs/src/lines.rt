@@ -7,11 +7,11 @@ use crate::expect::{holds, same};
 use arrayvec::ArrayVec;
 use ccan_accept::Frame;
 use ccan_bus::{Bus, Decision, Fault, LoadAnswer, RoundAnswer, RoundLine};
-use ccan_line::asking::{answer_with, goes_on, most_looks, place_of, word_fits, word_with};
+use ccan_line::asking::{most_looks, place_of, word_fits};
 use ccan_line::bus_course::{after_attempt, after_decision};
 use ccan_line::bus_engine::{ask_course, change_of_aim, change_of_job, seek_course};
 use ccan_line::bus_enter::enter;
-use ccan_line::host_engine::{change_of, moved, set_registers};
+use ccan_line::host_engine::{asked, change_of, moved, set_registers, transferred};
 use ccan_line::{
     Aim, AttemptEnd, BusLine, BusPoint, Course, Engine, HostLine, HostPoint, Job, LineAnswer,
     LineEnd, NextAct, RegisterSet, Side, drive, run_bus_line,
@@ -91,13 +91,18 @@ fn a_wait_goes_on_until_its_last_look(rt: HostRuntime) {
         &rt,
         matches!(act, NextAct::Look(object) if object.get() == 1),
     );
-    holds(&rt, goes_on(profile, &line, 0, &none));
-    holds(&rt, !goes_on(profile, &line, 1, &none));
     same(&rt, most_looks(profile, &line), 2);
-    let last = answer_with(profile, &line, 1, 0, &none);
     holds(
         &rt,
-        matches!(last, LineAnswer::Until(_, Flag::NewDat, false)),
+        asked(profile, &line, 0, 0, &none) == Course::At((1, 0)),
+    );
+    let last = asked(profile, &line, 1, 0, &none);
+    holds(
+        &rt,
+        matches!(
+            last,
+            Course::Ended(LineAnswer::Until(_, Flag::NewDat, false))
+        ),
     );
 }
 
@@ -110,7 +115,10 @@ fn a_word_has_a_bit_for_each_look(rt: HostRuntime) {
     holds(&rt, word_fits(profile, &line, 1, 1));
     holds(&rt, !word_fits(profile, &line, 1, 2));
     same(&rt, place_of(profile, &line, 1).get(), 2);
-    same(&rt, word_with(profile, &line, 0, 0, &shown), 1);
+    holds(
+        &rt,
+        asked(profile, &line, 0, 0, &shown) == Course::At((1, 1)),
+    );
 }
 
 #[test]
@@ -121,6 +129,8 @@ fn a_transfer_sets_registers_and_is_a_change(rt: HostRuntime) {
     let object = ObjectNo::from_request(Profile::One, 1);
     let answer = moved(&mut host, object, &Record::zero());
     same(&rt, answer, LineAnswer::Write(object, Record::zero()));
+    let spent = transferred(&mut host, object, &AttemptEnd::WasSpent);
+    same(&rt, spent, LineAnswer::Spent(object));
 }
 
 // ---- the bus
